@@ -2,7 +2,7 @@
 use Rattle.std.specs.Prelude.{ℕ, List, [], ◌∷◌, codes, Option, Some, None, option_map, Result, Ok}
 use Rattle.std.specs.Option.{ok_or}
 use Rattle.serde_json.specs.Data.{Data, null, Members}
-use Rattle.serde_json.specs.Find.{get, get_member, as_str, as_array, as_object}
+use Rattle.serde_json.specs.Find.{get_member, as_str, as_array, as_object}
 use Rattle.pn_json.specs.Answers.{◌>>=◌, fault_as}
 use Rattle.pn_json.specs.Members.{whole_number, member_as, each_in, no_others}
 use Rattle.pn_record.specs.Grammar.{numbers_in, shape_in}
@@ -27,10 +27,10 @@ image_shape d = fault_as (λ member. BadShape (part.Image member)) (shape_in d)
 unfoldable pub batch_shape : Data → Result DeliveryValue Refusal
 batch_shape d = do
   members ← ok_or (as_object d) (BadShape Batches)
-  first ← member_as whole_number (BadShape First) (get (codes "first") d)
-  items ← member_as as_array (BadShape Images) (get (codes "images") d)
+  first ← member_as whole_number (BadShape First) (get_member (codes "first") members)
+  items ← member_as as_array (BadShape Images) (get_member (codes "images") members)
   images ← each_in image_shape items
-  stream ← member_as as_str (BadShape Stream) (get (codes "stream") d)
+  stream ← member_as as_str (BadShape Stream) (get_member (codes "stream") members)
   named ← named_alone (codes "first" ∷ codes "images" ∷ codes "stream" ∷ []) members
   Ok (record { stream = stream; first = first; images = images })
 

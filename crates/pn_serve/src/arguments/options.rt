@@ -200,7 +200,7 @@ fn plain<'w>(
     value: &'w str,
     help: &'w str,
 ) -> Arg<'w>
-    ensures rule { rule_of result ≡ plain_option name.now parser }
+    ensures rule { rule_of result ≡ plain_option name.now parser.entry }
     ensures local { result.global ≡ false }
 {
     Arg::new(alloc, name)

@@ -6,5 +6,5 @@ use Rattle.pn_protocol.proofs.reply.errors.error_reply.Goals as goal
 
 pub returns : goal.returns
 returns c =
-    let value = error_data c.args.name.now (details_members c.args.details) in
+    let value = error_data c.args.name.now (details_members c.args.details.now) in
     IfOk-weaker c.finish_line.result _ _ (λ text is. is value (has_value value _ _ c.in_ok-writer.ensures c.in_ok-write_error.ensures)) c.finish_line.ensures

@@ -21,7 +21,7 @@ loop-stream-init g c =
       fit = All-same FitRound _ [] (ap (λ (v : RoundInputValue). v.deliveries) none) (All-nil FitRound);
       few = omega (arith, few);
       ended = omega (arith, ended);
-      capacity = c.in-Ok.ensures.capacity ∙ c.count.ensures;
+      capacity = c.in-Ok.ensures.capacity ∙ c.len.ensures;
     }
 
 pub loop-stream-preserved : goal.loop-stream-preserved
