@@ -23,6 +23,6 @@ returns g c key =
     ⊎_elim
     (λ below. at.invariant.done key below)
     (λ past.
-    let none : length first.slots ≤ key = omega (arith, past, c.capacity.ensures.slots, c.capacity.ensures.value, c.quarters-test.false) in
+    let none : length first.slots ≤ key = omega (arith, past, c.capacity-key-end.ensures.slots, c.capacity-key-end.ensures.value, c.quarters-test.false) in
     ends_none c.args.idle (idle_at first key) (idle_at at.self.connections key) (idle_past first key none) (at.invariant.rest key past))
     (cases_lt key at.key)
