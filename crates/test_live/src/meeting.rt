@@ -17,32 +17,6 @@ use test_kit_live::{end, open_one};
 /// How often a worker looks whether the others have come.
 const MAX_TURNS: u64 = 1_000_000;
 
-/// Tablets of which each gets a worker: the bounds between them, and a key of each.
-#[derive(Clone, Copy)]
-struct Tablets {
-    count: usize,
-    bounds: &'static str,
-    keys: &'static str,
-}
-
-const TWO: Tablets = Tablets {
-    count: 2,
-    bounds: "m",
-    keys: "l m",
-};
-
-const THREE: Tablets = Tablets {
-    count: 3,
-    bounds: "m t",
-    keys: "l m t",
-};
-
-const SIXTEEN: Tablets = Tablets {
-    count: 16,
-    bounds: "b c d e f g h i j k l m n o p",
-    keys: "a b c d e f g h i j k l m n o p",
-};
-
 /// Holds each worker up until all tablets were entered as often as its own.
 #[derive(Drop)]
 struct Meeting {
@@ -92,14 +66,20 @@ impl Meeting {
     }
 }
 
-// How many records a round changes where each tablet has a worker, and whether they met.
-fn meet<R: Threads + Sync>(rt: &R, alloc: Global, tablets: Tablets) -> Option<(u64, bool)>
-    requires { (1 ≤ tablets.count) × (tablets.count ≤ MAX_WORKERS) }
+// How many records a round changes where each tablet of these bounds has a worker, and whether they met.
+fn meet<R: Threads + Sync>(
+    rt: &R,
+    alloc: Global,
+    workers: usize,
+    bounds: &str,
+    keys: &str,
+) -> Option<(u64, bool)>
+    requires { (1 ≤ workers) × (workers ≤ MAX_WORKERS) }
 {
-    let gate = Meeting::new(alloc, tablets.count)?;
-    let mut region = Region::new(alloc, layout(alloc, tablets.bounds)?).ok()?;
-    let given = deliveries(alloc, 1, tablets.keys, 0)?;
-    let round = region.round(rt, given, tablets.count, &gate).ok()?;
+    let gate = Meeting::new(alloc, workers)?;
+    let mut region = Region::new(alloc, layout(alloc, bounds)?).ok()?;
+    let given = deliveries(alloc, 1, keys, 0)?;
+    let round = region.round(rt, given, workers, &gate).ok()?;
     Some((round.changed, gate.met_twice()))
 }
 
@@ -107,13 +87,14 @@ fn take<R: Threads + Wait + Sync>(
     rt: &R,
     alloc: Global,
     live: &mut LiveRegion,
-    tablets: Tablets,
+    workers: usize,
+    keys: &str,
     gate: &Meeting,
 ) -> Option<u64>
-    requires { (1 ≤ tablets.count) × (tablets.count ≤ MAX_WORKERS) }
+    requires { (1 ≤ workers) × (workers ≤ MAX_WORKERS) }
 {
-    let given = deliveries(alloc, 1, tablets.keys, 0)?;
-    let (round, _front) = live.round(rt, given, tablets.count, gate).ok()?;
+    let given = deliveries(alloc, 1, keys, 0)?;
+    let (round, _front) = live.round(rt, given, workers, gate).ok()?;
     Some(round.changed)
 }
 
@@ -121,38 +102,45 @@ fn take<R: Threads + Wait + Sync>(
 fn meet_live<R: Threads + Wait + Sync>(
     rt: &R,
     alloc: Global,
-    tablets: Tablets,
+    workers: usize,
+    bounds: &str,
+    keys: &str,
 ) -> Option<(u64, bool)>
-    requires { (1 ≤ tablets.count) × (tablets.count ≤ MAX_WORKERS) }
+    requires { (1 ≤ workers) × (workers ≤ MAX_WORKERS) }
 {
-    let gate = Meeting::new(alloc, tablets.count)?;
-    let (mut live, _reader) = open_one(rt, alloc, layout(alloc, tablets.bounds)?)?;
-    let changed = take(rt, alloc, &mut live, tablets, &gate);
+    let gate = Meeting::new(alloc, workers)?;
+    let (mut live, _reader) = open_one(rt, alloc, layout(alloc, bounds)?)?;
+    let changed = take(rt, alloc, &mut live, workers, keys, &gate);
     end(rt, alloc, live);
     Some((changed?, gate.met_twice()))
 }
 
 #[test]
 fn two_workers_meet(rt: HostRuntime) {
-    assert_eq!(rt; meet(&rt, rt.alloc(), TWO), Some((2, true)));
+    assert_eq!(rt; meet(&rt, rt.alloc(), 2, "m", "l m"), Some((2, true)));
 }
 
 #[test]
 fn three_workers_meet(rt: HostRuntime) {
-    assert_eq!(rt; meet(&rt, rt.alloc(), THREE), Some((3, true)));
+    assert_eq!(rt; meet(&rt, rt.alloc(), 3, "m t", "l m t"), Some((3, true)));
 }
 
 #[test]
 fn sixteen_workers_meet(rt: HostRuntime) {
-    assert_eq!(rt; meet(&rt, rt.alloc(), SIXTEEN), Some((16, true)));
+    let bounds = "b c d e f g h i j k l m n o p";
+    let keys = "a b c d e f g h i j k l m n o p";
+    assert_eq!(rt; meet(&rt, rt.alloc(), 16, bounds, keys), Some((16, true)));
 }
 
 #[test]
 fn two_workers_meet_in_a_live_region(rt: HostRuntime) {
-    assert_eq!(rt; meet_live(&rt, rt.alloc(), TWO), Some((2, true)));
+    assert_eq!(rt; meet_live(&rt, rt.alloc(), 2, "m", "l m"), Some((2, true)));
 }
 
 #[test]
 fn three_workers_meet_in_a_live_region(rt: HostRuntime) {
-    assert_eq!(rt; meet_live(&rt, rt.alloc(), THREE), Some((3, true)));
+    assert_eq!(rt;
+        meet_live(&rt, rt.alloc(), 3, "m t", "l m t"),
+        Some((3, true))
+    );
 }
