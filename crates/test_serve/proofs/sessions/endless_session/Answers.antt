@@ -13,7 +13,7 @@ which result TooManyTurns is read write = inl refl
 which result Memory is read write = inr refl
 
 pub unreachable-requires : goal.unreachable-requires
-unreachable-requires g c = c.in-Ok.ensures.end
+unreachable-requires c = c.in-Ok.ensures.end
 
 pub returns : goal.returns
-returns g c = which c.session.result c.in-Err.fault c.in-Err.is c.session.ensures.read c.session.ensures.write
+returns c = which c.session.result c.in-Err.fault c.in-Err.is c.session.ensures.read c.session.ensures.write
