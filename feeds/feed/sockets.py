@@ -15,7 +15,7 @@ from typing import Any
 
 FIRST_PAUSE, LONGEST_PAUSE = 0.05, 2.0
 # How long the region may leave a new connection without a word before that is told, and how long its last words are waited for.
-SOON, LAST_WORDS = 2.0, 2.0
+SOON, LAST_WORDS = 2.0, 5.0
 MAX_WORDS = 65_536
 _NOT_THERE = (FileNotFoundError, ConnectionError, BlockingIOError)
 
@@ -56,13 +56,13 @@ class RegionSocket:
             time.sleep(self._pause)
             self._pause = min(max(self._pause * 2, FIRST_PAUSE), LONGEST_PAUSE)
             try:
-                self.taken = self._connect()
-                return self.taken
+                return self._connect()
             except (RegionAway, *_NOT_THERE) as fault:
                 if not is_told:
                     self._say(f"waiting for the region at {self._path}: {_reason_of(fault)}")
                     is_told = True
             except OSError as fault:
+                self._close()
                 raise Unusable(f"cannot connect to {self._path}: {_reason_of(fault)}") from fault
 
     def write(self, lines: bytes) -> None:
@@ -115,17 +115,23 @@ class RegionSocket:
         self._socket.setblocking(False)
         if not self._wait(select.POLLIN, SOON):
             self._say(f"waiting for the region at {self._path}: it does not take this feed yet")
-        while True:
+        while not (words := self._words()):
             self._wait(select.POLLIN, None)
-            for told in self._words():
-                if not isinstance(told.get("after"), int):
-                    raise self._no_region(json.dumps(told).encode())
-                return int(told["after"])
+        after = words[0].get("after")
+        if not isinstance(after, int):
+            raise self._no_region(json.dumps(words[0]).encode())
+        self.taken = after
+        self._note(words[1:])
+        return after
 
     def _listen(self) -> None:
         """Takes all that the region has said so far."""
         while words := self._words():
-            taken = words[-1].get("taken")
+            self._note(words)
+
+    def _note(self, words: list[dict[str, Any]]) -> None:
+        for told in words:
+            taken = told.get("taken")
             if isinstance(taken, int) and taken > self.taken:
                 self.taken = taken
                 self._pause = 0.0

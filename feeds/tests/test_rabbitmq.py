@@ -55,7 +55,11 @@ class Server:
         self._program = subprocess.Popen(
             [SERVER], env=self._environment, stdout=subprocess.DEVNULL, stderr=subprocess.DEVNULL, start_new_session=True
         )
-        wait_until(self._answers, 120)
+        try:
+            wait_until(self._answers, 300)
+        except AssertionError:
+            self.end()
+            raise
 
     def _answers(self) -> bool:
         try:
@@ -76,8 +80,8 @@ class Server:
 
     def _ends_its_mapper(self) -> bool:
         """Ends the port mapper, which refuses that until it has seen that the node is gone."""
-        said = subprocess.run(["epmd", "-kill"], env={**os.environ, **self._mapper}, capture_output=True, check=False).stdout
-        return b"not allowed" not in said
+        said = subprocess.run(["epmd", "-kill"], env={**os.environ, **self._mapper}, capture_output=True, text=True, check=False).stdout
+        return "not allowed" not in said
 
     @contextmanager
     def channel(self) -> Iterator[Any]:
@@ -110,9 +114,11 @@ class Server:
         channel = connection.channel()
         channel.basic_qos(prefetch_count=1_000)
         found: list[tuple[int, bytes]] = []
-        for method, properties, body in channel.consume(stream, arguments={"x-stream-offset": "first"}, inactivity_timeout=1):
-            if method is None:
+        for method, properties, body in channel.consume(stream, arguments={"x-stream-offset": "first"}, inactivity_timeout=2):
+            if method is None and found:
                 break
+            if method is None:
+                continue
             found.append((properties.headers["x-stream-offset"], body))
             channel.basic_ack(method.delivery_tag)
         with suppress(pika.exceptions.AMQPError):

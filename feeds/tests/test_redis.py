@@ -6,6 +6,7 @@ import subprocess
 import tempfile
 import threading
 import unittest
+from typing import Any
 
 from . import resuming
 from .support import feed, free_port, image, needs, wait_until, wanted
@@ -23,7 +24,7 @@ class Server:
         self._folder = folder
         self.port = free_port()
         self.url = f"redis://127.0.0.1:{self.port}/0"
-        self.client = redis.Redis.from_url(self.url)
+        self.client: Any = redis.Redis.from_url(self.url)
         self.start()
 
     def start(self) -> None:
