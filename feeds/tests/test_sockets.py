@@ -15,8 +15,7 @@ from feed.running import Lost, Unreachable, run
 from feed.sockets import Refused, RegionAway, RegionSocket, Unusable
 
 from .region import Region
-from .resuming import wait_until
-from .support import image
+from .support import image, wait_until
 
 
 class Sockets(unittest.TestCase):
