@@ -4,6 +4,7 @@ from __future__ import annotations
 
 import os
 import signal
+import socket
 import subprocess
 import tempfile
 import unittest
@@ -78,8 +79,10 @@ class Server:
 
     def _ends_its_mapper(self) -> bool:
         """Ends the port mapper, which refuses that until it has seen that the node is gone."""
-        said = subprocess.run(["epmd", "-kill"], env={**os.environ, **self._mapper}, capture_output=True, text=True, check=False).stdout
-        return "not allowed" not in said
+        subprocess.run(["epmd", "-kill"], env={**os.environ, **self._mapper}, capture_output=True, check=False)
+        with suppress(OSError), socket.create_connection(("127.0.0.1", int(self._mapper["ERL_EPMD_PORT"])), 1):
+            return False
+        return True
 
     @contextmanager
     def channel(self) -> Iterator[Any]:

@@ -71,7 +71,7 @@ class RabbitMq(unittest.TestCase):
             time.sleep(3)
             self.assertEqual((running.program.poll(), running.lines), (None, []))
         with self.server.channel() as channel:
-            wait_until(lambda: channel.queue_declare(plain, passive=True).method.message_count == 3)
+            wait_until(lambda: bool(channel.queue_declare(plain, passive=True).method.message_count == 3))
 
     def test_a_body_that_is_no_json(self) -> None:
         self.server.add(self.stream, 1, 1)
