@@ -10,7 +10,7 @@ from contracts.existential import existential_clauses
 FUNCTION = re.compile(r"^\s*(?:pub(?:\(\w+\))? )?(?:const )?fn (\w+)", re.M)
 SIGNATURE_END = re.compile(r"^\s*(?:\{|.*\{)$", re.M)
 BEGINS_ITEM = re.compile(r"^(?:pub(?:\(\w+\))? )?(?:const|static|struct|enum|impl|trait|mod|use|type|macro_rules!)\b", re.M)
-IMPL = re.compile(r"^impl\b(?:<.*?>)? (?:.* for )?&?(?:'\w+ )?(\w+)", re.M)
+IMPL = re.compile(r"^impl\b(?:<.*?>)? (?:.* for )?&?(?:'\w+ )?(\w+)(?!.*\{\}$)", re.M)
 CONSTANT = re.compile(r"\bconst (\w+)")
 DECLARED = re.compile(r"(?m)^(?=(?: {2})?(?:pub )?[^\s:(-][^\s:]* : )")
 EMPTY_MODULE = re.compile(r"(?m)^module _ .* where\n(?=\s*(?:^\S|\Z))")
