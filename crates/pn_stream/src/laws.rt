@@ -1,6 +1,6 @@
 //! The laws of streams, as contracts. A call does nothing.
 
-ghost use Rattle.std.specs.Prelude.{◌≡◌, ℕ, ◌+◌, List, ◌++◌, length, Option, None, IfSome};
+ghost use Rattle.std.specs.Prelude.{◌≡◌, ℕ, ◌+◌, ◌≤◌, pred, List, ◌++◌, length, Option, None, IfSome};
 ghost use Rattle.pn_record.specs.declared.image.Image.{Image};
 ghost use Rattle.pn_stream.specs.Batches.{Batch};
 ghost use Rattle.pn_stream.specs.Faults.{IsOfText};
@@ -37,4 +37,14 @@ pub fn two_calls_are_one()
         → Batch least most position text one None part left
         → IfSome left (λ rest. Batch fewest max (position + length one) (part ++ rest) other fault piece leaves)
         → Batch (length one + fewest) (length one + max) position text (one ++ other) fault piece leaves }
+{}
+
+/// What a writer's first message and a call after it give is what one call gives that begins before that message: one
+/// run of messages in step from the first one on.
+pub fn a_writer_gives_one_run()
+    ensures { (least most at : ℕ) (text part piece : List ℕ) (one other : List Image) (fault : Option StreamFault)
+        (left leaves : Option (List ℕ))
+        → 1 ≤ at → length one ≡ 1 → Batch 1 1 (pred at) text one None part left
+        → IfSome left (λ rest. Batch least most at (part ++ rest) other fault piece leaves)
+        → Batch (1 + least) (1 + most) (pred at) text (one ++ other) fault piece leaves }
 {}
