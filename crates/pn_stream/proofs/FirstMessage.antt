@@ -1,5 +1,5 @@
 -- A writer's first message is a batch of one, and what is read after it goes on with it.
-use Rattle.std.proofs.Common.{◌≡◌, ℕ, zero, suc, ◌+◌, ◌≤◌, pred, true, List, [], ◌∷◌, ◌++◌, length, Option, None, Some, IfSome, nat_le, inl, refl, sym, ap, ◌∙◌, subst, arith}
+use Rattle.std.proofs.Common.{◌≡◌, ℕ, zero, suc, ◌+◌, ◌≤◌, ◌^◌, pred, true, List, [], ◌∷◌, ◌++◌, length, Option, None, Some, IfSome, nat_le, inl, refl, sym, ap, ◌∙◌, subst, arith}
 use Rattle.std.proofs.lemmas.Bool.{and_parts}
 use Rattle.pn_join.specs.Marks.{is_position}
 use Rattle.pn_record.specs.declared.image.Image.{Image}

@@ -25,7 +25,7 @@ InStep-push position (first ∷ lines) (shown ∷ images) line image wanted is r
     (run.0, run.1, InStep-push (position + 1) lines images line image wanted (omega (arith, is)) run.2 unbroken said)
 
 -- one line more
-Run-push : (position : ℕ) (text : List ℕ) (images : List Image) (rest line more : List ℕ) (image : Image) (wanted : ℕ) → wanted ≡ position + length images + 1
+pub Run-push : (position : ℕ) (text : List ℕ) (images : List Image) (rest line more : List ℕ) (image : Image) (wanted : ℕ) → wanted ≡ position + length images + 1
     → Run position text images rest → FirstLine rest line more → IsMessageLine line (wanted, image) → Run position text (images ++ image ∷ []) more
 Run-push position text images rest line more image wanted is run first said = record {
   lines = run.lines ++ line ∷ [];
@@ -55,7 +55,7 @@ Run-append position text rest more one other first second = record {
 }
 
 -- before the first line
-Run-none : (position : ℕ) (text : List ℕ) → Run position text [] text
+pub Run-none : (position : ℕ) (text : List ℕ) → Run position text [] text
 Run-none position text = record { lines = []; in_step = tt; text_is = ap (λ t. t ++ text) (sym text_of-nil) }
 
 -- what a search for messages starts with

@@ -90,7 +90,10 @@ pub(crate) fn next_images<S: Source>(
 }
 
 // The line whose part was kept, or a new one.
-pub(crate) fn take_line(alloc: Global, held: &mut Option<LineBuffer>) -> Result<LineBuffer, StreamFault>
+pub(crate) fn take_line(
+    alloc: Global,
+    held: &mut Option<LineBuffer>,
+) -> Result<LineBuffer, StreamFault>
     requires { IfSome held.old IsPart }
     ensures part { IfOk result IsPart }
     ensures front { IfOk result (λ line. line.bytes ≡ part_of held.old) }
@@ -201,11 +204,7 @@ fn whole_line(end: io::Result<BoundedEnd>) -> Result<Option<bool>, StreamFault>
 }
 
 // The message of a line, or why it is none where that of `wanted` is due.
-fn message_of_line(
-    alloc: Global,
-    line: &[u8],
-    wanted: u64,
-) -> Result<(u64, Image), StreamFault>
+fn message_of_line(alloc: Global, line: &[u8], wanted: u64) -> Result<(u64, Image), StreamFault>
     ensures ok { IfOk result (λ message. IsMessageLine line.now message) }
     ensures err { IfErr result (λ fault. Refuses wanted line.now fault) }
     ensures any_step { IfErr result (λ fault. (named got : ℕ) → fault ≢ StreamFault.OutOfStep named got) }

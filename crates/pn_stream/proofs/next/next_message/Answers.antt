@@ -31,7 +31,7 @@ pub returns-clause-next : goal.returns-clause-next
 returns-clause-next g c =
     let whole = sym c.in_ok-more.ensures ∙ ap Ok c.in-Some.is in
     let takes = next_line _ _ _ _ _ c.requires (newline_read c.read_bounded_line.result c.in-Some.more (λ end. ReadsTo end c.args.line.now c.read_bounded_line.new.line _ _) whole c.read_bounded_line.ensures.takes) in
-    next_ok _ _ _ _ (record { image = c.in_ok-at.image; more = c.in-Some.more }) _ _ takes (rw c.bytes.ensures at c.in_ok-at.ensures.ok) (part-none _ c.start.ensures)
+    next_ok _ _ _ (record { at = c.in_ok-at.at; image = c.in_ok-at.image; more = c.in-Some.more }) _ _ takes (rw c.bytes.ensures at c.in_ok-at.ensures.ok) (part-none _ c.start.ensures)
 
 pub returns-clause-taken : goal.returns-clause-taken
 returns-clause-taken g c = λ found. part-none _ c.start.ensures
