@@ -123,11 +123,9 @@ fn relayout_error(alloc: Global, fault: RelayoutFault) -> Option<Result<Vec<u8>,
     ensures { SaysWhy no_memory_to_relay fault (relayout_fault_data fault) result }
 {
     match fault {
-        RelayoutFault::StillRecovering(tablet) => Some(tablet_error(
-            alloc,
-            "still-recovering",
-            tablet,
-        )),
+        RelayoutFault::StillRecovering(tablet) => {
+            Some(tablet_error(alloc, "still-recovering", tablet))
+        }
         RelayoutFault::Memory => None,
     }
 }
