@@ -22,7 +22,7 @@ abbrev pub all_have : List TabletStateValue → List ℕ → Bool
 all_have ts name = list_all (λ (t : TabletStateValue). has t.cover name) ts
 
 -- how many of the names pass
-pub passing : (List ℕ → Bool) → Positions → ℕ
+abbrev pub passing : (List ℕ → Bool) → Positions → ℕ
 passing q [] = 0
 passing q (e ∷ es) = from_bool (q e.0) + passing q es
 
@@ -58,9 +58,9 @@ lt_min : (a b : ℕ) → nat_lt 0 (min a b) ≡ (nat_lt 0 a && nat_lt 0 b)
 lt_min a b =
     elim (nat_lt 0 a) as (λ x. nat_lt 0 a ≡ x → nat_lt 0 (min a b) ≡ (x && nat_lt 0 b)) [
       | true ↦ λ some. elim (nat_lt 0 b) as (λ y. nat_lt 0 b ≡ y → nat_lt 0 (min a b) ≡ y) [
-          | true ↦ λ some_too. grind (arith, nat_tests)
-          | false ↦ λ none. grind (arith, nat_tests)
-        ] refl
+        | true ↦ λ some_too. grind (arith, nat_tests)
+        | false ↦ λ none. grind (arith, nat_tests)
+      ] refl
       | false ↦ λ none. grind (arith, nat_tests)
     ] refl
 

@@ -5,7 +5,7 @@ use Rattle.pn_record.proofs.CellLists.{cells-same}
 use Rattle.pn_record.proofs.CellMaps.{table_of-nil, same_cells_table}
 use Rattle.pn_region.specs.Events.{RegionEvent, round, half_round, loss, adoption, relayout, advance, LeadsTo, AllLeadTo, AreHonestEvents}
 use Rattle.pn_region.specs.Taken.{taken_by, all_taken, left_by, all_left, CoversTell, HoldsTaken, HoldTaken, LosesNothing, LoseNothing}
-use Rattle.pn_region.proofs.Advancing.{advances}
+use Rattle.pn_region.proofs.Advanced.{advances}
 use Rattle.pn_region.proofs.Common.{AllByRecursion, Positions, Image, SameImages, table_of, BrokerRecord, Bounds, IsLayout, Ends, TabletStateValue, empty_tablet, Serving, all_images, images_in, ranges, AreIn, HasBetween, RegionValue, AreTabletsOf, IsRegion, new_region, all_cells, AllServe}
 use Rattle.pn_region.proofs.Covers.{cover_rules}
 use Rattle.pn_region.proofs.EventRules.{none, events_go_on}

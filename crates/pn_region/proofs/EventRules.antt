@@ -11,7 +11,7 @@ use Rattle.pn_region.specs.Honest.{IsHonestCopy}
 use Rattle.pn_region.specs.Relayouts.{made_of}
 use Rattle.pn_region.specs.Taken.{taken_by, all_taken, left_by, all_left}
 use Rattle.pn_region.proofs.Common.{MatchResult, AllByRecursion, Positions, Image, table_of, BrokerRecord, up_to, AreHonest, DeliveryValue, TabletCopyValue, need_shortfall, Ends, in_range, recovering_tablet, after_step, tablet_after, TabletStateValue, same_range, WrongRange, Shortfall, Lose, Adopt, Serving, all_stepped, AreOldOrStepped, all_images, images_in, join_in, ranges, AreIn, new_marks, tablets_after_op, RegionValue, IsTabletOf, AreTabletsOf, IsRegion, joins, AllServe}
-use Rattle.pn_region.proofs.Advancing.{advances}
+use Rattle.pn_region.proofs.Advanced.{advances}
 use Rattle.pn_region.proofs.Apart.{Outside, Apart, ranges_apart}
 use Rattle.pn_region.proofs.EventSteps.{adopts, takes, event_is}
 use Rattle.pn_region.proofs.InRange.{from_images_in}

@@ -5,7 +5,7 @@ use Rattle.pn_region.specs.Events.{RegionEvent, round, half_round, loss, adoptio
 use Rattle.pn_region.specs.Recovery.{after_op, lacks, after_adoption_unless, after_adoption}
 use Rattle.pn_region.specs.Rounds as rounds
 use Rattle.pn_region.specs.Taken.{KeepsLayout, KeepLayout}
-use Rattle.pn_region.proofs.Advancing.{advances, advanced_is}
+use Rattle.pn_region.proofs.Advanced.{advances, advanced_is}
 use Rattle.pn_region.proofs.Common.{Positions, Reaches, DeliveryValue, TabletCopyValue, tablet_after, TabletStateValue, Shortfall, TabletOp, Lose, Adopt, AreOldOrStepped, all_images, ranges, new_marks, tablets_after_op, tablet_for, after_adoption_by, RegionValue, IsRegion, RoundFault}
 use Rattle.pn_region.proofs.HalfRounds.{half_so, half_taken_is}
 use Rattle.pn_region.proofs.OneTablet.{stepping_is}

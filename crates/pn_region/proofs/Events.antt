@@ -8,7 +8,7 @@ use Rattle.pn_region.specs.Events.{RegionEvent, round, half_round, loss, adoptio
 use Rattle.pn_region.specs.Held.{HoldsStill}
 use Rattle.pn_region.specs.Relayouts.{made_of}
 use Rattle.pn_region.specs.Taken.{KeepsLayout, KeepLayout}
-use Rattle.pn_region.proofs.Advancing.{advances}
+use Rattle.pn_region.proofs.Advanced.{advances}
 use Rattle.pn_region.proofs.Common.{find, IsSome, Positions, Reaches, position_of, bytes_cmp, spell, Entries, Bounds, tablet_of, TabletCopyValue, need_shortfall, Ends, after_step, tablet_after, TabletStateValue, lie_in, same_range, WrongRange, Shortfall, TabletOp, Join, Lose, Adopt, Serving, RegionValue, AreTabletsOf, IsRegion}
 use Rattle.pn_region.proofs.EventSteps.{adopts, takes, event_is, Moves, each_at, each_moves, each_after, Grows, grows_itself, grows_then}
 use Rattle.pn_region.proofs.KeyTablets.{has_tablet}

@@ -5,7 +5,7 @@ use Rattle.pn_region.specs.Honest.{IsHonestCopy}
 use Rattle.pn_region.specs.Relayouts.{made_of, parts_of}
 use Rattle.pn_tablet.specs.Ranges.{meet}
 use Rattle.pn_region.proofs.Common.{AllByRecursion, Reaches, Image, BrokerRecord, TabletCopyValue, Ends, step, after_step, tablet_after, TabletStateValue, Lose, Adopt, Serving, images_in, ranges, IsFaithful, AreFaithful, tablets_after_op, RegionValue, IsRegion, AllServe}
-use Rattle.pn_region.proofs.Advancing.{advances}
+use Rattle.pn_region.proofs.Advanced.{advances}
 use Rattle.pn_region.proofs.EventSteps.{adopts, takes, event_is}
 use Rattle.pn_region.proofs.Faith.{round_keeps, half_keeps}
 use Rattle.pn_region.proofs.FaithfulCopies.{lost_faithful, adopted_faithful, serving_lacks_none}

@@ -1,4 +1,4 @@
-pub mod Advancing
+pub mod Advanced
 pub mod Ahead
 pub mod Apart
 pub mod Common

@@ -15,7 +15,7 @@ use Rattle.pn_region.specs.Relayouts.{made_of, parts_of, least_cover, with_layou
 use Rattle.pn_region.specs.Rising.{AllRise}
 use Rattle.pn_region.specs.Rounds as rounds
 use Rattle.pn_region.proofs.Common.{Result, MatchResult, Positions, raised_marks, Bounds, DeliveryValue, Ends, TabletCopyValue, need_shortfall, Shortfall, TabletStateValue, empty_tablet, same_range, after_step, tablet_after, WrongRange, TabletOp, Lose, Adopt, AreOldOrStepped, all_images, ranges, new_marks, tablets_after_op, RegionValue, new_region, RoundFault}
-use Rattle.pn_region.proofs.Advancing.{advances}
+use Rattle.pn_region.proofs.Advanced.{advances}
 use Rattle.pn_region.proofs.EventSteps.{takes, adopts}
 use Rattle.pn_region.proofs.HalfAhead.{BothRise, MarksRise, tablets_rise, all_rise, taking_rises, all_joins_rise, half_joins_rise}
 use Rattle.pn_region.proofs.PartMarks.{all_kept}

@@ -11,7 +11,7 @@ use Rattle.pn_region.specs.Held.{HoldsStill}
 use Rattle.pn_region.specs.Regions.{RegionValue, IsRegion, new_region, all_cells}
 use Rattle.pn_region.specs.Serving.{AllServe, ServesAt}
 use Rattle.pn_region.specs.Taken.{LosesNothing, LoseNothing}
-use Rattle.pn_region.proofs.Advancing.{advances}
+use Rattle.pn_region.proofs.Advanced.{advances}
 use Rattle.pn_region.proofs.EventImages.{taken_together, rounds_together, alike}
 use Rattle.pn_region.proofs.FaithfulEvents.{events_faithful}
 use Rattle.pn_region.proofs.EventSteps.{takes, events_are}

@@ -1,7 +1,7 @@
 -- The laws are lemmas.
 use Rattle.std.proofs.Common.{sym, ap, subst}
 use Rattle.pn_region.proofs.Common.{AllByRecursion, Reaches, TabletStateValue, RegionValue}
-use Rattle.pn_region.proofs.Advancing.{advances, all_covered, least_of_region, marks_rise}
+use Rattle.pn_region.proofs.Advanced.{advances, all_covered, least_of_region, marks_rise}
 use Rattle.pn_region.proofs.advance_laws.marks_advance_to_the_least_of_all_covers.Goals as goal
 
 pub returns-clause-covered : goal.returns-clause-covered

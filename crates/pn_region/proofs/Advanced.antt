@@ -87,7 +87,7 @@ advanced_to region marks is = ap (result_map_both (with_marks region) (λ why. w
 
 refused_by : (region : RegionValue) (why : AdvanceFault) (right : Result Positions AdvanceFault) → Refuses is_memory why right → Refuses is_memory why (result_map_both (with_marks region) (λ other. other) right)
 refused_by region fault.TooManyStreams (Ok marks) right = cc
-refused_by region fault.TooManyStreams (Err other) right = right
+refused_by region fault.TooManyStreams (Err other) right = ap (result_map_both (with_marks region) (λ why. why)) right
 refused_by region fault.Memory (Ok marks) right = refl
 refused_by region fault.Memory (Err other) right = cc
 
