@@ -147,9 +147,7 @@ fn go_through<R: Threads + Wait + Sync>(
         return false;
     }
     let (first, second) = (copy(alloc, reader), copy(alloc, reader));
-    recover(rt, live, first, second)
-        && advance(live)
-        && serve(rt, alloc, live, reader, (4, 6))
+    recover(rt, live, first, second) && advance(live) && serve(rt, alloc, live, reader, (4, 6))
 }
 
 fn begin<R: Wait>(rt: &R, alloc: Global) -> Option<(LiveRegion, LiveReader)> {

@@ -37,7 +37,11 @@ fn go_on<R: Threads + Sync>(rt: &R, alloc: Global, mut region: Region) -> Option
     for tablet in 0..region.layout().count() {
         records = records.checked_add(region.tablet(tablet).cells().len())?;
     }
-    format!(in alloc; "{mark}; {gap}; {} changed; {records} records", round.changed).ok()
+    format!(in alloc;
+        "{mark}; {gap}; {} changed; {records} records",
+        round.changed
+    )
+    .ok()
 }
 
 // The keys from one message to before another.
@@ -67,9 +71,7 @@ pub(crate) fn advance_many<R: Threads + Sync>(rt: &R, alloc: Global) -> Option<S
     for given in [deliveries(alloc, 1, KEYS, 0)?, many_streams(alloc)?] {
         let mut source = Region::new(alloc, layout(alloc, "")?).ok()?;
         source.round(rt, given, 1, &Open).ok()?;
-        region
-            .adopt(source.copy(0, &Marks::new(alloc)).ok()?)
-            .ok()?;
+        region.adopt(source.copy(0, &Marks::new(alloc)).ok()?).ok()?;
     }
     let fault = region.advance().err()?;
     format!(in alloc; "{fault}; {} marks", region.marks().len()).ok()
