@@ -1,5 +1,5 @@
 -- The new marks are those of a region.
-use Rattle.std.proofs.Common.{◌≡◌, List, map, Ok, sym, ap, ◌∙◌}
+use Rattle.std.proofs.Common.{◌≡◌, map, Ok, sym, ap, ◌∙◌}
 use Rattle.pn_region.specs.Advancing.{common_marks}
 use Rattle.pn_region.proofs.Advanced.{advanced_lawful}
 use Rattle.pn_region.proofs.Common.{TabletStateValue, RegionValue}
