@@ -34,6 +34,8 @@ impl<R: Clock + Drop> Origin<InMemory<'static>> for SlowOrigin<R> {
         writer
     }
 
+    fn hand_on(&mut self, _last: u64) {}
+
     fn end_writer(&mut self, _source: InMemory<'static>, _end: &WriterEnd, _last: u64) {}
 }
 

@@ -56,6 +56,8 @@ impl<R: Wait + Copy, S: Source + Drop> Origin<S> for OneWriter<R> {
         None
     }
 
+    fn hand_on(&mut self, _last: u64) {}
+
     fn end_writer(&mut self, _source: S, end: &WriterEnd, _last: u64) {
         if let (WriterEnd::Fault { .. }, Some(log)) = (end, &self.faults) {
             log.note(

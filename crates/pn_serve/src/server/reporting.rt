@@ -36,7 +36,7 @@ pub(crate) fn report_stream<R: Wait, S: Source + Drop, O: Origin<S> + Drop>(
     let mut input = input;
     let mut origin = origin;
     for _ in rt.forever() {
-        let Some(end) = read_writer(rt, &mut input, reporter) else {
+        let Some(end) = read_writer(rt, &mut input, &mut origin, reporter) else {
             return Err(input.name());
         };
         let ended = end_of(&input, &end);
@@ -52,9 +52,10 @@ pub(crate) fn report_stream<R: Wait, S: Source + Drop, O: Origin<S> + Drop>(
 }
 
 // Reports the messages of a writer. Answers how its input ended, or None where the mailbox takes nothing more.
-fn read_writer<R: Wait, S: Source + Drop>(
+fn read_writer<R: Wait, S: Source + Drop, O: Origin<S>>(
     rt: &R,
     input: &mut WriterInput<S>,
+    origin: &mut O,
     reporter: &Reporter,
 ) -> Option<WriterEnd>
     ensures ends { IfSome result (λ end. EndsInput S.left input.old.before input.old.reader end input.new.before input.new.reader) }
@@ -68,6 +69,7 @@ fn read_writer<R: Wait, S: Source + Drop>(
                     return None;
                 }
                 input.hand_on();
+                origin.hand_on(input.last);
             }
             Given::Ended(end) => return Some(end),
         }

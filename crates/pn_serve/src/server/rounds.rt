@@ -1,11 +1,10 @@
 //! Rounds of the messages that streams report.
 
-ghost use Rattle.std.specs.Prelude.{◌≡◌, ◌+◌, ◌<◌, ◌≤◌, [], length, map, vec_len, vec_capacity, All, None, Ok, Err, IfOk, IfErr, IfSome, OnOk, OnErr, MatchResult};
+ghost use Rattle.std.specs.Prelude.{◌≡◌, ◌+◌, ◌<◌, ◌≤◌, [], length, map, vec_len, vec_capacity, All, true, None, Ok, Err, IfOk, IfErr, IfSome, OnOk, OnErr, MatchResult};
 ghost use Rattle.pn_apply.specs.declared.reducing.TheConstants.{MAX_WORKERS};
 ghost use Rattle.pn_live.specs.Prelude.{tablets_in};
 ghost use Rattle.pn_region.specs.Marking.{leaves_gap};
-ghost use Rattle.pn_serve.specs.Server.Faults.{IsOfRounds};
-ghost use Rattle.pn_serve.specs.Server.Gathering.{IsInputOf, goes_on, no_input, value_of, with_report};
+ghost use Rattle.pn_serve.specs.Server.Gathering.{IsInputOf, first_fault, goes_on, no_input, value_of, with_report};
 ghost use Rattle.pn_serve.specs.Server.Messages.{FitRound};
 ghost use Rattle.pn_serve.specs.Server.Reading.{RunsRounds};
 ghost use Rattle.pn_serve.specs.Server.Rounds.{CanBeTaken, Continues, IsRoundRefused, IsRoundTaken, TakesInput, stopping};
@@ -43,7 +42,6 @@ pub(crate) fn run_rounds<R: Threads + Wait + Sync>(
 ) -> Result<(), ServeFault>
     requires workers { (1 ≤ workers) × (workers ≤ MAX_WORKERS) }
     ensures reads { RunsRounds mailboxes.old.at_fault (map (λ stream. stream.name) mailboxes.old.streams.items) live.old live.new result }
-    ensures named { IfErr result (IsOfRounds (map (λ stream. stream.name) mailboxes.old.streams.items)) }
     ensures same { tablets_in live.new ≡ tablets_in live.old }
 {
     for _ in rt.forever() {
@@ -126,18 +124,19 @@ fn add_note(
         }
         Some(Report::End(_)) => false,
         Some(_) => {
-            add_fault(input, name);
+            add_fault(&mut input.fault, name);
             false
         }
         None => true,
     }
 }
 
-// Notes the fault of the stream of a name, unless an earlier one has a fault.
-fn add_fault(input: &mut RoundInput, name: &StreamName)
+// Notes the stream with a fault, unless an earlier one has a fault.
+fn add_fault(fault: &mut Option<StreamName>, name: &StreamName)
+    ensures { fault.new ≡ first_fault fault.old name.now true }
 {
-    if input.fault.is_none() {
-        input.fault = Some(*name);
+    if fault.is_none() {
+        *fault = Some(*name);
     }
 }
 

@@ -32,6 +32,9 @@ pub trait Origin<S: Source + Drop> {
     fn next_writer(&mut self, last: u64) -> Option<S>
         ensures { IsSome result → may_go_on };
 
+    /// Notes that all messages up to `last` were handed to rounds.
+    fn hand_on(&mut self, last: u64);
+
     /// Notes how a writer's input ended, and takes back what it was read from.
     fn end_writer(&mut self, source: S, end: &WriterEnd, last: u64);
 }
