@@ -174,7 +174,7 @@ impl<S: Source + Drop> StreamReader<S> {
         ensures failed { self.new ≡ record self.old { fault = Some StreamFault.Failed } }
         ensures fault { result ≡ fault }
     {
-        self.fail(StreamFault::Failed);
+        self.fault = Some(StreamFault::Failed);
         fault
     }
 
