@@ -54,14 +54,15 @@ asked_off names marks input left note is own off =
 -- a stream that goes on is one of those that were asked
 still_named : (marks : Positions) (notes : List Note) (name : List ℕ) → Contains (still_read marks notes) name → Contains (map (λ (note : Note). note.name) notes) name
 still_named marks [] name there = there
-still_named marks (note ∷ notes) name there = at (goes_on marks note.report) there
+still_named marks (note ∷ notes) name there = at (goes_on marks note.report) (still_named marks notes name) there
   where
-    at : (test : Bool) → Contains (if test then note.name ∷ still_read marks notes else still_read marks notes) name → Contains (note.name ∷ map (λ (n : Note). n.name) notes) name
-    at true found = elim (Contains-append_cases (note.name ∷ []) (still_read marks notes) name found) [
+    at : (test : Bool) → (Contains (still_read marks notes) name → Contains (map (λ (n : Note). n.name) notes) name) → Contains (if test then note.name ∷ still_read marks notes else still_read marks notes) name
+        → Contains (note.name ∷ map (λ (n : Note). n.name) notes) name
+    at true others found = elim (Contains-append_cases (note.name ∷ []) (still_read marks notes) name found) [
       | inl here ↦ Contains-append_left (note.name ∷ []) (map (λ (n : Note). n.name) notes) name here
-      | inr later ↦ Contains-append_right (note.name ∷ []) (map (λ (n : Note). n.name) notes) name (still_named marks notes name later)
+      | inr later ↦ Contains-append_right (note.name ∷ []) (map (λ (n : Note). n.name) notes) name (others later)
     ]
-    at false found = Contains-append_right (note.name ∷ []) (map (λ (n : Note). n.name) notes) name (still_named marks notes name found)
+    at false others found = Contains-append_right (note.name ∷ []) (map (λ (n : Note). n.name) notes) name (others found)
 
 pub left_named : (names : List (List ℕ)) (marks : Positions) (input : RoundInputValue) (left : List (List ℕ)) (name : List ℕ) → IsInputOf names marks input left → Contains left name → Contains names name
 left_named names marks input left name is there =

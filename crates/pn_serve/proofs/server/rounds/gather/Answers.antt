@@ -18,7 +18,7 @@ loop-stream-init g c =
     let few = ap (λ (v : RoundInputValue). length v.deliveries) none in
     let left_none : c.replace-streams.new.dest.items ≡ [] = cc (c.replace-streams.ensures.after, c.in-Ok.ensures.left) in
     let left_few = ap length left_none in
-    let given : into_iter_items c.into_iter-stream-iterator.result ≡ c.replace-streams.result.items = c.into_iter-stream-iterator.ensures.into_iter_gives in
+    let given : into_iter_items c.into_iter-stream-iterator.result ≡ c.replace-streams.result.items = c.into_iter-stream-iterator.ensures.into_iter_gives.0 in
     let count = c.args.mailboxes.now.streams.ok.0 in
     let capacity_left : vec_capacity c.replace-streams.new.dest ≡ vec_capacity c.in-Ok.left = cc (c.replace-streams.ensures.after) in
     record {
