@@ -1,5 +1,5 @@
 -- Rounds of what streams gave, one after another.
-use Rattle.std.proofs.Common.{◌≡◌, ◌≢◌, ◌⊎◌, ℕ, ◌+◌, ◌≤◌, ◌<◌, List, [], ◌∷◌, ◌++◌, Option, None, Some, IfSome, IfErr, OnOk, OnErr, inl, inr, refl, sym, ap, ◌∙◌, subst, arith, length, map}
+use Rattle.std.proofs.Common.{◌≡◌, ◌≢◌, ◌⊎◌, ℕ, ◌+◌, ◌≤◌, List, [], ◌∷◌, ◌++◌, Option, None, Some, IfSome, IfErr, OnOk, OnErr, inl, inr, refl, sym, ap, subst, arith, length, map}
 use Rattle.std.specs.Prelude.{Result, Ok, Err, IsErrAnd, MatchResult}
 use Rattle.std.specs.List.{All, Contains}
 use Rattle.std.specs.Result.{result_map_both}
@@ -17,7 +17,7 @@ use Rattle.pn_region.specs.declared.fault.RoundFault.TheVariants.{Gap, TooManySt
 use Rattle.pn_region.proofs.GapLaws.{gap_is_missing}
 use Rattle.pn_live.specs.LiveRegions.{LiveRegionValue, core, LeavesLive}
 use Rattle.pn_serve.specs.Server.Faults.{IsOfRounds}
-use Rattle.pn_serve.specs.Server.Reading.{AllTaken, ReadToEnds, ReadUpTo, RunsRound, RunsRounds, StopsAt}
+use Rattle.pn_serve.specs.Server.Reading.{AllTaken, ReadToEnds, ReadUpTo, RunsRound, RunsRounds}
 use Rattle.pn_serve.specs.Server.Gathering.{IsInputOf}
 use Rattle.pn_serve.specs.Server.Rounds.{RoundInputValue, CanBeTaken, Continues, IsNoGap, IsRoundTaken, IsRoundRefused, TakesInput, stopping}
 use Rattle.pn_serve.specs.declared.server.fault.ServeFault.{ServeFault}
@@ -95,9 +95,13 @@ no_names name (stream ∷ streams) none = absurd (cc)
 -- one more round went well
 taken_push : (at_fault : AtFault) (names : List (List ℕ)) (old : LiveRegionValue) (rounds : List RoundInputValue) (still : List (List ℕ)) (between : LiveRegionValue) (input : RoundInputValue) (left : List (List ℕ)) (new : LiveRegionValue)
     → AllTaken at_fault names old rounds still between → still ≢ [] → RunsRound at_fault still between input left new (Ok tt) → AllTaken at_fault names old (rounds ++ input ∷ []) left new
-taken_push at_fault names old [] still between input left new all some run =
-    (new, left, subst (λ (ns : List (List ℕ)). ns ≢ []) all.0 some,
-        subst (λ (ns : List (List ℕ)). RunsRound at_fault ns old input left new (Ok tt)) all.0 (subst (λ (was : LiveRegionValue). RunsRound at_fault still was input left new (Ok tt)) all.1 run), (refl, refl))
+taken_push at_fault names old [] still between input left new all some run = (
+  new,
+  left,
+  subst (λ (ns : List (List ℕ)). ns ≢ []) all.0 some,
+  subst (λ (ns : List (List ℕ)). RunsRound at_fault ns old input left new (Ok tt)) all.0 (subst (λ (was : LiveRegionValue). RunsRound at_fault still was input left new (Ok tt)) all.1 run),
+  (refl, refl),
+)
 taken_push at_fault names old (first ∷ rounds) still between input left new all some run =
     (all.0, all.1, all.2, all.3, taken_push at_fault all.1 all.0 rounds still between input left new all.4 some run)
 
