@@ -5,7 +5,7 @@ ghost use Rattle.clap.specs.Words.{Row, Text, app_of, first_of, found_of, new_ap
 ghost use Rattle.clap.specs.declared.builder.command.Command.TheViews.{out-Command};
 ghost use Rattle.clap.specs.declared.builder.value_parser.ValueParser.TheVariants as values;
 ghost use Rattle.pn_serve.specs.Arguments.Options.{bounds_option, flag_option, number_option, option_of, plain_option, program, serve as serve_app, streams_words, workers_option};
-ghost use Rattle.pn_serve.specs.Arguments.Commands.{number_at, number_in};
+ghost use Rattle.pn_serve.specs.Arguments.Commands.{is_set, number_at, number_in};
 
 use clap::builder::ValueParser;
 use clap::{Arg, ArgAction, ArgMatches, Command};
@@ -245,6 +245,13 @@ pub(crate) fn option_text<'w>(options: &ArgMatches<'w>, name: &str) -> &'w str
         Some(text) => text,
         None => "",
     }
+}
+
+/// Whether an option without value is given.
+pub(crate) fn is_given(options: &ArgMatches<'_>, name: &str) -> bool
+    ensures { result ≡ is_set name.now (rows_of (found_of options.now)) }
+{
+    option_text(options, name) == "true"
 }
 
 /// A number among the arguments is as written where it is from 1 to the option's most, 1 where none is written, and in
