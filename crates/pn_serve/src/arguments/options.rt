@@ -35,7 +35,7 @@ const REPLAY_ABOUT: &str =
     "Answers the script on standard input, a reply a line, on standard output";
 
 const SERVE_ABOUT: &str =
-    "Reads streams from files while it serves sessions over TCP or a Unix socket";
+    "Reads streams from files or sockets while it serves sessions over TCP or a Unix socket";
 
 /// The examples of `pnuts replay --help`.
 const REPLAY_EXAMPLES: &str = "\
