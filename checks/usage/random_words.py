@@ -3,8 +3,9 @@
   checks/run random-words PROGRAM [--runs N] [--seed S]
 
 Bounds, an address, the path of a socket and streams are drawn from small pools, half of the time with `--stay`. Words that are
-refused have to end with status 2 and that fault, with `--stay` of which text, and why. All others have to fail at what does not
-open or is not listened on, with status 1. Exit status 0 only where all agree and, of 1,000 runs or more, each fault occurs.
+refused have to end with status 2 and that fault, with `--stay` of which text, and why. No path is there, so all others have to end
+with status 1 and the first stream, with `--stay` and its path. Exit status 0 only where all agree and, of 1,000 runs or more, each
+fault occurs.
 """
 import ipaddress
 import json
@@ -143,19 +144,19 @@ def shown(text: str) -> str:
 
 
 def wanted_of(words: Words) -> tuple[int, str]:
-    """The status, and what standard error begins with; to its end where words are refused."""
+    """The status, and what is said on standard error."""
     for kind, (text, why) in faults_of(words):
         return 2, f"pnuts: {kind}: {shown(text)}: {why}\n" if words.stays else f"pnuts: {kind}\n"
-    return 1, "pnuts: cannot "
+    name, _, path = words.streams[0].partition("=")
+    why = f": {path.removeprefix('listen:')}: No such file or directory" if words.stays else ""
+    return 1, f"pnuts: cannot open {name}{why}\n"
 
 
 def fault_of(program: str, words: Words) -> str | None:
     """What is wrong with how a program ends with words."""
     ended = subprocess.run([program, *words.line()], stdin=subprocess.DEVNULL, capture_output=True, timeout=SECONDS)
-    said, (status, wanted) = ended.stderr.decode(), wanted_of(words)
-    is_said = said == wanted if status == 2 else said.startswith(wanted)
-    is_right = ended.returncode == status and is_said and not ended.stdout
-    return None if is_right else f"{words.line()}: status {ended.returncode} and {said!r}, not {status} and {wanted!r}"
+    found, wanted = (ended.returncode, ended.stderr.decode()), wanted_of(words)
+    return None if found == wanted and not ended.stdout else f"{words.line()}: {found}, not {wanted}, or replies"
 
 
 def kind_of(words: Words) -> str:
