@@ -65,7 +65,7 @@ const SOCKET_HELP: &str =
     "A Unix socket that is listened on in place of a port; only its owner may connect";
 
 const STAY_HELP: &str =
-    "Goes on until a signal ends it, and opens a FIFO again once its writer is gone";
+    "Goes on until a signal ends it, and reads one writer of a FIFO or socket after another";
 
 const CONNECTIONS_HELP: &str = "With --stay: how many connections are served at once: 1 to 65536";
 
