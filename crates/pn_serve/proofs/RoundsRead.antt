@@ -95,9 +95,13 @@ no_names name (stream ∷ streams) none = absurd (cc)
 -- one more round went well
 taken_push : (at_fault : AtFault) (names : List (List ℕ)) (old : LiveRegionValue) (rounds : List RoundInputValue) (still : List (List ℕ)) (between : LiveRegionValue) (input : RoundInputValue) (left : List (List ℕ)) (new : LiveRegionValue)
     → AllTaken at_fault names old rounds still between → still ≢ [] → RunsRound at_fault still between input left new (Ok tt) → AllTaken at_fault names old (rounds ++ input ∷ []) left new
-taken_push at_fault names old [] still between input left new all some run =
-    (new, left, subst (λ (ns : List (List ℕ)). ns ≢ []) all.0 some,
-        subst (λ (ns : List (List ℕ)). RunsRound at_fault ns old input left new (Ok tt)) all.0 (subst (λ (was : LiveRegionValue). RunsRound at_fault still was input left new (Ok tt)) all.1 run), (refl, refl))
+taken_push at_fault names old [] still between input left new all some run = (
+  new,
+  left,
+  subst (λ (ns : List (List ℕ)). ns ≢ []) all.0 some,
+  subst (λ (ns : List (List ℕ)). RunsRound at_fault ns old input left new (Ok tt)) all.0 (subst (λ (was : LiveRegionValue). RunsRound at_fault still was input left new (Ok tt)) all.1 run),
+  (refl, refl),
+)
 taken_push at_fault names old (first ∷ rounds) still between input left new all some run =
     (all.0, all.1, all.2, all.3, taken_push at_fault all.1 all.0 rounds still between input left new all.4 some run)
 

@@ -51,7 +51,7 @@ loop-stream-preserved-then-add_note g c =
       gathered =
           subst (λ (names : List (List ℕ)). IsInputOf names marks (value_of c.add_note.new.input) (map name c.push_reserved.new.self.items)) (sym (map_push name yielded stream))
           (subst (λ (names : List (List ℕ)). IsInputOf (map name yielded ++ stream.name ∷ []) marks (value_of c.add_note.new.input) names) (sym pushed)
-              (subst (λ (input : RoundInputValue). IsInputOf (map name yielded ++ stream.name ∷ []) marks input (map name left ++ stream.name ∷ [])) (sym c.add_note.ensures.added) on));
+          (subst (λ (input : RoundInputValue). IsInputOf (map name yielded ++ stream.name ∷ []) marks input (map name left ++ stream.name ∷ [])) (sym c.add_note.ensures.added) on));
       all =
           append_assoc yielded (stream ∷ []) (into_iter_items c.next.new.self)
           ∙ ap (λ more. yielded ++ more) (sym c.in-Some.ensures.steps.0) ∙ so_far.all;

@@ -27,9 +27,9 @@ loop-preserved g c =
     record {
       so_far = one_more at_fault (map name c.args.mailboxes.now.streams.items) c.args.live.now (map name streams) c.loop.live input left c.run_round.new.live so_far.so_far
           (λ none.
-              let zero : vec_len c.loop.mailboxes.streams ≡ 0 = let empty = no_names name streams none in omega (arith, empty, c.loop.mailboxes.streams.ok.0) in
-              let never : true ≡ false = sym (ap (λ (n : ℕ). n == 0) zero) ∙ sym c.is_empty.ensures ∙ c.if-is_empty.false in
-              absurd (cc))
+          let zero : vec_len c.loop.mailboxes.streams ≡ 0 = let empty = no_names name streams none in omega (arith, empty, c.loop.mailboxes.streams.ok.0) in
+          let never : true ≡ false = sym (ap (λ (n : ℕ). n == 0) zero) ∙ sym c.is_empty.ensures ∙ c.if-is_empty.false in
+          absurd (cc))
           run;
       same = c.run_round.ensures.same ∙ so_far.same;
       at_fault = c.in_ok-input.ensures.at_fault ∙ so_far.at_fault;
