@@ -65,11 +65,10 @@ def check_thousand_places(program: str, folder: str) -> None:
 
 
 def write_slowly(is_over: Callable[[], bool], path: str, text: bytes) -> None:
-    """Writes a stream from where the region is, in parts of any size, and reads what the region says."""
+    """Writes a stream from where the region is, in parts of any size."""
     starts, rng = starts_of(text), random.Random()
     with Writer(path) as writer:
         left = memoryview(text)[starts[writer.begin()] :]
-        writer.socket.setblocking(True)
         while left:
             part = rng.randint(1, 300)
             writer.send(left[:part])

@@ -6,7 +6,7 @@ import socket
 import time
 
 from common.served import SECONDS, Json, same
-from serving.staying import KEYS, Staying
+from serving.staying import Staying
 
 TAKEN = b'{"taken":'
 CHUNK = 1 << 16
@@ -16,6 +16,13 @@ def socket_in(folder: str, name: str = "east") -> tuple[str, tuple[str, str]]:
     """The path of a stream's socket, and the stream as a program is told of it."""
     path = os.path.join(folder, f"{name}.socket")
     return path, (name, f"listen:{path}")
+
+
+def made(folder: str, name: str = "east") -> tuple[str, tuple[str, str]]:
+    """A FIFO without a writer, and the stream as a program is told of it."""
+    path = os.path.join(folder, name)
+    os.mkfifo(path)
+    return path, (name, path)
 
 
 def failed(name: str, at: int, line: int, why: str) -> bytes:
@@ -104,9 +111,3 @@ def wait_for_after(path: str, after: int) -> None:
             if writer.begin() == after:
                 return
     raise TimeoutError(f"the region does not have {after}")
-
-
-def newest(count: int, key: str) -> int:
-    """The number of the last version of a key among the first messages of `messages`."""
-    place = int(key[1:])
-    return (count - place) // KEYS
