@@ -157,7 +157,7 @@ def check_no_descriptor_left(program: str, folder: str) -> None:
             same("what a socket's writer is told", writer.begin(), 0)
             writer.send(messages(1, 8))
             wait_for(client, 8)
-        told = [line for line in region.said().splitlines() if b"stream" not in line]
+        told = [line for line in region.said().splitlines() if b"Too many open files" in line]
         same(f"whether {told} are at most one line each for clients and writers", len(told) <= 2, True)
 
 
