@@ -7,7 +7,7 @@ from collections import Counter
 from collections.abc import Callable
 
 from common.served import Client, fifo, message, row_of, same, written
-from serving.staying import Beside, Staying, key_of, messages, pages, replayed, until, watch
+from serving.staying import Beside, Staying, messages, pages, replayed, until, watch
 
 LIVES, MESSAGES = 20, 20_000
 
