@@ -12,7 +12,7 @@ from serving.staying import Staying, key_of, messages, until
 from serving.writers import Writer, failed, made, said_of_faults, socket_in
 
 ENDED = b"pnuts: stream east ended\n"
-LIVES, RESTARTS, QUIET_LIVES = 200, 100, 300
+LIVES, RESTARTS, QUIET_LIVES = 200, 50, 300
 # How soon a feed is started again, and how long a region needs at most to see the end of one that has gone.
 GAPS, SEEN = (0.0, 0.0005, 0.002, 0.01, 0.05), 0.3
 # How long something is looked at, and how much of a processor a region may take in a second in which nothing happens.
