@@ -23,8 +23,8 @@ FILES = {
     "lib/systemd/system/pnuts-feed@.service": 0o644,
     "lib/systemd/system/pnuts.service": 0o644,
     "lib/sysusers.d/pnuts.conf": 0o644,
-    **{f"libexec/pnuts-feeds/{name}": 0o755 for name in FEEDS},
-    **{f"libexec/pnuts-feeds/feed/{path.name}": 0o644 for path in (TOP / "feeds/feed").glob("*.py")},
+    **{f"share/pnuts-feeds/{name}": 0o755 for name in FEEDS},
+    **{f"share/pnuts-feeds/feed/{path.name}": 0o644 for path in (TOP / "feeds/feed").glob("*.py")},
     "share/bash-completion/completions/pnuts": 0o644,
     "share/doc/pnuts-feeds/README.md": 0o644,
     "share/doc/pnuts/third-party": 0o644,
@@ -81,7 +81,7 @@ def check_unit(installed: Path) -> None:
     unit, feed = ((units / it).read_text(encoding="utf-8") for it in ("pnuts.service", "pnuts-feed@.service"))
     found = [it.split(" ")[0] for it in unit.splitlines() if it.startswith(("ExecStart=", "EnvironmentFile="))]
     same("the unit", found, [f"EnvironmentFile={PREFIX}/{ENVIRONMENT}", f"ExecStart={PREFIX}/bin/pnuts"])
-    same("whether the feeds' unit names both", [it in feed for it in (f"={PREFIX}/{ENVIRONMENT}-feed-%i\n", f" {PREFIX}/libexec/pnuts-feeds/$")], [True] * 2)
+    same("whether the feeds' unit names both", [it in feed for it in (f"={PREFIX}/{ENVIRONMENT}-feed-%i\n", f" {PREFIX}/share/pnuts-feeds/$")], [True] * 2)
     same("paths that are not filled in", re.findall("@[A-Z]+@", unit + feed + page), [])
     same("whether its page names the environment file", f"{PREFIX}/{ENVIRONMENT}" in page, True)
 
@@ -169,7 +169,7 @@ def check_make_install(program: Path, folder: Path) -> Iterator[str]:
     environment.write_bytes(as_it_was)
     make("uninstall", root, program)
     same("files left", files_in(root), {})
-    left = [name for name in ("share/doc/pnuts", "share/doc/pnuts-feeds", "libexec/pnuts-feeds", "share/pnuts-feeds") if (installed / name).exists()]
+    left = [name for name in ("share/doc/pnuts", "share/doc/pnuts-feeds", "share/pnuts-feeds") if (installed / name).exists()]
     same("which folders of its own are left", left, [])
     yield "make uninstall: a changed environment file is kept, and all else removed"
 
