@@ -3,11 +3,12 @@ import contextlib
 import fcntl
 import os
 import resource
+import select
 import socket
 import time
 from collections.abc import Iterator
 
-from common.served import Client, row_of, same
+from common.served import SECONDS, Client, row_of, same
 from serving.staying import Staying, key_of, messages, until
 from serving.writers import Writer, failed, made, said_of_faults, socket_in
 
@@ -61,20 +62,28 @@ def without_descriptors(region: Staying) -> Iterator[None]:
         yield
 
 
+def wait_at(errors: int, words: bytes) -> None:
+    """Waits at the other end of standard error until it has these words."""
+    last, said = time.monotonic() + SECONDS, b""
+    while words not in said:
+        if not select.select([errors], [], [], max(0.0, last - time.monotonic()))[0]:
+            raise TimeoutError(f"it does not say {words!r}")
+        said += os.read(errors, 4_096)
+
+
 def check_writer_right_after_the_end(program: str, folder: str) -> None:
     """A FIFO's writer that comes as soon as the end of the one before was told is read, two hundred times."""
     path, east = made(folder)
     ours, theirs = os.pipe()
-    with open(ours, "rb") as said, Staying(program, folder, [east], errors=theirs) as region, Client(region.port) as client:
+    with open(ours, "rb"), Staying(program, folder, [east], errors=theirs) as region, Client(region.port) as client:
         os.close(theirs)
         # The first one waits until the region has opened the FIFO.
         with open(path, "wb", buffering=0) as first:
             first.write(messages(1, 1))
         for at in range(2, LIVES + 2):
-            while said.readline() != ENDED:
-                pass
-            first = 1 if at % 10 == 0 else at
-            write(path, messages(first, at - first + 1))
+            wait_at(ours, ENDED)
+            begin = 1 if at % 10 == 0 else at
+            write(path, messages(begin, at - begin + 1))
             wait_for(client, at)
         same("it is running", region.is_running(), True)
 
