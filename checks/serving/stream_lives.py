@@ -70,7 +70,7 @@ def write_slowly(is_over: Callable[[], bool], path: str, text: bytes) -> None:
     with Writer(path) as writer:
         left = memoryview(text)[starts[writer.begin()] :]
         while left:
-            part = rng.randint(1, 300)
+            part = rng.randint(1, 2_000)
             writer.send(left[:part])
             left = left[part:]
             time.sleep(0.0005)
@@ -98,7 +98,7 @@ def killed_again_and_again(path: str, text: bytes, times: int) -> Iterator[None]
 def check_killed_writers(program: str, folder: str) -> None:
     """Sixty writers are killed while they write, and the next one waits already or comes at once: in the end all is there."""
     path, east = socket_in(folder)
-    streams = {"east": messages(1, MESSAGES // 2)}
+    streams = {"east": messages(1, MESSAGES)}
     with Staying(program, folder, [east], *WORDS) as region, Beside(watch, region.port, CLIENTS), Client(region.port) as client:
         with killed_again_and_again(path, streams["east"], KILLED):
             wanted = replayed(program, streams, *WORDS)

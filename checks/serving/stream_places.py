@@ -9,7 +9,7 @@ import subprocess
 import termios
 import time
 
-from common.served import SECONDS, Client, fifo, message, row_of, same, written
+from common.served import SECONDS, Client, fifo, free_port, message, row_of, same, written
 from serving.staying import Staying, key_of, messages
 from serving.writers import Writer, said_of_faults, socket_in, wait_for_after, written_by
 
@@ -21,7 +21,7 @@ VAIN = 1.0
 
 def refused(program: str, *words: str) -> bytes:
     """What is said where a program does not start."""
-    line = [program, "serve", *words]
+    line = [program, "serve", "--port", str(free_port()), *words]
     ran = subprocess.run(line, stdin=subprocess.DEVNULL, capture_output=True, timeout=SECONDS)
     same(f"how it ends with {words}", (ran.returncode, ran.stdout), (1, b""))
     return ran.stderr
@@ -29,7 +29,7 @@ def refused(program: str, *words: str) -> bytes:
 
 def fails_at(program: str, path: str, why: str) -> None:
     """Does not start where a stream's socket cannot be at a path, and says so with the path and the system's reason."""
-    said = refused(program, "--stay", "--port", "0", f"east=listen:{path}").decode()
+    said = refused(program, "--stay", f"east=listen:{path}").decode()
     same(f"whether it says where: {said!r}", said.startswith("pnuts: cannot ") and path in said and said.endswith(f": {why}\n"), True)
 
 
@@ -64,7 +64,7 @@ def check_place_in_use(program: str, folder: str) -> None:
 def check_without_staying(program: str, folder: str) -> None:
     """Without --stay such a word is the path of a file, and what is said has no reason."""
     path, (name, place) = socket_in(folder)
-    same("what is said", refused(program, "--port", "0", f"{name}={place}"), b"pnuts: cannot open east\n")
+    same("what is said", refused(program, f"{name}={place}"), b"pnuts: cannot open east\n")
     same("whether a socket is there", os.path.exists(path), False)
 
 
