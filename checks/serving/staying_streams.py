@@ -39,8 +39,10 @@ def check_killed_writers(program: str, folder: str) -> None:
         writer = stay.enter_context(Beside(write, path, cut(streams["east"])))
         region = stay.enter_context(Staying(program, folder, [("east", path), ("west", west)], *words))
         stay.enter_context(Beside(watch, region.port, 32))
+        with Client(region.port) as client:
+            until("the first writer is read", lambda: "'v': 'x'" in str(client.read("k001")))
         for life in range(1, LIVES + 1):
-            # Some die while they wait for the region, and some once it has all of theirs.
+            # Some die while they write, and some once the region has all of theirs.
             region.wait_for_words(begun, life - 1)
             time.sleep(random.choice([0.02, 0.3]))
             writer.kill()
