@@ -1,5 +1,6 @@
 """Where writers of a stream may begin, their faults, and what they are told: checks of `checks/run streams`."""
 import contextlib
+import itertools
 import json
 import threading
 import time
@@ -59,7 +60,7 @@ def check_beginnings(program: str, folder: str) -> None:
         written_by(path, messages(has + 1, 1), has)
         client.wait_for(key_of(has + 1), row_of(key_of(has + 1), 0, "x"))
         said = [failed("east", has + 1, 1, f"gap, got {first}, wanted {has + 1}") for first in (has + 2, has + 50, 10**15)]
-        same("what is said", said_of_faults(region), said)
+        until(f"it says {said}", lambda: said_of_faults(region) == said)
 
 
 def check_faults(program: str, folder: str) -> None:
@@ -77,8 +78,8 @@ def check_faults(program: str, folder: str) -> None:
                     same(f"what is told of {text[:90]!r}", writer.last_lines(), [line_of({"at": at, **told})])
                 said.append(failed("east", at, good + 1, why))
                 has += good
-        same("how often something is said", len(said_of_faults(region)), len(said))
-        for found, wanted in zip(said_of_faults(region), said):
+        until(f"all {len(said)} faults are said", lambda: len(said_of_faults(region)) >= len(said))
+        for found, wanted in itertools.zip_longest(said_of_faults(region), said):
             same("what is said", found, wanted)
         print(f"  {len(said)} writers were told of their faults")
 
@@ -99,7 +100,7 @@ def check_steps(program: str, folder: str) -> None:
             has = max(has, wanted - 1)
             said.append(failed("east", wanted, count + 1, f"out-of-step, got {got}"))
             client.wait_for(key_of(has), row_of(key_of(has), 0, "x"))
-        same("what is said", said_of_faults(region), said)
+        until(f"it says {said}", lambda: said_of_faults(region) == said)
         same("what is there of them", client.read("out"), {"row": None})
 
 
