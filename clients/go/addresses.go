@@ -9,8 +9,6 @@ import (
 	"strings"
 )
 
-const defaultPort = "7070"
-
 // An address says where a region is, and how TLS is spoken there, if it is.
 type address struct {
 	network, place string
@@ -28,7 +26,7 @@ func addressOf(text string, configuration *tls.Config) (address, error) {
 	}
 	port := parts.Port()
 	if port == "" {
-		port = defaultPort
+		port = "7070"
 	}
 	if parts.Scheme == "tcp" {
 		configuration = nil

@@ -8,6 +8,7 @@ import (
 	"encoding/json"
 	"errors"
 	"fmt"
+	"math"
 	"net"
 	"sync"
 	"time"
@@ -27,11 +28,11 @@ type Options struct {
 
 // A Client reads from a region. Its calls may be made from any goroutine; their lines are in flight together.
 type Client struct {
-	address     address
-	options     Options
-	mutex       sync.Mutex
+	address address
+	options Options
+	mutex   sync.Mutex
+	// None once it is closed.
 	connections []*connection
-	isClosed    bool
 	running     sync.WaitGroup
 }
 
@@ -42,18 +43,17 @@ func Open(address string, options Options) (*Client, error) {
 	if err != nil {
 		return nil, err
 	}
-	if options.Connections <= 0 {
-		options.Connections = 1
-	}
 	if options.Timeout == 0 {
 		options.Timeout = 10 * time.Second
+	} else if options.Timeout < 0 {
+		options.Timeout = math.MaxInt64
 	}
 	if options.Retries == 0 {
 		options.Retries = 3
 	}
-	client := &Client{address: where, options: options}
+	client := &Client{address: where, options: options, connections: []*connection{newConnection()}}
 	for len(client.connections) < options.Connections {
-		client.connections = append(client.connections, endedConnection())
+		client.connections = append(client.connections, newConnection())
 	}
 	return client, nil
 }
@@ -61,10 +61,10 @@ func Open(address string, options Options) (*Client, error) {
 // Close ends all sessions. Calls that wait fail.
 func (c *Client) Close() {
 	c.mutex.Lock()
-	c.isClosed = true
-	for _, connection := range c.connections {
-		connection.end(&ConnectionFailed{net.ErrClosed})
+	for _, open := range c.connections {
+		open.end(&ConnectionFailed{net.ErrClosed})
 	}
+	c.connections = nil
 	c.mutex.Unlock()
 	c.running.Wait()
 }
@@ -75,18 +75,16 @@ func ask[A any](ctx context.Context, c *Client, command map[string]any, means me
 	if err != nil {
 		return answer, err
 	}
-	connection, reply, err := c.reply(ctx, line, command["do"] == "copy")
+	received, err := c.reply(ctx, line, command["do"] == "copy")
 	if err != nil {
 		return answer, err
 	}
-	members, err := replyOf(reply.line)
-	members.text = reply.text
-	answer, isReply := means(members)
-	if err == nil && !isReply {
-		err = &ProtocolError{fmt.Sprintf("no reply to %.80q: %.200q", line, reply.line)}
+	if received.reply["error"] != nil {
+		return answer, refusalOf(received.reply)
 	}
-	if broken := (*ProtocolError)(nil); errors.As(err, &broken) {
-		connection.end(err)
+	answer, isReply := means(received.reply, received.text)
+	if !isReply {
+		err = &ProtocolError{fmt.Sprintf("no reply to %.80q: %.200v", line, received.reply)}
 	}
 	return answer, err
 }
@@ -100,14 +98,14 @@ func lineOf(command map[string]any) ([]byte, error) {
 	return append(line, '\n'), err
 }
 
-// reply gives the reply to a line, and the connection that it came by.
-func (c *Client) reply(caller context.Context, line []byte, hasLines bool) (*connection, received, error) {
-	ctx, stop := within(caller, c.options.Timeout)
+// reply is what is received for a line, by as many tries as it takes.
+func (c *Client) reply(caller context.Context, line []byte, hasLines bool) (received, error) {
+	ctx, stop := context.WithTimeout(caller, c.options.Timeout)
 	defer stop()
 	for tries := 1; ; tries++ {
 		connection, err := c.connection()
 		if err != nil {
-			return nil, received{}, err
+			return received{}, err
 		}
 		before := connection.lines.Load()
 		reply, err := connection.ask(ctx, &call{line, hasLines, make(chan received, 1)})
@@ -125,44 +123,35 @@ func (c *Client) reply(caller context.Context, line []byte, hasLines bool) (*con
 		if errors.Is(err, context.DeadlineExceeded) {
 			err = &TimedOut{}
 		}
-		return connection, reply, err
+		return reply, err
 	}
 }
 
-// connection is the one with the fewest calls, where one that is not open has none.
+// connection is the one with the fewest calls, opened where it is not.
 func (c *Client) connection() (*connection, error) {
 	c.mutex.Lock()
 	defer c.mutex.Unlock()
-	if c.isClosed {
+	if c.connections == nil {
 		return nil, &ConnectionFailed{net.ErrClosed}
 	}
-	least := 0
-	for at, connection := range c.connections {
-		if connection.load() < c.connections[least].load() {
-			least = at
+	least := c.connections[0]
+	for at, open := range c.connections {
+		if open.ended.Err() != nil {
+			open = newConnection()
+			c.connections[at] = open
+		}
+		if at == 0 || open.calls.Load() < least.calls.Load() {
+			least = open
 		}
 	}
-	if c.connections[least].ended.Err() != nil {
-		opened := newConnection()
-		c.connections[least] = opened
+	least.opening.Do(func() {
 		c.running.Add(1)
-		go func() { defer c.running.Done(); opened.run(c.address, c.options.Timeout) }()
-	}
-	return c.connections[least], nil
-}
-
-// within is a context that ends after a time; it does not by itself after less than 0.
-func within(ctx context.Context, time time.Duration) (context.Context, context.CancelFunc) {
-	if time < 0 {
-		return context.WithCancel(ctx)
-	}
-	return context.WithTimeout(ctx, time)
+		go func() { defer c.running.Done(); least.run(c.address, c.options.Timeout) }()
+	})
+	return least, nil
 }
 
 // pause is how long to wait before another try: 0.1 seconds, and twice as long each time, at most 1 second.
 func pause(tries int) time.Duration {
-	if tries > 4 {
-		return time.Second
-	}
-	return 50 * time.Millisecond << tries
+	return time.Duration(math.Min(0.05*math.Exp2(float64(tries)), 1) * float64(time.Second))
 }

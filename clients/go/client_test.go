@@ -39,8 +39,8 @@ func TestLookups(t *testing.T) {
 	client, keys := opened(t, Options{})
 	record, err := client.ReadAtLeast(background, "k001", Version{1, 0})
 	must(t, err)
-	same(t, "record", *record, Record{[]Content{{Fields: map[string]Value{"city": Text("Rome")}, Master: "w"}}, "k001", "one", Version{1, 0}})
-	same(t, "fields", record.Fields(), map[string]Value{"city": Text("Rome")})
+	same(t, "record", *record, Record{"k001", Version{1, 0}, "one", []Content{{Fields: Fields{"city": "Rome"}, Master: "w"}}})
+	same(t, "fields", record.Fields(), Fields{"city": "Rome"})
 	record, err = client.Read(background, "z")
 	must(t, err)
 	same(t, "no record", record == nil, true)
@@ -56,7 +56,7 @@ func TestLookups(t *testing.T) {
 func TestScans(t *testing.T) {
 	client, keys := opened(t, Options{})
 	same(t, "all keys", scanned(t, client.Scan(background, Query{Limit: 7})), keys)
-	where := []Condition{Eq("city", Text("Rome")), Has("city")}
+	where := []Condition{Eq("city", "Rome"), Has("city")}
 	found := scanned(t, client.Scan(background, Query{From: "k010", To: "k020", Where: where, Limit: 2}))
 	same(t, "keys", found, "[k011 k013 k015 k017 k019]")
 	scanner := client.Scan(background, Query{Limit: 1001})

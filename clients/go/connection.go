@@ -4,8 +4,7 @@ import (
 	"bufio"
 	"bytes"
 	"context"
-	"errors"
-	"io"
+	"fmt"
 	"net"
 	"sync"
 	"sync/atomic"
@@ -17,20 +16,21 @@ const (
 	window = 64
 	// pieceSize is how many bytes are read or written at a time.
 	pieceSize = 64 * 1024
-	// maxLine is how many bytes of a line make the other side no region. A page of 1,000 rows has fewer.
+	// maxLine is how many bytes a line has at most. A page of 1,000 rows has fewer.
 	maxLine = 64 * 1024 * 1024
 )
 
-// A call is a line, whether lines of text follow its reply, and where that goes.
+// A call is a line, whether lines of text follow its reply, and where both go.
 type call struct {
 	line     []byte
 	hasLines bool
 	replied  chan received
 }
 
-// What was received for a call: the line of its reply, and the text that follows it.
+// What was received for a call: the members of the reply, and the text that follows it.
 type received struct {
-	line, text []byte
+	reply map[string]any
+	text  []byte
 }
 
 // A connection is a session of the region. One goroutine writes its lines, and one reads their replies.
@@ -44,6 +44,8 @@ type connection struct {
 	cancel context.CancelFunc
 	ending sync.Once
 	fault  error
+	// Whether it was opened, or is to be.
+	opening sync.Once
 }
 
 func newConnection() *connection {
@@ -51,24 +53,9 @@ func newConnection() *connection {
 	return &connection{unsent: make(chan *call, window), sent: make(chan *call, window), ended: ended, cancel: cancel}
 }
 
-// endedConnection stands where none is open.
-func endedConnection() *connection {
-	none := newConnection()
-	none.end(nil)
-	return none
-}
-
-// load is how many calls wait for it, none where it has ended.
-func (c *connection) load() int64 {
-	if c.ended.Err() != nil {
-		return 0
-	}
-	return c.calls.Load()
-}
-
-// run opens the connection, and returns once it has ended.
+// run opens the connection, and returns once nothing of it is left.
 func (c *connection) run(where address, timeout time.Duration) {
-	opening, stop := within(c.ended, timeout)
+	opening, stop := context.WithTimeout(c.ended, timeout)
 	defer stop()
 	socket, err := where.dial(opening)
 	if err != nil {
@@ -77,7 +64,7 @@ func (c *connection) run(where address, timeout time.Duration) {
 	}
 	var both sync.WaitGroup
 	both.Add(2)
-	go func() { defer both.Done(); c.end(c.write(socket)) }()
+	go func() { defer both.Done(); c.end(&ConnectionFailed{c.write(socket)}) }()
 	go func() { defer both.Done(); c.end(c.read(socket)) }()
 	<-c.ended.Done()
 	socket.Close()
@@ -107,76 +94,70 @@ func (c *connection) ask(ctx context.Context, asked *call) (received, error) {
 	}
 }
 
-// write writes the lines of calls, those that are at hand together, and all before it waits.
+// write writes the lines of calls: those that are at hand together, and all of them before it waits.
 func (c *connection) write(socket net.Conn) error {
 	out := bufio.NewWriterSize(socket, pieceSize)
-	var err error
-	for err == nil {
+	for asked := (*call)(nil); ; {
 		select {
-		case asked := <-c.unsent:
-			if len(c.sent) == window {
-				out.Flush()
-			}
-			select {
-			case c.sent <- asked:
-				_, err = out.Write(asked.line)
-			case <-c.ended.Done():
-			}
+		case asked = <-c.unsent:
 		case <-c.ended.Done():
-			return nil
+			return c.fault
 		}
-		if len(c.unsent) == 0 && err == nil {
-			err = out.Flush()
+		select {
+		case c.sent <- asked:
+		case <-c.ended.Done():
+			return c.fault
+		}
+		out.Write(asked.line)
+		if len(c.unsent) == 0 || len(c.sent) == window {
+			if err := out.Flush(); err != nil {
+				return err
+			}
 		}
 	}
-	return &ConnectionFailed{err}
 }
 
 // read gives each call its reply, in order.
 func (c *connection) read(socket net.Conn) error {
 	lines := bufio.NewScanner(socket)
 	lines.Buffer(make([]byte, pieceSize), maxLine)
-	lines.Split(wholeLine)
+	lines.Split(c.wholeLine)
 	for lines.Scan() {
-		c.lines.Add(1)
+		value, err := valueOf(lines.Bytes())
+		got := received{reply: as[map[string]any](value)}
+		if err != nil || got.reply == nil {
+			return &ProtocolError{fmt.Sprintf("a reply is none of a region: %.200q", lines.Bytes())}
+		}
 		select {
 		case asked := <-c.sent:
-			reply, isWhole := received{line: append([]byte(nil), lines.Bytes()...)}, true
-			if asked.hasLines {
-				reply.text, isWhole = c.readText(lines, reply.line)
-			}
-			if isWhole {
-				asked.replied <- reply
+			if !asked.hasLines || got.readText(lines) {
+				asked.replied <- got
 			}
 		default:
 			return &ProtocolError{"a reply came to no line"}
 		}
 	}
-	switch err := lines.Err(); {
-	case errors.Is(err, bufio.ErrTooLong):
+	if lines.Err() == bufio.ErrTooLong {
 		return &ProtocolError{"a reply does not end"}
-	case err != nil:
-		return &ConnectionFailed{err}
 	}
-	return &ConnectionFailed{io.ErrUnexpectedEOF}
+	return &ConnectionFailed{fmt.Errorf("it ended, error %v", lines.Err())}
+}
+
+// wholeLine finds a line with its newline, and counts it. What comes without one is none.
+func (c *connection) wholeLine(data []byte, _ bool) (int, []byte, error) {
+	size := bytes.IndexByte(data, '\n') + 1
+	if size == 0 {
+		return 0, nil, nil
+	}
+	c.lines.Add(1)
+	return size, data[:size], nil
 }
 
 // readText reads the lines that follow a reply which says how many, and says whether all came.
-func (c *connection) readText(lines *bufio.Scanner, line []byte) ([]byte, bool) {
-	var text []byte
-	members, _ := replyOf(line)
-	left := members.Lines
+func (r *received) readText(lines *bufio.Scanner) bool {
+	left := as[int64](r.reply["lines"])
 	for ; left > 0 && lines.Scan(); left-- {
-		c.lines.Add(1)
-		text = append(text, lines.Bytes()...)
+		r.text = append(r.text, lines.Bytes()...)
 	}
-	return text, left <= 0
-}
-
-// wholeLine finds a line with its newline: what comes without one is none.
-func wholeLine(data []byte, _ bool) (int, []byte, error) {
-	if end := bytes.IndexByte(data, '\n'); end >= 0 {
-		return end + 1, data[:end+1], nil
-	}
-	return 0, nil, nil
+	return left <= 0
 }

@@ -2,7 +2,6 @@ package pnuts
 
 import (
 	"context"
-	"encoding/json"
 	"fmt"
 )
 
@@ -30,20 +29,20 @@ func (e *ProtocolError) Error() string { return "pnuts: " + e.Text }
 // A Refusal is any error that the region answered with.
 type Refusal interface {
 	error
-	// Reply is the region's whole reply, a line of JSON.
-	Reply() string
+	// Members of the region's reply.
+	Members() map[string]any
 }
 
 // Refused is a refusal that no other type is for, and a part of each other.
 type Refused struct {
-	Reason string `json:"error"`
-	reply  string
+	Reason  string
+	members map[string]any
 }
 
-func (e *Refused) Error() string { return "pnuts: refused: " + e.reply }
+func (e *Refused) Error() string { return fmt.Sprintf("pnuts: refused: %v", e.members) }
 
-// Reply is the region's whole reply, a line of JSON.
-func (e *Refused) Reply() string { return e.reply }
+// Members are those of the region's reply.
+func (e *Refused) Members() map[string]any { return e.members }
 
 // BadLine says that the line was at fault: Reason is too-long, not-json, bad-shape, out-of-range or read-only. Member names
 // the member at fault, where there is one.
@@ -55,7 +54,7 @@ type BadLine struct {
 // Recovering says that a tablet that the answer needs was lost and has not adopted a copy yet.
 type Recovering struct {
 	Refused
-	Tablet int
+	Tablet int64
 }
 
 // RecordBehind says that the record is not there in the version that was required. Has is its version, nil where it is absent.
@@ -77,27 +76,23 @@ type NoEntry struct{ Refused }
 // OutOfMemory says that the region had no memory for the answer. Another try may get it.
 type OutOfMemory struct{ Refused }
 
-// refusalOf is the error of a reply that has a reason, and may have a stream.
-func refusalOf(line []byte, reason, stream string) error {
-	base := Refused{reply: string(line)}
-	var refusal Refusal = &base
-	switch reason {
+// refusalOf is the error of a reply with a member "error".
+func refusalOf(reply map[string]any) error {
+	base := Refused{as[string](reply["error"]), reply}
+	switch base.Reason {
 	case "too-long", "not-json", "bad-shape", "out-of-range", "read-only":
-		refusal = &BadLine{Refused: base}
+		return &BadLine{base, as[string](reply["member"])}
 	case "recovering":
-		refusal = &Recovering{Refused: base}
-	case "behind":
-		refusal = &RecordBehind{Refused: base}
-		if stream != "" {
-			refusal = &CopyBehind{Refused: base}
-		}
+		return &Recovering{base, as[int64](reply["tablet"])}
 	case "no-entry":
-		refusal = &NoEntry{base}
+		return &NoEntry{base}
 	case "memory":
-		refusal = &OutOfMemory{base}
+		return &OutOfMemory{base}
+	case "behind":
+		if stream := as[string](reply["stream"]); stream != "" {
+			return &CopyBehind{base, stream, as[int64](reply["has"]), as[int64](reply["wanted"])}
+		}
+		return &RecordBehind{base, versionOf(reply["has"])}
 	}
-	if err := json.Unmarshal(line, refusal); err != nil {
-		return &ProtocolError{fmt.Sprintf("no refusal of a region: %s", line)}
-	}
-	return refusal
+	return &base
 }

@@ -11,15 +11,13 @@ func writeWhole(path string, text []byte) error {
 	if err != nil {
 		return err
 	}
+	defer os.Remove(file.Name())
 	_, err = file.Write(text)
 	if closed := file.Close(); err == nil {
 		err = closed
 	}
 	if err == nil {
 		err = os.Rename(file.Name(), path)
-	}
-	if err != nil {
-		os.Remove(file.Name())
 	}
 	return err
 }

@@ -1,22 +1,22 @@
 package pnuts
 
-// A Condition is what a field has to meet.
-type Condition []Value
+// A Condition is what a field has to meet. A value is a string or an int64.
+type Condition []any
 
 // Has says that the field is there.
-func Has(field string) Condition { return Condition{Text("has"), Text(field)} }
+func Has(field string) Condition { return Condition{"has", field} }
 
-// Eq says that the field is this text, or this number.
-func Eq(field string, value Value) Condition { return Condition{Text("eq"), Text(field), value} }
+// Eq says that the field is this value.
+func Eq(field string, value any) Condition { return Condition{"eq", field, value} }
 
 // Lt says that the field is a text less than this one, by bytes, or a number less than this one.
-func Lt(field string, value Value) Condition { return Condition{Text("lt"), Text(field), value} }
+func Lt(field string, value any) Condition { return Condition{"lt", field, value} }
 
 // Gt says that the field is a text greater than this one, by bytes, or a number greater than this one.
-func Gt(field string, value Value) Condition { return Condition{Text("gt"), Text(field), value} }
+func Gt(field string, value any) Condition { return Condition{"gt", field, value} }
 
 // Prefix says that the field is a text that begins with this one.
-func Prefix(field, text string) Condition { return Condition{Text("prefix"), Text(field), Text(text)} }
+func Prefix(field, text string) Condition { return Condition{"prefix", field, text} }
 
 // A Query asks for the records from From on, below To and above After, that meet all conditions of Where; Limit rows a
 // page, 100 where it is 0. An end that is empty is open.
@@ -39,7 +39,7 @@ func (q Query) within(low, high string) (Query, bool) {
 
 func greater(one, other string) string {
 	if one < other {
-		return other
+		one = other
 	}
 	return one
 }

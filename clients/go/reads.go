@@ -1,9 +1,6 @@
 package pnuts
 
-import (
-	"context"
-	"sync"
-)
+import "context"
 
 // maxKeys is how many keys one line may have.
 const maxKeys = 100
@@ -41,7 +38,7 @@ func (c *Client) Get(ctx context.Context, keys []string) ([]*Record, error) {
 
 // Page gives a page of what a query asks for, without deleted records.
 func (c *Client) Page(ctx context.Context, query Query) (Page, error) {
-	return ask(ctx, c, map[string]any{"do": "scan", "query": query}, page)
+	return ask(ctx, c, map[string]any{"do": "scan", "query": query}, page(query))
 }
 
 // Scan gives what a query asks for, page by page. While the region changes, each page is of its own moment.
@@ -59,22 +56,17 @@ func (c *Client) Copy(ctx context.Context, tablet int, path string, need map[str
 	return writeWhole(path, text)
 }
 
-// together does something with each number below a count, a window of them at once, and gives the first error.
+// together does something with each number below a count at once, and gives an error of those that there are.
 func together(count int, do func(int) error) error {
-	var running sync.WaitGroup
-	faults, places := make(chan error, count), make(chan struct{}, window)
+	faults := make(chan error, count)
 	for at := 0; at < count; at++ {
-		places <- struct{}{}
-		running.Add(1)
-		go func(at int) {
-			defer running.Done()
-			if err := do(at); err != nil {
-				faults <- err
-			}
-			<-places
-		}(at)
+		go func(at int) { faults <- do(at) }(at)
 	}
-	running.Wait()
-	close(faults)
-	return <-faults
+	var fault error
+	for at := 0; at < count; at++ {
+		if err := <-faults; err != nil {
+			fault = err
+		}
+	}
+	return fault
 }

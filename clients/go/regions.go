@@ -54,13 +54,9 @@ func (r *Regions) Get(ctx context.Context, keys []string) ([]*Record, error) {
 // Scan is as that of a client, from one region on to the next.
 func (r *Regions) Scan(ctx context.Context, query Query) *Scanner {
 	scanner, low := &Scanner{ctx: ctx}, ""
-	for at, client := range r.clients {
-		high := ""
-		if at < len(r.bounds) {
-			high = r.bounds[at]
-		}
+	for at, high := range append(append([]string{}, r.bounds...), "") {
 		if share, isAny := query.within(low, high); isAny {
-			scanner.parts = append(scanner.parts, part{client, share})
+			scanner.parts = append(scanner.parts, part{r.clients[at], share})
 		}
 		low = high
 	}

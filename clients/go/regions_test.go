@@ -54,5 +54,5 @@ func TestTwoRegions(t *testing.T) {
 	same(t, "records", keysOf(records), "[n  a n]")
 	record, err := both.Of("m").Read(background, "m")
 	must(t, err)
-	same(t, "fields", record.Fields(), map[string]Value{"v": Text("high")})
+	same(t, "fields", record.Fields(), Fields{"v": "high"})
 }

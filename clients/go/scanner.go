@@ -18,13 +18,20 @@ type part struct {
 	query  Query
 }
 
-// Next goes to the next record, and says whether there is one.
+// Next goes to the next record, of the next page where need be, and says whether there is one.
 func (s *Scanner) Next() bool {
 	if len(s.records) > 0 {
 		s.records = s.records[1:]
 	}
 	for len(s.records) == 0 && len(s.parts) > 0 && s.err == nil {
-		s.turnPage()
+		var page Page
+		page, s.err = s.parts[0].client.Page(s.ctx, s.parts[0].query)
+		s.records = page.Records
+		if page.Next != nil {
+			s.parts[0].query = *page.Next
+		} else {
+			s.parts = s.parts[1:]
+		}
 	}
 	return len(s.records) > 0
 }
@@ -34,14 +41,3 @@ func (s *Scanner) Record() *Record { return s.records[0] }
 
 // Err is why there is no next record, nil after the last.
 func (s *Scanner) Err() error { return s.err }
-
-// turnPage takes the next page.
-func (s *Scanner) turnPage() {
-	page, err := s.parts[0].client.Page(s.ctx, s.parts[0].query)
-	s.records, s.err = page.Records, err
-	if page.Next != nil {
-		s.parts[0].query = *page.Next
-	} else {
-		s.parts = s.parts[1:]
-	}
-}
