@@ -24,9 +24,8 @@ func (s *Scanner) Next() bool {
 		s.records = s.records[1:]
 	}
 	for len(s.records) == 0 && len(s.parts) > 0 && s.err == nil {
-		var page Page
-		page, s.err = s.parts[0].client.Page(s.ctx, s.parts[0].query)
-		s.records = page.Records
+		page, err := s.parts[0].client.Page(s.ctx, s.parts[0].query)
+		s.records, s.err = page.Records, err
 		if page.Next != nil {
 			s.parts[0].query = *page.Next
 		} else {
