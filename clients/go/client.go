@@ -18,7 +18,7 @@ import (
 type Options struct {
 	// How many connections are open at most, each a session of the region: 1.
 	Connections int
-	// How long a call waits for its reply, beside what its context says: 10 seconds. Less than 0: for ever.
+	// How long a call waits for its reply, beside what its context says: 10 seconds.
 	Timeout time.Duration
 	// How often a call is tried again where the connection breaks: 3. Less than 0: never.
 	Retries int
@@ -45,8 +45,6 @@ func Open(address string, options Options) (*Client, error) {
 	}
 	if options.Timeout == 0 {
 		options.Timeout = 10 * time.Second
-	} else if options.Timeout < 0 {
-		options.Timeout = math.MaxInt64
 	}
 	if options.Retries == 0 {
 		options.Retries = 3

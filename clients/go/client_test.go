@@ -129,7 +129,7 @@ func TestHalfACopyAndAnotherSession(t *testing.T) {
 
 func TestALateReplyIsNeverThatOfAnotherLine(t *testing.T) {
 	late := `{"row":{"contents":[{"deleted":true,"master":"w"}],"key":"k","state":"deleted","version":[1,1]}}` + "\n"
-	client := open(t, fake(t, listen(t), []string{"300ms", late + none + "\n"}, []string{none + "\n"}), Options{Timeout: -1})
+	client := open(t, fake(t, listen(t), []string{"300ms", late + none + "\n"}, []string{none + "\n"}), Options{Timeout: time.Hour})
 	ctx, stop := context.WithTimeout(background, 100*time.Millisecond)
 	defer stop()
 	_, err := client.Read(ctx, "k")

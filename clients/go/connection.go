@@ -6,6 +6,7 @@ import (
 	"context"
 	"fmt"
 	"net"
+	"runtime"
 	"sync"
 	"sync/atomic"
 	"time"
@@ -109,6 +110,10 @@ func (c *connection) write(socket net.Conn) error {
 			return c.fault
 		}
 		out.Write(asked.line)
+		if len(c.unsent) == 0 {
+			// Others may be about to send.
+			runtime.Gosched()
+		}
 		if len(c.unsent) == 0 || len(c.sent) == window {
 			if err := out.Flush(); err != nil {
 				return err
@@ -123,9 +128,9 @@ func (c *connection) read(socket net.Conn) error {
 	lines.Buffer(make([]byte, pieceSize), maxLine)
 	lines.Split(c.wholeLine)
 	for lines.Scan() {
-		value, err := valueOf(lines.Bytes())
+		value, isJSON := valueOf(lines.Bytes())
 		got := received{reply: as[map[string]any](value)}
-		if err != nil || got.reply == nil {
+		if !isJSON || got.reply == nil {
 			return &ProtocolError{fmt.Sprintf("a reply is none of a region: %.200q", lines.Bytes())}
 		}
 		select {

@@ -1,45 +1,46 @@
 package pnuts
 
 import (
-	"bytes"
 	"encoding/json"
-	"errors"
 	"strconv"
 	"strings"
 	"unicode/utf8"
 )
 
-// A reader reads compact JSON as encoding/json does, but for numbers: they are an int64, and what is none is the fault.
+// A reader reads what is left of JSON as encoding/json does, but for numbers: they are an int64, and one that is none is noted.
 type reader struct {
-	left  string
-	fault error
+	left       string
+	isFraction bool
 }
 
-// valueOf is the value of JSON.
-func valueOf(text []byte) (any, error) {
-	compact := bytes.NewBuffer(make([]byte, 0, len(text)+1))
-	if err := json.Compact(compact, text); err != nil || !utf8.Valid(text) {
-		return nil, errors.New("no JSON in UTF-8")
+// valueOf is the value of JSON that ends in a newline, and whether it is JSON of whole numbers.
+func valueOf(line []byte) (any, bool) {
+	if !json.Valid(line) || !utf8.Valid(line) {
+		return nil, false
 	}
-	compact.WriteByte('\n')
-	read := reader{left: compact.String()}
+	read := reader{left: string(line)}
 	value := read.value()
-	return value, read.fault
+	return value, !read.isFraction
+}
+
+// next is the byte that the next token begins with. As it is JSON, what separates tokens says nothing more.
+func (r *reader) next() byte {
+	r.left = strings.TrimLeft(r.left, ",: \t\r\n")
+	return r.left[0]
 }
 
 func (r *reader) value() any {
-	switch r.left[0] {
+	switch r.next() {
 	case '{':
 		members := map[string]any{}
-		r.items(func() {
+		r.items('}', func() {
 			name := r.text()
-			r.left = r.left[len(":"):]
 			members[name] = r.value()
 		})
 		return members
 	case '[':
 		items := []any{}
-		r.items(func() { items = append(items, r.value()) })
+		r.items(']', func() { items = append(items, r.value()) })
 		return items
 	case '"':
 		return r.text()
@@ -48,14 +49,14 @@ func (r *reader) value() any {
 }
 
 // items reads what is in brackets.
-func (r *reader) items(item func()) {
-	for r.left = r.left[1:]; r.left[0] != '}' && r.left[0] != ']'; {
+func (r *reader) items(end byte, item func()) {
+	for r.left = r.left[1:]; r.next() != end; {
 		item()
-		r.left = strings.TrimPrefix(r.left, ",")
 	}
 	r.left = r.left[1:]
 }
 
+// text reads a text, where it is next.
 func (r *reader) text() string {
 	size := 1
 	for ; r.left[size] != '"'; size++ {
@@ -69,13 +70,13 @@ func (r *reader) text() string {
 		return written[1:size]
 	}
 	var text string
-	// It is JSON, or Compact had failed.
 	_ = json.Unmarshal([]byte(written), &text)
 	return text
 }
 
+// word reads a number, true, false or null.
 func (r *reader) word() any {
-	size := strings.IndexAny(r.left, ",]}\n")
+	size := strings.IndexAny(r.left, ",]} \t\r\n")
 	word := r.left[:size]
 	r.left = r.left[size:]
 	switch word {
@@ -85,8 +86,6 @@ func (r *reader) word() any {
 		return word == "true"
 	}
 	number, err := strconv.ParseInt(word, 10, 64)
-	if err != nil {
-		r.fault = err
-	}
+	r.isFraction = r.isFraction || err != nil
 	return number
 }

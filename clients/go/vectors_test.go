@@ -245,13 +245,14 @@ func TestVectorsOfARegion(t *testing.T) {
 
 func TestNumbersOf64Bits(t *testing.T) {
 	for _, number := range []int64{-1 << 63, -1<<53 - 1, 0, 1<<53 + 1, 1<<63 - 1} {
-		value, err := valueOf([]byte(fmt.Sprintf("%d\n", number)))
-		must(t, err)
-		same(t, "value", value, number)
+		value, isJSON := valueOf([]byte(fmt.Sprintf("%d\n", number)))
+		same(t, "value", []any{value, isJSON}, []any{number, true})
 	}
+	value, isJSON := valueOf([]byte("{ \"a\" : [ 1 , true , null , { } , [ ] , \"\\u00e9 ,:\" ] }\t\r\n"))
+	same(t, "value", []any{value, isJSON}, []any{map[string]any{"a": []any{1, true, nil, map[string]any{}, []any{}, "\u00e9 ,:"}}, true})
 	for _, text := range []string{"9223372036854775808", "1.5", "1e3", "", "-", "nul", "x"} {
-		_, err := valueOf([]byte(text + "\n"))
-		same(t, text, err != nil, true)
+		_, isJSON := valueOf([]byte(text + "\n"))
+		same(t, text, isJSON, false)
 	}
 }
 
@@ -273,10 +274,27 @@ func TestRepliesThatAreNone(t *testing.T) {
 		_, err := open(t, fake(t, listen(t), []string{text + "\n"}), Options{}).Read(background, "k")
 		same(t, text[:len(text)%1000], err == nil, isReply)
 		for end := 0; end < len(text) && end < 1000; end++ {
-			_, err := valueOf([]byte(text[:end]))
-			same(t, text[:end], err != nil, true)
+			_, isJSON := valueOf([]byte(text[:end]))
+			same(t, text[:end], isJSON, false)
 		}
 	}
+}
+
+func FuzzValues(f *testing.F) {
+	f.Add(`{"a":[1,-9223372036854775808,"\u00e9\n",true,null]}`)
+	f.Fuzz(func(t *testing.T, text string) {
+		line := []byte(text + "\n")
+		value, isJSON := valueOf(line)
+		// -0 is the number 0, and cannot be told from a text here.
+		if !isJSON || strings.Contains(text, "-0") {
+			return
+		}
+		made, err := json.Marshal(value)
+		must(t, err)
+		again, err := json.Marshal(whole(t, line))
+		must(t, err)
+		same(t, text, string(made), string(again))
+	})
 }
 
 func BenchmarkReply(b *testing.B) {
@@ -286,8 +304,7 @@ func BenchmarkReply(b *testing.B) {
 	}
 	const line = `{"row":{"contents":[{"fields":{%s},"master":"w"}],"key":"k","state":"one","version":[1,0]}}` + "\n"
 	for at := 0; at < b.N; at++ {
-		value, err := valueOf([]byte(fmt.Sprintf(line, strings.Join(fields, ","))))
-		must(b, err)
+		value, _ := valueOf([]byte(fmt.Sprintf(line, strings.Join(fields, ","))))
 		row(value.(map[string]any), nil)
 	}
 }
