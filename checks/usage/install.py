@@ -26,6 +26,7 @@ from common.parts import RUN
 from common.tried import program_parser
 from usage.fresh_system import System, make_root, missing, remove_group, run
 from usage.installed import check_make_install, check_quick, check_told
+from usage.installed_clients import check_clients
 from usage.packaged import check_lintian, check_package
 
 
@@ -48,7 +49,7 @@ def check_deb(program: Path, folder: Path) -> None:
     check_lintian(root, package)
     say("lintian has nothing to say against the package")
     with System(root) as system:
-        for done in chain(check_package(system, package), check_told(system, program)):
+        for done in chain(check_package(system, package), check_told(system, program), check_clients(system, program)):
             say(done)
 
 

@@ -23,11 +23,10 @@ FIFO = "/run/pnuts/east"
 # What changes by a user, which a package keeps.
 USERS = {"etc/group", "etc/gshadow", "etc/passwd", "etc/shadow"}
 
-# Files of the check in the system, and how the lines of its examples and of the client's README begin.
+# Files of the check in the system, and how the lines of its examples begin.
 SCRATCH = "/var/tmp"
 INDENT = "    "
 ROW = '{"row":'
-IMPORT = "cd /; python3 -c 'from pnuts_client import Client'"
 
 # The exposure that systemd may find at most, in tenths, and lines of a unit that it has to refuse.
 EXPOSURE = 15
@@ -140,16 +139,6 @@ def check_operation(system: System) -> int:
     return len(lines)
 
 
-def check_wheel(system: System) -> int:
-    """Does what the README of the client for Python says, in a new environment of a system without a network. How many lines."""
-    client = TOP / "clients/python"
-    text = (client / "README.md").read_text(encoding="utf-8").partition("\n## ")[0]
-    lines = [it.removeprefix(INDENT) for it in text.splitlines() if it.startswith(INDENT)]
-    shutil.copytree(client, system.root / SCRATCH[1:] / "clients/python")
-    system.run("bash", "-ec", "\n".join([f"cd {SCRATCH}", *lines, IMPORT]))
-    return len(lines)
-
-
 def check_package(system: System, package: Path) -> Iterator[str]:
     """Installs the package, uses it, and removes it. Says what was done."""
     before = trace(system.root)
@@ -186,4 +175,3 @@ def check_package(system: System, package: Path) -> Iterator[str]:
     system.run("userdel", "pnuts")
     same("what differs", differing(system.root, before), set())
     yield "purged while it ran: neither a process nor a file is left, and of its user no more than its name"
-    yield f"the {check_wheel(system)} lines of the client for Python make its wheel and install it, without a network"
