@@ -40,4 +40,4 @@ def check_clients(system: System, program: Path) -> Iterator[str]:
         said = system.run("bash", "-ec", "\n".join([f"cd {SCRATCH}; export HOME=$PWD", SERVED, before, *lines, after]))
         same(f"whether the client for {name} says what the region has", SAID in said, True)
         system.run("bash", "-ec", f"cd {SCRATCH}; HOME=$PWD PNUTS=pnuts clients/{name}/test")
-        yield f"the {len(lines)} lines of the client for {name} install it without a network, what it shows runs, and its tests pass"
+        yield f"the client for {name}: {len(lines)} lines install it without a network, what its README shows runs, and its tests pass"

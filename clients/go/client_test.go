@@ -164,6 +164,13 @@ func TestNoRegion(t *testing.T) {
 	same(t, "whether it is none", errors.As(err, &wrong), true)
 }
 
+func TestFewerRowsThanKeys(t *testing.T) {
+	client := open(t, fake(t, listen(t), []string{"{\"rows\":[null]}\n"}), Options{})
+	_, err := client.Get(background, []string{"a", "b"})
+	wrong := (*ProtocolError)(nil)
+	same(t, "whether it is none", errors.As(err, &wrong), true)
+}
+
 func TestARefusalKeepsTheSession(t *testing.T) {
 	client := open(t, fake(t, listen(t), []string{"{\"error\":\"behind\",\"has\":null}\n", none + "\n"}), Options{})
 	_, err := client.ReadAtLeast(background, "k", Version{1, 0})

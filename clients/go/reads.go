@@ -31,7 +31,9 @@ func (c *Client) Get(ctx context.Context, keys []string) ([]*Record, error) {
 			last = len(keys)
 		}
 		records, err := ask(ctx, c, map[string]any{"do": "get", "keys": keys[first:last]}, rows)
-		copy(found[first:last], records)
+		if copy(found[first:last], records) < last-first && err == nil {
+			err = &ProtocolError{"fewer rows came than keys were asked for"}
+		}
 		return err
 	})
 }

@@ -8,7 +8,7 @@ import { addressOf } from "./addresses.js";
 import { Connection } from "./connection.js";
 import { ConnectionFailed, TimedOut } from "./errors.js";
 import { stringify } from "./json.js";
-import { answerOf, page, row, rows, text } from "./replies.js";
+import { answerOf, page, row, rowsOf, text } from "./replies.js";
 
 const MAX_KEYS = 100;
 
@@ -35,7 +35,7 @@ export class Client {
 
   async get(keys) {
     const batches = Array.from({ length: Math.ceil(keys.length / MAX_KEYS) }, (_, at) => keys.slice(at * MAX_KEYS, (at + 1) * MAX_KEYS));
-    return (await Promise.all(batches.map((batch) => this.#ask({ do: "get", keys: batch }, rows)))).flat();
+    return (await Promise.all(batches.map((batch) => this.#ask({ do: "get", keys: batch }, rowsOf(batch.length))))).flat();
   }
 
   async *scan(query = {}) {

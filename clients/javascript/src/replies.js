@@ -30,9 +30,8 @@ export function answerOf(line, reply, meaning) {
 
 export const row = (reply) => recordOf(reply.row);
 
-export function rows(reply) {
-  const records = Array.isArray(reply.rows) ? reply.rows.map(recordOf) : undefined;
-  return records?.includes(undefined) ? undefined : records;
+export function rowsOf(count) {
+  return (reply) => (reply.rows?.length === count ? rows(reply) : undefined);
 }
 
 export function page(reply) {
@@ -42,6 +41,11 @@ export function page(reply) {
 }
 
 export const text = (reply) => reply.text;
+
+function rows(reply) {
+  const records = Array.isArray(reply.rows) ? reply.rows.map(recordOf) : undefined;
+  return records?.includes(undefined) ? undefined : records;
+}
 
 function recordOf(row) {
   const isRow = typeof row?.key === "string" && row.contents?.length > 0 && row.version?.length === 2;

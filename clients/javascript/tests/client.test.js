@@ -97,6 +97,11 @@ test("no region", async (t) => {
   await assert.rejects(client.read("k"), ProtocolError);
 });
 
+test("fewer rows than keys", async (t) => {
+  const client = open(t, await fake(t, [['{"rows":[null]}\n']]));
+  await assert.rejects(client.get(["a", "b"]), ProtocolError);
+});
+
 test("a refusal keeps the session", async (t) => {
   const client = open(t, await fake(t, [['{"error":"behind","has":null}\n', NONE]]));
   await assert.rejects(client.read("k", { atLeast: [1, 0] }), (fault) => fault instanceof RecordBehind && fault.has === null);
