@@ -5,7 +5,7 @@ It also runs `make quick`, which builds a program without proofs in some minutes
 
 That system is made by debootstrap in memory, from the network, and started by systemd; it has no network then. All is
 apart from the system that runs the check (`unshare`), and ends with it, files included. The check needs root. Without
-that, or where a package of Debian is missing, it says so and is skipped. It takes a minute of a processor, and a gigabyte of memory.
+that, or where a package of Debian is missing, it says so and is skipped. It takes two minutes of a processor, and two gigabytes of memory.
 
 Exit status 0 where all is as it should be, or skipped.
 """
