@@ -3,7 +3,7 @@
 use crate::fail;
 use crate::streams::{StreamFile, open_streams, refuse_streams, stream_counters};
 use pn_join::Name;
-use pn_serve::{Address, Service};
+use pn_serve::{Address, Service, StreamPath};
 use pn_stay::{Counters, Listener, SocketAcceptor};
 use std::alloc::{AllocError, Global};
 use std::fs::File;
@@ -25,7 +25,7 @@ pub(crate) struct Inputs {
 pub(crate) fn open_inputs<R>(
     rt: &R,
     service: &Service,
-    streams: Vec<(Name, String)>,
+    streams: Vec<(Name, StreamPath)>,
 ) -> Result<Inputs, ExitCode>
 where
     R: AllocGlobal

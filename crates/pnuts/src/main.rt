@@ -120,19 +120,13 @@ fn show(rt: &impl Print, text: &str) -> ExitCode {
     }
 }
 
-fn refuse_plan(rt: &impl Eprint, fault: PlanFault) -> ExitCode {
-    match fault {
-        PlanFault::Words(text) => refuse(rt, text.as_str()),
-        PlanFault::Bounds => refuse(rt, "pnuts: bounds\n"),
-        PlanFault::Address => refuse(rt, "pnuts: address\n"),
-        PlanFault::Stream => refuse(rt, "pnuts: stream\n"),
-        PlanFault::Memory => fail(rt, "memory"),
-    }
-}
-
 // If standard error takes nothing, the status alone shows the fault.
-fn refuse(rt: &impl Eprint, text: &str) -> ExitCode {
-    let _ = eprint!(rt; "{text}");
+fn refuse_plan(rt: &impl Eprint, fault: PlanFault<'_>) -> ExitCode {
+    let _ = match fault {
+        PlanFault::Words(text) => eprint!(rt; "{text}"),
+        PlanFault::Memory => return fail(rt, "memory"),
+        _ => eprintln!(rt; "pnuts: {fault}"),
+    };
     ExitCode::from(REFUSED)
 }
 

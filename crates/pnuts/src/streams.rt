@@ -5,6 +5,7 @@ ghost use Rattle.pn_serve.specs.Server.Reading.{IsAnew};
 
 use crate::{fail, fail_about};
 use pn_join::Name;
+use pn_serve::StreamPath;
 use pn_stay::{CountingSource, InputCounters, StreamCounters};
 use pn_stream::StreamReader;
 use std::alloc::{AllocError, Global};
@@ -60,13 +61,16 @@ pub(crate) fn refuse_streams(rt: &impl Eprint, fault: OpenFault) -> ExitCode {
 pub(crate) fn open_streams<R: Files<File = File>>(
     rt: &R,
     alloc: Global,
-    streams: Vec<(Name, String)>,
+    streams: Vec<(Name, StreamPath)>,
     is_counted: bool,
 ) -> Result<Vec<StreamFile>, OpenFault>
     ensures { IfOk result (λ opened. vec_len opened ≡ vec_len streams) }
 {
     let mut opened = Vec::with_capacity(alloc, streams.len())?;
     for (name, path) in streams {
+        let StreamPath::File(path) = path else {
+            return Err(OpenFault::File(name));
+        };
         let stream = open_stream(rt, alloc, name, path, is_counted)?;
         if opened.push(stream).is_err() {
             return Err(OpenFault::Memory);
