@@ -1,0 +1,1 @@
+-- Lines that wait to be written.

@@ -1,0 +1,58 @@
+//! What is told of a stream on standard error.
+
+use crate::counters::InputCounters;
+use crate::messages::Messages;
+use crate::reasons::{failure_text, system_reason};
+use crate::streams::writer::Progress;
+use pn_join::Name;
+use pn_serve::{Counter, WriterEnd};
+use std::alloc::{AllocError, Global};
+use std::io;
+use std::sync::{Arc, Wait};
+
+/// The name of a stream, and where it is told and counted how it goes.
+#[derive(Drop)]
+pub(crate) struct StreamNotes<R> {
+    pub(crate) rt: R,
+    pub(crate) alloc: Global,
+    pub(crate) name: Name,
+    pub(crate) messages: Arc<Messages>,
+    /// The counters of what is read, where somebody looks at them.
+    pub(crate) counters: Option<Arc<InputCounters>>,
+    pub(crate) progress: Progress,
+}
+
+impl<R: Wait + Drop> StreamNotes<R> {
+    /// Tells how a writer's input ended.
+    pub(crate) fn tell_end(&self, end: &WriterEnd) {
+        match end {
+            WriterEnd::End => self.tell("ended"),
+            WriterEnd::Fault { .. } => self
+                .messages
+                .leave(&self.rt, failure_text(self.alloc, &self.name, end)),
+        }
+    }
+
+    /// Tells that another writer has begun, and counts what is read from it.
+    pub(crate) fn begin_again(&self) {
+        if let Some(counters) = &self.counters {
+            counters.clear();
+        }
+        self.tell("begins again");
+    }
+
+    /// Tells that nothing can be read for now.
+    pub(crate) fn tell_error(&self, what: &str, error: &io::Error) {
+        self.messages.leave(&self.rt, self.error_text(what, error));
+    }
+
+    fn tell(&self, how: &str) {
+        let text = format!(in self.alloc; "stream {} {how}", self.name.as_str());
+        self.messages.leave(&self.rt, text);
+    }
+
+    fn error_text(&self, what: &str, error: &io::Error) -> Result<String, AllocError> {
+        let reason = system_reason(self.alloc, error)?;
+        format!(in self.alloc; "stream {} {what}: {reason}", self.name.as_str())
+    }
+}
