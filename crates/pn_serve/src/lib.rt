@@ -11,9 +11,10 @@ mod server;
 mod sessions;
 mod settings;
 
+pub use arguments::faults::{PlanFault, Refused, Why};
 pub use arguments::options::numbers_are_as_written;
 pub use arguments::plan;
-pub use arguments::plans::{Address, Plan, PlanFault, Service};
+pub use arguments::plans::{Address, Plan, Service, StreamPath};
 pub use laws::regions_converge;
 pub use machine::line_handler::LineHandler;
 pub use page_laws::{
