@@ -4,7 +4,7 @@ use Rattle.pn_join.specs.Marks.{Positions, position_of}
 use Rattle.pn_record.specs.declared.image.Image.{Image}
 use Rattle.pn_stream.specs.Batches.{Stream, SoFar}
 use Rattle.pn_stream.specs.Streams.{Run, NoLine}
-use Rattle.pn_serve.specs.declared.server.stream_threads.StreamEnd.{StreamEnd}
+use Rattle.pn_serve.specs.declared.server.reporting.StreamEnd.{StreamEnd}
 
 -- the text is messages in step after this position, up to this last one, and then no whole line
 pub record IsAllMessages (position : ℕ) (text : List ℕ) (last : ℕ) : Type 0 where
