@@ -37,7 +37,9 @@ impl Messages {
     /// Waits until a line was left, and takes all.
     pub fn take<R: Wait>(&self, rt: &R) -> WaitingLines {
         let guard = self.waiting.lock(rt);
-        let mut waiting = self.left.wait_while(rt, guard, |waiting| waiting.is_empty());
+        let mut waiting = self
+            .left
+            .wait_while(rt, guard, |waiting| waiting.is_empty());
         mem::replace(&mut *waiting, WaitingLines::new(self.alloc))
     }
 }

@@ -65,7 +65,9 @@ fn message_line(alloc: Global, fault: &ResumeFault, position: u64) -> Result<Str
     let word = reason_word(fault);
     match reason_member(fault) {
         Some(member) => {
-            format!(in alloc; "{{\"at\":{position},\"error\":\"{word}\",\"member\":\"{member}\"}}\n")
+            format!(in alloc;
+                "{{\"at\":{position},\"error\":\"{word}\",\"member\":\"{member}\"}}\n"
+            )
         }
         None => format!(in alloc; "{{\"at\":{position},\"error\":\"{word}\"}}\n"),
     }
@@ -91,7 +93,10 @@ pub fn failure_text(alloc: Global, name: &Name, end: &WriterEnd) -> Result<Strin
             line,
         } => {
             let reason = reason_text(alloc, fault)?;
-            format!(in alloc; "stream {} failed at {position} (line {line}): {reason}", name.as_str())
+            format!(in alloc;
+                "stream {} failed at {position} (line {line}): {reason}",
+                name.as_str()
+            )
         }
     }
 }

@@ -112,6 +112,18 @@ impl StayingServer {
         read_streams(rt, alloc, &mut self.live, self.workers, streams, rounds)
     }
 
+    /// Closes the region, and leaves the threads to the end of the program.
+    pub fn leave<R: Wait>(self, rt: &R) {
+        let StayingServer {
+            live,
+            workers: _,
+            running: _,
+            readers,
+            rounds: _,
+        } = self;
+        let _ = close_region(rt, live, readers);
+    }
+
     /// Waits for the threads, which end where the system tells nothing more of sockets, and closes the region.
     pub fn wait<R: Threads + Wait>(self, rt: &R) {
         let StayingServer {

@@ -101,11 +101,7 @@ pub(crate) fn fail_noted(
 }
 
 // What was noted of the failure of the stream of a name.
-fn find_failure(
-    rt: &(impl AllocGlobal + Wait),
-    name: &Name,
-    faults: &FaultLog,
-) -> Option<String> {
+fn find_failure(rt: &(impl AllocGlobal + Wait), name: &Name, faults: &FaultLog) -> Option<String> {
     let failures = faults.take(rt);
     for failure in failures.iter() {
         if failure.name == *name {

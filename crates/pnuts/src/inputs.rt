@@ -19,7 +19,7 @@ use std::time::Clock;
 
 /// The streams of a server.
 #[derive(Drop)]
-pub(crate) enum Streams<R> {
+pub(crate) enum Streams<R: Drop> {
     /// Files, which are read to their ends.
     Files(Vec<StreamReader<FileSource>>),
     /// Those of a server that stays, and how many connections of it may be open.
@@ -62,7 +62,7 @@ fn open_to_end<R>(
     streams: Vec<(Name, StreamPath)>,
 ) -> Result<(Streams<R>, Notes), OpenFault>
 where
-    R: AllocGlobal + Files<File = File>,
+    R: AllocGlobal + Files<File = File> + Drop,
 {
     let alloc = rt.alloc();
     let faults = new_fault_log(alloc, service, streams.len())?;
@@ -86,7 +86,7 @@ where
     R: AllocGlobal + Files<File = File> + Net + Wait + Clock + Copy + Drop,
 {
     let alloc = rt.alloc();
-    let messages = Arc::new(alloc, Messages::new(alloc))?;
+    let messages = new_messages(alloc)?;
     let setting = StreamSetting {
         rt: *rt,
         alloc,
@@ -110,11 +110,12 @@ where
     Ok((Streams::Staying(opened.streams, connections), notes))
 }
 
-fn new_counters(
-    alloc: Global,
-    streams: Vec<StreamCounters>,
-) -> Result<Arc<Counters>, AllocError> {
-    Arc::new(alloc, Counters::new(alloc, streams)?)
+fn new_messages(alloc: Global) -> Result<Arc<Messages>, AllocError> {
+    Ok(Arc::new(alloc, Messages::new(alloc))?)
+}
+
+fn new_counters(alloc: Global, streams: Vec<StreamCounters>) -> Result<Arc<Counters>, AllocError> {
+    Ok(Arc::new(alloc, Counters::new(alloc, streams)?)?)
 }
 
 fn new_fault_log(

@@ -71,7 +71,14 @@ fn main(rt: HostRuntime) -> ExitCode {
         }
         Streams::Staying(streams, connections) => (streams, connections as usize),
     };
-    match StayingServer::start(&rt, rt.alloc(), acceptor, settings, service.sessions, connections) {
+    match StayingServer::start(
+        &rt,
+        rt.alloc(),
+        acceptor,
+        settings,
+        service.sessions,
+        connections,
+    ) {
         Ok(server) => {
             let mut server = server;
             let read = server.read_streams(&rt, rt.alloc(), streams);
@@ -83,7 +90,7 @@ fn main(rt: HostRuntime) -> ExitCode {
 
 // What is to be served.
 #[derive(Drop)]
-struct Prepared<R> {
+struct Prepared<R: Drop> {
     settings: Settings,
     service: Service,
     streams: Streams<R>,

@@ -29,14 +29,15 @@ pub(crate) fn answer_on<R: Threads + Wait + Eprint + Files>(
     server: StayingServer,
     read: Result<(), ServeFault>,
 ) -> ExitCode {
-    let is_started = !matches!(&read, Err(ServeFault::Start));
+    if let Err(ServeFault::Start) = &read {
+        server.leave(rt);
+        remove_places(rt, service, sockets);
+        return fail_serving(rt, ServeFault::Start, true);
+    }
     if let Err(fault) = read {
         let _ = fail_serving(rt, fault, true);
     }
-    if is_started {
-        server.wait(rt);
-        let _ = fail(rt, "cannot serve");
-    }
+    server.wait(rt);
     remove_places(rt, service, sockets);
-    ExitCode::FAILURE
+    fail(rt, "cannot serve")
 }

@@ -54,7 +54,7 @@ impl FifoPoll {
 
 /// The writers of a FIFO.
 #[derive(Drop)]
-pub(crate) struct FifoWriters<R> {
+pub(crate) struct FifoWriters<R: Drop> {
     path: String,
     poll: FifoPoll,
     // What the last writer was read from, and whether it wrote what is at fault.

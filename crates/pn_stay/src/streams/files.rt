@@ -3,12 +3,11 @@
 ghost use Rattle.std.specs.Prelude.{◌≡◌, vec_len, IfOk};
 
 use crate::counters::{CountingSource, InputCounters, StreamCounters};
-use crate::reasons::system_reason;
 use crate::streams::input::{open_source, share_counters};
 use pn_join::Name;
 use pn_serve::StreamPath;
 use pn_stream::StreamReader;
-use std::alloc::{AllocError, Global};
+use std::alloc::{AllocError, AllocFailed, Global};
 use std::fs::{File, Files};
 use std::io;
 use std::io::BufReader;
@@ -46,6 +45,12 @@ impl OpenFault {
 
 impl From<AllocError> for OpenFault {
     fn from(_fault: AllocError) -> OpenFault {
+        OpenFault::Memory
+    }
+}
+
+impl<T: Drop> From<AllocFailed<T>> for OpenFault {
+    fn from(_fault: AllocFailed<T>) -> OpenFault {
         OpenFault::Memory
     }
 }

@@ -24,7 +24,7 @@ use std::{fs, io};
 
 /// The streams of a server that stays.
 #[derive(Drop)]
-pub struct OpenedStreams<R> {
+pub struct OpenedStreams<R: Drop> {
     pub streams: Vec<Stream<StreamOrigin<R>>>,
     /// The counters of those that are counted.
     pub counters: Vec<StreamCounters>,

@@ -1,7 +1,5 @@
 //! Where the writers of a stream come from.
 
-use crate::counters::InputCounters;
-use crate::messages::Messages;
 use crate::streams::fifo::FifoWriters;
 use crate::streams::input::StreamSource;
 use crate::streams::notes::StreamNotes;
@@ -14,14 +12,14 @@ use std::time::Clock;
 
 /// Where the writers of a stream come from.
 #[derive(Drop)]
-pub struct StreamOrigin<R> {
+pub struct StreamOrigin<R: Drop> {
     pub(crate) notes: StreamNotes<R>,
     pub(crate) writers: Writers<R>,
 }
 
 /// The writers of a stream.
 #[derive(Drop)]
-pub(crate) enum Writers<R> {
+pub(crate) enum Writers<R: Drop> {
     /// A file, which is read once.
     File(Option<StreamSource<R>>),
     Fifo(FifoWriters<R>),

@@ -7,10 +7,9 @@ use crate::streams::notes::StreamNotes;
 use crate::streams::writer::{Progress, WriterSocket};
 use pn_line::Source;
 use pn_serve::WriterEnd;
-use std::io;
 use std::sync::{Arc, Wait};
-use std::thread;
 use std::time::{Clock, Duration};
+use std::{io, thread};
 
 /// For how many milliseconds nobody is accepted after the system refused a socket, as where no descriptor is left.
 const RETRY: u64 = 100;
@@ -92,7 +91,9 @@ pub(crate) fn end_socket<R: Clock + Drop>(source: StreamSource<R>, end: &WriterE
         let mut socket = socket;
         socket.tell_taken();
         if let WriterEnd::Fault {
-            fault, position, ..
+            fault,
+            position,
+            ..
         } = end
         {
             socket.tell_fault(fault, *position);
