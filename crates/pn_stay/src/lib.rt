@@ -31,7 +31,7 @@ pub use counters::{Counters, CountingSource, InputCounters, StreamCounters};
 pub use input_buffer::{INPUT_CAPACITY, InputBuffer, READ_SIZE};
 pub use laws::{answer_in_turns, every_way_of_coming_and_going};
 pub use listener::Listener;
-pub use messages::{MAX_WAITING, Messages, WaitingLines, print_messages};
+pub use messages::{MAX_WAITING, MessagePrinter, Messages, WaitingLines};
 pub use output_buffer::{OutputBuffer, SendOutcome};
 pub use progress::{message_prefix, tell_progress};
 pub use reasons::{after_line, failure_text, refusal_line, system_reason, taken_line};

@@ -1,27 +1,107 @@
-//! Why a writer's input is read no further, and why the system refused something: in words for people, and in a line for the writer.
+//! Why a writer's input is read no further, and why the system refuses something: in words, and in a line for the writer.
 
 ghost use Rattle.std.specs.Prelude.{◌≡◌, ◌++◌, codes, decimal, IfOk};
+ghost use Rattle.pn_stay.specs.Reasons.{image_word, stream_word, member_detail, stream_detail, refusal_line, image_words, reason_words, failure_words};
 
 use pn_join::Name;
 use pn_record::ImageFault;
-use pn_serve::WriterEnd;
 use pn_stream::{ResumeFault, StreamFault};
 use std::alloc::{AllocError, Global};
 use std::io;
 
-/// The reason's word.
-fn reason_word(fault: &ResumeFault) -> &'static str {
+/// The line that tells a writer where the stream goes on: one past this position at the latest.
+pub fn after_line(alloc: Global, last: u64) -> Result<String, AllocError>
+    ensures { IfOk result (λ line. line ≡ codes "{\"after\":" ++ (decimal last ++ codes "}\n")) }
+{
+    format!(in alloc; "{{\"after\":{last}}}\n")
+}
+
+/// The line that tells a writer up to which position the stream was taken.
+pub fn taken_line(alloc: Global, last: u64) -> Result<String, AllocError>
+    ensures { IfOk result (λ line. line ≡ codes "{\"taken\":" ++ (decimal last ++ codes "}\n")) }
+{
+    format!(in alloc; "{{\"taken\":{last}}}\n")
+}
+
+/// The line that tells a writer why it is read no further, where the message at this position was wanted.
+pub fn refusal_line(
+    alloc: Global,
+    fault: &ResumeFault,
+    position: u64,
+) -> Result<String, AllocError>
+    ensures { IfOk result (λ line. line ≡ refusal_line fault.now position) }
+{
     match fault {
-        ResumeFault::Gap { .. } => "gap",
-        ResumeFault::Stream(StreamFault::OutOfStep { .. }) => "out-of-step",
-        ResumeFault::Stream(StreamFault::LineTooLong) => "too-long",
-        ResumeFault::Stream(StreamFault::BadMessage { fault, .. }) => image_word(fault),
-        ResumeFault::Stream(StreamFault::Memory) => "memory",
-        ResumeFault::Stream(StreamFault::Read | StreamFault::Failed) => "read",
+        ResumeFault::Gap { got, wanted } => {
+            format!(in alloc; "{{\"error\":\"gap\",\"got\":{got},\"wanted\":{wanted}}}\n")
+        }
+        ResumeFault::Stream(fault) => {
+            let word = stream_word(fault);
+            let detail = stream_detail(alloc, fault)?;
+            format!(in alloc; "{{\"at\":{position},\"error\":\"{word}\"{detail}}}\n")
+        }
     }
 }
 
-fn image_word(fault: &ImageFault) -> &'static str {
+/// What standard error says of a stream that failed, as `stream east failed at 5 (line 3): not-json`.
+pub fn failure_text(
+    alloc: Global,
+    name: &Name,
+    fault: &ResumeFault,
+    position: u64,
+    line: u64,
+) -> Result<String, AllocError>
+    ensures { IfOk result (λ text. text ≡ failure_words name.now fault.now position line) }
+{
+    let name = name.as_str();
+    let reason = reason_words(alloc, fault)?;
+    format!(in alloc; "stream {name} failed at {position} (line {line}): {reason}")
+}
+
+// The reason in words, as `out-of-range master`.
+fn reason_words(alloc: Global, fault: &ResumeFault) -> Result<String, AllocError>
+    ensures { IfOk result (λ text. text ≡ reason_words fault.now) }
+{
+    match fault {
+        ResumeFault::Gap { got, wanted } => {
+            format!(in alloc; "gap, got {got}, wanted {wanted}")
+        }
+        ResumeFault::Stream(StreamFault::OutOfStep { wanted: _, got }) => {
+            format!(in alloc; "out-of-step, got {got}")
+        }
+        ResumeFault::Stream(StreamFault::BadMessage { at: _, fault }) => image_words(alloc, fault),
+        ResumeFault::Stream(fault) => String::from_str(alloc, stream_word(fault)),
+    }
+}
+
+fn image_words(alloc: Global, fault: &ImageFault) -> Result<String, AllocError>
+    ensures { IfOk result (λ text. text ≡ image_words fault.now) }
+{
+    match fault {
+        ImageFault::BadShape(member) => format!(in alloc; "bad-shape {}", member.word()),
+        ImageFault::OutOfRange(member) => format!(in alloc; "out-of-range {}", member.word()),
+        ImageFault::TooLong | ImageFault::NotJson | ImageFault::Memory => {
+            String::from_str(alloc, image_word(fault))
+        }
+    }
+}
+
+fn stream_word(fault: &StreamFault) -> &'static str
+    ensures { result.now ≡ stream_word fault.now }
+{
+    match fault {
+        StreamFault::Read => "read",
+        StreamFault::LineTooLong => "too-long",
+        StreamFault::BadMessage { at: _, fault } => image_word(fault),
+        StreamFault::OutOfStep { .. } => "out-of-step",
+        StreamFault::Memory => "memory",
+        StreamFault::Failed => "read",
+    }
+}
+
+fn image_word(fault: &ImageFault) -> &'static str
+    ensures { result.now ≡ image_word fault.now }
+{
     match fault {
         ImageFault::TooLong => "too-long",
         ImageFault::NotJson => "not-json",
@@ -31,90 +111,28 @@ fn image_word(fault: &ImageFault) -> &'static str {
     }
 }
 
-/// The member that a reason names, or nothing.
-fn reason_member(fault: &ResumeFault) -> Option<&'static str> {
+// What a writer's line says beside the word.
+fn stream_detail(alloc: Global, fault: &StreamFault) -> Result<String, AllocError>
+    ensures { IfOk result (λ text. text ≡ stream_detail fault.now) }
+{
     match fault {
-        ResumeFault::Stream(
-            StreamFault::BadMessage {
-                fault: ImageFault::BadShape(member) | ImageFault::OutOfRange(member),
-                ..
-            },
-        ) => Some(member.word()),
-        _ => None,
+        StreamFault::OutOfStep { wanted: _, got } => format!(in alloc; ",\"got\":{got}"),
+        StreamFault::BadMessage { at: _, fault } => member_detail(alloc, fault),
+        StreamFault::Read
+        | StreamFault::LineTooLong
+        | StreamFault::Memory
+        | StreamFault::Failed => Ok(String::new(alloc)),
     }
 }
 
-/// The line that tells a writer why it is read no further, where the message at this position was wanted.
-pub fn refusal_line(
-    alloc: Global,
-    fault: &ResumeFault,
-    position: u64,
-) -> Result<String, AllocError> {
+fn member_detail(alloc: Global, fault: &ImageFault) -> Result<String, AllocError>
+    ensures { IfOk result (λ text. text ≡ member_detail fault.now) }
+{
     match fault {
-        ResumeFault::Gap { got, wanted } => {
-            format!(in alloc; "{{\"error\":\"gap\",\"got\":{got},\"wanted\":{wanted}}}\n")
+        ImageFault::BadShape(member) | ImageFault::OutOfRange(member) => {
+            format!(in alloc; ",\"member\":\"{}\"", member.word())
         }
-        ResumeFault::Stream(StreamFault::OutOfStep { got, .. }) => {
-            format!(in alloc; "{{\"at\":{position},\"error\":\"out-of-step\",\"got\":{got}}}\n")
-        }
-        _ => message_line(alloc, fault, position),
-    }
-}
-
-fn message_line(alloc: Global, fault: &ResumeFault, position: u64) -> Result<String, AllocError> {
-    let word = reason_word(fault);
-    match reason_member(fault) {
-        Some(member) => {
-            format!(in alloc;
-                "{{\"at\":{position},\"error\":\"{word}\",\"member\":\"{member}\"}}\n"
-            )
-        }
-        None => format!(in alloc; "{{\"at\":{position},\"error\":\"{word}\"}}\n"),
-    }
-}
-
-/// The line that tells a writer where the stream goes on: one past this position at the latest.
-pub fn after_line(alloc: Global, last: u64) -> Result<String, AllocError> {
-    format!(in alloc; "{{\"after\":{last}}}\n")
-}
-
-/// The line that tells a writer that all up to this position is taken.
-pub fn taken_line(alloc: Global, last: u64) -> Result<String, AllocError> {
-    format!(in alloc; "{{\"taken\":{last}}}\n")
-}
-
-/// What standard error says of a stream that failed, as `stream east failed at 5 (line 3): not-json`.
-pub fn failure_text(alloc: Global, name: &Name, end: &WriterEnd) -> Result<String, AllocError> {
-    match end {
-        WriterEnd::End => format!(in alloc; "stream {} failed", name.as_str()),
-        WriterEnd::Fault {
-            fault,
-            position,
-            line,
-        } => {
-            let reason = reason_text(alloc, fault)?;
-            format!(in alloc;
-                "stream {} failed at {position} (line {line}): {reason}",
-                name.as_str()
-            )
-        }
-    }
-}
-
-// The reason in words, as `out-of-range master`.
-fn reason_text(alloc: Global, fault: &ResumeFault) -> Result<String, AllocError> {
-    let word = reason_word(fault);
-    match fault {
-        ResumeFault::Gap { got, wanted } => {
-            format!(in alloc; "{word}, got {got}, wanted {wanted}")
-        }
-        ResumeFault::Stream(StreamFault::OutOfStep { got, .. }) => {
-            format!(in alloc; "{word}, got {got}")
-        }
-        _ => match reason_member(fault) {
-            Some(member) => format!(in alloc; "{word} {member}"),
-            None => String::from_str(alloc, word),
-        },
+        ImageFault::TooLong | ImageFault::NotJson | ImageFault::Memory => Ok(String::new(alloc)),
     }
 }
 

@@ -1,8 +1,9 @@
 //! What is printed on standard error where the program fails.
 
 use pn_join::Name;
-use pn_serve::{FaultLog, ServeFault, Service, StreamFailure};
+use pn_serve::{FaultLog, ServeFault, Service, StreamFailure, WriterEnd};
 use pn_stay::{OpenFault, failure_text, system_reason};
+use std::alloc::Global;
 use std::io;
 use std::process::ExitCode;
 use std::sync::{Arc, Wait};
@@ -105,8 +106,19 @@ fn find_failure(rt: &(impl AllocGlobal + Wait), name: &Name, faults: &FaultLog) 
     let failures = faults.take(rt);
     for failure in failures.iter() {
         if failure.name == *name {
-            return failure_text(rt.alloc(), name, &failure.end).ok();
+            return describe_failure(rt.alloc(), failure);
         }
     }
     None
+}
+
+fn describe_failure(alloc: Global, failure: &StreamFailure) -> Option<String> {
+    match &failure.end {
+        WriterEnd::End => None,
+        WriterEnd::Fault {
+            fault,
+            position,
+            line,
+        } => failure_text(alloc, &failure.name, fault, *position, *line).ok(),
+    }
 }

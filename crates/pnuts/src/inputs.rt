@@ -111,7 +111,7 @@ where
 }
 
 fn new_messages(alloc: Global) -> Result<Arc<Messages>, AllocError> {
-    Ok(Arc::new(alloc, Messages::new(alloc))?)
+    Ok(Arc::new(alloc, Messages::new(alloc)?)?)
 }
 
 fn new_counters(alloc: Global, streams: Vec<StreamCounters>) -> Result<Arc<Counters>, AllocError> {

@@ -16,7 +16,7 @@ use crate::sessions::serve_streams;
 use crate::staying::{answer_on, fail_to_stay};
 use pn_serve::{Plan, PlanFault, RunFault, Service, Settings, plan, run_to_exit};
 use pn_stay::{
-    SocketAcceptor, StayingServer, StreamOrigin, message_prefix, print_messages, tell_progress,
+    MessagePrinter, SocketAcceptor, StayingServer, StreamSource, message_prefix, tell_progress,
 };
 use std::env::Env;
 use std::fs::File;
@@ -60,8 +60,10 @@ fn main(rt: HostRuntime) -> ExitCode {
     }
     if let Some(messages) = messages {
         let prefix = message_prefix(service.is_progress_told);
-        let telling = thread::spawn(&rt, move || print_messages(&rt, &messages, prefix));
-        if telling.is_err() {
+        let Ok(printer) = MessagePrinter::new(rt.alloc(), messages, prefix) else {
+            return refuse_start(&rt, &service, &sockets);
+        };
+        if thread::spawn(&rt, move || printer.run(&rt)).is_err() {
             return refuse_start(&rt, &service, &sockets);
         }
     }

@@ -27,9 +27,14 @@ impl<R: Wait + Drop> StreamNotes<R> {
     pub(crate) fn tell_end(&self, end: &WriterEnd) {
         match end {
             WriterEnd::End => self.tell("ended"),
-            WriterEnd::Fault { .. } => self
-                .messages
-                .leave(&self.rt, failure_text(self.alloc, &self.name, end)),
+            WriterEnd::Fault {
+                fault,
+                position,
+                line,
+            } => {
+                let text = failure_text(self.alloc, &self.name, fault, *position, *line);
+                self.messages.leave(&self.rt, text);
+            }
         }
     }
 
