@@ -7,7 +7,6 @@ use Rattle.pn_stream.specs.Positions.{DeliveryValue}
 use Rattle.pn_stream.specs.Streams.{NoLine, IsLeft}
 use Rattle.pn_stream.specs.declared.fault.ResumeFault.{ResumeFault}
 use Rattle.pn_stream.specs.declared.fault.ResumeFault.TheVariants.{Stream as OfStream, Gap}
-use Rattle.pn_stream.specs.declared.fault.StreamFault.{StreamFault}
 use Rattle.pn_stream.specs.declared.fault.StreamFault.TheVariants.{Read, OutOfStep, Failed}
 
 -- the fault comes first in the text, whose first message may have any position up to `wanted`: it is out of step only

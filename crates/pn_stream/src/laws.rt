@@ -50,5 +50,5 @@ pub fn a_writer_gives_one_run<S: Source + Drop>()
     ensures { (least most : ℕ) (old begun new : Stream S) (first next : DeliveryValue)
         → IsResumed S.left S.may_fail old (Ok (Some first)) begun → IsCall S.left S.may_fail least most begun (Ok next) new
         → IfSome (S.left old.source) (λ text. Batch (1 + least) (1 + most) (pred first.first) (old.part ++ text)
-            (first.images ++ next.images) new.fault new.part (S.left new.source)) }
+        (first.images ++ next.images) new.fault new.part (S.left new.source)) }
 {}

@@ -14,13 +14,11 @@ mod writers;
 
 use case::Case;
 use pn_stream::{StreamFault, read_message};
-use reading::{
-    read_by_lines, read_in_pieces, read_in_two, read_whole, read_with_a_failing_look,
-};
-use writers::read_by_writers;
+use reading::{read_by_lines, read_in_pieces, read_in_two, read_whole, read_with_a_failing_look};
 use std::alloc::Global;
 use std::test::Fail;
 use test_kit::answer_lines;
+use writers::read_by_writers;
 
 fn main(rt: HostRuntime) -> Result<(), Fail> {
     answer_lines(&rt, |line| answer(rt.alloc(), line))

@@ -34,8 +34,3 @@ pub record IsReadUpTo (position : ℕ) (text : List ℕ) (last : ℕ) (part : Li
   pub images : List Image
   pub read : SoFar position text images part left
   pub last_is : last ≡ position + length images
-
--- unless a fault waits in the stream, messages in step were read of it
-abbrev pub WasRead : {S : Type 0} → (S → Option (List ℕ)) → Stream S → Stream S → Type 0
-WasRead left old new = new.fault ≡ None
-    → (old.fault ≡ None) × IfSome (left old.source) (λ text. IsReadUpTo old.position (old.part ++ text) new.position new.part (left new.source))
