@@ -55,15 +55,19 @@ image_words no_memory = image_word no_memory
 image_words (BadShape part) = codes "bad-shape " ++ word_of part
 image_words (OutOfRange part) = codes "out-of-range " ++ word_of part
 
+-- the fault of a stream in words
+abbrev pub stream_words : StreamFault → List ℕ
+stream_words Read = stream_word Read
+stream_words LineTooLong = stream_word LineTooLong
+stream_words (BadMessage position fault) = image_words fault
+stream_words (OutOfStep wanted got) = codes "out-of-step, got " ++ decimal got
+stream_words Memory = stream_word Memory
+stream_words Failed = stream_word Failed
+
 -- the fault in words
 abbrev pub reason_words : ResumeFault → List ℕ
 reason_words (Gap got wanted) = codes "gap, got " ++ (decimal got ++ (codes ", wanted " ++ decimal wanted))
-reason_words (Stream (BadMessage position fault)) = image_words fault
-reason_words (Stream (OutOfStep wanted got)) = codes "out-of-step, got " ++ decimal got
-reason_words (Stream Read) = stream_word Read
-reason_words (Stream LineTooLong) = stream_word LineTooLong
-reason_words (Stream Memory) = stream_word Memory
-reason_words (Stream Failed) = stream_word Failed
+reason_words (Stream fault) = stream_words fault
 
 -- a stream that failed at a position, on a line of its writer's input
 abbrev pub failure_words : List ℕ → ResumeFault → ℕ → ℕ → List ℕ

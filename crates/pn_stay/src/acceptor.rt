@@ -7,7 +7,7 @@ use crate::connection_limit::ConnectionLimit;
 use crate::counters::{Counters, CountingSource};
 use crate::listener::Listener;
 use crate::messages::Messages;
-use crate::reasons::system_reason;
+use crate::reasons::describe_error;
 use crate::seldom::Seldom;
 use crate::socket::{Socket, TrackedSocket};
 use crate::socket_mailbox::SocketMailbox;
@@ -138,7 +138,7 @@ impl AcceptNotes {
 }
 
 fn refusal_text(alloc: Global, error: &io::Error) -> Result<String, AllocError> {
-    let reason = system_reason(alloc, error)?;
+    let reason = describe_error(alloc, error)?;
     format!(in alloc; "cannot accept: {reason}")
 }
 

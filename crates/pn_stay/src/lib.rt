@@ -34,7 +34,7 @@ pub use listener::Listener;
 pub use messages::{MAX_WAITING, MessagePrinter, Messages, WaitingLines};
 pub use output_buffer::{OutputBuffer, SendOutcome};
 pub use progress::{message_prefix, tell_progress};
-pub use reasons::{after_line, failure_text, refusal_line, system_reason, taken_line};
+pub use reasons::{describe_error, format_after, format_failure, format_refusal, format_taken};
 pub use scripted::{ScriptedSink, ScriptedSource};
 pub use server::StayingServer;
 pub use streams::files::{FileSource, OpenFault, OpenedFiles, open_files};

@@ -40,7 +40,9 @@ impl Messages {
     /// Waits until a line was left, and exchanges those that wait for others.
     pub fn exchange<R: Wait>(&self, rt: &R, others: &mut WaitingLines) {
         let guard = self.waiting.lock(rt);
-        let mut waiting = self.left.wait_while(rt, guard, |waiting| waiting.is_empty());
+        let mut waiting = self
+            .left
+            .wait_while(rt, guard, |waiting| waiting.is_empty());
         mem::swap(&mut *waiting, others);
     }
 }

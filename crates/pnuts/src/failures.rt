@@ -2,7 +2,7 @@
 
 use pn_join::Name;
 use pn_serve::{FaultLog, ServeFault, Service, StreamFailure, WriterEnd};
-use pn_stay::{OpenFault, failure_text, system_reason};
+use pn_stay::{OpenFault, describe_error, format_failure};
 use std::alloc::Global;
 use std::io;
 use std::process::ExitCode;
@@ -29,7 +29,7 @@ pub(crate) fn fail_with(
     error: &io::Error,
     is_explained: bool,
 ) -> ExitCode {
-    match system_reason(rt.alloc(), error) {
+    match describe_error(rt.alloc(), error) {
         Ok(reason) if is_explained => {
             let _ = eprintln!(rt; "pnuts: {why}: {reason}");
             ExitCode::FAILURE
@@ -119,6 +119,6 @@ fn describe_failure(alloc: Global, failure: &StreamFailure) -> Option<String> {
             fault,
             position,
             line,
-        } => failure_text(alloc, &failure.name, fault, *position, *line).ok(),
+        } => format_failure(alloc, &failure.name, fault, *position, *line).ok(),
     }
 }

@@ -1,8 +1,11 @@
 //! Streams from a FIFO: its descriptor is kept, and read on once another writer writes.
 
+ghost use Rattle.std.specs.Prelude.{◌≡◌, ◌↔◌, Some, IsFalse};
+ghost use Rattle.pn_serve.specs.declared.server.writers.WriterEnd.TheVariants.{End};
+
 use crate::counters::CountingSource;
 use crate::seldom::Seldom;
-use crate::streams::input::{StreamInput, StreamSource, open_source};
+use crate::streams::input::{FILE_READ_SIZE, StreamInput, StreamSource, open_source};
 use crate::streams::notes::StreamNotes;
 use mio::unix::SourceFd;
 use mio::{Events, Interest, Poll, Token};
@@ -87,8 +90,11 @@ where
     }
 
     /// Keeps what a writer was read from.
-    pub(crate) fn end_writer(&mut self, source: StreamSource<R>, end: &WriterEnd) {
-        self.is_faulty = *end != WriterEnd::End;
+    pub(crate) fn end_writer(&mut self, source: StreamSource<R>, end: &WriterEnd)
+        ensures faulty { IsFalse self.new.is_faulty ↔ (end.now ≡ End) }
+        ensures kept { self.new.last ≡ Some source }
+    {
+        self.is_faulty = matches!(end, WriterEnd::Fault { .. });
         self.last = Some(source);
     }
 
@@ -111,7 +117,8 @@ where
     fn try_open(&self, notes: &StreamNotes<R>) -> io::Result<StreamSource<R>> {
         let file = File::open(&notes.rt, self.path.as_str())?;
         self.poll.add(&file)?;
-        open_source(notes.alloc, StreamInput::File(file), &notes.counters)
+        let input = StreamInput::File(file);
+        open_source(notes.alloc, input, FILE_READ_SIZE, &notes.counters)
     }
 
     // Waits until another writer has written. What is left of one that wrote a fault is dropped.

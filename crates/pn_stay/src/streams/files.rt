@@ -1,9 +1,9 @@
 //! Opens streams that are files, each read once.
 
-ghost use Rattle.std.specs.Prelude.{◌≡◌, vec_len, IfOk};
+ghost use Rattle.std.specs.Prelude.{◌≡◌, [], ◌∷◌, ◌++◌, map, IfOk, OnOk};
 
 use crate::counters::{CountingSource, InputCounters, StreamCounters};
-use crate::streams::input::{open_source, share_counters};
+use crate::streams::input::{FILE_READ_SIZE, open_source};
 use pn_join::Name;
 use pn_serve::StreamPath;
 use pn_stream::StreamReader;
@@ -62,7 +62,7 @@ pub fn open_files<R: Files<File = File>>(
     streams: Vec<(Name, StreamPath)>,
     is_counted: bool,
 ) -> Result<OpenedFiles, OpenFault>
-    ensures { IfOk result (λ opened. vec_len opened.readers ≡ vec_len streams) }
+    ensures { IfOk result (λ opened. map (λ reader. reader.name) opened.readers.items ≡ map (λ stream. stream.0) streams.items) }
 {
     let mut opened = OpenedFiles {
         readers: Vec::with_capacity(alloc, streams.len())?,
@@ -81,7 +81,9 @@ fn open_file<R: Files<File = File>>(
     opened: &mut OpenedFiles,
     stream: (Name, StreamPath),
     counters: Option<Arc<InputCounters>>,
-) -> Result<(), OpenFault> {
+) -> Result<(), OpenFault>
+    ensures { OnOk result (map (λ reader. reader.name) opened.new.readers.items ≡ map (λ reader. reader.name) opened.old.readers.items ++ stream.0 ∷ []) }
+{
     let (name, path) = stream;
     let path = match path {
         StreamPath::File(path) | StreamPath::Listen(path) => path,
@@ -91,7 +93,7 @@ fn open_file<R: Files<File = File>>(
         Err(error) => return Err(OpenFault::of(name, path, error)),
     };
     let size = read_size(&file);
-    let Ok(source) = open_source(alloc, file, &counters) else {
+    let Ok(source) = open_source(alloc, file, FILE_READ_SIZE, &counters) else {
         return Err(OpenFault::Memory);
     };
     if let Some(input) = counters {

@@ -9,8 +9,11 @@ use std::io::{BufReader, Read};
 use std::sync::Arc;
 use std::time::Clock;
 
-/// How many bytes of a stream are read at a time.
-pub(crate) const STREAM_READ_SIZE: usize = 1_048_576;
+/// How many bytes of a file are read at a time.
+pub(crate) const FILE_READ_SIZE: usize = 1_048_576;
+
+/// How many bytes of a socket are read at a time.
+pub(crate) const SOCKET_READ_SIZE: usize = 262_144;
 
 /// What a stream's writer is read from.
 #[derive(Drop)]
@@ -33,13 +36,14 @@ impl<R: Clock + Drop> Read for StreamInput<R> {
     }
 }
 
-/// Begins to read an input.
+/// Begins to read an input, so many bytes at a time.
 pub(crate) fn open_source<I: Read + Drop>(
     alloc: Global,
     input: I,
+    size: usize,
     counters: &Option<Arc<InputCounters>>,
 ) -> io::Result<CountingSource<BufReader<I>>> {
-    let reader = BufReader::with_capacity(alloc, STREAM_READ_SIZE, input)?;
+    let reader = BufReader::with_capacity(alloc, size, input)?;
     Ok(CountingSource::new(reader, share_counters(counters)?))
 }
 

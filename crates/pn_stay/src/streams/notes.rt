@@ -2,7 +2,7 @@
 
 use crate::counters::InputCounters;
 use crate::messages::Messages;
-use crate::reasons::{failure_text, system_reason};
+use crate::reasons::{describe_error, format_failure};
 use crate::streams::writer::Progress;
 use pn_join::Name;
 use pn_serve::{Counter, WriterEnd};
@@ -32,7 +32,7 @@ impl<R: Wait + Drop> StreamNotes<R> {
                 position,
                 line,
             } => {
-                let text = failure_text(self.alloc, &self.name, fault, *position, *line);
+                let text = format_failure(self.alloc, &self.name, fault, *position, *line);
                 self.messages.leave(&self.rt, text);
             }
         }
@@ -57,7 +57,7 @@ impl<R: Wait + Drop> StreamNotes<R> {
     }
 
     fn error_text(&self, what: &str, error: &io::Error) -> Result<String, AllocError> {
-        let reason = system_reason(self.alloc, error)?;
+        let reason = describe_error(self.alloc, error)?;
         format!(in self.alloc; "stream {} {what}: {reason}", self.name.as_str())
     }
 }

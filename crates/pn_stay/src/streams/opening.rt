@@ -1,12 +1,12 @@
 //! Opens the streams of a server that stays: files that are read once, FIFOs and sockets.
 
-ghost use Rattle.std.specs.Prelude.{◌≡◌, ◌+◌, vec_len, IfOk, OnOk};
+ghost use Rattle.std.specs.Prelude.{◌≡◌, [], ◌∷◌, ◌++◌, map, IfOk, OnOk};
 
 use crate::counters::StreamCounters;
 use crate::messages::Messages;
 use crate::streams::fifo::{FifoPoll, FifoWriters};
 use crate::streams::files::{OpenFault, new_counters, read_size};
-use crate::streams::input::{StreamInput, open_source, share_counters};
+use crate::streams::input::{FILE_READ_SIZE, StreamInput, open_source, share_counters};
 use crate::streams::listener::StreamListener;
 use crate::streams::notes::StreamNotes;
 use crate::streams::origin::{StreamOrigin, Writers};
@@ -48,7 +48,7 @@ pub fn open_origins<R>(
 ) -> Result<OpenedStreams<R>, OpenFault>
 where
     R: Files<File = File> + Net + Wait + Clock + Copy + Drop,
-    ensures { IfOk result (λ opened. vec_len opened.streams ≡ vec_len streams) }
+    ensures { IfOk result (λ opened. map (λ stream. stream.name) opened.streams.items ≡ map (λ stream. stream.0) streams.items) }
 {
     let mut opened = OpenedStreams {
         streams: Vec::with_capacity(setting.alloc, streams.len())?,
@@ -79,7 +79,7 @@ fn open_origin<R>(
 ) -> Result<(), OpenFault>
 where
     R: Files<File = File> + Net + Wait + Clock + Copy + Drop,
-    ensures { OnOk result (vec_len opened.new.streams ≡ vec_len opened.old.streams + 1) }
+    ensures { OnOk result (map (λ stream. stream.name) opened.new.streams.items ≡ map (λ stream. stream.name) opened.old.streams.items ++ name ∷ []) }
 {
     let notes = new_notes(setting, name)?;
     let (writers, size) = open_writers(&notes, path, &mut opened.sockets)?;
@@ -171,7 +171,8 @@ where
     match File::open(&notes.rt, path.as_str()) {
         Ok(file) => {
             let size = read_size(&file);
-            match open_source(notes.alloc, StreamInput::File(file), &notes.counters) {
+            let input = StreamInput::File(file);
+            match open_source(notes.alloc, input, FILE_READ_SIZE, &notes.counters) {
                 Ok(source) => Ok((Writers::File(Some(source)), size)),
                 Err(_) => Err(OpenFault::Memory),
             }

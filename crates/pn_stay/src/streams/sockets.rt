@@ -1,7 +1,9 @@
 //! Streams from a socket: one writer after another.
 
+ghost use Rattle.std.specs.Prelude.{◌≡◌, true};
+
 use crate::seldom::Seldom;
-use crate::streams::input::{StreamInput, StreamSource, open_source};
+use crate::streams::input::{SOCKET_READ_SIZE, StreamInput, StreamSource, open_source};
 use crate::streams::listener::StreamListener;
 use crate::streams::notes::StreamNotes;
 use crate::streams::writer::{Progress, WriterSocket};
@@ -62,11 +64,14 @@ impl SocketWriters {
             taken: Arc::try_clone(&notes.progress.taken)?,
         };
         let socket = WriterSocket::begin(notes.rt, notes.alloc, stream, progress, last)?;
-        open_source(notes.alloc, StreamInput::Socket(socket), &notes.counters)
+        let input = StreamInput::Socket(socket);
+        open_source(notes.alloc, input, SOCKET_READ_SIZE, &notes.counters)
     }
 
     // Every writer but the first begins again.
-    fn note_begin<R: Wait + Drop>(&mut self, notes: &StreamNotes<R>) {
+    fn note_begin<R: Wait + Drop>(&mut self, notes: &StreamNotes<R>)
+        ensures { self.new.has_begun ≡ true }
+    {
         if self.has_begun {
             notes.begin_again();
         }

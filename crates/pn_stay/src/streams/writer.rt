@@ -1,8 +1,11 @@
 //! The socket of a stream's writer. While it is read, the writer is told what is taken.
 
-ghost use Rattle.std.specs.Prelude.{◌≡◌, ◌≤◌};
+ghost use Rattle.std.specs.Prelude.{◌≡◌, ◌≢◌, ◌*◌, ◌≤◌, ◌↔◌, true, Ok, Err, IfOk, IsTrue, OnErr};
+ghost use Rattle.std.specs.Duration.{as_nanos};
+ghost use Rattle.std.specs.IoError.{error_kind};
+ghost use Rattle.pn_stay.specs.declared.streams.writer.TheConstants.{PAUSE};
 
-use crate::reasons::{after_line, refusal_line, taken_line};
+use crate::reasons::{format_after, format_refusal, format_taken};
 use crate::socket::is_wait;
 use pn_serve::Counter;
 use pn_stream::ResumeFault;
@@ -62,7 +65,7 @@ impl<R: Clock + Drop> WriterSocket<R> {
             is_timed: false,
             is_told: true,
         };
-        socket.tell(after_line(alloc, last));
+        socket.tell(format_after(alloc, last));
         Ok(socket)
     }
 
@@ -72,13 +75,13 @@ impl<R: Clock + Drop> WriterSocket<R> {
         if taken > self.told {
             self.told = taken;
             self.told_at = Instant::now(&self.rt).ok();
-            self.tell(taken_line(self.alloc, taken));
+            self.tell(format_taken(self.alloc, taken));
         }
     }
 
     /// Tells the writer why it is read no further.
     pub(crate) fn tell_fault(&mut self, fault: &ResumeFault, position: u64) {
-        self.tell(refusal_line(self.alloc, fault, position));
+        self.tell(format_refusal(self.alloc, fault, position));
     }
 
     // Writes a line. What the writer does not take at once is dropped.
@@ -125,11 +128,19 @@ impl<R: Clock + Drop> WriterSocket<R> {
 // Whether the pause since then is over.
 fn is_over<R: Clock>(rt: &R, then: &Option<Instant>) -> bool {
     match then {
-        Some(then) => match then.elapsed(rt) {
-            Ok(elapsed) => elapsed >= Duration::from_millis(PAUSE),
-            Err(_) => true,
-        },
+        Some(then) => has_passed(then.elapsed(rt)),
         None => true,
+    }
+}
+
+// Whether the pause has passed. Where the clock fails, it has.
+fn has_passed(elapsed: io::Result<Duration>) -> bool
+    ensures told { IfOk elapsed (λ elapsed. IsTrue result ↔ (PAUSE * 1_000_000 ≤ as_nanos elapsed)) }
+    ensures unknown { OnErr elapsed (result ≡ true) }
+{
+    match elapsed {
+        Ok(elapsed) => elapsed >= Duration::from_millis(PAUSE),
+        Err(_) => true,
     }
 }
 
@@ -149,7 +160,10 @@ impl<R: Clock + Drop> Read for WriterSocket<R> {
 }
 
 // A writer that went while lines for it were left is at its end.
-fn end_or_fault(error: io::Error) -> io::Result<usize> {
+fn end_or_fault(error: io::Error) -> io::Result<usize>
+    ensures end { error_kind error ≡ ErrorKind.ConnectionReset → result ≡ Ok 0 }
+    ensures fault { error_kind error ≢ ErrorKind.ConnectionReset → result ≡ Err error }
+{
     match error.kind() {
         ErrorKind::ConnectionReset => Ok(0),
         _ => Err(error),

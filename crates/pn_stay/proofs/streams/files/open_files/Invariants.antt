@@ -1,0 +1,6 @@
+-- The reader of each stream so far.
+use Rattle.std.proofs.Common.{◌≡◌, map}
+use Rattle.pn_stay.proofs.streams.files.open_files.Given as goal
+
+abbrev pub invariant-loop-name : goal.invariant-loop-name
+invariant-loop-name g l = map (λ reader. reader.name) l.opened.readers.items ≡ map (λ stream. stream.0) l.yielded
