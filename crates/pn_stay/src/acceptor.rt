@@ -9,6 +9,7 @@ use crate::listener::Listener;
 use crate::messages::Messages;
 use crate::reasons::describe_error;
 use crate::seldom::Seldom;
+use crate::shared::share;
 use crate::socket::{Socket, TrackedSocket};
 use crate::socket_mailbox::SocketMailbox;
 use pn_live::LiveReader;
@@ -70,8 +71,8 @@ impl Acceptor for SocketAcceptor {
             listener: self.listener.try_clone()?,
             idle: self.idle,
             counters: Arc::try_clone(&self.counters)?,
-            faults: self.fault_log(),
-            messages: None,
+            faults: share(&self.faults)?,
+            messages: share(&self.messages)?,
         })
     }
 
@@ -91,10 +92,7 @@ impl Acceptor for SocketAcceptor {
     }
 
     fn fault_log(&self) -> Option<Arc<FaultLog>> {
-        match &self.faults {
-            Some(faults) => Arc::try_clone(faults).ok(),
-            None => None,
-        }
+        share(&self.faults).unwrap_or(None)
     }
 }
 

@@ -10,6 +10,7 @@ mod threads;
 
 use crate::acceptor::SocketAcceptor;
 use crate::server::threads::start_answering;
+use crate::shared::share;
 use pn_line::Source;
 use pn_live::{LiveReader, LiveRegion};
 use pn_serve::{
@@ -105,10 +106,7 @@ impl StayingServer {
         ensures reads { ReadsStreams (map (λ stream. stream.name) streams.items) self.old.live self.new.live result }
         ensures threads { self.new.threads ≡ self.old.threads }
     {
-        let rounds = match &self.rounds {
-            Some(rounds) => Arc::try_clone(rounds).ok(),
-            None => None,
-        };
+        let rounds = share(&self.rounds).unwrap_or(None);
         read_streams(rt, alloc, &mut self.live, self.workers, streams, rounds)
     }
 

@@ -6,7 +6,7 @@ use pn_join::Name;
 use pn_serve::{FaultLog, ServeFault, Service, Stream, StreamPath};
 use pn_stay::{
     Counters, FileSource, Listener, Messages, OpenFault, SocketAcceptor, StreamCounters,
-    StreamOrigin, StreamSetting, open_files, open_origins, remove_sockets,
+    StreamOrigin, StreamSetting, open_files, open_origins, remove_sockets, share,
 };
 use pn_stream::StreamReader;
 use std::alloc::{AllocError, Global};
@@ -168,13 +168,6 @@ fn new_acceptor(
         faults: share(&notes.faults)?,
         messages: share(&notes.messages)?,
     })
-}
-
-fn share<T: Drop>(shared: &Option<Arc<T>>) -> Result<Option<Arc<T>>, AllocError> {
-    match shared {
-        Some(shared) => Ok(Some(Arc::try_clone(shared)?)),
-        None => Ok(None),
-    }
 }
 
 /// Prints that the program cannot start, and ends what it listened on.

@@ -1,8 +1,9 @@
 //! What streams are read from.
 
 use crate::counters::{CountingSource, InputCounters};
+use crate::shared::share;
 use crate::streams::writer::WriterSocket;
-use std::alloc::{AllocError, Global};
+use std::alloc::Global;
 use std::fs::File;
 use std::io;
 use std::io::{BufReader, Read};
@@ -44,15 +45,5 @@ pub(crate) fn open_source<I: Read + Drop>(
     counters: &Option<Arc<InputCounters>>,
 ) -> io::Result<CountingSource<BufReader<I>>> {
     let reader = BufReader::with_capacity(alloc, size, input)?;
-    Ok(CountingSource::new(reader, share_counters(counters)?))
-}
-
-/// The same counters.
-pub(crate) fn share_counters(
-    counters: &Option<Arc<InputCounters>>,
-) -> Result<Option<Arc<InputCounters>>, AllocError> {
-    match counters {
-        Some(counters) => Ok(Some(Arc::try_clone(counters)?)),
-        None => Ok(None),
-    }
+    Ok(CountingSource::new(reader, share(counters)?))
 }

@@ -4,9 +4,10 @@ ghost use Rattle.std.specs.Prelude.{◌≡◌, [], ◌∷◌, ◌++◌, map, IfO
 
 use crate::counters::StreamCounters;
 use crate::messages::Messages;
+use crate::shared::share;
 use crate::streams::fifo::{FifoPoll, FifoWriters};
 use crate::streams::files::{OpenFault, new_counters, read_size};
-use crate::streams::input::{FILE_READ_SIZE, StreamInput, open_source, share_counters};
+use crate::streams::input::{FILE_READ_SIZE, StreamInput, open_source};
 use crate::streams::listener::StreamListener;
 use crate::streams::notes::StreamNotes;
 use crate::streams::origin::{StreamOrigin, Writers};
@@ -84,7 +85,7 @@ where
     let notes = new_notes(setting, name)?;
     let (writers, size) = open_writers(&notes, path, &mut opened.sockets)?;
     let taken = Arc::try_clone(&notes.progress.taken)?;
-    if let Some(counters) = share_counters(&notes.counters)? {
+    if let Some(counters) = share(&notes.counters)? {
         opened.counters.push(StreamCounters {
             name,
             input: counters,
