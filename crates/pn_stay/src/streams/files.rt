@@ -1,6 +1,6 @@
 //! Opens streams that are files, each read once.
 
-ghost use Rattle.std.specs.Prelude.{◌≡◌, [], ◌∷◌, ◌++◌, map, IfOk, OnOk};
+ghost use Rattle.std.specs.Prelude.{◌≡◌, [], ◌∷◌, ◌++◌, map, All, IfOk, OnOk};
 
 use crate::counters::{CountingSource, InputCounters, StreamCounters};
 use crate::streams::input::{FILE_READ_SIZE, open_source};
@@ -62,7 +62,8 @@ pub fn open_files<R: Files<File = File>>(
     streams: Vec<(Name, StreamPath)>,
     is_counted: bool,
 ) -> Result<OpenedFiles, OpenFault>
-    ensures { IfOk result (λ opened. map (λ reader. reader.name) opened.readers.items ≡ map (λ stream. stream.0) streams.items) }
+    ensures names { IfOk result (λ opened. map (λ reader. reader.name) opened.readers.items ≡ map (λ stream. stream.0) streams.items) }
+    ensures first { IfOk result (λ opened. All (λ reader. reader.position ≡ 0) opened.readers.items) }
 {
     let mut opened = OpenedFiles {
         readers: Vec::with_capacity(alloc, streams.len())?,
@@ -82,7 +83,9 @@ fn open_file<R: Files<File = File>>(
     stream: (Name, StreamPath),
     counters: Option<Arc<InputCounters>>,
 ) -> Result<(), OpenFault>
-    ensures { OnOk result (map (λ reader. reader.name) opened.new.readers.items ≡ map (λ reader. reader.name) opened.old.readers.items ++ stream.0 ∷ []) }
+    requires { All (λ reader. reader.position ≡ 0) opened.old.readers.items }
+    ensures first { OnOk result (All (λ reader. reader.position ≡ 0) opened.new.readers.items) }
+    ensures names { OnOk result (map (λ reader. reader.name) opened.new.readers.items ≡ map (λ reader. reader.name) opened.old.readers.items ++ stream.0 ∷ []) }
 {
     let (name, path) = stream;
     let path = match path {

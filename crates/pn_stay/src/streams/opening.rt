@@ -1,6 +1,6 @@
 //! Opens the streams of a server that stays: files that are read once, FIFOs and sockets.
 
-ghost use Rattle.std.specs.Prelude.{◌≡◌, [], ◌∷◌, ◌++◌, map, IfOk, OnOk};
+ghost use Rattle.std.specs.Prelude.{◌≡◌, [], ◌∷◌, ◌++◌, map, All, IfOk, OnOk};
 
 use crate::counters::StreamCounters;
 use crate::messages::Messages;
@@ -49,7 +49,8 @@ pub fn open_origins<R>(
 ) -> Result<OpenedStreams<R>, OpenFault>
 where
     R: Files<File = File> + Net + Wait + Clock + Copy + Drop,
-    ensures { IfOk result (λ opened. map (λ stream. stream.name) opened.streams.items ≡ map (λ stream. stream.0) streams.items) }
+    ensures names { IfOk result (λ opened. map (λ stream. stream.name) opened.streams.items ≡ map (λ stream. stream.0) streams.items) }
+    ensures first { IfOk result (λ opened. All (λ stream. stream.after ≡ 0) opened.streams.items) }
 {
     let mut opened = OpenedStreams {
         streams: Vec::with_capacity(setting.alloc, streams.len())?,
@@ -80,7 +81,9 @@ fn open_origin<R>(
 ) -> Result<(), OpenFault>
 where
     R: Files<File = File> + Net + Wait + Clock + Copy + Drop,
-    ensures { OnOk result (map (λ stream. stream.name) opened.new.streams.items ≡ map (λ stream. stream.name) opened.old.streams.items ++ name ∷ []) }
+    requires { All (λ stream. stream.after ≡ 0) opened.old.streams.items }
+    ensures first { OnOk result (All (λ stream. stream.after ≡ 0) opened.new.streams.items) }
+    ensures names { OnOk result (map (λ stream. stream.name) opened.new.streams.items ≡ map (λ stream. stream.name) opened.old.streams.items ++ name ∷ []) }
 {
     let notes = new_notes(setting, name)?;
     let (writers, size) = open_writers(&notes, path, &mut opened.sockets)?;
