@@ -5,6 +5,7 @@ use crate::failures::{fail, fail_serving, fail_with};
 use pn_serve::{ServeFault, Service};
 use pn_stay::StayingServer;
 use std::io;
+use std::io::ErrorKind;
 use std::process::ExitCode;
 use std::rt::Files;
 use std::sync::Wait;
@@ -18,7 +19,10 @@ pub(crate) fn fail_to_stay(
     error: &io::Error,
 ) -> ExitCode {
     remove_places(rt, service, sockets);
-    fail_with(rt, "cannot start", error, true)
+    match error.kind() {
+        ErrorKind::OutOfMemory | ErrorKind::WouldBlock => fail_serving(rt, ServeFault::Start, true),
+        _ => fail_with(rt, "cannot start", error, true),
+    }
 }
 
 /// Prints a fault of the reading. Where a stream's thread was refused the program ends; otherwise it answers until a signal ends it.

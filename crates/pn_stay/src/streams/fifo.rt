@@ -105,7 +105,7 @@ where
                 Ok(source) => return source,
                 Err(error) => {
                     if self.refusals.is_due(&notes.rt) {
-                        notes.tell_error("is not opened", &error);
+                        notes.tell_error("open", self.path.as_str(), &error);
                     }
                     thread::sleep(&notes.rt, Duration::from_millis(RETRY));
                 }
@@ -147,7 +147,7 @@ where
             Ok(()) => true,
             Err(error) => {
                 if self.refusals.is_due(&notes.rt) {
-                    notes.tell_error("is not waited for", &error);
+                    notes.tell_error("wait for", self.path.as_str(), &error);
                 }
                 thread::sleep(&notes.rt, Duration::from_millis(RETRY));
                 false

@@ -46,9 +46,10 @@ impl<R: Wait + Drop> StreamNotes<R> {
         self.tell("begins again");
     }
 
-    /// Tells that nothing can be read for now.
-    pub(crate) fn tell_error(&self, what: &str, error: &io::Error) {
-        self.messages.leave(&self.rt, self.error_text(what, error));
+    /// Tells what the system refuses for now, as `cannot open east: ./east: Permission denied`.
+    pub(crate) fn tell_error(&self, verb: &str, path: &str, error: &io::Error) {
+        let text = self.format_error(verb, path, error);
+        self.messages.leave(&self.rt, text);
     }
 
     fn tell(&self, how: &str) {
@@ -56,8 +57,13 @@ impl<R: Wait + Drop> StreamNotes<R> {
         self.messages.leave(&self.rt, text);
     }
 
-    fn error_text(&self, what: &str, error: &io::Error) -> Result<String, AllocError> {
+    fn format_error(
+        &self,
+        verb: &str,
+        path: &str,
+        error: &io::Error,
+    ) -> Result<String, AllocError> {
         let reason = describe_error(self.alloc, error)?;
-        format!(in self.alloc; "stream {} {what}: {reason}", self.name.as_str())
+        format!(in self.alloc; "cannot {verb} {}: {path}: {reason}", self.name.as_str())
     }
 }

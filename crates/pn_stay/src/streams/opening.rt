@@ -133,18 +133,30 @@ where
     R: Files<File = File> + Net + Wait + Clock + Copy + Drop,
 {
     match path {
-        StreamPath::Listen(path) => match StreamListener::bind(&notes.rt, path.as_str()) {
-            Ok(listener) => {
-                sockets.push(path)?;
-                Ok((Writers::Socket(SocketWriters::new(listener)), None))
-            }
-            Err(error) => Err(OpenFault::of(notes.name, path, error)),
-        },
+        StreamPath::Listen(path) => Ok((listen(notes, path, sockets)?, None)),
         StreamPath::File(path) => match is_fifo(&notes.rt, path.as_str()) {
             Ok(true) => open_fifo(notes, path),
             Ok(false) => open_file(notes, path),
             Err(error) => Err(OpenFault::of(notes.name, path, error)),
         },
+    }
+}
+
+fn listen<R>(
+    notes: &StreamNotes<R>,
+    path: String,
+    sockets: &mut Vec<String>,
+) -> Result<Writers<R>, OpenFault>
+where
+    R: Files<File = File> + Net + Wait + Clock + Copy + Drop,
+{
+    let shown = String::from_str(notes.alloc, path.as_str())?;
+    match StreamListener::bind(&notes.rt, path.as_str()) {
+        Ok(listener) => {
+            sockets.push(path)?;
+            Ok(Writers::Socket(SocketWriters::new(listener, shown)))
+        }
+        Err(error) => Err(OpenFault::of(notes.name, path, error)),
     }
 }
 

@@ -20,15 +20,17 @@ const RETRY: u64 = 100;
 #[derive(Drop)]
 pub(crate) struct SocketWriters {
     listener: StreamListener,
+    path: String,
     has_begun: bool,
     refusals: Seldom,
 }
 
 impl SocketWriters {
-    /// Those who come to a socket.
-    pub(crate) fn new(listener: StreamListener) -> SocketWriters {
+    /// Those who come to the socket at a path.
+    pub(crate) fn new(listener: StreamListener, path: String) -> SocketWriters {
         SocketWriters {
             listener,
+            path,
             has_begun: false,
             refusals: Seldom::new(),
         }
@@ -83,7 +85,7 @@ impl SocketWriters {
         R: Wait + Clock + Drop,
     {
         if self.refusals.is_due(&notes.rt) {
-            notes.tell_error("takes no writer", error);
+            notes.tell_error("accept", self.path.as_str(), error);
         }
         thread::sleep(&notes.rt, Duration::from_millis(RETRY));
     }
