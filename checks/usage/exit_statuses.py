@@ -70,7 +70,11 @@ WORDS: dict[str, tuple[list[str], End]] = {
     ),
     "a stream that does not open": (["serve", "--socket", "/none/socket", "east=/none"], (1, b"", b"pnuts: cannot open east")),
     "a socket in no folder": (["serve", "--socket", "/none/socket", "east=/dev/null"], (1, b"", b"pnuts: cannot listen")),
-    "an address of no machine": (["serve", "--stay", "--listen", "192.0.2.1", "east=/dev/null"], (1, b"", b"pnuts: cannot listen")),
+    "an address of no machine": (["serve", "--listen", "192.0.2.1", "east=/dev/null"], (1, b"", b"pnuts: cannot listen")),
+    "an address of no machine, and why": (
+        ["serve", "--stay", "--listen", "192.0.2.1", "east=/dev/null"],
+        (1, b"", b"pnuts: cannot listen: 192.0.2.1:7070: Cannot assign requested address"),
+    ),
 }
 
 

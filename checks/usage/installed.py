@@ -48,6 +48,8 @@ COMPLETIONS = {
     "pnuts serve --workers ": set(),
     "pnuts serve east=": {"a folder", "messages"},
     "pnuts serve east=m": {"messages"},
+    "pnuts serve --stay east=listen:": {"a folder", "messages"},
+    "pnuts serve --stay east=listen:m": {"messages"},
     "pnuts serve east=messages --po": {"--port"},
     "pnuts steal ": set(),
 }
@@ -92,7 +94,7 @@ def completions_of(shell: str, completion: Path, folder: Path) -> dict[str, set[
     else:
         with Shell(shell, completion, folder) as running:
             found = {line: running.completed(line)[line.count(" ") :] for line in COMPLETIONS}
-    return {line: {it.removeprefix("east=").removesuffix("/") for it in words} for line, words in found.items()}
+    return {line: {it.removeprefix("east=").removeprefix("listen:").removesuffix("/") for it in words} for line, words in found.items()}
 
 
 def check_completions(installed: Path, folder: Path) -> None:

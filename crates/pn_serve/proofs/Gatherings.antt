@@ -1,12 +1,13 @@
 -- What mailboxes give, one after another.
-use Rattle.std.proofs.Common.{◌≡◌, ℕ, Bool, true, false, if◌then◌else◌, List, [], ◌∷◌, ◌++◌, map, Option, None, Some, IfSome, inl, inr, refl, sym, ap, ◌∙◌, subst}
+use Rattle.std.proofs.Common.{◌≡◌, ℕ, Bool, true, false, if◌then◌else◌, List, [], ◌∷◌, ◌++◌, map, Option, None, Some, IfSome, inl, inr, refl, sym, ap, ◌∙◌, subst, append-nil}
 use Rattle.std.specs.List.{Contains}
-use Rattle.std.proofs.lemmas.List.Elements.{Contains-append_cases, Contains-append_right, Contains-append_left, Contains-push}
+use Rattle.std.proofs.lemmas.List.Elements.{All-nil, All-push, Contains-append_cases, Contains-append_right, Contains-append_left, Contains-push}
 use Rattle.pn_join.specs.Marks.{Positions}
-use Rattle.pn_serve.specs.Server.Gathering.{Note, IsInputOf, first_fault, goes_on, no_input, still_read, with_report, with_notes}
+use Rattle.pn_serve.specs.Server.Gathering.{Note, IsInputOf, IsOwn, first_fault, goes_on, no_input, still_read, with_report, with_notes}
 use Rattle.pn_serve.specs.Server.Reports.{is_fault}
 use Rattle.pn_serve.specs.Server.Rounds.{RoundInputValue}
 use Rattle.pn_serve.specs.declared.server.reports.Report.{Report}
+use Rattle.pn_serve.proofs.Passing.{map_push}
 
 -- one more note
 pub notes_push : (marks : Positions) (input : RoundInputValue) (notes : List Note) (note : Note) → with_notes marks input (notes ++ note ∷ []) ≡ with_report marks (with_notes marks input notes) note.name note.report
@@ -24,23 +25,44 @@ read_push marks (first ∷ notes) note =
     ap (λ (names : List (List ℕ)). if goes_on marks first.report then first.name ∷ names else names) (read_push marks notes note)
     ∙ joined (goes_on marks first.report) first.name (still_read marks notes) (if goes_on marks note.report then note.name ∷ [] else [])
 
-pub goes_on_after : (marks : Positions) (notes : List Note) (note : Note) → goes_on marks note.report ≡ true → still_read marks (notes ++ note ∷ []) ≡ still_read marks notes ++ note.name ∷ []
-goes_on_after marks notes note on = read_push marks notes note ∙ ap (λ (test : Bool). still_read marks notes ++ (if test then note.name ∷ [] else [])) on
+-- no stream was asked yet
+pub asked_none : (marks : Positions) (input : RoundInputValue) (left : List (List ℕ)) → input ≡ no_input → left ≡ [] → IsInputOf [] marks input left
+asked_none marks input left none nobody = record { notes = []; of_streams = refl; own = All-nil IsOwn; together = none; going_on = nobody }
 
-pub ends_after : (marks : Positions) (notes : List Note) (note : Note) → goes_on marks note.report ≡ false → still_read marks (notes ++ note ∷ []) ≡ still_read marks notes ++ []
-ends_after marks notes note off = read_push marks notes note ∙ ap (λ (test : Bool). still_read marks notes ++ (if test then note.name ∷ [] else [])) off
+asked_more : (names : List (List ℕ)) (marks : Positions) (input : RoundInputValue) (left still : List (List ℕ)) (note : Note) → IsInputOf names marks input left → IsOwn note
+    → still ≡ left ++ (if goes_on marks note.report then note.name ∷ [] else []) → IsInputOf (names ++ note.name ∷ []) marks (with_report marks input note.name note.report) still
+asked_more names marks input left still note is own going = record {
+  notes = is.notes ++ note ∷ [];
+  of_streams = map_push (λ (n : Note). n.name) is.notes note ∙ ap (λ (ns : List (List ℕ)). ns ++ note.name ∷ []) is.of_streams;
+  own = All-push IsOwn is.notes note is.own own;
+  together = ap (λ (v : RoundInputValue). with_report marks v note.name note.report) is.together ∙ sym (notes_push marks no_input is.notes note);
+  going_on = going ∙ ap (λ (ns : List (List ℕ)). ns ++ (if goes_on marks note.report then note.name ∷ [] else [])) is.going_on ∙ sym (read_push marks is.notes note);
+}
+
+-- one more stream was asked, and goes on
+pub asked_on : (names : List (List ℕ)) (marks : Positions) (input : RoundInputValue) (left : List (List ℕ)) (note : Note) → IsInputOf names marks input left → IsOwn note → goes_on marks note.report ≡ true
+    → IsInputOf (names ++ note.name ∷ []) marks (with_report marks input note.name note.report) (left ++ note.name ∷ [])
+asked_on names marks input left note is own on =
+    asked_more names marks input left (left ++ note.name ∷ []) note is own (ap (λ (test : Bool). left ++ (if test then note.name ∷ [] else [])) (sym on))
+
+-- one more stream was asked, and has ended
+pub asked_off : (names : List (List ℕ)) (marks : Positions) (input : RoundInputValue) (left : List (List ℕ)) (note : Note) → IsInputOf names marks input left → IsOwn note → goes_on marks note.report ≡ false
+    → IsInputOf (names ++ note.name ∷ []) marks (with_report marks input note.name note.report) left
+asked_off names marks input left note is own off =
+    asked_more names marks input left left note is own (sym (append-nil left) ∙ ap (λ (test : Bool). left ++ (if test then note.name ∷ [] else [])) (sym off))
 
 -- a stream that goes on is one of those that were asked
 still_named : (marks : Positions) (notes : List Note) (name : List ℕ) → Contains (still_read marks notes) name → Contains (map (λ (note : Note). note.name) notes) name
 still_named marks [] name there = there
-still_named marks (note ∷ notes) name there = at (goes_on marks note.report) there
+still_named marks (note ∷ notes) name there = at (goes_on marks note.report) (still_named marks notes name) there
   where
-    at : (test : Bool) → Contains (if test then note.name ∷ still_read marks notes else still_read marks notes) name → Contains (note.name ∷ map (λ (n : Note). n.name) notes) name
-    at true found = elim (Contains-append_cases (note.name ∷ []) (still_read marks notes) name found) [
+    at : (test : Bool) → (Contains (still_read marks notes) name → Contains (map (λ (n : Note). n.name) notes) name) → Contains (if test then note.name ∷ still_read marks notes else still_read marks notes) name
+        → Contains (note.name ∷ map (λ (n : Note). n.name) notes) name
+    at true others found = elim (Contains-append_cases (note.name ∷ []) (still_read marks notes) name found) [
       | inl here ↦ Contains-append_left (note.name ∷ []) (map (λ (n : Note). n.name) notes) name here
-      | inr later ↦ Contains-append_right (note.name ∷ []) (map (λ (n : Note). n.name) notes) name (still_named marks notes name later)
+      | inr later ↦ Contains-append_right (note.name ∷ []) (map (λ (n : Note). n.name) notes) name (others later)
     ]
-    at false found = Contains-append_right (note.name ∷ []) (map (λ (n : Note). n.name) notes) name (still_named marks notes name found)
+    at false others found = Contains-append_right (note.name ∷ []) (map (λ (n : Note). n.name) notes) name (others found)
 
 pub left_named : (names : List (List ℕ)) (marks : Positions) (input : RoundInputValue) (left : List (List ℕ)) (name : List ℕ) → IsInputOf names marks input left → Contains left name → Contains names name
 left_named names marks input left name is there =

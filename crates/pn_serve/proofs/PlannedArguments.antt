@@ -130,7 +130,7 @@ plans false written options value e = replay_plans options value e
 
 -- ---- a command's plan is that of the words
 
-says : (words : List Text) → fault_of program words ≡ [] → (command : Text × List Row) → subcommand_of program words ≡ Some command
+abbrev says : (words : List Text) → fault_of program words ≡ [] → (command : Text × List Row) → subcommand_of program words ≡ Some command
     → (result : Result Plan PlanFault) (tells : Tells command result) (said : Result PlanValue OptionFault) → plan_in tells.written command ≡ said → Says words said
 says words taken command found result tells said means =
     record { taken = taken; command = command; found = found; written = tells.written; reads = tells.reads; means = means }

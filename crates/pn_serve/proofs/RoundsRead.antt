@@ -1,8 +1,9 @@
 -- Rounds of what streams gave, one after another.
-use Rattle.std.proofs.Common.{◌≡◌, ◌≢◌, ◌⊎◌, ℕ, ◌+◌, ◌≤◌, ◌<◌, List, [], ◌∷◌, ◌++◌, Option, None, Some, IfSome, IfErr, OnOk, OnErr, inl, inr, refl, sym, ap, ◌∙◌, subst, arith}
+use Rattle.std.proofs.Common.{◌≡◌, ◌≢◌, ◌⊎◌, ℕ, ◌+◌, ◌≤◌, ◌<◌, List, [], ◌∷◌, ◌++◌, Option, None, Some, IfSome, IfErr, OnOk, OnErr, inl, inr, refl, sym, ap, ◌∙◌, subst, arith, length, map}
 use Rattle.std.specs.Prelude.{Result, Ok, Err, IsErrAnd, MatchResult}
 use Rattle.std.specs.List.{All, Contains}
 use Rattle.std.specs.Result.{result_map_both}
+use Rattle.std.proofs.lemmas.List.{length-map}
 use Rattle.std.proofs.lemmas.List.Elements.{All-contains, Contains-append_right, Contains-append_left, Contains-push}
 use Rattle.std.proofs.lemmas.Result.{err_from_is_err_and}
 use Rattle.pn_join.specs.Marks.{Positions, position_of}
@@ -17,7 +18,8 @@ use Rattle.pn_region.proofs.GapLaws.{gap_is_missing}
 use Rattle.pn_live.specs.LiveRegions.{LiveRegionValue, core, LeavesLive}
 use Rattle.pn_serve.specs.Server.Faults.{IsOfRounds}
 use Rattle.pn_serve.specs.Server.Reading.{AllTaken, ReadToEnds, ReadUpTo, RunsRound, RunsRounds, StopsAt}
-use Rattle.pn_serve.specs.Server.Rounds.{RoundInputValue, Continues, IsNoGap, IsRoundTaken, IsRoundRefused, TakesInput, stopping}
+use Rattle.pn_serve.specs.Server.Gathering.{IsInputOf}
+use Rattle.pn_serve.specs.Server.Rounds.{RoundInputValue, CanBeTaken, Continues, IsNoGap, IsRoundTaken, IsRoundRefused, TakesInput, stopping}
 use Rattle.pn_serve.specs.declared.server.fault.ServeFault.{ServeFault}
 use Rattle.pn_serve.specs.declared.server.fault.ServeFault.TheVariants.{Start, Stream, Round, Close, Write}
 use Rattle.pn_serve.specs.declared.server.mailboxes.AtFault.{AtFault}
@@ -75,12 +77,31 @@ takes {T} at_fault input old new None run result stops taken refused named unnam
 takes at_fault input old new (Some name) run result stops taken refused named unnamed =
     subst (TakesInput at_fault input old new) (sym named) (sym stops, run_either run old input.deliveries new taken refused)
 
+-- the input was gathered, and taken so
+pub ran : {P : Type 0} (name : P → List ℕ) (streams : List P) (at_fault given : AtFault) (marks : Positions) (old new : LiveRegionValue) (input : RoundInputValue) (left : List (List ℕ)) (run : Result (Unit {0}) ServeFault)
+    → marks ≡ old.marks → given ≡ at_fault → IsInputOf (map name streams) marks input left → CanBeTaken (length streams) marks input → TakesInput given input old new run
+    → RunsRound at_fault (map name streams) old input left new run
+ran name streams at_fault given marks old new input left run same fault gathered fits takes = record {
+  gathered = subst (λ (m : Positions). IsInputOf (map name streams) m input left) same gathered;
+  fits = subst (λ (n : ℕ). CanBeTaken n old.marks input) (sym (length-map streams name)) (subst (λ (m : Positions). CanBeTaken (length streams) m input) same fits);
+  takes = subst (λ (a : AtFault). TakesInput a input old new run) fault takes;
+}
+
+-- names of no streams
+pub no_names : {P : Type 0} (name : P → List ℕ) (streams : List P) → map name streams ≡ [] → length streams ≡ 0
+no_names name [] none = refl
+no_names name (stream ∷ streams) none = absurd (cc)
+
 -- one more round went well
 taken_push : (at_fault : AtFault) (names : List (List ℕ)) (old : LiveRegionValue) (rounds : List RoundInputValue) (still : List (List ℕ)) (between : LiveRegionValue) (input : RoundInputValue) (left : List (List ℕ)) (new : LiveRegionValue)
     → AllTaken at_fault names old rounds still between → still ≢ [] → RunsRound at_fault still between input left new (Ok tt) → AllTaken at_fault names old (rounds ++ input ∷ []) left new
-taken_push at_fault names old [] still between input left new all some run =
-    (new, left, subst (λ (ns : List (List ℕ)). ns ≢ []) all.0 some,
-        subst (λ (ns : List (List ℕ)). RunsRound at_fault ns old input left new (Ok tt)) all.0 (subst (λ (was : LiveRegionValue). RunsRound at_fault still was input left new (Ok tt)) all.1 run), refl, refl)
+taken_push at_fault names old [] still between input left new all some run = (
+  new,
+  left,
+  subst (λ (ns : List (List ℕ)). ns ≢ []) all.0 some,
+  subst (λ (ns : List (List ℕ)). RunsRound at_fault ns old input left new (Ok tt)) all.0 (subst (λ (was : LiveRegionValue). RunsRound at_fault still was input left new (Ok tt)) all.1 run),
+  (refl, refl),
+)
 taken_push at_fault names old (first ∷ rounds) still between input left new all some run =
     (all.0, all.1, all.2, all.3, taken_push at_fault all.1 all.0 rounds still between input left new all.4 some run)
 

@@ -89,7 +89,7 @@ module _ {S : Type 0} (left : S → Option (List ℕ)) where
               so.0,
               subst (λ (n : ℕ). IfSome (left first.source) (λ text. IsReadUpTo n (first.part ++ text) new.position new.part (left new.source))) start
                   (subst (λ (n : ℕ). IfSome (left first.source) (λ text. IsReadUpTo (start_of before (Some from) first.position) (first.part ++ text) n new.part (left new.source))) (sym gives.1.2)
-                      (one_more 1 MAX_MESSAGES (start_of before (Some from) first.position) old.position first.part old.part new.part messages.delivery.images (left first.source) (left old.source) (left new.source) new.fault none so.1 gives.1.3)),
+                  (one_more 1 MAX_MESSAGES (start_of before (Some from) first.position) old.position first.part old.part new.part messages.delivery.images (left first.source) (left old.source) (left new.source) new.fault none so.1 gives.1.3)),
             );
         nothing_yet = λ no. let some = sym same ∙ no in absurd (cc);
       }
@@ -101,8 +101,8 @@ module _ {S : Type 0} (left : S → Option (List ℕ)) where
       let least = begins.least in
       let at : from + length messages.delivery.images ≡ new.position = omega (arith, begins.one, least) in
       let read : IfSome (left old.source) (λ text. IsReadUpTo from (old.part ++ text) new.position new.part (left new.source)) =
-          subst (λ (n : ℕ). IfSome (left old.source) (λ text. IsReadUpTo from (old.part ++ text) n new.part (left new.source))) at
-          (one_more 1 1 from from old.part old.part new.part messages.delivery.images (left old.source) (left old.source) (left new.source) None refl (nothing from old.part (left old.source)) begins.batch)
+      subst (λ (n : ℕ). IfSome (left old.source) (λ text. IsReadUpTo from (old.part ++ text) n new.part (left new.source))) at
+      (one_more 1 1 from from old.part old.part new.part messages.delivery.images (left old.source) (left old.source) (left new.source) None refl (nothing from old.part (left old.source)) begins.batch)
       in
       subst (λ (n : Option ℕ). WasReadBy left None old n new) (sym gives.1) (record {
         begins = omega (arith, begins.most, least);

@@ -1,8 +1,7 @@
 -- Streams as arguments.
-use Rattle.std.specs.Prelude.{ℕ, zero, suc, Bool, not, ◌==◌, ◌&&◌, nat_lt, if◌then◌else◌, List, [], ◌∷◌, length, drop, codes, String, string_bytes, Option, Some, None, Result, Ok, Err}
+use Rattle.std.specs.Prelude.{ℕ, ◌+◌, Bool, not, ◌==◌, ◌&&◌, nat_lt, if◌then◌else◌, List, [], ◌∷◌, length, drop, codes, string_bytes, Option, Some, None, Result, Ok, Err}
 use Rattle.std.specs.List.{list_any, before_first, after_first, position_or_len, starts_with}
 use Rattle.std.specs.Str.{bytes_eq}
-use Rattle.std.specs.declared.alloc.Global.{Global}
 use Rattle.pn_json.specs.Answers.{◌>>=◌}
 use Rattle.pn_join.specs.Naming.{is_name}
 use Rattle.pn_serve.specs.declared.arguments.streams.TheConstants.{MAX_SOCKET_BYTES, MAX_STREAMS}
@@ -35,7 +34,7 @@ listen_word = codes "listen:"
 
 -- with `--stay`, a path begins with this
 abbrev pub is_listened : Bool → List ℕ → Bool
-is_listened stays text = stays && starts_with (λ one other. one == other) text listen_word
+is_listened stays text = stays && starts_with ◌==◌ text listen_word
 
 -- a file's path, which is not empty
 abbrev pub file_in : ℕ → List ℕ → Result PathValue OptionFault
@@ -71,7 +70,7 @@ abbrev pub each_stream : Bool → ℕ → List (List ℕ) → Result (List Strea
 each_stream stays index [] = Ok []
 each_stream stays index (word ∷ words) = do
   stream ← stream_in stays index word
-  streams ← each_stream stays (suc index) words
+  streams ← each_stream stays (index + 1) words
   Ok (stream ∷ streams)
 
 -- a stream of the list has the name
@@ -81,7 +80,7 @@ has_name streams name = list_any (λ stream. bytes_eq stream.0 name) streams
 -- the index of the first stream whose name a later one has, where those of the list are counted from this index on
 abbrev pub repeated_from : ℕ → List StreamValue → Option ℕ
 repeated_from index [] = None
-repeated_from index (stream ∷ streams) = if has_name streams stream.0 then Some index else repeated_from (suc index) streams
+repeated_from index (stream ∷ streams) = if has_name streams stream.0 then Some index else repeated_from (index + 1) streams
 
 -- streams whose names differ
 abbrev pub once : Option ℕ → List StreamValue → Result (List StreamValue) OptionFault

@@ -35,7 +35,7 @@ const REPLAY_ABOUT: &str =
     "Answers the script on standard input, a reply a line, on standard output";
 
 const SERVE_ABOUT: &str =
-    "Reads streams from files while it serves sessions over TCP or a Unix socket";
+    "Reads streams from files or sockets while it serves sessions over TCP or a Unix socket";
 
 /// The examples of `pnuts replay --help`.
 const REPLAY_EXAMPLES: &str = "\
@@ -65,7 +65,7 @@ const SOCKET_HELP: &str =
     "A Unix socket that is listened on in place of a port; only its owner may connect";
 
 const STAY_HELP: &str =
-    "Goes on until a signal ends it, and opens a FIFO again once its writer is gone";
+    "Goes on until a signal ends it, and reads one writer of a FIFO or socket after another";
 
 const CONNECTIONS_HELP: &str = "With --stay: how many connections are served at once: 1 to 65536";
 

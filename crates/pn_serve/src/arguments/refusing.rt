@@ -1,7 +1,8 @@
 //! Faults as the program tells them.
 
-ghost use Rattle.std.specs.Prelude.{◌≡◌, option_map};
+ghost use Rattle.std.specs.Prelude.{◌≡◌, [], get_or, option_map};
 ghost use Rattle.clap.specs.Words.{found_of, rows_of};
+ghost use Rattle.pn_json.specs.Prelude.{texts};
 ghost use Rattle.pn_serve.specs.Arguments.Faults.{fault_value, reason_in, refused_value, told_fault as told, word_at};
 
 use crate::PlanFault;
@@ -44,10 +45,16 @@ fn reason_of<'w>(options: &ArgMatches<'w>, text: &'w str, why: Why) -> Option<Re
 fn stream_word<'w>(options: &ArgMatches<'w>, index: usize) -> &'w str
     ensures { result.now ≡ word_at (rows_of (found_of options.now)) index }
 {
-    match options
-        .get_raw("streams")
-        .and_then(|words| words.get(index))
-    {
+    match options.get_raw("streams") {
+        Some(words) => word_of(words, index),
+        None => "",
+    }
+}
+
+fn word_of<'w>(words: &[&'w str], index: usize) -> &'w str
+    ensures { result.now ≡ get_or (texts words.now) index [] }
+{
+    match words.get(index) {
         Some(word) => word,
         None => "",
     }

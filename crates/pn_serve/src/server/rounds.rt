@@ -86,10 +86,7 @@ fn gather<R: Wait>(
 }
 
 // No reports, with capacity for those of this many streams, and no mailbox, with capacity for theirs.
-fn new_input(
-    alloc: Global,
-    streams: usize,
-) -> Result<(RoundInput, Vec<StreamMailbox>), AllocError>
+fn new_input(alloc: Global, streams: usize) -> Result<(RoundInput, Vec<StreamMailbox>), AllocError>
     ensures none { IfOk result (λ made. value_of made.0 ≡ no_input) }
     ensures capacity { IfOk result (λ made. vec_capacity made.0.deliveries ≡ streams) }
     ensures left { IfOk result (λ made. made.1.items ≡ []) }

@@ -9,9 +9,9 @@ ghost use Rattle.pn_serve.specs.declared.server.mailboxes.AtFault.TheVariants.{G
 use crate::ServeFault;
 use crate::server::counter::Counter;
 use crate::server::mailboxes::{AtFault, Reporter, StreamMailboxes};
+use crate::server::reporting::{next_input, report_stream};
 use crate::server::reports::Report;
 use crate::server::rounds::run_rounds;
-use crate::server::reporting::{next_input, report_stream};
 use crate::server::writers::{Origin, Stream};
 use pn_line::Source;
 use pn_live::LiveRegion;

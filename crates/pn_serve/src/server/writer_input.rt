@@ -45,12 +45,7 @@ impl<S: Source + Drop> WriterInput<S> {
 
     /// The input of a writer of the stream, of which all messages up to `last` were handed on. Its first message may have
     /// any position up to one past that.
-    pub(crate) fn begin(
-        alloc: Global,
-        name: StreamName,
-        last: u64,
-        source: S,
-    ) -> WriterInput<S>
+    pub(crate) fn begin(alloc: Global, name: StreamName, last: u64, source: S) -> WriterInput<S>
         ensures reader { IsReaderFrom name (min last LAST_POSITION) result.reader }
         ensures before { result.before ≡ None }
         ensures last { result.last ≡ min last LAST_POSITION }

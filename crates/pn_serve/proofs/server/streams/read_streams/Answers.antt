@@ -1,5 +1,5 @@
 -- The rounds are of the streams that were begun.
-use Rattle.std.proofs.Common.{◌≡◌, ℕ, List, refl, sym, ◌∙◌, subst}
+use Rattle.std.proofs.Common.{◌≡◌, ℕ, List, map, refl, sym, ◌∙◌, subst}
 use Rattle.std.proofs.lemmas.Result.{err_from_is_err_and}
 use Rattle.std.specs.Prelude.{IsErrAnd, Result, Ok, Err}
 use Rattle.pn_live.specs.LiveRegions.{LiveRegionValue}
@@ -26,9 +26,13 @@ not_begun names old fault result answered start =
 
 pub returns-clause-reads : goal.returns-clause-reads
 returns-clause-reads g c =
+    let at_fault = c.in_ok-mailboxes.mailboxes.at_fault in
+    let old = c.args.live.now in
+    let new = c.run_rounds-read.new.live in
     let read = c.run_rounds-read.result in
-    let reads = subst (λ (names : List (List ℕ)). RunsRounds _ names _ _ read) c.in_ok-mailboxes.ensures.names c.run_rounds-read.ensures.reads in
-    as_streams _ _ _ read (subst (λ (at_fault : AtFault). RunsRounds at_fault _ _ _ read) c.in_ok-mailboxes.ensures.at_fault reads)
+    let names = map (λ stream. stream.name) c.args.streams.items in
+    let reads : RunsRounds at_fault names old new read = subst (λ (ns : List (List ℕ)). RunsRounds at_fault ns old new read) c.in_ok-mailboxes.ensures.names c.run_rounds-read.ensures.reads in
+    as_streams names old new read (subst (λ (a : AtFault). RunsRounds a names old new read) c.in_ok-mailboxes.ensures.at_fault reads)
 
 pub returns-in_err-mailboxes-clause-reads : goal.returns-in_err-mailboxes-clause-reads
 returns-in_err-mailboxes-clause-reads g c =
