@@ -88,20 +88,30 @@ where
     let notes = new_notes(setting, name)?;
     let (writers, size) = open_writers(&notes, path, &mut opened.sockets)?;
     let taken = Arc::try_clone(&notes.progress.taken)?;
-    if let Some(counters) = share(&notes.counters)? {
-        opened.counters.push(StreamCounters {
-            name,
-            input: counters,
-            taken: Some(Arc::try_clone(&taken)?),
-            size,
-        })?;
-    }
+    add_counters(&mut opened.counters, &notes, size)?;
     opened.streams.push(Stream {
         name,
         after: 0,
         origin: StreamOrigin { notes, writers },
         taken: Some(taken),
     })?;
+    Ok(())
+}
+
+// Adds the counters of a stream that is counted.
+fn add_counters<R>(
+    counters: &mut Vec<StreamCounters>,
+    notes: &StreamNotes<R>,
+    size: Option<u64>,
+) -> Result<(), AllocError> {
+    if let Some(input) = share(&notes.counters)? {
+        counters.push(StreamCounters {
+            name: notes.name,
+            input,
+            taken: Some(Arc::try_clone(&notes.progress.taken)?),
+            size,
+        })?;
+    }
     Ok(())
 }
 
