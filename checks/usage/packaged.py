@@ -151,7 +151,7 @@ def check_operation(system: System) -> int:
     lines = [it.removeprefix(INDENT) for it in text.splitlines() if it.startswith(INDENT)]
     (system.root / SCRATCH[1:] / "east.log").write_bytes(message(1, "k", 0, "x"))
     shown = [system.run("bash", "-c", f"cd {SCRATCH}; {line}") for line in lines]
-    same("replies to the lines that ask", [it[: len(ROW)] for line, it in zip(lines, shown) if "socat" in line], [ROW])
+    same("replies to the lines that ask", [it[: len(ROW)] for line, it in zip(lines, shown) if '"do"' in line], [ROW])
     return len(lines)
 
 
