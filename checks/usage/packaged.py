@@ -160,6 +160,8 @@ def check_feed(system: System) -> None:
     (system.root / FEED_ENVIRONMENT).write_text(FEED_WORDS, encoding="utf-8")
     system.run("redis-server", "--daemonize", "yes", "--save", "", "--dir", SCRATCH)
     system.wait_for("PONG", "redis-cli", "PING")
+    # What it has of the stream so far is not the broker's.
+    system.run("systemctl", "restart", "pnuts")
     system.run("systemctl", "enable", "--now", FEED)
     for number, killed in enumerate([[], [FEED], ["pnuts"], [FEED, "pnuts"]], 1):
         for unit in killed:
