@@ -4,11 +4,6 @@ use Rattle.std.proofs.Crossing.{crosses}
 use Rattle.pn_join.specs.contracts.marks.name.Name as name
 use Rattle.pn_live.proofs.Crossing.Readers.{reader_send}
 use Rattle.pn_serve.specs.contracts.server.counter.Counter as counter
-use Rattle.pn_record.specs.contracts.fault.Member as member
-use Rattle.pn_record.specs.contracts.fault.ImageFault as image_fault
-use Rattle.pn_stream.specs.contracts.fault.StreamFault as stream_fault
-use Rattle.pn_stream.specs.contracts.fault.ResumeFault as resume_fault
-use Rattle.pn_serve.specs.contracts.server.writers.WriterEnd as writer_end
 use Rattle.pn_serve.specs.contracts.server.fault_log.StreamFailure as failure
 use Rattle.pn_serve.specs.contracts.server.fault_log.FaultLog as faults
 use Rattle.pn_stay.specs.contracts.acceptor.SocketAcceptor as acceptor
@@ -56,41 +51,11 @@ messages_send = search (sendable, crosses) depth 40 fits 20000
 pub messages_sync : IsSync messages.the_row
 messages_sync = search (sendable, crosses) depth 40 fits 20000
 
-member_send : IsSend member.the_row
-member_send = search (sendable, crosses) depth 40 fits 20000
-
-member_sync : IsSync member.the_row
-member_sync = search (sendable, crosses) depth 40 fits 20000
-
-image_fault_send : IsSend image_fault.the_row
-image_fault_send = search (sendable, crosses, member_send) depth 40 fits 20000
-
-image_fault_sync : IsSync image_fault.the_row
-image_fault_sync = search (sendable, crosses, member_sync) depth 40 fits 20000
-
-stream_fault_send : IsSend stream_fault.the_row
-stream_fault_send = search (sendable, crosses, image_fault_send) depth 40 fits 20000
-
-stream_fault_sync : IsSync stream_fault.the_row
-stream_fault_sync = search (sendable, crosses, image_fault_sync) depth 40 fits 20000
-
-resume_fault_send : IsSend resume_fault.the_row
-resume_fault_send = search (sendable, crosses, stream_fault_send) depth 40 fits 20000
-
-resume_fault_sync : IsSync resume_fault.the_row
-resume_fault_sync = search (sendable, crosses, stream_fault_sync) depth 40 fits 20000
-
-writer_end_send : IsSend writer_end.the_row
-writer_end_send = search (sendable, crosses, resume_fault_send) depth 40 fits 20000
-
-writer_end_sync : IsSync writer_end.the_row
-writer_end_sync = search (sendable, crosses, resume_fault_sync) depth 40 fits 20000
-
 failure_send : IsSend failure.the_row
-failure_send = search (sendable, crosses, name_send, writer_end_send) depth 40 fits 20000
+failure_send = search (sendable, crosses, name_send) depth 40 fits 20000
 
 failure_sync : IsSync failure.the_row
-failure_sync = search (sendable, crosses, name_sync, writer_end_sync) depth 40 fits 20000
+failure_sync = search (sendable, crosses, name_sync) depth 40 fits 20000
 
 pub faults_send : IsSend faults.the_row
 faults_send = search (sendable, crosses, failure_send) depth 40 fits 20000
