@@ -13,12 +13,12 @@ meaning. Edits that need one and have none are counted.
 
 A clause may say of some value only that there is one, as `(x : T) × ..`, itself or by a definition that it cites. An edit under
 it may be refused just because nobody wrote down a witness, and so shows nothing by itself, unless another clause refuses it
-too or a proof with a wrong witness was tried. Each such edit is named, and they are counted.
+too or its line `witness:` says what a wrong witness fails at. Each such edit is named, and they are counted.
 
 A file of edits is text, a word and its value on each line, with an empty line between two edits:
 
   edit: a-round-joins-all-but-its-last-entry     named for what is then wrong
-  witness: how a wrong witness was tried         (where that was done)
+  witness: what a wrong witness fails at         (or the clause that needs none)
   tests: test_live                               (where these tests alone refuse it: it is passed over here)
   file: src/table.rt                             a file of the crate
   old: if next == last {                         a text of one line, which the file has once, from the one space on
@@ -231,8 +231,8 @@ def say_witnesses(edits: list[Edit]) -> None:
     asked = [it for it in edits if it.existential]
     otherwise, tried = sum(it.is_refused_otherwise for it in asked), sum(bool(it.told.witness) for it in asked)
     nothing = sum(it.shows_nothing() for it in asked)
-    print(f"{len(asked)} of them under a clause that asks only for some value; {otherwise} refused by another clause, {tried} with a wrong witness "
-          f"tried, {nothing} that show nothing by themselves")
+    print(f"{len(asked)} of them under a clause that asks only for some value; {otherwise} refused by another clause, {tried} with a line `witness:`, "
+          f"{nothing} that show nothing by themselves")
 
 
 def bundles_of(edits: list[Edit], most: int) -> list[list[Edit]]:

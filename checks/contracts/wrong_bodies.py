@@ -10,7 +10,7 @@ from contracts.existential import existential_clauses
 FUNCTION = re.compile(r"^\s*(?:pub(?:\(\w+\))? )?(?:const )?fn (\w+)", re.M)
 SIGNATURE_END = re.compile(r"^\s*(?:\{|.*\{)$", re.M)
 BEGINS_ITEM = re.compile(r"^(?:pub(?:\(\w+\))? )?(?:const|static|struct|enum|impl|trait|mod|use|type|macro_rules!)\b", re.M)
-IMPL = re.compile(r"^impl\b(?:<.*?>)? (?:.* for )?&?(?:'\w+ )?(\w+)", re.M)
+IMPL = re.compile(r"^impl\b(?:<.*?>)? (?:.* for )?&?(?:'\w+ )?(\w+)(?!.*\{\}$)", re.M)
 CONSTANT = re.compile(r"\bconst (\w+)")
 DECLARED = re.compile(r"(?m)^(?=(?: {2})?(?:pub )?[^\s:(-][^\s:]* : )")
 EMPTY_MODULE = re.compile(r"(?m)^module _ .* where\n(?=\s*(?:^\S|\Z))")
@@ -110,9 +110,14 @@ def location_at(path: str, text: str, at: int) -> Location | None:
     signature = SIGNATURE_END.search(text, last.start())
     if body < 0 or not signature or at < signature.start() or BEGINS_ITEM.search(text, last.end(), at + 1):
         return None
-    owners = [it for it in IMPL.finditer(text, 0, last.start()) if text.find("\n}\n", it.end(), last.start()) < 0]
+    impls = [it for it in IMPL.finditer(text, 0, last.start()) if text.find("\n}\n", it.end(), last.start()) < 0]
     module = path[len("src/") : -len(".rt")].replace("/", "::")
-    return Location(module, last[1], owners[-1][1] if owners else "")
+    return Location(module, last[1], owner_of(impls[-1]) if impls else "")
+
+
+def owner_of(impl: re.Match[str]) -> str:
+    """The type of an impl, as a check names its methods: one for every type is of `Any`."""
+    return "Any" if re.search(rf"^impl<.*\b{impl[1]}\b.*> ", impl[0].rpartition("for ")[0]) else impl[1]
 
 
 def clauses_without_witness(crate: str, path: str, at: int) -> set[str]:

@@ -6,7 +6,7 @@ use Rattle.pn_stream.specs.Positions.{DeliveryValue}
 use Rattle.pn_tablet.specs.Layouts.{Bounds, IsLayout}
 use Rattle.pn_tablet.specs.declared.state.TabletOp.TheVariants.{Lose}
 use Rattle.pn_apply.specs.Reducing.{ranges}
-use Rattle.pn_region.specs.Events.{RegionEvent, round, half_round, loss, adoption, relayout, LeadsTo, AllLeadTo, AreHonestEvents}
+use Rattle.pn_region.specs.Events.{RegionEvent, round, half_round, loss, adoption, relayout, advance, LeadsTo, AllLeadTo, AreHonestEvents}
 use Rattle.pn_region.specs.Laws.{AreIn}
 use Rattle.pn_region.specs.Logged.{LoggedRegion, with_break}
 use Rattle.pn_region.specs.Regions.{RegionValue, new_region, all_cells}
@@ -32,6 +32,7 @@ one_leads (half_round deliveries) old new did = did.1
 one_leads (loss tablet) old new did = ap core did ∙ core_after old tablet Lose (with_op_at tablet Lose old.tablets) refl (with_break old.log)
 one_leads (adoption copy) old new did = record { tablet = did.1.tablet; lawful = did.0; adopted = did.1.adopted }
 one_leads (relayout bounds) old new did = absurd did
+one_leads advance old new did = did.advanced
 
 pub all_lead : (events : List RegionEvent) (old new : LiveRegionValue) → AllLeadLive events old new → AllLeadTo events (core old) (core new)
 all_lead [] old new same = same
@@ -45,6 +46,7 @@ round_loses_nothing (half_round deliveries) is = tt
 round_loses_nothing (loss tablet) is = absurd is
 round_loses_nothing (adoption copy) is = absurd is
 round_loses_nothing (relayout bounds) is = absurd is
+round_loses_nothing advance is = absurd is
 
 rounds_lose_nothing : (events : List RegionEvent) → AreRounds events → LoseNothing events
 rounds_lose_nothing [] are = tt

@@ -42,7 +42,7 @@ use Rattle.pn_live.specs.Honest.{IsHonestList, AreHonestTablets}
 use Rattle.pn_live.specs.Laws.{HasImage}
 use Rattle.pn_live.specs.LiveRegions.{LiveRegionValue, core, tablets_after_round, IsHalfPublished}
 use Rattle.pn_live.specs.PublishedTablets.{PublishedTabletValue, state_at, AreNewTablets, with_op, with_ops, AreOldOrAppended, note_of}
-use Rattle.pn_live.specs.Recovery.{with_op_at, after_op_at, Adopts}
+use Rattle.pn_live.specs.Recovery.{with_op_at, after_op_at, Adopts, Advances}
 use Rattle.pn_live.specs.TabletReaders.{TabletReaderValue, Finds, Learns, KnowsMore}
 use Rattle.pn_live.proofs.ListLaws.{fold_on, range_kept}
 use Rattle.pn_live.proofs.OneReach.{one_reach}
@@ -172,6 +172,10 @@ module _ (broker : BrokerRecord) where
         grown old.tablets new.tablets (subst (EachGrows old.tablets) (sym tablets) (one_grows adopts.tablet (Adopt copy) old.tablets)) honest
         (event_faithful broker (adoption copy) (core old) (core new) is (now_faithful old.tablets honest) gives
         (record { tablet = adopts.tablet; lawful = lawful; adopted = adopts.adopted }))
+
+  -- marks that advance publish nothing
+  pub advance_honest : (old new : LiveRegionValue) → AreHonestTablets broker old.tablets → Advances old new → AreHonestTablets broker new.tablets
+  advance_honest old new honest does = subst (AreHonestTablets broker) (sym (ap (λ (l : LiveRegionValue). l.tablets) does.rest)) honest
 
   -- operations lower no cover
   covers_on : (t : TabletStateValue) (ops : List TabletOp) → Reaches (fold tablet_after t ops).cover t.cover

@@ -2,18 +2,19 @@
 use Rattle.std.specs.Prelude.{◌≡◌, List, [], ◌∷◌, Ok}
 use Rattle.pn_tablet.specs.Copies.{IsCopy}
 use Rattle.pn_tablet.specs.declared.state.TabletOp.TheVariants.{Lose}
-use Rattle.pn_region.specs.Events.{RegionEvent, round, half_round, loss, adoption, relayout}
+use Rattle.pn_region.specs.Events.{RegionEvent, round, half_round, loss, adoption, relayout, advance}
 use Rattle.pn_region.specs.Rounds as rounds
 use Rattle.pn_live.specs.LiveRegions.{LiveRegionValue, core, tablets_after_round, IsHalfPublished}
-use Rattle.pn_live.specs.Recovery.{after_op_at, Adopts}
+use Rattle.pn_live.specs.Recovery.{after_op_at, Adopts, Advances}
 
--- a call did the event: it took a round, ran out of memory in one, lost a tablet, or adopted a copy
+-- a call did the event: it took a round, ran out of memory in one, lost a tablet, adopted a copy, or advanced the marks
 abbrev pub LeadsLive : RegionEvent → LiveRegionValue → LiveRegionValue → Type 0
 LeadsLive (round deliveries) old new = (rounds.round (core old) deliveries ≡ Ok (core new)) × (new.tablets ≡ tablets_after_round old deliveries new.marks)
 LeadsLive (half_round deliveries) old new = IsHalfPublished old deliveries new × rounds.IsHalfTaken (core old) deliveries (core new)
 LeadsLive (loss tablet) old new = new ≡ after_op_at old tablet Lose
 LeadsLive (adoption copy) old new = IsCopy copy.range copy.marks copy.cells × Adopts copy old new
 LeadsLive (relayout bounds) old new = ⊥
+LeadsLive advance old new = Advances old new
 
 -- calls did the events, one after another; other calls may lie between, which published nothing and kept the marks
 abbrev pub AllLeadLive : List RegionEvent → LiveRegionValue → LiveRegionValue → Type 0

@@ -1,9 +1,10 @@
--- Losses and adoptions of live tablets.
+-- Losses and adoptions of live tablets, and marks that advance.
 use Rattle.std.specs.Prelude.{◌≡◌, ℕ, zero, suc, List, [], ◌∷◌, Ok}
 use Rattle.pn_tablet.specs.Copies.{TabletCopyValue}
 use Rattle.pn_tablet.specs.declared.fault.Shortfall.{Shortfall}
 use Rattle.pn_tablet.specs.declared.state.TabletOp.{TabletOp}
 use Rattle.pn_tablet.specs.declared.state.TabletOp.TheVariants.{Adopt}
+use Rattle.pn_region.specs.Advancing.{after_advance}
 use Rattle.pn_region.specs.Logged.{with_break}
 use Rattle.pn_region.specs.Recovery.{after_adoption}
 use Rattle.pn_tablet.specs.declared.fault.OpFault.{OpFault as AdoptFault}
@@ -26,6 +27,11 @@ pub record Adopts (copy : TabletCopyValue) (old new : LiveRegionValue) : Type 0 
   pub tablet : ℕ
   pub adopted : after_adoption (core old) copy ≡ Ok (tablet, core new)
   pub published : new ≡ after_op_at old tablet (Adopt copy)
+
+-- the marks advance as a region's do, and nothing else changes
+pub record Advances (old new : LiveRegionValue) : Type 0 where
+  pub advanced : after_advance (core old) ≡ Ok (core new)
+  pub rest : new ≡ record old { marks = new.marks }
 
 -- the fault that names what a copy lacks
 abbrev pub too_old : Shortfall → AdoptFault

@@ -15,11 +15,11 @@ ghost use Rattle.pn_live.specs.Honest.{IsHonestList, AreHonestTablets};
 ghost use Rattle.pn_live.specs.Laws.{HasImage};
 ghost use Rattle.pn_live.specs.LiveRegions.{LiveRegionValue, core, tablets_after_round, IsHalfPublished};
 ghost use Rattle.pn_live.specs.PublishedTablets.{PublishedTabletValue, AreNewTablets, with_op, note_of};
-ghost use Rattle.pn_live.specs.Recovery.{after_op_at, Adopts};
+ghost use Rattle.pn_live.specs.Recovery.{after_op_at, Adopts, Advances};
 ghost use Rattle.pn_live.specs.TabletReaders.{TabletReaderValue, Finds, Learns, KnowsMore};
 
 /// Honest deliveries and copies keep what is published honest, through rounds, also those that ran out of memory, losses
-/// and adoptions. All other refusals change nothing.
+/// and adoptions, and where marks advance. All other refusals change nothing.
 pub fn honest_calls_keep_lists_honest()
     ensures opened { (broker : BrokerRecord) (ranges : List Ends) (tablets : List PublishedTabletValue) → AreNewTablets ranges tablets → AreHonestTablets broker tablets }
     ensures round { (broker : BrokerRecord) (old new : LiveRegionValue) (deliveries : List DeliveryValue) → IsRegion (core old) → AreHonestTablets broker old.tablets → AreHonest broker deliveries
@@ -29,6 +29,7 @@ pub fn honest_calls_keep_lists_honest()
     ensures loss { (broker : BrokerRecord) (old new : LiveRegionValue) (tablet : ℕ) → IsRegion (core old) → AreHonestTablets broker old.tablets → new ≡ after_op_at old tablet Lose → AreHonestTablets broker new.tablets }
     ensures adoption { (broker : BrokerRecord) (old new : LiveRegionValue) (copy : TabletCopyValue) → IsRegion (core old) → AreHonestTablets broker old.tablets
         → IsCopy copy.range copy.marks copy.cells → IsHonestCopy broker copy → Adopts copy old new → AreHonestTablets broker new.tablets }
+    ensures advance { (broker : BrokerRecord) (old new : LiveRegionValue) → AreHonestTablets broker old.tablets → Advances old new → AreHonestTablets broker new.tablets }
 {}
 
 /// Of an honest tablet that serves at both, a reader's second answer shows no older record than its first, nor fewer

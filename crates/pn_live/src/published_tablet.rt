@@ -7,6 +7,7 @@ ghost use Rattle.pn_live.specs.Drafts.{Lacks};
 ghost use Rattle.pn_live.specs.PublishedTablets.{IsNewTablet, state_at, with_op, note_of};
 ghost use Rattle.pn_live.specs.Readers.{new_reader_of};
 
+mod cover;
 mod next_state;
 
 use crate::front::TabletNote;

@@ -4,6 +4,7 @@ ghost use Rattle.std.specs.Prelude.{◌≡◌, ◌≤◌, length, IsTrue};
 ghost use Rattle.pn_join.specs.Prelude.{are_positions};
 ghost use Rattle.pn_region.specs.declared.marking.TheConstants.{MAX_STREAMS};
 
+mod advance;
 mod closing;
 mod opening;
 mod planning;

@@ -3,8 +3,9 @@ use Rattle.std.proofs.Common.{◌≡◌, List, [], ◌∷◌, ◌++◌, map, ref
 use Rattle.std.proofs.lemmas.List.{append-nil, append_assoc}
 use Rattle.pn_record.proofs.CellLists.{cells-same}
 use Rattle.pn_record.proofs.CellMaps.{table_of-nil, same_cells_table}
-use Rattle.pn_region.specs.Events.{RegionEvent, round, half_round, loss, adoption, relayout, LeadsTo, AllLeadTo, AreHonestEvents}
+use Rattle.pn_region.specs.Events.{RegionEvent, round, half_round, loss, adoption, relayout, advance, LeadsTo, AllLeadTo, AreHonestEvents}
 use Rattle.pn_region.specs.Taken.{taken_by, all_taken, left_by, all_left, CoversTell, HoldsTaken, HoldTaken, LosesNothing, LoseNothing}
+use Rattle.pn_region.proofs.Advanced.{advances}
 use Rattle.pn_region.proofs.Common.{AllByRecursion, Positions, Image, SameImages, table_of, BrokerRecord, Bounds, IsLayout, Ends, TabletStateValue, empty_tablet, Serving, all_images, images_in, ranges, AreIn, HasBetween, RegionValue, AreTabletsOf, IsRegion, new_region, all_cells, AllServe}
 use Rattle.pn_region.proofs.Covers.{cover_rules}
 use Rattle.pn_region.proofs.EventRules.{none, events_go_on}
@@ -86,6 +87,9 @@ event_between broker (relayout bounds) old new sure maybe is one leads has =
     let laid = relays old new bounds leads.relaid in
     subst (λ (images : List Image). HasBetween (sure ++ []) images new) (sym (append-nil maybe))
     (subst (λ (images : List Image). HasBetween images maybe new) (sym (append-nil sure)) (subst (HasBetween sure maybe) (sym laid.is) (relaid_between old bounds sure maybe is has)))
+event_between broker advance old new sure maybe is one leads has =
+    subst (λ (images : List Image). HasBetween (sure ++ []) images new) (sym (append-nil maybe))
+    (subst (λ (images : List Image). HasBetween images maybe new) (sym (append-nil sure)) (subst (HasBetween sure maybe) (sym (advances old new leads)) has))
 
 rounds_between : (broker : BrokerRecord) (events : List RegionEvent) (old new : RegionValue) (sure maybe : List Image) → IsRegion old → LoseNothing events → AllLeadTo events old new → HasBetween sure maybe old
     → HasBetween (sure ++ all_taken broker events) (maybe ++ all_left events) new

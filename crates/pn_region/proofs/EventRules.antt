@@ -6,11 +6,12 @@ use Rattle.std.proofs.lemmas.List.Elements.{Contains-append_left}
 use Rattle.pn_tablet.specs.Steps.{with_join}
 use Rattle.pn_tablet.specs.Steps as steps
 use Rattle.pn_tablet.proofs.Stepping.{one_range}
-use Rattle.pn_region.specs.Events.{RegionEvent, round, half_round, loss, adoption, relayout, LeadsTo, AllLeadTo, IsHonestEvent, AreHonestEvents}
+use Rattle.pn_region.specs.Events.{RegionEvent, round, half_round, loss, adoption, relayout, advance, LeadsTo, AllLeadTo, IsHonestEvent, AreHonestEvents}
 use Rattle.pn_region.specs.Honest.{IsHonestCopy}
 use Rattle.pn_region.specs.Relayouts.{made_of}
 use Rattle.pn_region.specs.Taken.{taken_by, all_taken, left_by, all_left}
 use Rattle.pn_region.proofs.Common.{MatchResult, AllByRecursion, Positions, Image, table_of, BrokerRecord, up_to, AreHonest, DeliveryValue, TabletCopyValue, need_shortfall, Ends, in_range, recovering_tablet, after_step, tablet_after, TabletStateValue, same_range, WrongRange, Shortfall, Lose, Adopt, Serving, all_stepped, AreOldOrStepped, all_images, images_in, join_in, ranges, AreIn, new_marks, tablets_after_op, RegionValue, IsTabletOf, AreTabletsOf, IsRegion, joins, AllServe}
+use Rattle.pn_region.proofs.Advanced.{advances}
 use Rattle.pn_region.proofs.Apart.{Outside, Apart, ranges_apart}
 use Rattle.pn_region.proofs.EventSteps.{adopts, takes, event_is}
 use Rattle.pn_region.proofs.InRange.{from_images_in}
@@ -164,6 +165,7 @@ module _ (broker : BrokerRecord) (T : List Image → List Image → TabletStateV
   event_goes_on (relayout bounds) old new is honest leads all =
       let laid = relays old new bounds leads.relaid in
       subst (λ (r : RegionValue). AllByRecursion (T (taken ++ []) (left ++ [])) r.tablets) (sym laid.is) (all_made old is laid.served all (ranges bounds))
+  event_goes_on advance old new is honest leads all = subst (λ (r : RegionValue). AllByRecursion (T (taken ++ []) (left ++ [])) r.tablets) (sym (advances old new leads)) (all_same [] old.tablets all)
 
 -- so it goes on in honest events
 pub events_go_on : (broker : BrokerRecord) (T : List Image → List Image → TabletStateValue → Type 0) → Rules broker T → (events : List RegionEvent) (old new : RegionValue) (taken left : List Image)

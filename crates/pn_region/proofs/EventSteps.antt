@@ -1,10 +1,11 @@
 -- What an event does to each tablet.
 use Rattle.std.proofs.Common.{◌≡◌, ℕ, zero, suc, List, [], ◌∷◌, slice_get, Option, None, Some, Result, Ok, Err, refl, sym, ap, ◌∙◌, subst, arith, ◌⊎◌, inl, inr}
 use Rattle.std.specs.Result.{result_map_both}
-use Rattle.pn_region.specs.Events.{RegionEvent, round, half_round, loss, adoption, relayout, LeadsTo, AllLeadTo}
+use Rattle.pn_region.specs.Events.{RegionEvent, round, half_round, loss, adoption, relayout, advance, LeadsTo, AllLeadTo}
 use Rattle.pn_region.specs.Recovery.{after_op, lacks, after_adoption_unless, after_adoption}
 use Rattle.pn_region.specs.Rounds as rounds
 use Rattle.pn_region.specs.Taken.{KeepsLayout, KeepLayout}
+use Rattle.pn_region.proofs.Advanced.{advances, advanced_is}
 use Rattle.pn_region.proofs.Common.{Positions, Reaches, DeliveryValue, TabletCopyValue, tablet_after, TabletStateValue, Shortfall, TabletOp, Lose, Adopt, AreOldOrStepped, all_images, ranges, new_marks, tablets_after_op, tablet_for, after_adoption_by, RegionValue, IsRegion, RoundFault}
 use Rattle.pn_region.proofs.HalfRounds.{half_so, half_taken_is}
 use Rattle.pn_region.proofs.OneTablet.{stepping_is}
@@ -68,6 +69,7 @@ event_is (loss n) old new is leads = subst IsRegion (sym leads) (stepping_is old
 event_is (adoption copy) old new is leads =
     subst IsRegion (sym (adopts old copy leads.tablet new leads.adopted).is) (stepping_is old leads.tablet (Adopt copy) leads.lawful.inside is)
 event_is (relayout bounds) old new is leads = subst IsRegion (sym (relays old new bounds leads.relaid).is) (relaid_is old bounds leads.lawful is)
+event_is advance old new is leads = subst IsRegion (sym (advances old new leads)) (advanced_is old is)
 
 pub events_are : (events : List RegionEvent) (old new : RegionValue) → IsRegion old → AllLeadTo events old new → IsRegion new
 events_are [] old new is lead = subst IsRegion (sym lead) is
@@ -140,6 +142,7 @@ each_moves (loss n) old new is keeps leads = subst (λ (r : RegionValue). Each M
 each_moves (adoption copy) old new is keeps leads =
     subst (λ (r : RegionValue). Each Moves old.tablets r.tablets) (sym (adopts old copy leads.tablet new leads.adopted).is) (one_moves leads.tablet (Adopt copy) old.tablets)
 each_moves (relayout bounds) old new is keeps leads = absurd keeps
+each_moves advance old new is keeps leads = subst (λ (r : RegionValue). Each Moves old.tablets r.tablets) (sym (advances old new leads)) (each_itself Moves (λ t. inl refl) old.tablets)
 
 -- what each event that keeps the layout does to a tablet, and each two that it does, such events do together
 pub each_after : (R : TabletStateValue → TabletStateValue → Type 0) → ((t : TabletStateValue) → R t t) → ((t u v : TabletStateValue) → R t u → R u v → R t v) → ((t u : TabletStateValue) → Moves t u → R t u)

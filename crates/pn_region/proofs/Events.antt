@@ -4,10 +4,11 @@ use Rattle.pn_tablet.specs.Laws.{IsSpelled}
 use Rattle.pn_tablet.specs.Steps.{with_join}
 use Rattle.pn_tablet.specs.Steps as steps
 use Rattle.pn_tablet.proofs.TabletLaws.{never_falls, reach_never_falls}
-use Rattle.pn_region.specs.Events.{RegionEvent, round, half_round, loss, adoption, relayout, LeadsTo, AllLeadTo, IsRelayout}
+use Rattle.pn_region.specs.Events.{RegionEvent, round, half_round, loss, adoption, relayout, advance, LeadsTo, AllLeadTo, IsRelayout}
 use Rattle.pn_region.specs.Held.{HoldsStill}
 use Rattle.pn_region.specs.Relayouts.{made_of}
 use Rattle.pn_region.specs.Taken.{KeepsLayout, KeepLayout}
+use Rattle.pn_region.proofs.Advanced.{advances}
 use Rattle.pn_region.proofs.Common.{find, IsSome, Positions, Reaches, position_of, bytes_cmp, spell, Entries, Bounds, tablet_of, TabletCopyValue, need_shortfall, Ends, after_step, tablet_after, TabletStateValue, lie_in, same_range, WrongRange, Shortfall, TabletOp, Join, Lose, Adopt, Serving, RegionValue, AreTabletsOf, IsRegion}
 use Rattle.pn_region.proofs.EventSteps.{adopts, takes, event_is, Moves, each_at, each_moves, each_after, Grows, grows_itself, grows_then}
 use Rattle.pn_region.proofs.KeyTablets.{has_tablet}
@@ -85,6 +86,7 @@ by_layout P kept laid (half_round deliveries) = kept (half_round deliveries) tt
 by_layout P kept laid (loss n) = kept (loss n) tt
 by_layout P kept laid (adoption copy) = kept (adoption copy) tt
 by_layout P kept laid (relayout bounds) = laid bounds
+by_layout P kept laid advance = kept advance tt
 
 event_layout : (event : RegionEvent) (old new : RegionValue) → KeepsLayout event → LeadsTo event old new → new.layout ≡ old.layout
 event_layout (round deliveries) old new keeps leads = ap (λ (r : RegionValue). r.layout) (takes old deliveries new leads).is
@@ -92,6 +94,7 @@ event_layout (half_round deliveries) old new keeps leads = leads.0
 event_layout (loss n) old new keeps leads = ap (λ (r : RegionValue). r.layout) leads
 event_layout (adoption copy) old new keeps leads = ap (λ (r : RegionValue). r.layout) (adopts old copy leads.tablet new leads.adopted).is
 event_layout (relayout bounds) old new keeps leads = absurd keeps
+event_layout advance old new keeps leads = ap (λ (r : RegionValue). r.layout) (advances old new leads)
 
 -- the tablet of the key
 abbrev pub at_key : RegionValue → List ℕ → Option TabletStateValue

@@ -1,10 +1,11 @@
 -- Honest events keep tablets faithful.
 use Rattle.std.proofs.Common.{◌≡◌, ℕ, zero, suc, List, [], ◌∷◌, map, slice_get, Some, Ok, Err, refl, sym, ◌∙◌, subst, inl}
-use Rattle.pn_region.specs.Events.{RegionEvent, round, half_round, loss, adoption, relayout, LeadsTo, AllLeadTo, IsHonestEvent, AreHonestEvents}
+use Rattle.pn_region.specs.Events.{RegionEvent, round, half_round, loss, adoption, relayout, advance, LeadsTo, AllLeadTo, IsHonestEvent, AreHonestEvents}
 use Rattle.pn_region.specs.Honest.{IsHonestCopy}
 use Rattle.pn_region.specs.Relayouts.{made_of, parts_of}
 use Rattle.pn_tablet.specs.Ranges.{meet}
 use Rattle.pn_region.proofs.Common.{AllByRecursion, Reaches, Image, BrokerRecord, TabletCopyValue, Ends, step, after_step, tablet_after, TabletStateValue, Lose, Adopt, Serving, images_in, ranges, IsFaithful, AreFaithful, tablets_after_op, RegionValue, IsRegion, AllServe}
+use Rattle.pn_region.proofs.Advanced.{advances}
 use Rattle.pn_region.proofs.EventSteps.{adopts, takes, event_is}
 use Rattle.pn_region.proofs.Faith.{round_keeps, half_keeps}
 use Rattle.pn_region.proofs.FaithfulCopies.{lost_faithful, adopted_faithful, serving_lacks_none}
@@ -78,6 +79,7 @@ module _ (broker : BrokerRecord) where
   event_faithful (relayout bounds) old new is faithful honest leads =
       let laid = relays old new bounds leads.relaid in
       subst (λ (r : RegionValue). AreFaithful broker r.tablets) (sym laid.is) (all_made broker old is faithful laid.served (ranges bounds))
+  event_faithful advance old new is faithful honest leads = subst (λ (r : RegionValue). AreFaithful broker r.tablets) (sym (advances old new leads)) faithful
 
   pub events_faithful : (events : List RegionEvent) (old new : RegionValue) → IsRegion old → AreFaithful broker old.tablets → AreHonestEvents broker events → AllLeadTo events old new → AreFaithful broker new.tablets
   events_faithful [] old new is faithful honest lead = subst (λ (r : RegionValue). AreFaithful broker r.tablets) (sym lead) faithful

@@ -2,11 +2,12 @@
 use Rattle.std.proofs.Common.{◌≡◌, ℕ, zero, suc, true, List, [], ◌∷◌, map, slice_get, Option, Some, refl, sym, ap, ◌∙◌, subst, arith, ◌⊎◌, inl, inr}
 use Rattle.pn_record.proofs.CellLists.{both}
 use Rattle.pn_tablet.proofs.LayoutFacts.{key_in_tablet, tablet_of_within}
-use Rattle.pn_region.specs.Events.{RegionEvent, round, half_round, loss, adoption, relayout, LeadsTo, AllLeadTo, IsHonestEvent, AreHonestEvents}
+use Rattle.pn_region.specs.Events.{RegionEvent, round, half_round, loss, adoption, relayout, advance, LeadsTo, AllLeadTo, IsHonestEvent, AreHonestEvents}
 use Rattle.pn_region.specs.Held.{HoldsStill}
 use Rattle.pn_region.specs.Honest.{IsHonestCopy}
 use Rattle.pn_region.specs.Rounds as rounds
 use Rattle.pn_region.specs.Taken.{KeepsLayout}
+use Rattle.pn_region.proofs.Advanced.{advances}
 use Rattle.pn_region.proofs.Common.{find, Positions, Image, bytes_cmp, CellValue, BrokerRecord, TabletCopyValue, tablet_of, tablet_ends, Ends, in_range, tablet_after, TabletStateValue, TabletOp, Join, Lose, Adopt, Serving, Recovering, AreOldOrStepped, all_images, join_in, ranges, IsFaithful, AreFaithful, tablets_after_op, RegionValue, AreTabletsOf, IsRegion}
 use Rattle.pn_region.proofs.Events.{by_layout, at_key, same_number, one_found, relaid_at, IsRelaidAt, found_at_key, spelled_at}
 use Rattle.pn_region.proofs.EventSteps.{adopts, takes, event_is, Each, each_at}
@@ -61,6 +62,7 @@ module _ (broker : BrokerRecord) where
   each_bears (adoption copy) old new is keeps honest leads =
       subst (λ (r : RegionValue). Each Bears old.tablets r.tablets) (sym (adopts old copy leads.tablet new leads.adopted).is) (one_bears leads.tablet (Adopt copy) old.tablets honest)
   each_bears (relayout bounds) old new is keeps honest leads = absurd keeps
+  each_bears advance old new is keeps honest leads = subst (λ (r : RegionValue). Each Bears old.tablets r.tablets) (sym (advances old new leads)) (bear_itself old.tablets)
 
 -- ---- the record of a key
 

@@ -1,5 +1,8 @@
+pub mod Advanced
+pub mod Ahead
 pub mod Apart
 pub mod Common
+pub mod CommonMarks
 pub mod Counting
 pub mod Covers
 pub mod Cutting

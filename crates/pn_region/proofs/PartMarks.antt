@@ -10,7 +10,7 @@ use Rattle.pn_tablet.specs.Ranges.{meet}
 use Rattle.pn_region.specs.Relayouts.{parts_of, least_cover, greatest_reach}
 use Rattle.pn_region.proofs.Common.{AllByRecursion, Positions, Reaches, position_of, raised_marks, are_positions, Ends, TabletStateValue, AreTabletsOf}
 
-abbrev lesser : Positions → TabletStateValue → Positions
+abbrev pub lesser : Positions → TabletStateValue → Positions
 lesser cover part = least_marks cover part.cover
 
 abbrev greater : Positions → TabletStateValue → Positions

@@ -3,7 +3,7 @@ use Rattle.std.proofs.Common.{◌≡◌, List, [], ◌∷◌, map, Ok, Err, refl
 use Rattle.std.specs.Result.{result_map_both}
 use Rattle.pn_join.proofs.MarksFacts.{raised_marks-repeats}
 use Rattle.pn_tablet.specs.Laws.{Rise}
-use Rattle.pn_region.specs.Events.{RegionEvent, round, half_round, loss, adoption, relayout, LeadsTo, AllLeadTo}
+use Rattle.pn_region.specs.Events.{RegionEvent, round, half_round, loss, adoption, relayout, advance, LeadsTo, AllLeadTo}
 use Rattle.pn_region.specs.Rising.{AllRise}
 use Rattle.pn_region.specs.Rounds as rounds
 use Rattle.pn_region.specs.Taken.{IsRound, AreRounds}
@@ -80,6 +80,7 @@ module _ (first : Positions) (images : List Image) (rise_first : Rise first) (la
   event_catches (loss n) new is leads = absurd is
   event_catches (adoption copy) new is leads = absurd is
   event_catches (relayout bounds) new is leads = absurd is
+  event_catches advance new is leads = absurd is
 
 -- rounds lead from each of two such regions to two such regions
 module _ (first : Positions) (images : List Image) (rise_first : Rise first) where

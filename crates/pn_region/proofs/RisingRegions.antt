@@ -8,12 +8,14 @@ use Rattle.pn_tablet.specs.Laws.{Rise}
 use Rattle.pn_tablet.specs.Ranges.{meet}
 use Rattle.pn_tablet.specs.Steps.{with_join}
 use Rattle.pn_tablet.specs.Steps as steps
-use Rattle.pn_region.specs.Events.{RegionEvent, round, half_round, loss, adoption, relayout, LeadsTo}
+use Rattle.pn_region.specs.Advancing.{with_marks}
+use Rattle.pn_region.specs.Events.{RegionEvent, round, half_round, loss, adoption, relayout, advance, LeadsTo}
 use Rattle.pn_region.specs.Recovery.{after_op}
 use Rattle.pn_region.specs.Relayouts.{made_of, parts_of, least_cover, with_layout}
 use Rattle.pn_region.specs.Rising.{AllRise}
 use Rattle.pn_region.specs.Rounds as rounds
 use Rattle.pn_region.proofs.Common.{Result, MatchResult, Positions, raised_marks, Bounds, DeliveryValue, Ends, TabletCopyValue, need_shortfall, Shortfall, TabletStateValue, empty_tablet, same_range, after_step, tablet_after, WrongRange, TabletOp, Lose, Adopt, AreOldOrStepped, all_images, ranges, new_marks, tablets_after_op, RegionValue, new_region, RoundFault}
+use Rattle.pn_region.proofs.Advanced.{advances}
 use Rattle.pn_region.proofs.EventSteps.{takes, adopts}
 use Rattle.pn_region.proofs.HalfAhead.{BothRise, MarksRise, tablets_rise, all_rise, taking_rises, all_joins_rise, half_joins_rise}
 use Rattle.pn_region.proofs.PartMarks.{all_kept}
@@ -83,3 +85,5 @@ event_rises (adoption copy) old new rise leads =
     (all_rise (after_op old leads.tablet (Adopt copy)) rise.marks (at_rises leads.tablet (Adopt copy) old.tablets (λ t is. adopt_rises t copy is) (tablets_rise old rise)))
 event_rises (relayout bounds) old new rise leads =
     subst AllRise (sym (relays old new bounds leads.relaid).is) (all_rise (with_layout old bounds) rise.marks (made_rise old.tablets (ranges bounds) (tablets_rise old rise)))
+event_rises advance old new rise leads =
+    subst AllRise (sym (advances old new leads)) (all_rise (with_marks old (least_cover old.tablets)) (least_rises old.tablets (tablets_rise old rise)) (tablets_rise old rise))

@@ -5,19 +5,21 @@ use Rattle.pn_stream.specs.Brokers.{BrokerRecord, AreHonest}
 use Rattle.pn_stream.specs.Positions.{DeliveryValue}
 use Rattle.pn_tablet.specs.Copies.{TabletCopyValue, IsCopy}
 use Rattle.pn_tablet.specs.Layouts.{Bounds, IsLayout}
+use Rattle.pn_region.specs.Advancing.{after_advance}
 use Rattle.pn_region.specs.Honest.{IsHonestCopy}
 use Rattle.pn_region.specs.Recovery.{after_loss, after_adoption}
 use Rattle.pn_region.specs.Regions.{RegionValue}
 use Rattle.pn_region.specs.Relayouts.{after_relayout}
 use Rattle.pn_region.specs.Rounds as rounds
 
--- a round, a round that ran out of memory, the loss of a tablet, the adoption of a copy, or a change of layout
+-- a round, a round that ran out of memory, the loss of a tablet, the adoption of a copy, a change of layout, or marks that advance
 pub data RegionEvent : Type 0 where
   round : List DeliveryValue → RegionEvent
   half_round : List DeliveryValue → RegionEvent
   loss : ℕ → RegionEvent
   adoption : TabletCopyValue → RegionEvent
   relayout : Bounds → RegionEvent
+  advance : RegionEvent
 
 -- the copy is adopted
 pub record IsAdoption (copy : TabletCopyValue) (old new : RegionValue) : Type 0 where
@@ -37,6 +39,7 @@ LeadsTo (half_round deliveries) old new = rounds.IsHalfTaken old deliveries new
 LeadsTo (loss tablet) old new = new ≡ after_loss old tablet
 LeadsTo (adoption copy) old new = IsAdoption copy old new
 LeadsTo (relayout bounds) old new = IsRelayout bounds old new
+LeadsTo advance old new = after_advance old ≡ Ok new
 
 -- the events lead from one region to another, one after another
 abbrev pub AllLeadTo : List RegionEvent → RegionValue → RegionValue → Type 0
@@ -50,6 +53,7 @@ IsHonestEvent broker (half_round deliveries) = AreHonest broker deliveries
 IsHonestEvent broker (loss tablet) = Unit {0}
 IsHonestEvent broker (adoption copy) = IsHonestCopy broker copy
 IsHonestEvent broker (relayout bounds) = Unit {0}
+IsHonestEvent broker advance = Unit {0}
 
 abbrev pub AreHonestEvents : BrokerRecord → List RegionEvent → Type 0
 AreHonestEvents broker events = AllByRecursion (IsHonestEvent broker) events

@@ -1,3 +1,5 @@
+pub mod Advancing
+pub mod Ahead
 pub mod Events
 pub mod Faith
 pub mod Held

@@ -1,6 +1,7 @@
-//! Why a round or a change of layout was refused.
+//! Why a round or a change of layout was refused, or marks did not advance.
 
 ghost use Rattle.std.specs.Prelude.{◌≡◌};
+ghost use Rattle.pn_region.specs.declared.fault.AdvanceFault.TheVariants.{Memory as no_memory_to_advance};
 ghost use Rattle.pn_region.specs.declared.fault.RelayoutFault.TheVariants.{Memory as no_memory_to_relay};
 ghost use Rattle.pn_region.specs.declared.fault.RoundFault.TheVariants.{Memory as no_memory};
 
@@ -50,5 +51,23 @@ impl From<NoMemory> for RelayoutFault {
 
     fn from(_error: NoMemory) -> RelayoutFault {
         RelayoutFault::Memory
+    }
+}
+
+/// Why marks did not advance. Nothing was changed.
+#[derive(Debug, Drop, Error)]
+pub enum AdvanceFault {
+    /// All tablets have taken more than 16 streams.
+    #[error("more than 16 streams")]
+    TooManyStreams,
+    #[error("out of memory")]
+    Memory,
+}
+
+impl From<NoMemory> for AdvanceFault {
+    ghost from_gives = { λ _ fault. fault ≡ no_memory_to_advance };
+
+    fn from(_error: NoMemory) -> AdvanceFault {
+        AdvanceFault::Memory
     }
 }

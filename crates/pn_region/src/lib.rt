@@ -6,6 +6,8 @@
 
 #![tactic(auto)]
 
+pub mod advance_laws;
+mod advancing;
 mod fault;
 mod history;
 pub mod laws;
@@ -17,7 +19,8 @@ mod reads;
 pub mod recovery_laws;
 mod region;
 
-pub use fault::{RelayoutFault, RoundFault};
+pub use advancing::{Covered, common_marks};
+pub use fault::{AdvanceFault, RelayoutFault, RoundFault};
 pub use history::History;
 pub use marking::{MAX_STREAMS, next_marks};
 pub use notices::{Entry, LAST_NUMBER, Log, Notice, Since};

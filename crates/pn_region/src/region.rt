@@ -14,6 +14,7 @@ ghost use Rattle.pn_region.specs.Regions.{IsRegion, all_cells};
 ghost use Rattle.pn_region.specs.Rounds.{round, changed_count, Leaves};
 ghost use Rattle.pn_region.specs.Since.{IsSince};
 
+mod advance;
 mod parts;
 mod recovery;
 mod relayout;

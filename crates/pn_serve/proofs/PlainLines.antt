@@ -45,6 +45,7 @@ taken_alike broker other (events.half_round deliveries) one = refl
 taken_alike broker other (events.loss tablet) one = absurd one
 taken_alike broker other (events.adoption given) one = absurd one
 taken_alike broker other (events.relayout bounds) one = refl
+taken_alike broker other events.advance one = refl
 
 all_alike : (broker other : BrokerRecord) (happens : List RegionEvent) → LoseNothing happens → all_taken broker happens ≡ all_taken other happens
 all_alike broker other [] none = refl

@@ -6,11 +6,12 @@ use Rattle.pn_record.specs.Order.{bytes_cmp}
 use Rattle.pn_record.specs.CellMap.{Entries, table_of}
 use Rattle.pn_stream.specs.Brokers.{BrokerRecord}
 use Rattle.pn_tablet.specs.Layouts.{Bounds, IsLayout}
-use Rattle.pn_region.specs.Events.{RegionEvent, round, half_round, loss, adoption, relayout as other_layout, LeadsTo, AllLeadTo, AreHonestEvents}
+use Rattle.pn_region.specs.Events.{RegionEvent, round, half_round, loss, adoption, relayout as other_layout, advance, LeadsTo, AllLeadTo, AreHonestEvents}
 use Rattle.pn_region.specs.Held.{HoldsStill}
 use Rattle.pn_region.specs.Regions.{RegionValue, IsRegion, new_region, all_cells}
 use Rattle.pn_region.specs.Serving.{AllServe, ServesAt}
 use Rattle.pn_region.specs.Taken.{LosesNothing, LoseNothing}
+use Rattle.pn_region.proofs.Advanced.{advances}
 use Rattle.pn_region.proofs.EventImages.{taken_together, rounds_together, alike}
 use Rattle.pn_region.proofs.FaithfulEvents.{events_faithful}
 use Rattle.pn_region.proofs.EventSteps.{takes, events_are}
@@ -59,6 +60,7 @@ event_serves (half_round deliveries) old new one leads serve = half_serves old n
 event_serves (loss n) old new one leads serve = absurd one
 event_serves (adoption given) old new one leads serve = absurd one
 event_serves (other_layout bounds) old new one leads serve = (relays old new bounds leads.relaid).serve
+event_serves advance old new one leads serve = subst AllServe (sym (advances old new leads)) serve
 
 events_serve : (events : List RegionEvent) (old new : RegionValue) → LoseNothing events → AllLeadTo events old new → AllServe old → AllServe new
 events_serve [] old new none lead serve = subst AllServe (sym lead) serve

@@ -8,3 +8,4 @@ pub mod Rounds
 pub mod Served
 pub mod Sessions
 pub mod Whole
+pub mod Writers

@@ -1,3 +1,4 @@
+pub mod FirstMessage
 pub mod Published
 pub mod Runs
 pub mod SameBatch

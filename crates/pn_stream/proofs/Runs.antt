@@ -10,7 +10,7 @@ use Rattle.pn_stream.specs.Streams.{InStep, Run, FirstLine, NoLine, IsLeft}
 use Rattle.pn_stream.specs.Faults.{Stands}
 use Rattle.pn_stream.specs.Batches.{SoFar, Batch, IsNext}
 use Rattle.pn_stream.specs.declared.fault.StreamFault.{StreamFault}
-use Rattle.pn_stream.specs.declared.next.NextImage.{NextImage}
+use Rattle.pn_stream.specs.declared.next.NextMessage.{NextMessage}
 use Rattle.pn_stream.specs.declared.fault.StreamFault.TheVariants.{Memory}
 
 -- one message more at the end
@@ -25,7 +25,7 @@ InStep-push position (first ∷ lines) (shown ∷ images) line image wanted is r
     (run.0, run.1, InStep-push (position + 1) lines images line image wanted (omega (arith, is)) run.2 unbroken said)
 
 -- one line more
-Run-push : (position : ℕ) (text : List ℕ) (images : List Image) (rest line more : List ℕ) (image : Image) (wanted : ℕ) → wanted ≡ position + length images + 1
+pub Run-push : (position : ℕ) (text : List ℕ) (images : List Image) (rest line more : List ℕ) (image : Image) (wanted : ℕ) → wanted ≡ position + length images + 1
     → Run position text images rest → FirstLine rest line more → IsMessageLine line (wanted, image) → Run position text (images ++ image ∷ []) more
 Run-push position text images rest line more image wanted is run first said = record {
   lines = run.lines ++ line ∷ [];
@@ -55,7 +55,7 @@ Run-append position text rest more one other first second = record {
 }
 
 -- before the first line
-Run-none : (position : ℕ) (text : List ℕ) → Run position text [] text
+pub Run-none : (position : ℕ) (text : List ℕ) → Run position text [] text
 Run-none position text = record { lines = []; in_step = tt; text_is = ap (λ t. t ++ text) (sym text_of-nil) }
 
 -- what a search for messages starts with
@@ -70,13 +70,13 @@ on_rest rest part left P is told =
     subst P (sym is.2) at
 
 -- one message more
-pub SoFar-push : (position wanted : ℕ) (front part now : List ℕ) (images : List Image) (found : NextImage) (first left leaves : Option (List ℕ)) → wanted ≡ position + length images + 1
-    → IfSome first (λ text. SoFar position (front ++ text) images part left) → IfSome left (λ text. IsNext wanted (part ++ text) (Some found) now leaves)
+pub SoFar-push : (position : ℕ) (front part now : List ℕ) (images : List Image) (found : NextMessage) (first left leaves : Option (List ℕ)) → found.at ≡ position + length images + 1
+    → IfSome first (λ text. SoFar position (front ++ text) images part left) → IfSome left (λ text. IsNext (part ++ text) (Some found) now leaves)
     → IfSome first (λ text. SoFar position (front ++ text) (images ++ found.image ∷ []) now leaves)
-SoFar-push position wanted front part now images found None left leaves is so next = tt
-SoFar-push position wanted front part now images found (Some text) left leaves is so next =
-    let (line, more, at, said, is_left) = on_rest so.rest part left (λ (t : List ℕ). IsNext wanted t (Some found) now leaves) so.is_left next in
-    record { rest = more; run = Run-push position (front ++ text) images so.rest line more found.image wanted is so.run at said; is_left = is_left }
+SoFar-push position front part now images found None left leaves is so next = tt
+SoFar-push position front part now images found (Some text) left leaves is so next =
+    let (line, more, at, said, is_left) = on_rest so.rest part left (λ (t : List ℕ). IsNext t (Some found) now leaves) so.is_left next in
+    record { rest = more; run = Run-push position (front ++ text) images so.rest line more found.image found.at is so.run at said; is_left = is_left }
 
 -- before the first line none was seen
 pub shown_none : (first : Option (List ℕ)) → OnSome first (Unit {0})
@@ -97,14 +97,14 @@ none_shown text part rest left is whole shown none =
     All-contains (λ b. b ≢ 10) text 10 none.unbroken (subst (λ (t : List ℕ). Contains t 10) (sym whole) (Contains-append_right part rest 10 there)) refl
 
 -- no whole line is left: none was seen, and there are too few messages
-pub Batch-end : (least most position wanted : ℕ) (front part now : List ℕ) (images : List Image) (more : Bool) (first left leaves : Option (List ℕ)) → length images ≤ most → (more ≡ false → length images < least)
-    → OnSome first (HasShown more left) → IfSome first (λ text. SoFar position (front ++ text) images part left) → IfSome left (λ text. IsNext wanted (part ++ text) None now leaves)
+pub Batch-end : (least most position : ℕ) (front part now : List ℕ) (images : List Image) (more : Bool) (first left leaves : Option (List ℕ)) → length images ≤ most → (more ≡ false → length images < least)
+    → OnSome first (HasShown more left) → IfSome first (λ text. SoFar position (front ++ text) images part left) → IfSome left (λ text. IsNext (part ++ text) None now leaves)
     → IfSome first (λ text. Batch least most position (front ++ text) images None now leaves)
-Batch-end least most position wanted front part now images more None left leaves within few shown so next = tt
-Batch-end least most position wanted front part now images true (Some text) left leaves within few shown so next =
+Batch-end least most position front part now images more None left leaves within few shown so next = tt
+Batch-end least most position front part now images true (Some text) left leaves within few shown so next =
     let (none, _) = on_rest so.rest part left (λ (t : List ℕ). NoLine t × IsLeft t now leaves) so.is_left next in
     absurd (none_shown so.rest part so.is_left.0 left so.is_left.1 so.is_left.2 shown none)
-Batch-end least most position wanted front part now images false (Some text) left leaves within few shown so next =
+Batch-end least most position front part now images false (Some text) left leaves within few shown so next =
     let (none, is_left) = on_rest so.rest part left (λ (t : List ℕ). NoLine t × IsLeft t now leaves) so.is_left next in
     record { rest = so.rest; within = within; run = so.run; ends = (inr (few refl, none), is_left) }
 

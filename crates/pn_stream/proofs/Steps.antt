@@ -1,6 +1,6 @@
 -- What reading to the end of a line says of the text that is left of a stream.
-use Rattle.std.proofs.Common.{◌≡◌, ◌≢◌, ℕ, ◌≤◌, ◌^◌, List, [], ◌∷◌, ◌++◌, length, ◌==◌, Bool, true, false, cond, Option, None, Some, IfSome, Result, Ok, Err, IfOk, IfErr, nat_le, refl, sym, ap, ◌∙◌, subst, arith, append_assoc}
-use Rattle.std.proofs.lemmas.Bool.{and_parts, eqb-true, eq-eqb, true≢false}
+use Rattle.std.proofs.Common.{◌≡◌, ◌≢◌, ℕ, ◌≤◌, ◌^◌, List, [], ◌∷◌, ◌++◌, length, Bool, Option, None, Some, IfSome, Result, Ok, Err, IfOk, IfErr, nat_le, refl, sym, ap, ◌∙◌, subst, arith, append_assoc}
+use Rattle.std.proofs.lemmas.Bool.{and_parts}
 use Rattle.std.proofs.lemmas.List.Elements.{All-nil, All-append}
 use Rattle.pn_line.specs.Line.{LineBufferValue, with_bytes, so_far}
 use Rattle.pn_line.specs.LineEnd.{ReadsTo}
@@ -16,11 +16,11 @@ use Rattle.pn_record.specs.declared.fault.ImageFault.{ImageFault}
 use Rattle.pn_record.specs.declared.fault.ImageFault.TheVariants as image
 use Rattle.pn_json.specs.Answers.{IsUnless}
 use Rattle.pn_stream.specs.Messages.{Message, message_at}
-use Rattle.pn_stream.specs.Steps.{line_ended, image_in_step}
+use Rattle.pn_stream.specs.Steps.{line_ended, message_due}
 use Rattle.pn_stream.specs.Faults.{Refuses, Stands}
 use Rattle.pn_stream.specs.Batches.{IsPart, IsNext, part_of}
 use Rattle.pn_stream.specs.declared.fault.StreamFault.{StreamFault}
-use Rattle.pn_stream.specs.declared.next.NextImage.{NextImage}
+use Rattle.pn_stream.specs.declared.next.NextMessage.{NextMessage}
 use Rattle.pn_stream.specs.declared.fault.StreamFault.TheVariants.{Read, LineTooLong, BadMessage, OutOfStep, Memory, Failed}
 
 -- a line that holds a part, by its bytes
@@ -55,9 +55,9 @@ pub part-none : (line : LineBufferValue) → line ≡ so_far [] → line.bytes �
 part-none line is = ap (λ (l : LineBufferValue). l.bytes) is ∙ kept_bytes-nil
 
 -- at the end of the input no whole line is left
-pub next_end : (wanted : ℕ) (line new : LineBufferValue) (left leaves : Option (List ℕ)) → IsPart line → ReadsTo EndOfInput line new left leaves → IfSome left (λ text. IsNext wanted (line.bytes ++ text) None new.bytes leaves)
-next_end wanted line new None leaves is reads = tt
-next_end wanted line new (Some text) leaves is reads =
+pub next_end : (line new : LineBufferValue) (left leaves : Option (List ℕ)) → IsPart line → ReadsTo EndOfInput line new left leaves → IfSome left (λ text. IsNext (line.bytes ++ text) None new.bytes leaves)
+next_end line new None leaves is reads = tt
+next_end line new (Some text) leaves is reads =
     let read = ReadsPart-from_takes line.bytes text is.part.unbroken (held line new (Some text) leaves [] is reads.0) in
     let (front, fits) = whole new (line.bytes ++ read.taken) read.line reads.2 in
     let all : text ≡ read.taken = text_of-read_end line.bytes text leaves read reads.1 in
@@ -104,12 +104,20 @@ next_line more line new (Some text) leaves is reads =
       short = fits;
     })
 
--- a line that is the message wanted
-pub next_ok : (wanted : ℕ) (part line now : List ℕ) (found : NextImage) (left leaves : Option (List ℕ)) → IfSome left (λ text. TakesLine (part ++ text) line leaves) → IsMessageLine line (wanted, found.image) → now ≡ []
-    → IfSome left (λ text. IsNext wanted (part ++ text) (Some found) now leaves)
-next_ok wanted part line now found None leaves takes said none = tt
-next_ok wanted part line now found (Some text) leaves takes said none =
+-- a line that is a message
+pub next_ok : (part line now : List ℕ) (found : NextMessage) (left leaves : Option (List ℕ)) → IfSome left (λ text. TakesLine (part ++ text) line leaves) → IsMessageLine line (found.at, found.image) → now ≡ []
+    → IfSome left (λ text. IsNext (part ++ text) (Some found) now leaves)
+next_ok part line now found None leaves takes said none = tt
+next_ok part line now found (Some text) leaves takes said none =
     (line, takes.rest, takes.first, said, (takes.rest, takes.leaves_is, ap (λ t. t ++ takes.rest) (sym none)))
+
+-- a message of another position than the one wanted
+pub next_apart : (wanted : ℕ) (part now : List ℕ) (found : NextMessage) (left leaves : Option (List ℕ)) → found.at ≢ wanted → IfSome left (λ text. IsNext (part ++ text) (Some found) now leaves)
+    → IfSome left (λ text. Stands wanted (part ++ text) (OutOfStep wanted found.at))
+next_apart wanted part now found None leaves apart next = tt
+next_apart wanted part now found (Some text) leaves apart next =
+    let (line, rest, first, said, is_left) = next in
+    record { line = line; rest = rest; first = first; short = said.short; refused = (refl, apart, (found.image, said)) }
 
 -- a line that is refused
 pub next_err : (wanted : ℕ) (part line : List ℕ) (fault : StreamFault) (left leaves : Option (List ℕ)) → IfSome left (λ text. TakesLine (part ++ text) line leaves) → Refuses wanted line fault → IfSome left (λ text. Stands wanted (part ++ text) fault)
@@ -170,30 +178,36 @@ fault_stands (Err error) fault wanted line new left leaves part is reads =
 
 -- ---- the message of a line
 
-step_at : (wanted at : ℕ) (image : Image) (b : Bool) → (at == wanted) ≡ b → image_in_step wanted (Ok (at, image)) ≡ cond b (Ok image) (Err (OutOfStep wanted at))
-step_at wanted at image b is = rw is refl
+-- why a line is no message
+pub line_refused : (wanted : ℕ) (line : List ℕ) (read : Result Message ImageFault) → IsUnless image.Memory read (message_at line) → IfErr (message_due wanted read) (λ fault. Refuses wanted line fault)
+line_refused wanted line (Ok message) right = tt
+line_refused wanted line (Err image.Memory) right = tt
+line_refused wanted line (Err image.TooLong) right = (refl, right (λ is. cc))
+line_refused wanted line (Err image.NotJson) right = (refl, right (λ is. cc))
+line_refused wanted line (Err (image.BadShape member)) right = (refl, right (λ is. cc))
+line_refused wanted line (Err (image.OutOfRange member)) right = (refl, right (λ is. cc))
 
-by_step : {G : Type 0} (wanted at : ℕ) → ((at ≡ wanted) × ((at == wanted) ≡ true) → G) → ((at ≢ wanted) × ((at == wanted) ≡ false) → G) → G
-by_step {G} wanted at same apart = elim (at == wanted) as (λ b. (at == wanted) ≡ b → G) [
-  | true ↦ λ is. same (eqb-true at wanted is, is)
-  | false ↦ λ is. apart ((λ equal. true≢false (sym (eq-eqb at wanted equal) ∙ is)), is)
-] refl
+-- the message that was read
+pub line_found : (wanted : ℕ) (line : List ℕ) (read : Result Message ImageFault) → IfOk read (λ message. IsMessageLine line message) → IfOk (message_due wanted read) (λ message. IsMessageLine line message)
+line_found wanted line (Ok message) found = found
+line_found wanted line (Err fault) found = tt
 
--- the message that was wanted
-pub step_found : (wanted : ℕ) (line : List ℕ) (read : Result Message ImageFault) → IfOk read (λ message. IsMessageLine line message) → IfOk (image_in_step wanted read) (λ image. IsMessageLine line (wanted, image))
-step_found wanted line (Err fault) found = tt
-step_found wanted line (Ok (at, image)) found = by_step wanted at
-    (λ (same, is). rw is (subst (λ (n : ℕ). IsMessageLine line (n, image)) same found))
-    (λ (apart, is). rw is tt)
+-- a fault of another kind than a message out of step
+abbrev pub AnyStep : StreamFault → Type 0
+AnyStep fault = (named got : ℕ) → fault ≢ OutOfStep named got
 
--- or why the line is refused
-pub step_refused : (wanted : ℕ) (line : List ℕ) (read : Result Message ImageFault) → IfOk read (λ message. IsMessageLine line message) → IsUnless image.Memory read (message_at line)
-    → IfErr (image_in_step wanted read) (λ fault. Refuses wanted line fault)
-step_refused wanted line (Ok (at, image)) found right = by_step wanted at
-    (λ (same, is). rw is tt)
-    (λ (apart, is). rw is (refl, apart, (image, found)))
-step_refused wanted line (Err image.Memory) found right = tt
-step_refused wanted line (Err image.TooLong) found right = (refl, right (λ is. cc))
-step_refused wanted line (Err image.NotJson) found right = (refl, right (λ is. cc))
-step_refused wanted line (Err (image.BadShape member)) found right = (refl, right (λ is. cc))
-step_refused wanted line (Err (image.OutOfRange member)) found right = (refl, right (λ is. cc))
+-- no line is refused for its position alone
+pub line_any_step : (wanted : ℕ) (read : Result Message ImageFault) → IfErr (message_due wanted read) AnyStep
+line_any_step wanted (Ok message) = tt
+line_any_step wanted (Err image.Memory) = λ named got is. cc
+line_any_step wanted (Err image.TooLong) = λ named got is. cc
+line_any_step wanted (Err image.NotJson) = λ named got is. cc
+line_any_step wanted (Err (image.BadShape member)) = λ named got is. cc
+line_any_step wanted (Err (image.OutOfRange member)) = λ named got is. cc
+
+-- nor is the end of a line out of step
+pub end_any_step : {E : Type 0} (end : Result BoundedEnd E) (fault : StreamFault) → line_ended end ≡ Err fault → AnyStep fault
+end_any_step (Ok (Newline more)) fault is = cc
+end_any_step (Ok EndOfInput) fault is = cc
+end_any_step (Ok TooLong) fault is = subst AnyStep (fault_same {A = Option Bool} LineTooLong fault is) (λ named got same. cc)
+end_any_step (Err error) fault is = subst AnyStep (fault_same {A = Option Bool} Read fault is) (λ named got same. cc)

@@ -6,7 +6,7 @@ use Rattle.pn_stream.specs.MessageLines.{IsMessageLine}
 use Rattle.pn_stream.specs.Streams.{Run, FirstLine, NoLine, IsLeft}
 use Rattle.pn_stream.specs.Faults.{Stands}
 use Rattle.pn_stream.specs.declared.fault.StreamFault.{StreamFault}
-use Rattle.pn_stream.specs.declared.next.NextImage.{NextImage}
+use Rattle.pn_stream.specs.declared.next.NextMessage.{NextMessage}
 
 -- a reader of a stream: its name, the last position returned, the part of a line that was read, a fault for the next
 -- call, and the source
@@ -48,7 +48,7 @@ pub record IsPart (line : LineBufferValue) : Type 0 where
   pub part : NoLine line.bytes
 
 -- the next message of the text, if a whole line is there, and what is left then
-abbrev pub IsNext : ℕ → List ℕ → Option NextImage → List ℕ → Option (List ℕ) → Type 0
-IsNext wanted text (Some found) part left =
-    (line : List ℕ) × (rest : List ℕ) × FirstLine text line rest × IsMessageLine line (wanted, found.image) × IsLeft rest part left
-IsNext wanted text None part left = NoLine text × IsLeft text part left
+abbrev pub IsNext : List ℕ → Option NextMessage → List ℕ → Option (List ℕ) → Type 0
+IsNext text (Some found) part left =
+    (line : List ℕ) × (rest : List ℕ) × FirstLine text line rest × IsMessageLine line (found.at, found.image) × IsLeft rest part left
+IsNext text None part left = NoLine text × IsLeft text part left

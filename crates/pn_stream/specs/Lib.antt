@@ -6,5 +6,6 @@ pub mod MessageLines
 pub mod Messages
 pub mod Positions
 pub mod Prelude
+pub mod Resuming
 pub mod Steps
 pub mod Streams

@@ -1,13 +1,12 @@
 -- What is made of the end of a line, and of the message that was read in it.
-use Rattle.std.specs.Prelude.{ℕ, ◌==◌, Bool, if◌then◌else◌, Option, None, Some, Result, Ok, Err}
+use Rattle.std.specs.Prelude.{ℕ, Bool, Option, None, Some, Result, Ok, Err}
 use Rattle.pn_line.specs.declared.reading.BoundedEnd.{BoundedEnd}
 use Rattle.pn_line.specs.declared.reading.BoundedEnd.TheVariants.{Newline, EndOfInput, TooLong}
-use Rattle.pn_record.specs.declared.image.Image.{Image}
 use Rattle.pn_record.specs.declared.fault.ImageFault.{ImageFault}
 use Rattle.pn_record.specs.declared.fault.ImageFault.TheVariants as image
 use Rattle.pn_stream.specs.Messages.{Message}
 use Rattle.pn_stream.specs.declared.fault.StreamFault.{StreamFault}
-use Rattle.pn_stream.specs.declared.fault.StreamFault.TheVariants.{Read, LineTooLong, BadMessage, OutOfStep, Memory}
+use Rattle.pn_stream.specs.declared.fault.StreamFault.TheVariants.{Read, LineTooLong, BadMessage, Memory}
 
 -- whether a further newline was seen after the line, if a whole one was read; or why none comes
 abbrev pub line_ended : {E : Type 0} → Result BoundedEnd E → Result (Option Bool) StreamFault
@@ -24,7 +23,7 @@ fault_at wanted image.NotJson = BadMessage wanted image.NotJson
 fault_at wanted (image.BadShape member) = BadMessage wanted (image.BadShape member)
 fault_at wanted (image.OutOfRange member) = BadMessage wanted (image.OutOfRange member)
 
--- the image of a message, if it has the position `wanted`
-abbrev pub image_in_step : ℕ → Result Message ImageFault → Result Image StreamFault
-image_in_step wanted (Ok message) = if message.0 == wanted then Ok message.1 else Err (OutOfStep wanted message.0)
-image_in_step wanted (Err fault) = Err (fault_at wanted fault)
+-- the message that was read, or why there is none of the position `wanted`
+abbrev pub message_due : ℕ → Result Message ImageFault → Result Message StreamFault
+message_due wanted (Ok message) = Ok message
+message_due wanted (Err fault) = Err (fault_at wanted fault)

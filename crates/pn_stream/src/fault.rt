@@ -1,6 +1,7 @@
 //! The faults of stream readers.
 
 ghost use Rattle.std.specs.Prelude.{◌≡◌};
+ghost use Rattle.pn_stream.specs.declared.fault.ResumeFault.TheVariants.{Stream};
 ghost use Rattle.pn_stream.specs.declared.fault.StreamFault.TheVariants.{Memory};
 
 use pn_join::NoMemory;
@@ -34,5 +35,32 @@ impl From<NoMemory> for StreamFault {
 
     fn from(_error: NoMemory) -> StreamFault {
         StreamFault::Memory
+    }
+}
+
+/// Why a reader gives no first message of a writer.
+#[derive(Clone, Copy, Debug, PartialEq, Eq, Error)]
+pub enum ResumeFault {
+    /// As of any message, but never `OutOfStep`, unless an earlier call left it.
+    #[error("{0}")]
+    Stream(StreamFault),
+    /// The line is a message of a position greater than the one that comes next.
+    #[error("the message at {wanted} or one before it was wanted and that at {got} came")]
+    Gap { got: u64, wanted: u64 },
+}
+
+impl From<StreamFault> for ResumeFault {
+    ghost from_gives = { λ fault resumed. resumed ≡ Stream fault };
+
+    fn from(fault: StreamFault) -> ResumeFault {
+        ResumeFault::Stream(fault)
+    }
+}
+
+impl From<NoMemory> for ResumeFault {
+    ghost from_gives = { λ _ resumed. resumed ≡ Stream Memory };
+
+    fn from(_error: NoMemory) -> ResumeFault {
+        ResumeFault::Stream(StreamFault::Memory)
     }
 }

@@ -1,13 +1,18 @@
 //! The laws of streams, as contracts. A call does nothing.
 
-ghost use Rattle.std.specs.Prelude.{◌≡◌, ℕ, ◌+◌, List, ◌++◌, length, Option, None, IfSome};
+ghost use Rattle.std.specs.Prelude.{◌≡◌, ℕ, ◌+◌, pred, List, ◌++◌, length, Option, Some, None, Ok, IfSome};
 ghost use Rattle.pn_record.specs.declared.image.Image.{Image};
-ghost use Rattle.pn_stream.specs.Batches.{Batch};
+ghost use Rattle.pn_stream.specs.Batches.{Stream, Batch};
+ghost use Rattle.pn_stream.specs.Calls.{IsCall};
 ghost use Rattle.pn_stream.specs.Faults.{IsOfText};
 ghost use Rattle.pn_stream.specs.MessageLines.{IsMessageLine};
 ghost use Rattle.pn_stream.specs.Messages.{Message};
+ghost use Rattle.pn_stream.specs.Positions.{DeliveryValue};
+ghost use Rattle.pn_stream.specs.Resuming.{IsResumed};
 ghost use Rattle.pn_stream.specs.Streams.{Run};
 ghost use Rattle.pn_stream.specs.declared.fault.StreamFault.{StreamFault};
+
+use pn_line::Source;
 
 /// No line is read as two messages.
 pub fn a_line_is_one_message()
@@ -37,4 +42,13 @@ pub fn two_calls_are_one()
         → Batch least most position text one None part left
         → IfSome left (λ rest. Batch fewest max (position + length one) (part ++ rest) other fault piece leaves)
         → Batch (length one + fewest) (length one + max) position text (one ++ other) fault piece leaves }
+{}
+
+/// What a writer's first message and a call after it give is what one call gives that begins just before that message:
+/// one run of messages in step from the first one on.
+pub fn a_writer_gives_one_run<S: Source + Drop>()
+    ensures { (least most : ℕ) (old begun new : Stream S) (first next : DeliveryValue)
+        → IsResumed S.left S.may_fail old (Ok (Some first)) begun → IsCall S.left S.may_fail least most begun (Ok next) new
+        → IfSome (S.left old.source) (λ text. Batch (1 + least) (1 + most) (pred first.first) (old.part ++ text)
+        (first.images ++ next.images) new.fault new.part (S.left new.source)) }
 {}

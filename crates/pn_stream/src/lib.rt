@@ -4,12 +4,13 @@
 
 mod delivery;
 mod fault;
+mod first;
 pub mod laws;
 mod message;
 mod next;
 mod reader;
 
 pub use delivery::{Delivery, positions_fit};
-pub use fault::StreamFault;
+pub use fault::{ResumeFault, StreamFault};
 pub use message::read_message;
 pub use reader::{MAX_MESSAGES, StreamReader};

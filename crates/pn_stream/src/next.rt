@@ -1,9 +1,10 @@
 //! The next messages of a stream, read from the lines of its source.
 
-ghost use Rattle.std.specs.Prelude.{◌≡◌, ◌+◌, ◌<◌, ◌≤◌, false, [], ◌∷◌, ◌++◌, length, IfOk, IfErr, IfSome, OnOk, OnSome, OnErr, IsErrOf, IsSome, IsTrue};
+ghost use Rattle.std.specs.Prelude.{◌≡◌, ◌≢◌, ℕ, ◌+◌, ◌<◌, ◌≤◌, false, [], ◌∷◌, ◌++◌, length, IfOk, IfErr, IfSome, OnOk, OnSome, OnErr, IsErrOf, IsSome, IsTrue};
 ghost use Rattle.pn_line.specs.Prelude.{so_far, HasShown};
+ghost use Rattle.pn_join.specs.Prelude.{is_position};
 ghost use Rattle.pn_join.specs.declared.marks.TheConstants.{LAST_POSITION};
-ghost use Rattle.pn_stream.specs.Steps.{line_ended, image_in_step};
+ghost use Rattle.pn_stream.specs.Steps.{line_ended, message_due};
 ghost use Rattle.pn_stream.specs.MessageLines.{IsMessageLine};
 ghost use Rattle.pn_stream.specs.Faults.{Refuses, Stands};
 ghost use Rattle.pn_stream.specs.Batches.{Batch, IsPart, IsNext, part_of};
@@ -36,10 +37,11 @@ impl BatchSize {
     }
 }
 
-// The image of a message, and whether a further newline was seen after its line.
+// A message that was read, and whether a further newline was seen after its line.
 #[derive(Drop)]
-struct NextImage {
-    image: Image,
+pub(crate) struct NextMessage {
+    pub(crate) at: u64,
+    pub(crate) image: Image,
     more: bool,
 }
 
@@ -72,7 +74,7 @@ pub(crate) fn next_images<S: Source>(
     let mut more = false;
     'images: while size.wants(images.len(), more) {
         let wanted = position + images.len() as u64 + 1;
-        match next_image(alloc, &mut line, source, wanted)? {
+        match next_in_step(alloc, &mut line, source, wanted)? {
             Some(next) => {
                 more = next.more;
                 push_image(images, next.image)?;
@@ -88,7 +90,10 @@ pub(crate) fn next_images<S: Source>(
 }
 
 // The line whose part was kept, or a new one.
-fn take_line(alloc: Global, held: &mut Option<LineBuffer>) -> Result<LineBuffer, StreamFault>
+pub(crate) fn take_line(
+    alloc: Global,
+    held: &mut Option<LineBuffer>,
+) -> Result<LineBuffer, StreamFault>
     requires { IfSome held.old IsPart }
     ensures part { IfOk result IsPart }
     ensures front { IfOk result (λ line. line.bytes ≡ part_of held.old) }
@@ -117,15 +122,16 @@ fn push_image(images: &mut Vec<Image>, image: Image) -> Result<(), NoMemory>
 }
 
 // The next message, which must have the position `wanted`. None where no whole line is left.
-fn next_image<S: Source>(
+fn next_in_step<S: Source>(
     alloc: Global,
     line: &mut LineBuffer,
     source: &mut S,
     wanted: u64,
-) -> Result<Option<NextImage>, StreamFault>
+) -> Result<Option<NextMessage>, StreamFault>
     requires { IsPart line.old }
     ensures next { IfOk result (λ found. IfSome (S.left source.old) (λ text.
-        IsNext wanted (line.old.bytes ++ text) found line.new.bytes (S.left source.new))) }
+        IsNext (line.old.bytes ++ text) found line.new.bytes (S.left source.new))) }
+    ensures at { IfOk result (λ found. IfSome found (λ message. message.at ≡ wanted)) }
     ensures taken { IfOk result (λ found. IsSome found → line.new.bytes ≡ []) }
     ensures more { IfOk result (λ found. IfSome found (λ message.
         OnSome (S.left source.old) (HasShown message.more (S.left source.new)))) }
@@ -136,12 +142,53 @@ fn next_image<S: Source>(
     ensures read { IsErrOf result StreamFault.Read → S.may_fail }
     ensures not_failed { IsErrOf result StreamFault.Failed → ⊥ }
 {
+    let Some(next) = next_message(alloc, line, source, wanted)? else {
+        return Ok(None);
+    };
+    check_step(wanted, next.at)?;
+    Ok(Some(next))
+}
+
+// Whether the message at `at` has the position `wanted`.
+fn check_step(wanted: u64, at: u64) -> Result<(), StreamFault>
+    ensures ok { OnOk result (at ≡ wanted) }
+    ensures err { IfErr result (λ fault. (fault ≡ StreamFault.OutOfStep wanted at) × (at ≢ wanted)) }
+{
+    if at == wanted {
+        Ok(())
+    } else {
+        Err(StreamFault::OutOfStep { wanted, got: at })
+    }
+}
+
+// The next message, of any position, or why there is none where that of `wanted` is due. None where no whole line is
+// left.
+pub(crate) fn next_message<S: Source>(
+    alloc: Global,
+    line: &mut LineBuffer,
+    source: &mut S,
+    wanted: u64,
+) -> Result<Option<NextMessage>, StreamFault>
+    requires { IsPart line.old }
+    ensures next { IfOk result (λ found. IfSome (S.left source.old) (λ text.
+        IsNext (line.old.bytes ++ text) found line.new.bytes (S.left source.new))) }
+    ensures taken { IfOk result (λ found. IsSome found → line.new.bytes ≡ []) }
+    ensures more { IfOk result (λ found. IfSome found (λ message.
+        OnSome (S.left source.old) (HasShown message.more (S.left source.new)))) }
+    ensures stands { IfErr result (λ fault. IfSome (S.left source.old) (λ text.
+        Stands wanted (line.old.bytes ++ text) fault)) }
+    ensures any_step { IfErr result (λ fault. (named got : ℕ) → fault ≢ StreamFault.OutOfStep named got) }
+    ensures part { OnOk result (IsPart line.new) }
+    ensures position { IfOk result (λ found. IfSome found (λ message. IsTrue (is_position message.at))) }
+    ensures read { IsErrOf result StreamFault.Read → S.may_fail }
+    ensures not_failed { IsErrOf result StreamFault.Failed → ⊥ }
+{
     let Some(more) = whole_line(read_bounded_line(line, source))? else {
         return Ok(None);
     };
-    let image = image_at(alloc, line.bytes(), wanted)?;
+    let (at, image) = message_of_line(alloc, line.bytes(), wanted)?;
     line.start();
-    Ok(Some(NextImage { image, more }))
+    Ok(Some(NextMessage { at, image, more }))
 }
 
 // Whether a further newline was seen after the line, if a whole one was read.
@@ -156,26 +203,21 @@ fn whole_line(end: io::Result<BoundedEnd>) -> Result<Option<bool>, StreamFault>
     }
 }
 
-// The image of a line's message, which must have the position `wanted`.
-fn image_at(alloc: Global, line: &[u8], wanted: u64) -> Result<Image, StreamFault>
-    ensures ok { IfOk result (λ image. IsMessageLine line.now (wanted, image)) }
+// The message of a line, or why it is none where that of `wanted` is due.
+fn message_of_line(alloc: Global, line: &[u8], wanted: u64) -> Result<(u64, Image), StreamFault>
+    ensures ok { IfOk result (λ message. IsMessageLine line.now message) }
     ensures err { IfErr result (λ fault. Refuses wanted line.now fault) }
+    ensures any_step { IfErr result (λ fault. (named got : ℕ) → fault ≢ StreamFault.OutOfStep named got) }
 {
-    in_step(wanted, read_message(alloc, line))
+    due(wanted, read_message(alloc, line))
 }
 
-// The image of the message that was read, if it has the position `wanted`.
-fn in_step(wanted: u64, read: Result<(u64, Image), ImageFault>) -> Result<Image, StreamFault>
-    ensures { result ≡ image_in_step wanted read }
+// The message that was read, or why there is none of the position `wanted`.
+fn due(wanted: u64, read: Result<(u64, Image), ImageFault>) -> Result<(u64, Image), StreamFault>
+    ensures { result ≡ message_due wanted read }
 {
     match read {
-        Ok((at, image)) => {
-            if at == wanted {
-                Ok(image)
-            } else {
-                Err(StreamFault::OutOfStep { wanted, got: at })
-            }
-        }
+        Ok(message) => Ok(message),
         Err(ImageFault::Memory) => Err(StreamFault::Memory),
         Err(fault) => Err(StreamFault::BadMessage { at: wanted, fault }),
     }

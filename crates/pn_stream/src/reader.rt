@@ -1,12 +1,17 @@
 //! Readers of streams: the next messages of a stream in the order of their positions, however its bytes arrive.
 
-ghost use Rattle.std.specs.Prelude.{◌≡◌, ◌≢◌, ◌+◌, ◌≤◌, [], ◌++◌, length, min, IfErr, IfSome, OnOk, IsTrue};
+ghost use Rattle.std.specs.Prelude.{◌≡◌, ◌≢◌, ◌+◌, ◌≤◌, pred, [], ◌++◌, length, min, IfOk, IfErr, IfSome, OnOk, IsErrOf, IsTrue};
+ghost use Rattle.pn_join.specs.Prelude.{is_position};
 ghost use Rattle.pn_record.specs.Prelude.{max_line_bytes};
 ghost use Rattle.pn_stream.specs.Batches.{Batch};
 ghost use Rattle.pn_stream.specs.Calls.{IsCall};
+ghost use Rattle.pn_stream.specs.Positions.{are_positions};
+ghost use Rattle.pn_stream.specs.Resuming.{IsResumed, StandsFirst};
+ghost use Rattle.pn_stream.specs.Streams.{NoLine, IsLeft};
 
 use crate::delivery::Delivery;
-use crate::fault::StreamFault;
+use crate::fault::{ResumeFault, StreamFault};
+use crate::first::first_message;
 use crate::next::{BatchSize, next_images};
 use pn_join::{LAST_POSITION, StreamName};
 use pn_line::{LineBuffer, Source};
@@ -106,6 +111,71 @@ impl<S: Source + Drop> StreamReader<S> {
             least: 1,
             most: max,
         })
+    }
+
+    /// The first message of a writer, for which it waits. It may have any position from 1 to one past `position`, and
+    /// the reader goes on after it. Without a whole line there is none, and the part of one is kept.
+    ///
+    /// Faults come as from `next_batch`, but that a message of a greater position is a gap.
+    pub fn resume(&mut self) -> Result<Option<Delivery>, ResumeFault>
+        ensures { IsResumed S.left S.may_fail self.old result self.new }
+    {
+        if let Some(fault) = self.waiting_fault() {
+            return Err(ResumeFault::Stream(self.fail(fault)));
+        }
+        match self.take_first() {
+            Ok(Some((at, images))) => Ok(Some(self.begin(at, images))),
+            Ok(None) => Ok(None),
+            Err(fault) => Err(self.fail_first(fault)),
+        }
+    }
+
+    /// What it reads from. A part of a line that was read is dropped.
+    pub fn into_source(self) -> S
+        ensures { result ≡ self.source }
+    {
+        let StreamReader { source, .. } = self;
+        source
+    }
+
+    // The position and the one image of the first message, if a whole line is there.
+    fn take_first(&mut self) -> Result<Option<(u64, Vec<Image>)>, ResumeFault>
+        ensures first { IfOk result (λ found. IfSome found (λ first. IfSome (S.left self.old.source) (λ text.
+            Batch 1 1 (pred first.0) (self.old.part ++ text) first.1.items None self.new.part (S.left self.new.source)))) }
+        ensures none { IfOk result (λ found. found ≡ None → IfSome (S.left self.old.source) (λ text.
+            NoLine (self.old.part ++ text) × IsLeft (self.old.part ++ text) self.new.part (S.left self.new.source))) }
+        ensures one { IfOk result (λ found. IfSome found (λ first. length first.1.items ≡ 1)) }
+        ensures in_range { IfOk result (λ found. IfSome found (λ first. IsTrue (is_position first.0))) }
+        ensures up_to { IfOk result (λ found. IfSome found (λ first. first.0 ≤ self.old.position + 1)) }
+        ensures stands { IfErr result (λ fault. IfSome (S.left self.old.source) (λ text.
+            StandsFirst (self.old.position + 1) (self.old.part ++ text) fault)) }
+        ensures read { IsErrOf result (ResumeFault.Stream StreamFault.Read) → S.may_fail }
+        ensures not_failed { IsErrOf result (ResumeFault.Stream StreamFault.Failed) → ⊥ }
+        ensures name { self.new.name ≡ self.old.name }
+        ensures position { self.new.position ≡ self.old.position }
+        ensures fault { self.new.fault ≡ self.old.fault }
+        ensures part { length self.new.part ≤ max_line_bytes }
+    {
+        first_message(self.alloc, &mut self.line, &mut self.source, self.position)
+    }
+
+    // A delivery of the image at the position `at`, after which the reader goes on.
+    fn begin(&mut self, at: u64, images: Vec<Image>) -> Delivery
+        requires { IsTrue (are_positions at (length images.items)) }
+        ensures moved { self.new ≡ record self.old { position = at } }
+        ensures delivery { result ≡ record { stream = self.old.name; first = at; images = images.items } }
+    {
+        self.position = at;
+        Delivery::of(self.name, at, images)
+    }
+
+    // Answers with the fault of a first message. From now on the reader has failed.
+    fn fail_first(&mut self, fault: ResumeFault) -> ResumeFault
+        ensures failed { self.new ≡ record self.old { fault = Some StreamFault.Failed } }
+        ensures fault { result ≡ fault }
+    {
+        self.fault = Some(StreamFault::Failed);
+        fault
     }
 
     // The images of the next messages, as many as the size says.

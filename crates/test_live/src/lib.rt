@@ -1,7 +1,9 @@
-//! Tests of live regions: a recovery, workers that meet, readers beside a held round and beside a writer, and calls that run out
-//! of memory.
+//! Tests of live regions: a recovery, marks that advance, workers that meet, readers beside a held round and beside a writer,
+//! and calls that run out of memory.
 #![tactic(auto)]
 
+#[cfg(test)]
+mod advancing;
 #[cfg(test)]
 mod holding;
 #[cfg(test)]

@@ -131,7 +131,12 @@ fn adopt<R: Wait>(rt: &R, live: &mut LiveRegion, copy: Option<TabletCopy>) -> bo
     }
 }
 
-// A round, a loss, an adoption, and a round after them.
+// Advances the marks, by the next call where one was refused.
+fn advance(live: &mut LiveRegion) -> bool {
+    live.advance().is_ok() || live.advance().is_ok()
+}
+
+// A round, a loss, an adoption, marks that advance, and a round after them.
 fn go_through<R: Threads + Wait + Sync>(
     rt: &R,
     alloc: Global,
@@ -142,7 +147,7 @@ fn go_through<R: Threads + Wait + Sync>(
         return false;
     }
     let (first, second) = (copy(alloc, reader), copy(alloc, reader));
-    recover(rt, live, first, second) && serve(rt, alloc, live, reader, (4, 6))
+    recover(rt, live, first, second) && advance(live) && serve(rt, alloc, live, reader, (4, 6))
 }
 
 fn begin<R: Wait>(rt: &R, alloc: Global) -> Option<(LiveRegion, LiveReader)> {

@@ -1,16 +1,19 @@
 //! Cases of `pn_apply` and `pn_region`, a line each, of what the stored scripts of `test_rows` cannot say.
 //!
 //! `reduce` and `round` work eight tablets by some workers, and show how often the gate was entered with each; `relayout` shows
-//! the keys of tablets of other bounds, and `faults` fault texts. `stdout` has what must be answered.
+//! the keys of tablets of other bounds, `advance` the marks of three tablets that adopted copies, and `faults` fault texts.
+//! `stdout` has what must be answered.
 #![tactic(auto)]
 
+mod advancing;
 mod counting;
 mod layouts;
 mod work;
 
+use advancing::{advance, advance_many};
 use layouts::keys_after_relayout;
 use pn_join::{Name, NoMemory};
-use pn_region::{AdoptFault, RelayoutFault, RoundFault};
+use pn_region::{AdoptFault, AdvanceFault, RelayoutFault, RoundFault};
 use std::alloc::Global;
 use std::test::Fail;
 use std::thread::Threads;
@@ -25,6 +28,8 @@ fn answer<R: Threads + Sync>(rt: &R, alloc: Global, line: &str) -> Result<String
     match line.split_once(' ') {
         Some(("reduce", workers)) => Ok(reduce_keys(rt, alloc, workers).ok_or(NoMemory)?),
         Some(("relayout", bounds)) => Ok(keys_after_relayout(rt, alloc, bounds).ok_or(NoMemory)?),
+        Some(("advance", "many")) => Ok(advance_many(rt, alloc).ok_or(NoMemory)?),
+        Some(("advance", counts)) => Ok(advance(rt, alloc, counts).ok_or(NoMemory)?),
         Some((_, workers)) => Ok(round(rt, alloc, workers).ok_or(NoMemory)?),
         None => faults(alloc),
     }
@@ -37,9 +42,9 @@ fn faults(alloc: Global) -> Result<String, Fail> {
         got: 9,
     };
     let (many, memory) = (RoundFault::TooManyStreams, RoundFault::Memory);
-    let relayout = RelayoutFault::Memory;
+    let (relayout, advance) = (RelayoutFault::Memory, AdvanceFault::Memory);
     Ok(format!(in alloc;
-        "{gap}; {many}; {memory}; {}; {relayout}",
+        "{gap}; {many}; {memory}; {}; {relayout}; {advance}",
         adopt_faults(alloc)?
     )?)
 }

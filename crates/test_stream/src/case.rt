@@ -5,9 +5,11 @@ use std::str::SplitN;
 use std::test::Fail;
 use test_kit::spell_out;
 
-/// A stream's text, after which position it is read, and by how many calls of which kind.
+/// A stream's text, after which position it is read, whether that begins with the first message of a writer, and by how
+/// many calls of which kind.
 #[derive(Drop)]
 pub(crate) struct Case {
+    pub(crate) is_resumed: bool,
     pub(crate) is_ready: bool,
     pub(crate) after: u64,
     pub(crate) calls: u64,
@@ -19,8 +21,10 @@ impl Case {
     /// Reads the words of a case.
     pub(crate) fn read(alloc: Global, line: &str) -> Result<Case, Fail> {
         let mut words = line.splitn(7, ' ');
+        let kind = words.next().unwrap_or("");
         Ok(Case {
-            is_ready: words.next() == Some("ready"),
+            is_resumed: kind == "resume",
+            is_ready: kind != "batch",
             after: number(&mut words)?,
             calls: number(&mut words)?,
             most: number(&mut words)?,

@@ -1,14 +1,16 @@
 //! Cases of `pn_stream`, a line each; `stdout` has what must be answered.
 //!
-//! `message` reads one line. `whole`, `pieces`, `cuts`, `looks` and `lines` name ways in which a stream comes to its reader.
+//! `message` reads one line. `whole`, `pieces`, `cuts`, `looks`, `lines` and `writers` name ways in which a stream comes to its
+//! reader.
 //!
-//! After these come `batch` or `ready`, the position, the calls, the most messages of a call, the first and the last message, and
+//! After these come `batch`, `ready` or `resume` (the first message, then as `ready`), the position, the calls, the most messages of a call, the first and the last message, and
 //! further text.
 #![tactic(auto)]
 
 mod case;
 mod pipe;
 mod reading;
+mod writers;
 
 use case::Case;
 use pn_stream::{StreamFault, read_message};
@@ -16,6 +18,7 @@ use reading::{read_by_lines, read_in_pieces, read_in_two, read_whole, read_with_
 use std::alloc::Global;
 use std::test::Fail;
 use test_kit::answer_lines;
+use writers::read_by_writers;
 
 fn main(rt: HostRuntime) -> Result<(), Fail> {
     answer_lines(&rt, |line| answer(rt.alloc(), line))
@@ -44,6 +47,7 @@ fn read_stream(alloc: Global, how: &str, case: &Case) -> Result<String, Fail> {
         "pieces" => read_in_pieces(alloc, case),
         "cuts" => read_in_two(alloc, case),
         "looks" => read_with_a_failing_look(alloc, case),
+        "writers" => read_by_writers(alloc, case),
         _ => read_by_lines(alloc, case),
     }
 }

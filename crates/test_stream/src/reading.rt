@@ -9,7 +9,7 @@ use std::alloc::Global;
 use std::test::Fail;
 use test_kit::{PiecewiseReader, ReplyRuns};
 
-fn new_reader<S: Source + Drop>(
+pub(crate) fn new_reader<S: Source + Drop>(
     alloc: Global,
     case: &Case,
     source: S,
@@ -49,10 +49,25 @@ fn push_answer<S: Source + Drop>(
     }
 }
 
+/// Adds what the call for a writer's first message gives.
+pub(crate) fn push_first<S: Source + Drop>(
+    text: &mut String,
+    reader: &mut StreamReader<S>,
+) -> Result<(), Fail> {
+    match reader.resume() {
+        Ok(Some(delivery)) => push_delivery(text, &delivery),
+        Ok(None) => Ok(text.push_str("none; ")?),
+        Err(fault) => Ok(write!(text, "{fault}; ")?),
+    }
+}
+
 // What all calls give, and where the reader is then.
 fn read_all<S: Source + Drop>(alloc: Global, case: &Case, source: S) -> Result<String, Fail> {
     let mut reader = new_reader(alloc, case, source)?;
     let mut text = String::new(alloc);
+    if case.is_resumed {
+        push_first(&mut text, &mut reader)?;
+    }
     for _ in 0..case.calls {
         push_answer(&mut text, case, &mut reader)?;
     }
@@ -102,6 +117,9 @@ fn read_parts(alloc: Global, case: &Case, first: &[u8], second: &[u8]) -> Result
     let buffer = PipeBuffer::new(first);
     let mut reader = new_reader(alloc, case, new_pipe(&buffer, false))?;
     let mut text = String::new(alloc);
+    if case.is_resumed {
+        push_first(&mut text, &mut reader)?;
+    }
     push_answer(&mut text, case, &mut reader)?;
     buffer.set(second);
     push_answer(&mut text, case, &mut reader)?;

@@ -1,6 +1,8 @@
 -- Which reply refuses a command that was read: why it is not run, or that memory ran out.
-use Rattle.std.specs.Prelude.{◌≡◌, ◌≢◌}
+use Rattle.std.specs.Prelude.{◌≡◌, ◌≢◌, ℕ, Vec, Option, Some, None, Result, IfOk, MatchResult}
+use Rattle.std.specs.declared.alloc.Global.{Global}
 use Rattle.serde_json.specs.Data.{Data}
+use Rattle.pn_join.specs.declared.memory.NoMemory.{NoMemory}
 use Rattle.pn_json.specs.Lines.{line_of}
 use Rattle.pn_region.specs.declared.fault.RelayoutFault.TheVariants as relayout
 use Rattle.pn_region.specs.declared.fault.RoundFault.TheVariants as round
@@ -20,10 +22,15 @@ abbrev pub Tells : Type 0 → Data → Reply → Type 0
 Tells right said (NotTaken text) = right × (text.items ≡ line_of said)
 Tells right said reply = reply ≡ Refused Memory
 
--- the reply says this, or that memory ran out
-abbrev pub Says : Data → Reply → Type 0
-Says said (NotTaken text) = text.items ≡ line_of said
-Says said reply = reply ≡ Refused Memory
+-- the line that says why, or none where the fault is that memory ran out
+abbrev pub SaysWhy : {F : Type 0} → F → F → Data → Option (Result (Vec ℕ Global) NoMemory) → Type 0
+SaysWhy memory fault said None = fault ≡ memory
+SaysWhy memory fault said (Some line) = (fault ≢ memory) × IfOk line (λ text. text.items ≡ line_of said)
+
+-- the reply is that line, if there is one, and else says that memory ran out
+abbrev pub RefusesWith : Option (Result (Vec ℕ Global) NoMemory) → Reply → Type 0
+RefusesWith None reply = reply ≡ Refused Memory
+RefusesWith (Some line) reply = MatchResult line (λ text. reply ≡ NotTaken text) (λ _. reply ≡ Refused Memory)
 
 -- the reply to a command with this fault: why it was not run, or that memory ran out
 abbrev pub Refuses : CommandFault → Reply → Type 0

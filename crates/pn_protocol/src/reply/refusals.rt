@@ -1,22 +1,21 @@
 //! Replies to commands that were read and are not run. Where memory ran out, nothing is allocated for the reply.
 
-ghost use Rattle.std.specs.Prelude.{◌≡◌, codes};
+ghost use Rattle.std.specs.Prelude.{◌≡◌, codes, IfOk};
 ghost use Rattle.serde_json.specs.Data.{no_members};
+ghost use Rattle.pn_json.specs.Prelude.{line_of};
 ghost use Rattle.pn_region.specs.declared.fault.RelayoutFault.TheVariants.{Memory as no_memory_to_relay};
 ghost use Rattle.pn_region.specs.declared.fault.RoundFault.TheVariants.{Memory as no_memory_for_a_round};
 ghost use Rattle.pn_scan.specs.declared.fault.ScanFault.TheVariants.{Memory as no_memory_to_look};
 ghost use Rattle.pn_tablet.specs.declared.fault.CopyFault.TheVariants.{Memory as no_memory_to_copy};
 ghost use Rattle.pn_tablet.specs.declared.fault.CopyTextFault.TheVariants.{Memory as no_memory_to_read};
 ghost use Rattle.pn_tablet.specs.declared.fault.OpFault.TheVariants.{Memory as no_memory_to_adopt};
-ghost use Rattle.pn_protocol.specs.declared.reply.Reply.TheVariants.{Refused};
-ghost use Rattle.pn_protocol.specs.declared.refusal.Refusal.TheVariants.{Memory as no_memory};
-ghost use Rattle.pn_protocol.specs.Reply.Errors.{details_members, error_data, with_number};
+ghost use Rattle.pn_protocol.specs.Reply.Errors.{error_data, with_number};
 ghost use Rattle.pn_protocol.specs.Reply.Faults.{at_line, short_data, too_old_data, round_fault_data, lookup_fault_data, copy_fault_data, copy_text_fault_data, adopt_fault_data, relayout_fault_data};
-ghost use Rattle.pn_protocol.specs.Reply.Refusals.{Refuses, Says};
+ghost use Rattle.pn_protocol.specs.Reply.Refusals.{Refuses, RefusesWith, SaysWhy};
 
 use crate::reply::errors::{Detail, error_reply};
 use crate::{Refusal, Reply};
-use pn_join::StreamName;
+use pn_join::{NoMemory, StreamName};
 use pn_region::{AdoptFault, RelayoutFault, RoundFault};
 use pn_scan::ScanFault;
 use pn_tablet::{CopyFault, CopyTextFault};
@@ -44,144 +43,153 @@ pub fn refuse(alloc: Global, fault: CommandFault) -> Reply
     ensures { Refuses fault result }
 {
     match fault {
-        CommandFault::Lookup(fault) => refuse_lookup(alloc, fault),
-        CommandFault::Copy { tablet, fault } => refuse_copy(alloc, tablet, fault),
-        CommandFault::CopyText(fault) => refuse_copy_text(alloc, fault),
-        CommandFault::Adoption(fault) => refuse_adoption(alloc, fault),
-        CommandFault::Round(fault) => refuse_round(alloc, fault),
-        CommandFault::Relayout(fault) => refuse_relayout(alloc, fault),
+        CommandFault::Lookup(fault) => refuse_with(lookup_error(alloc, fault)),
+        CommandFault::Copy { tablet, fault } => refuse_with(copy_error(alloc, tablet, fault)),
+        CommandFault::CopyText(fault) => refuse_with(copy_text_error(alloc, fault)),
+        CommandFault::Adoption(fault) => refuse_with(adoption_error(alloc, fault)),
+        CommandFault::Round(fault) => refuse_with(round_error(alloc, fault)),
+        CommandFault::Relayout(fault) => refuse_with(relayout_error(alloc, fault)),
     }
 }
 
-fn refuse_lookup(alloc: Global, fault: ScanFault) -> Reply
-    ensures says { Says (lookup_fault_data fault) result }
-    ensures memory { fault ≡ no_memory_to_look → result ≡ Refused no_memory }
+// Refuses a command with the error's line. None: memory ran out.
+fn refuse_with(error: Option<Result<Vec<u8>, NoMemory>>) -> Reply
+    ensures { RefusesWith error result }
 {
-    match fault {
-        ScanFault::Recovering(tablet) => refuse_tablet(alloc, "recovering", tablet),
-        ScanFault::Behind { has } => refuse_as(alloc, "behind", &[("has", Detail::Version(has))]),
-        ScanFault::Memory => Reply::Refused(Refusal::Memory),
-        ScanFault::NoEntry => refuse_as(alloc, "no-entry", &[]),
+    let Some(text) = error else {
+        return Reply::Refused(Refusal::Memory);
+    };
+    match text {
+        Ok(text) => Reply::NotTaken(text),
+        Err(_) => Reply::Refused(Refusal::Memory),
     }
 }
 
-fn refuse_copy(alloc: Global, tablet: usize, fault: CopyFault) -> Reply
-    ensures says { Says (copy_fault_data tablet fault) result }
-    ensures memory { fault ≡ no_memory_to_copy → result ≡ Refused no_memory }
+// The line of the error for a lookup. None: memory ran out. So the functions for the other commands too.
+fn lookup_error(alloc: Global, fault: ScanFault) -> Option<Result<Vec<u8>, NoMemory>>
+    ensures { SaysWhy no_memory_to_look fault (lookup_fault_data fault) result }
 {
     match fault {
-        CopyFault::Recovering => refuse_tablet(alloc, "recovering", tablet),
+        ScanFault::Recovering(tablet) => Some(tablet_error(alloc, "recovering", tablet)),
+        ScanFault::Behind { has } => Some(error_reply(
+            alloc,
+            "behind",
+            &[("has", Detail::Version(has))],
+        )),
+        ScanFault::Memory => None,
+        ScanFault::NoEntry => Some(error_reply(alloc, "no-entry", &[])),
+    }
+}
+
+fn copy_error(alloc: Global, tablet: usize, fault: CopyFault) -> Option<Result<Vec<u8>, NoMemory>>
+    ensures { SaysWhy no_memory_to_copy fault (copy_fault_data tablet fault) result }
+{
+    match fault {
+        CopyFault::Recovering => Some(tablet_error(alloc, "recovering", tablet)),
         CopyFault::Behind {
             stream,
             has,
             wanted,
-        } => refuse_short(alloc, "behind", "has", has, stream, wanted),
-        CopyFault::Memory => Reply::Refused(Refusal::Memory),
-        CopyFault::NoEntry => refuse_as(alloc, "no-entry", &[]),
+        } => Some(short_error(alloc, "behind", "has", has, stream, wanted)),
+        CopyFault::Memory => None,
+        CopyFault::NoEntry => Some(error_reply(alloc, "no-entry", &[])),
     }
 }
 
-fn refuse_copy_text(alloc: Global, fault: CopyTextFault) -> Reply
-    ensures says { Says (copy_text_fault_data fault) result }
-    ensures memory { fault ≡ no_memory_to_read → result ≡ Refused no_memory }
+fn copy_text_error(alloc: Global, fault: CopyTextFault) -> Option<Result<Vec<u8>, NoMemory>>
+    ensures { SaysWhy no_memory_to_read fault (copy_text_fault_data fault) result }
 {
     match fault {
-        CopyTextFault::Truncated => refuse_as(alloc, "truncated", &[]),
-        CopyTextFault::BadLine(line) => refuse_line(alloc, "bad-line", line),
-        CopyTextFault::OutsideRange(line) => refuse_line(alloc, "outside-range", line),
-        CopyTextFault::NotRising(line) => refuse_line(alloc, "not-rising", line),
-        CopyTextFault::BadEnd => refuse_as(alloc, "bad-end", &[]),
-        CopyTextFault::Memory => Reply::Refused(Refusal::Memory),
+        CopyTextFault::Truncated => Some(error_reply(alloc, "truncated", &[])),
+        CopyTextFault::BadLine(line) => Some(line_error(alloc, "bad-line", line)),
+        CopyTextFault::OutsideRange(line) => Some(line_error(alloc, "outside-range", line)),
+        CopyTextFault::NotRising(line) => Some(line_error(alloc, "not-rising", line)),
+        CopyTextFault::BadEnd => Some(error_reply(alloc, "bad-end", &[])),
+        CopyTextFault::Memory => None,
     }
 }
 
-fn refuse_adoption(alloc: Global, fault: AdoptFault) -> Reply
-    ensures says { Says (adopt_fault_data fault) result }
-    ensures memory { fault ≡ no_memory_to_adopt → result ≡ Refused no_memory }
+fn adoption_error(alloc: Global, fault: AdoptFault) -> Option<Result<Vec<u8>, NoMemory>>
+    ensures { SaysWhy no_memory_to_adopt fault (adopt_fault_data fault) result }
 {
     match fault {
-        AdoptFault::WrongRange => refuse_as(alloc, "wrong-range", &[]),
-        AdoptFault::TooOld { stream, has, needs } => refuse_too_old(alloc, has, needs, stream),
-        AdoptFault::Memory => Reply::Refused(Refusal::Memory),
+        AdoptFault::WrongRange => Some(error_reply(alloc, "wrong-range", &[])),
+        AdoptFault::TooOld { stream, has, needs } => Some(too_old_error(alloc, has, needs, stream)),
+        AdoptFault::Memory => None,
     }
 }
 
-fn refuse_relayout(alloc: Global, fault: RelayoutFault) -> Reply
-    ensures says { Says (relayout_fault_data fault) result }
-    ensures memory { fault ≡ no_memory_to_relay → result ≡ Refused no_memory }
+fn relayout_error(alloc: Global, fault: RelayoutFault) -> Option<Result<Vec<u8>, NoMemory>>
+    ensures { SaysWhy no_memory_to_relay fault (relayout_fault_data fault) result }
 {
     match fault {
-        RelayoutFault::StillRecovering(tablet) => refuse_tablet(alloc, "still-recovering", tablet),
-        RelayoutFault::Memory => Reply::Refused(Refusal::Memory),
+        RelayoutFault::StillRecovering(tablet) => {
+            Some(tablet_error(alloc, "still-recovering", tablet))
+        }
+        RelayoutFault::Memory => None,
     }
 }
 
-fn refuse_round(alloc: Global, fault: RoundFault) -> Reply
-    ensures says { Says (round_fault_data fault) result }
-    ensures memory { fault ≡ no_memory_for_a_round → result ≡ Refused no_memory }
+fn round_error(alloc: Global, fault: RoundFault) -> Option<Result<Vec<u8>, NoMemory>>
+    ensures { SaysWhy no_memory_for_a_round fault (round_fault_data fault) result }
 {
     match fault {
         RoundFault::Gap {
             stream,
             wanted,
             got,
-        } => refuse_short(alloc, "gap", "got", got, stream, wanted),
-        RoundFault::TooManyStreams => refuse_as(alloc, "too-many-streams", &[]),
-        RoundFault::Memory => Reply::Refused(Refusal::Memory),
+        } => Some(short_error(alloc, "gap", "got", got, stream, wanted)),
+        RoundFault::TooManyStreams => Some(error_reply(alloc, "too-many-streams", &[])),
+        RoundFault::Memory => None,
     }
 }
 
-// Refuses a command for a tablet.
-fn refuse_tablet(alloc: Global, error: &str, tablet: usize) -> Reply
-    ensures { Says (error_data error.now (with_number (codes "tablet") tablet no_members)) result }
+// The error for a tablet.
+fn tablet_error(alloc: Global, error: &str, tablet: usize) -> Result<Vec<u8>, NoMemory>
+    ensures { IfOk result (λ text. text.items ≡ line_of (error_data error.now (with_number (codes "tablet") tablet no_members))) }
 {
-    refuse_as(alloc, error, &[("tablet", Detail::Number(tablet as u64))])
+    error_reply(alloc, error, &[("tablet", Detail::Number(tablet as u64))])
 }
 
-// Refuses an adoption for a line of its text.
-fn refuse_line(alloc: Global, error: &str, line: u64) -> Reply
-    ensures { Says (at_line error.now line) result }
+// The error for a line of a text.
+fn line_error(alloc: Global, error: &str, line: u64) -> Result<Vec<u8>, NoMemory>
+    ensures { IfOk result (λ text. text.items ≡ line_of (at_line error.now line)) }
 {
-    refuse_as(alloc, error, &[("line", Detail::Number(line))])
+    error_reply(alloc, error, &[("line", Detail::Number(line))])
 }
 
-// Refuses a command for what there is of a stream, under this name, and what is wanted.
-fn refuse_short(
+// The error for what there is of a stream, under this name, and what is wanted.
+fn short_error(
     alloc: Global,
     error: &str,
     name: &str,
     there: u64,
     stream: StreamName,
     wanted: u64,
-) -> Reply
-    ensures { Says (short_data error.now name.now there stream wanted) result }
+) -> Result<Vec<u8>, NoMemory>
+    ensures { IfOk result (λ text. text.items ≡ line_of (short_data error.now name.now there stream wanted)) }
 {
     let details = [
         (name, Detail::Number(there)),
         ("stream", Detail::Stream(stream)),
         ("wanted", Detail::Number(wanted)),
     ];
-    refuse_as(alloc, error, &details)
+    error_reply(alloc, error, &details)
 }
 
-// Refuses an adoption for what its copy has of a stream, and what is needed.
-fn refuse_too_old(alloc: Global, has: u64, needs: u64, stream: StreamName) -> Reply
-    ensures { Says (too_old_data stream has needs) result }
+// The error for what a copy has of a stream, and what is needed.
+fn too_old_error(
+    alloc: Global,
+    has: u64,
+    needs: u64,
+    stream: StreamName,
+) -> Result<Vec<u8>, NoMemory>
+    ensures { IfOk result (λ text. text.items ≡ line_of (too_old_data stream has needs)) }
 {
     let details = [
         ("has", Detail::Number(has)),
         ("needs", Detail::Number(needs)),
         ("stream", Detail::Stream(stream)),
     ];
-    refuse_as(alloc, "too-old", &details)
-}
-
-// Refuses a command with an error of this name.
-fn refuse_as(alloc: Global, error: &str, details: &[(&str, Detail)]) -> Reply
-    ensures { Says (error_data error.now (details_members details.now)) result }
-{
-    match error_reply(alloc, error, details) {
-        Ok(text) => Reply::NotTaken(text),
-        Err(_) => Reply::Refused(Refusal::Memory),
-    }
+    error_reply(alloc, "too-old", &details)
 }

@@ -1,9 +1,8 @@
 //! Changes of a region's layout.
 
-ghost use Rattle.std.specs.Prelude.{◌≡◌, ◌++◌, map, filter, Ok, IsTrue, IfOk, IfErr, OnOk, OnErr, option_map, unwrap_or};
+ghost use Rattle.std.specs.Prelude.{◌≡◌, ◌++◌, map, filter, Ok, IsTrue, IfOk, IfErr, OnOk, OnErr};
 ghost use Rattle.std.specs.FinMap.{is_sorted};
 ghost use Rattle.std.specs.List.{flat_map};
-ghost use Rattle.pn_join.specs.Marks.{least_marks};
 ghost use Rattle.pn_join.specs.Prelude.{Reaches, are_positions, raised_marks};
 ghost use Rattle.pn_record.specs.Prelude.{bytes_cmp};
 ghost use Rattle.pn_tablet.specs.Prelude.{in_range, lie_in, meet, Refuses};
@@ -12,7 +11,8 @@ ghost use Rattle.pn_region.specs.Relayouts.{after_relayout, made_of, parts_of, l
 
 use super::{Region, range_of};
 use crate::RelayoutFault;
-use pn_join::{Dup, Marks, NoMemory, raise};
+use crate::advancing::least_with;
+use pn_join::{Marks, NoMemory, raise};
 use pn_record::Records;
 use pn_tablet::{Layout, Range, Status, TabletState, cells_within};
 use std::alloc::Global;
@@ -128,22 +128,12 @@ fn cover_of(alloc: Global, tablets: &[TabletState], range: &Range) -> Result<Mar
     let mut least: Option<Marks> = None;
     for tablet in tablets {
         if is_part(tablet, range) {
-            least = Some(with_cover(least, tablet.cover())?);
+            least = Some(least_with(least, tablet.cover())?);
         }
     }
     match least {
         Some(least) => Ok(least),
         None => Ok(Marks::new(alloc)),
-    }
-}
-
-// The lesser of both positions at each name, or the marks where there are no others.
-fn with_cover(least: Option<Marks>, marks: &Marks) -> Result<Marks, NoMemory>
-    ensures { IfOk result (λ both. both ≡ unwrap_or (option_map (λ own. least_marks own marks.now) least) marks.now) }
-{
-    match least {
-        Some(least) => least.least(marks),
-        None => marks.dup(),
     }
 }
 

@@ -38,6 +38,7 @@ images-preserved g c =
     let grown : c.push_image.new.images.items ≡ c.images.images.items ++ c.in-Some.next.image ∷ [] = search rules in
     let count : length c.push_image.new.images.items ≡ length c.images.images.items + 1 = ap length grown ∙ length_push _ _ in
     let last : c.args.position + c.len-in-images.result + 1 ≤ 10 ^ 15 = (rw c.in-Some.is at c.in_ok-next.ensures.position) refl in
+    let at : c.in-Some.next.at ≡ c.args.position + length c.images.images.items + 1 = (rw c.in-Some.is at c.in_ok-next.ensures.at) ∙ is in
     record {
       within = omega (arith, count, few);
       positions = omega (arith, count, is, last);
@@ -45,7 +46,7 @@ images-preserved g c =
       taken = λ some. (rw c.in-Some.is at c.in_ok-next.ensures.taken) refl;
       none_held = c.images.invariant.none_held;
       shown = shown_on _ _ _ _ _ _ _ c.images.invariant.so_far (rw c.in-Some.is at c.in_ok-next.ensures.more);
-      so_far = rw grown (SoFar-push _ _ _ _ _ _ c.in-Some.next _ _ _ is c.images.invariant.so_far (rw c.in-Some.is at c.in_ok-next.ensures.next));
+      so_far = rw grown (SoFar-push _ _ _ _ _ c.in-Some.next _ _ _ at c.images.invariant.so_far (rw c.in-Some.is at c.in_ok-next.ensures.next));
     }
 
 pub returns-in_err-push_image-in-Some-clause-err : goal.returns-in_err-push_image-in-Some-clause-err
@@ -57,7 +58,7 @@ returns-in_err-push_image-in-Some-clause-err g c =
 pub returns-in-None-clause-ok : goal.returns-in-None-clause-ok
 returns-in-None-clause-ok g c =
     let few : c.images.more ≡ false → length c.images.images.items < c.args.size.least = search (rules, arith) in
-    rw (sym c.in_ok-line.ensures.front) (Batch-end _ _ c.args.position (c.args.position + c.len-in-images.result + 1) _ _ _ _ c.images.more _ _ _ c.images.invariant.within few c.images.invariant.shown c.images.invariant.so_far (rw c.in-None.is at c.in_ok-next.ensures.next))
+    rw (sym c.in_ok-line.ensures.front) (Batch-end _ _ c.args.position _ _ _ _ c.images.more _ _ _ c.images.invariant.within few c.images.invariant.shown c.images.invariant.so_far (rw c.in-None.is at c.in_ok-next.ensures.next))
 
 pub returns-clause-ok : goal.returns-clause-ok
 returns-clause-ok g c =
