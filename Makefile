@@ -43,7 +43,7 @@ STAGE ?= notices
 SOAK ?= 60
 SECONDS ?= 240
 
-.PHONY: run quick test edits build licences install uninstall deb bench bench-beside checks checks-client checks-feeds \
+.PHONY: run quick test edits build licences install uninstall deb bench bench-beside checks checks-clients checks-feeds \
 	checks-brokers checks-install pictures races fuzz definitions rows toolchain
 
 # Shows the program at work: the replies to the script on standard output. It proves nothing. A program that is current answers
@@ -83,15 +83,17 @@ $(LIVE): $(SOURCES)
 licences:
 	@packaging/licences.py out/third-party
 
-# Installs the built program with its pages for man, completions, licences and service. After a build it needs no toolchain.
+# Installs the built program with its pages for man, completions, licences, service and feeds. After a build it needs no toolchain.
 install: licences
 	@packaging/install "$(PNUTS)" --prefix "$(PREFIX)" --destdir "$(DESTDIR)/"
+	@packaging/install --feeds --prefix "$(PREFIX)" --destdir "$(DESTDIR)/"
 
 # Removes what `make install` installed, but for an environment file that was changed.
 uninstall:
+	@packaging/install --remove --feeds --prefix "$(PREFIX)" --destdir "$(DESTDIR)/"
 	@packaging/install --remove --prefix "$(PREFIX)" --destdir "$(DESTDIR)/"
 
-# Builds a Debian package of the program.
+# Builds the Debian packages of the program and of its feeds.
 deb: $(PROVED) licences
 	@packaging/deb "$(PNUTS)" "$(DEBS)"
 
@@ -99,7 +101,7 @@ deb: $(PROVED) licences
 bench: build
 	@cd crates/pn_bench && rt run -- $$(< args) < stdin > /dev/null
 	@status=0; \
-	for it in run rounds sessions; do "bench/$$it" "$(PROGRAM)" || status=1; done; \
+	for it in run rounds sessions streams; do "bench/$$it" "$(PROGRAM)" || status=1; done; \
 	for it in live layouts; do "bench/$$it" "$(BENCH)" || status=1; done; \
 	bench/instructions "$(PROGRAM)"; \
 	exit $$status
@@ -123,13 +125,13 @@ races: toolchain
 fuzz: build
 	@fuzz/fuzz "$(PROGRAM)" --seconds $(SECONDS)
 
-# Tests the client for Python against the built program.
-checks-client: build
-	@PNUTS="$(PROGRAM)" clients/python/test
+# Tests the clients against the built program. Those whose language is missing are skipped.
+checks-clients: build
+	@checks/run clients "$(PROGRAM)"
 
-# Tests the feeds against brokers that are started for it; those that are missing are skipped.
+# Tests the feeds against brokers that are started for it, and with the built program where it is there; brokers that are missing are skipped.
 checks-feeds:
-	@feeds/test
+	@PNUTS="$(realpath $(PROGRAM))" feeds/test
 
 # Tests the feeds, gives 200,000 images through each, and runs both examples with real brokers, a database and proxies. Debian's
 # packages: redis-server python3-redis python3-hiredis rabbitmq-server python3-pika postgresql python3-psycopg2 haproxy openssl

@@ -22,6 +22,7 @@ NO_MARKS = b'{"marks":{}}\n'
 LAST_LINE = 1_000_000
 ENDLESS = 1_000_000_000
 SECONDS = 60
+LONG = "/" + 107 * "p"
 
 # A status, the replies, and what is said on standard error.
 End = tuple[int, bytes | bool | None, bytes]
@@ -54,9 +55,26 @@ WORDS: dict[str, tuple[list[str], End]] = {
     "an address with a port": (["serve", "--listen", "127.0.0.1:80", "east=/none"], (2, b"", b"pnuts: address")),
     "an empty address beside a socket": (["serve", "--listen=", "--socket", "/none/socket", "east=/none"], (2, b"", b"pnuts: address")),
     "a stream without a path": (["serve", "--socket", "/none/socket", "east"], (2, b"", b"pnuts: stream")),
+    "a socket's path without --stay": (["serve", "--socket", "/none/socket", "east=listen:"], (1, b"", b"pnuts: cannot open east")),
+    "no bounds of a server that stays": (
+        ["serve", "--stay", "--bounds", "[7]", "east"],
+        (2, b"", b"pnuts: bounds: [7]: an item that is no key of 1 to 256 bytes"),
+    ),
+    "no address of a server that stays": (["serve", "--stay", "--listen", "x", "east"], (2, b"", b"pnuts: address: x: no address of IPv4 or IPv6")),
+    "no path of a server that stays": (["serve", "--stay", "west=/none", "east="], (2, b"", b"pnuts: stream: east=: no path")),
+    "no path of a socket": (["serve", "--stay", "east=listen:"], (2, b"", b"pnuts: stream: east=listen:: no path")),
+    "no path, and a line end": (["serve", "--stay", "ea\nst"], (2, b"", b'pnuts: stream: "ea\\nst": no =')),
+    "a socket's path that is too long": (
+        ["serve", "--stay", "--socket", LONG, "east"],
+        (2, b"", f"pnuts: address: {LONG}: a path of more than 107 bytes".encode()),
+    ),
     "a stream that does not open": (["serve", "--socket", "/none/socket", "east=/none"], (1, b"", b"pnuts: cannot open east")),
     "a socket in no folder": (["serve", "--socket", "/none/socket", "east=/dev/null"], (1, b"", b"pnuts: cannot listen")),
-    "an address of no machine": (["serve", "--stay", "--listen", "192.0.2.1", "east=/dev/null"], (1, b"", b"pnuts: cannot listen")),
+    "an address of no machine": (["serve", "--listen", "192.0.2.1", "east=/dev/null"], (1, b"", b"pnuts: cannot listen")),
+    "an address of no machine, and why": (
+        ["serve", "--stay", "--listen", "192.0.2.1", "east=/dev/null"],
+        (1, b"", b"pnuts: cannot listen: 192.0.2.1:7070: Cannot assign requested address"),
+    ),
 }
 
 

@@ -1,52 +1,96 @@
 -- What mailboxes give, one after another.
-use Rattle.std.proofs.Common.{◌≡◌, ℕ, zero, suc, ◌+◌, ◌<◌, Bool, true, false, if◌then◌else◌, List, [], ◌∷◌, ◌++◌, length, map, take, get_or, Option, None, Some, IfSome, refl, sym, ap, ◌∙◌, subst, arith}
+use Rattle.std.proofs.Common.{◌≡◌, ℕ, Bool, true, false, if◌then◌else◌, List, [], ◌∷◌, ◌++◌, map, Option, None, Some, IfSome, inl, inr, refl, sym, ap, ◌∙◌, subst, append-nil}
 use Rattle.std.specs.List.{Contains}
-use Rattle.std.proofs.lemmas.List.{take_more}
-use Rattle.std.proofs.lemmas.List.Elements.{Contains-append_right, Contains-append_left, Contains-push}
-use Rattle.pn_serve.specs.Server.Gathering.{Note, with_report, with_notes}
-use Rattle.pn_serve.specs.Server.Reports.{is_fault, first_fault}
+use Rattle.std.proofs.lemmas.List.Elements.{All-nil, All-push, Contains-append_cases, Contains-append_right, Contains-append_left, Contains-push}
+use Rattle.pn_join.specs.Marks.{Positions}
+use Rattle.pn_serve.specs.Server.Gathering.{Note, IsInputOf, IsOwn, first_fault, goes_on, no_input, still_read, with_report, with_notes}
+use Rattle.pn_serve.specs.Server.Reports.{is_fault}
 use Rattle.pn_serve.specs.Server.Rounds.{RoundInputValue}
 use Rattle.pn_serve.specs.declared.server.reports.Report.{Report}
+use Rattle.pn_serve.proofs.Passing.{map_push}
 
 -- one more note
-pub notes_push : (input : RoundInputValue) (notes : List Note) (note : Note) → with_notes input (notes ++ note ∷ []) ≡ with_report (with_notes input notes) note.name note.report
-notes_push input [] note = refl
-notes_push input (first ∷ notes) note = notes_push (with_report input first.name first.report) notes note
+pub notes_push : (marks : Positions) (input : RoundInputValue) (notes : List Note) (note : Note) → with_notes marks input (notes ++ note ∷ []) ≡ with_report marks (with_notes marks input notes) note.name note.report
+notes_push marks input [] note = refl
+notes_push marks input (first ∷ notes) note = notes_push marks (with_report marks input first.name first.report) notes note
 
-pub map_push : {A B : Type 0} (f : A → B) (xs : List A) (x : A) → map f (xs ++ x ∷ []) ≡ map f xs ++ f x ∷ []
-map_push f [] x = refl
-map_push f (y ∷ xs) x = ap (λ l. f y ∷ l) (map_push f xs x)
+joined : (test : Bool) (name : List ℕ) (names more : List (List ℕ)) → (if test then name ∷ (names ++ more) else (names ++ more)) ≡ (if test then name ∷ names else names) ++ more
+joined true name names more = refl
+joined false name names more = refl
+
+-- the streams that go on after one more note
+pub read_push : (marks : Positions) (notes : List Note) (note : Note) → still_read marks (notes ++ note ∷ []) ≡ still_read marks notes ++ (if goes_on marks note.report then note.name ∷ [] else [])
+read_push marks [] note = refl
+read_push marks (first ∷ notes) note =
+    ap (λ (names : List (List ℕ)). if goes_on marks first.report then first.name ∷ names else names) (read_push marks notes note)
+    ∙ joined (goes_on marks first.report) first.name (still_read marks notes) (if goes_on marks note.report then note.name ∷ [] else [])
+
+-- no stream was asked yet
+pub asked_none : (marks : Positions) (input : RoundInputValue) (left : List (List ℕ)) → input ≡ no_input → left ≡ [] → IsInputOf [] marks input left
+asked_none marks input left none nobody = record { notes = []; of_streams = refl; own = All-nil IsOwn; together = none; going_on = nobody }
+
+asked_more : (names : List (List ℕ)) (marks : Positions) (input : RoundInputValue) (left still : List (List ℕ)) (note : Note) → IsInputOf names marks input left → IsOwn note
+    → still ≡ left ++ (if goes_on marks note.report then note.name ∷ [] else []) → IsInputOf (names ++ note.name ∷ []) marks (with_report marks input note.name note.report) still
+asked_more names marks input left still note is own going = record {
+  notes = is.notes ++ note ∷ [];
+  of_streams = map_push (λ (n : Note). n.name) is.notes note ∙ ap (λ (ns : List (List ℕ)). ns ++ note.name ∷ []) is.of_streams;
+  own = All-push IsOwn is.notes note is.own own;
+  together = ap (λ (v : RoundInputValue). with_report marks v note.name note.report) is.together ∙ sym (notes_push marks no_input is.notes note);
+  going_on = going ∙ ap (λ (ns : List (List ℕ)). ns ++ (if goes_on marks note.report then note.name ∷ [] else [])) is.going_on ∙ sym (read_push marks is.notes note);
+}
+
+-- one more stream was asked, and goes on
+pub asked_on : (names : List (List ℕ)) (marks : Positions) (input : RoundInputValue) (left : List (List ℕ)) (note : Note) → IsInputOf names marks input left → IsOwn note → goes_on marks note.report ≡ true
+    → IsInputOf (names ++ note.name ∷ []) marks (with_report marks input note.name note.report) (left ++ note.name ∷ [])
+asked_on names marks input left note is own on =
+    asked_more names marks input left (left ++ note.name ∷ []) note is own (ap (λ (test : Bool). left ++ (if test then note.name ∷ [] else [])) (sym on))
+
+-- one more stream was asked, and has ended
+pub asked_off : (names : List (List ℕ)) (marks : Positions) (input : RoundInputValue) (left : List (List ℕ)) (note : Note) → IsInputOf names marks input left → IsOwn note → goes_on marks note.report ≡ false
+    → IsInputOf (names ++ note.name ∷ []) marks (with_report marks input note.name note.report) left
+asked_off names marks input left note is own off =
+    asked_more names marks input left left note is own (sym (append-nil left) ∙ ap (λ (test : Bool). left ++ (if test then note.name ∷ [] else [])) (sym off))
+
+-- a stream that goes on is one of those that were asked
+still_named : (marks : Positions) (notes : List Note) (name : List ℕ) → Contains (still_read marks notes) name → Contains (map (λ (note : Note). note.name) notes) name
+still_named marks [] name there = there
+still_named marks (note ∷ notes) name there = at (goes_on marks note.report) (still_named marks notes name) there
+  where
+    at : (test : Bool) → (Contains (still_read marks notes) name → Contains (map (λ (n : Note). n.name) notes) name) → Contains (if test then note.name ∷ still_read marks notes else still_read marks notes) name
+        → Contains (note.name ∷ map (λ (n : Note). n.name) notes) name
+    at true others found = elim (Contains-append_cases (note.name ∷ []) (still_read marks notes) name found) [
+      | inl here ↦ Contains-append_left (note.name ∷ []) (map (λ (n : Note). n.name) notes) name here
+      | inr later ↦ Contains-append_right (note.name ∷ []) (map (λ (n : Note). n.name) notes) name (others later)
+    ]
+    at false others found = Contains-append_right (note.name ∷ []) (map (λ (n : Note). n.name) notes) name (others found)
+
+pub left_named : (names : List (List ℕ)) (marks : Positions) (input : RoundInputValue) (left : List (List ℕ)) (name : List ℕ) → IsInputOf names marks input left → Contains left name → Contains names name
+left_named names marks input left name is there =
+    subst (λ (ns : List (List ℕ)). Contains ns name) is.of_streams (still_named marks is.notes name (subst (λ (ns : List (List ℕ)). Contains ns name) is.going_on there))
 
 named_if : (names : List (List ℕ)) (name : List ℕ) (test : Bool) → Contains names name → IfSome (if test then Some name else None) (Contains names)
 named_if names name true there = there
 named_if names name false there = tt
 
-named_first : (names : List (List ℕ)) (before : Option (List ℕ)) (name : List ℕ) (report : Report) → Contains names name → IfSome before (Contains names) → IfSome (first_fault before name report) (Contains names)
-named_first names (Some other) name report there known = known
-named_first names None name report there known = named_if names name (is_fault report) there
+named_first : (names : List (List ℕ)) (before : Option (List ℕ)) (name : List ℕ) (test : Bool) → Contains names name → IfSome before (Contains names) → IfSome (first_fault before name test) (Contains names)
+named_first names (Some other) name test there known = known
+named_first names None name test there known = named_if names name test there
 
--- a fault is of one of these streams
-pub named_on : (names : List (List ℕ)) (input : RoundInputValue) (name : List ℕ) (report : Option Report) → Contains names name → IfSome input.fault (Contains names)
-    → IfSome (with_report input name report).fault (Contains names)
-named_on names input name None there known = known
-named_on names input name (Some report) there known = named_first names input.fault name report there known
+named_on : (names : List (List ℕ)) (marks : Positions) (input : RoundInputValue) (name : List ℕ) (report : Option Report) → Contains names name → IfSome input.fault (Contains names)
+    → IfSome (with_report marks input name report).fault (Contains names)
+named_on names marks input name None there known = known
+named_on names marks input name (Some report) there known = named_first names input.fault name (is_fault marks report) there known
 
--- the mailboxes of streams, by their names
-module _ {P : Type 0} (name : P → List ℕ) where
-  named_at : (mailboxes : List P) (i : ℕ) (d : P) → i < length mailboxes → Contains (map name mailboxes) (name (get_or mailboxes i d))
-  named_at [] i d within = absurd (omega arith)
-  named_at (mailbox ∷ mailboxes) zero d within = Contains-append_left (name mailbox ∷ []) (map name mailboxes) (name mailbox) (Contains-push [] (name mailbox))
-  named_at (mailbox ∷ mailboxes) (suc i) d within = Contains-append_right (name mailbox ∷ []) (map name mailboxes) (name (get_or mailboxes i d)) (named_at mailboxes i d (omega arith))
+named_by : (names : List (List ℕ)) (marks : Positions) (notes : List Note) (input : RoundInputValue) → ((name : List ℕ) → Contains (map (λ (note : Note). note.name) notes) name → Contains names name)
+    → IfSome input.fault (Contains names) → IfSome (with_notes marks input notes).fault (Contains names)
+named_by names marks [] input among known = known
+named_by names marks (note ∷ notes) input among known =
+    let others = map (λ (n : Note). n.name) notes in
+    named_by names marks notes (with_report marks input note.name note.report) (λ name there. among name (Contains-append_right (note.name ∷ []) others name there))
+    (named_on names marks input note.name note.report (among note.name (Contains-append_left (note.name ∷ []) others note.name (Contains-push [] note.name))) known)
 
-  pub is_named : (mailboxes others : List P) (i : ℕ) (mailbox : P) → i < length mailboxes → others ≡ mailboxes → mailbox ≡ get_or others i mailbox → Contains (map name mailboxes) (name mailbox)
-  is_named mailboxes others i mailbox within same is =
-      let here : mailbox ≡ get_or mailboxes i mailbox = is ∙ ap (λ (ps : List P). get_or ps i mailbox) same in
-      subst (λ (p : P). Contains (map name mailboxes) (name p)) (sym here) (named_at mailboxes i mailbox within)
-
-  pub names_more : (mailboxes others : List P) (i : ℕ) (mailbox : P) (notes : List Note) (report : Option Report) → i < length mailboxes → others ≡ mailboxes → mailbox ≡ get_or others i mailbox
-      → map (λ note. note.name) notes ≡ map name (take i mailboxes) → map (λ note. note.name) (notes ++ record { name = name mailbox; report = report } ∷ []) ≡ map name (take (i + 1) mailboxes)
-  names_more mailboxes others i mailbox notes report within same is so_far =
-      let here : mailbox ≡ get_or mailboxes i mailbox = is ∙ ap (λ (ps : List P). get_or ps i mailbox) same in
-      let more : take (i + 1) mailboxes ≡ take i mailboxes ++ mailbox ∷ [] = take_more mailboxes i mailbox within ∙ ap (λ (p : P). take i mailboxes ++ p ∷ []) (sym here) in
-      map_push (λ (note : Note). note.name) notes (record { name = name mailbox; report = report })
-      ∙ ap (λ (names : List (List ℕ)). names ++ name mailbox ∷ []) so_far ∙ sym (map_push name (take i mailboxes) mailbox) ∙ ap (map name) (sym more)
+-- a fault is of one of the streams that were asked
+pub fault_named : (names : List (List ℕ)) (marks : Positions) (input : RoundInputValue) (left : List (List ℕ)) → IsInputOf names marks input left → IfSome input.fault (Contains names)
+fault_named names marks input left is =
+    subst (λ (v : RoundInputValue). IfSome v.fault (Contains names)) (sym is.together)
+    (named_by names marks is.notes no_input (λ name there. subst (λ (ns : List (List ℕ)). Contains ns name) is.of_streams there) tt)

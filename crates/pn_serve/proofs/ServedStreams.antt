@@ -1,6 +1,5 @@
 -- How serving ends, by how its parts end.
-use Rattle.std.proofs.Common.{◌≡◌, ◌≢◌, ℕ, Bool, true, false, List, length, map, Option, refl, sym, ap, ◌∙◌, subst}
-use Rattle.std.proofs.lemmas.List.{length-map}
+use Rattle.std.proofs.Common.{◌≡◌, ◌≢◌, ℕ, Bool, true, false, List, Option, inl, inr, refl, sym, ◌∙◌, subst}
 use Rattle.std.specs.Prelude.{Result, Ok, Err, IfErr, IfOk, IsOk, OnOk, OnErr, IsErrAnd, IsErrOf, MatchResult, All}
 use Rattle.std.proofs.lemmas.Result.{err_from_is_err_and}
 use Rattle.pn_join.specs.Marks.{Positions}
@@ -9,6 +8,9 @@ use Rattle.pn_tablet.specs.Layouts.{Bounds}
 use Rattle.pn_live.specs.LiveRegions.{LiveRegionValue, IsNewLive}
 use Rattle.pn_serve.specs.Server.Faults.{names_of, NamesOne, IsOfRounds}
 use Rattle.pn_serve.specs.Server.Reading.{ReadToEnds, ReadUpTo, RunsRounds}
+use Rattle.pn_serve.specs.declared.server.mailboxes.AtFault.{AtFault}
+use Rattle.pn_serve.specs.declared.server.mailboxes.AtFault.TheVariants.{Stop}
+use Rattle.pn_serve.proofs.RoundsRead.{of_rounds}
 use Rattle.pn_serve.specs.Server.Served.{EndsReading, Serves, EndsRegion, EndsServing}
 use Rattle.pn_serve.specs.Server.Whole.{IsTakenWhole}
 use Rattle.pn_serve.specs.declared.server.fault.ServeFault.{ServeFault}
@@ -16,25 +18,25 @@ use Rattle.pn_serve.specs.declared.server.fault.ServeFault.TheVariants.{Start, S
 
 module _ {S : Type 0} (left : S → Option (List ℕ)) (streams : List (batches.Stream S)) where
   -- rounds stopped
-  pub rounds_stopped : (old new : LiveRegionValue) (fault : ServeFault) → IsOfRounds (names_of streams) fault → ReadUpTo (length streams) old new fault → EndsReading left streams old new (Err fault)
-  rounds_stopped old new (Stream name) named read = named
+  rounds_stopped : (old new : LiveRegionValue) (fault : ServeFault) → IsOfRounds (names_of streams) fault → ReadUpTo Stop (names_of streams) old new fault → EndsReading left streams old new (Err fault)
+  rounds_stopped old new (Stream name) named read = (named, inl read)
   rounds_stopped old new Round named read = read
   rounds_stopped old new Start named read = absurd named
   rounds_stopped old new Close named read = absurd named
   rounds_stopped old new Write named read = absurd named
 
   -- a thread's stream is not taken
-  not_taken : (old new : LiveRegionValue) (fault : ServeFault) → NamesOne (names_of streams) fault → EndsReading left streams old new (Err fault)
-  not_taken old new (Stream name) named = named
-  not_taken old new Start named = absurd named
-  not_taken old new Round named = absurd named
-  not_taken old new Close named = absurd named
-  not_taken old new Write named = absurd named
+  not_taken : (old new : LiveRegionValue) (fault : ServeFault) → ReadToEnds Stop (names_of streams) old new → NamesOne (names_of streams) fault → EndsReading left streams old new (Err fault)
+  not_taken old new (Stream name) read named = (named, inr read)
+  not_taken old new Start read named = absurd named
+  not_taken old new Round read named = absurd named
+  not_taken old new Close read named = absurd named
+  not_taken old new Write read named = absurd named
 
-  pub all_read : (old new : LiveRegionValue) (result : Result (Unit {0}) ServeFault) → ReadToEnds (length streams) old new → OnOk result (All (IsTakenWhole left new.marks) streams) → IfErr result (NamesOne (names_of streams))
+  all_read : (old new : LiveRegionValue) (result : Result (Unit {0}) ServeFault) → ReadToEnds Stop (names_of streams) old new → OnOk result (All (IsTakenWhole left new.marks) streams) → IfErr result (NamesOne (names_of streams))
       → EndsReading left streams old new result
   all_read old new (Ok done) read taken named = record { read = read; taken = taken }
-  all_read old new (Err fault) read taken named = not_taken old new fault named
+  all_read old new (Err fault) read taken named = not_taken old new fault read named
 
   -- nothing was begun
   pub not_begun : (old : LiveRegionValue) (fault : ServeFault) (result : Result (Unit {0}) ServeFault) → IsErrAnd result (λ other. other ≡ fault) → fault ≡ Start → EndsReading left streams old old result
@@ -43,20 +45,20 @@ module _ {S : Type 0} (left : S → Option (List ℕ)) (streams : List (batches.
       subst (EndsReading left streams old old) (sym is) (subst (λ (f : ServeFault). EndsReading left streams old old (Err f)) (sym (same ∙ start)) refl)
 
   -- all threads ended, or sessions were refused
-  pub reading_ends : {P : Type 0} (name : P → List ℕ) (mailboxes : List P) (read_by : List (batches.Stream S)) (old new : LiveRegionValue) (is_refused : Bool) (marks : Positions) (read result : Result (Unit {0}) ServeFault)
-      → map name mailboxes ≡ names_of streams → read_by ≡ streams → (is_refused ≡ true → (read ≡ Err Start) × (new ≡ old)) → (is_refused ≡ false → RunsRounds (length mailboxes) old new read)
-      → (is_refused ≡ false → IfErr read (IsOfRounds (map name mailboxes))) → IfErr read (λ fault. result ≡ Err fault)
+  pub reading_ends : (at_fault : AtFault) (names : List (List ℕ)) (read_by : List (batches.Stream S)) (old new : LiveRegionValue) (is_refused : Bool) (marks : Positions) (read result : Result (Unit {0}) ServeFault)
+      → at_fault ≡ Stop → names ≡ names_of streams → read_by ≡ streams → (is_refused ≡ true → (read ≡ Err Start) × (new ≡ old)) → (is_refused ≡ false → RunsRounds at_fault names old new read)
+      → IfErr read (λ fault. result ≡ Err fault)
       → marks ≡ new.marks → OnOk read (OnOk result (All (IsTakenWhole left marks) read_by)) → OnOk read (IfErr result (NamesOne (names_of read_by))) → EndsReading left streams old new result
-  reading_ends name mailboxes read_by old new true marks read result names are refused reads named first same taken rest =
+  reading_ends at_fault names read_by old new true marks read result stop same_names are refused reads first same taken rest =
       let start = subst (λ (r : Result (Unit {0}) ServeFault). IfErr r (λ fault. result ≡ Err fault)) (refused refl).0 first in
       subst (EndsReading left streams old new) (sym start) (refused refl).1
-  reading_ends name mailboxes read_by old new false marks (Err fault) result names are refused reads named first same taken rest =
-      let count : length mailboxes ≡ length streams = sym (length-map mailboxes name) ∙ ap length names ∙ length-map streams (λ (stream : batches.Stream S). stream.name) in
-      let read_up : ReadUpTo (length streams) old new fault = subst (λ (n : ℕ). ReadUpTo n old new fault) count (reads refl) in
-      subst (EndsReading left streams old new) (sym first) (rounds_stopped old new fault (subst (λ (ns : List (List ℕ)). IsOfRounds ns fault) names (named refl)) read_up)
-  reading_ends name mailboxes read_by old new false marks (Ok done) result names are refused reads named first same taken rest =
-      let count : length mailboxes ≡ length streams = sym (length-map mailboxes name) ∙ ap length names ∙ length-map streams (λ (stream : batches.Stream S). stream.name) in
-      all_read old new result (subst (λ (n : ℕ). ReadToEnds n old new) count (reads refl))
+  reading_ends at_fault names read_by old new false marks (Err fault) result stop same_names are refused reads first same taken rest =
+      let read_up : ReadUpTo Stop (names_of streams) old new fault =
+      subst (λ (a : AtFault). ReadUpTo a (names_of streams) old new fault) stop (subst (λ (ns : List (List ℕ)). ReadUpTo at_fault ns old new fault) same_names (reads refl)) in
+      subst (EndsReading left streams old new) (sym first) (rounds_stopped old new fault (of_rounds Stop (names_of streams) old new fault read_up) read_up)
+  reading_ends at_fault names read_by old new false marks (Ok done) result stop same_names are refused reads first same taken rest =
+      all_read old new result
+      (subst (λ (a : AtFault). ReadToEnds a (names_of streams) old new) stop (subst (λ (ns : List (List ℕ)). ReadToEnds at_fault ns old new) same_names (reads refl)))
       (subst (λ (ss : List (batches.Stream S)). OnOk result (All (IsTakenWhole left new.marks) ss)) are (subst (λ (m : Positions). OnOk result (All (IsTakenWhole left m) read_by)) same taken))
       (subst (λ (ss : List (batches.Stream S)). IfErr result (NamesOne (names_of ss))) are rest)
 

@@ -1,85 +1,28 @@
--- What was read of a stream, one report after another.
-use Rattle.std.proofs.Common.{◌≡◌, true, false, map, ℕ, ◌+◌, ◌≤◌, List, [], ◌∷◌, ◌++◌, length, Option, None, Some, IfSome, inl, inr, refl, sym, ap, ◌∙◌, subst, arith, length-append}
-use Rattle.std.specs.Prelude.{Result, Ok, Err, IsErr, IfOk, OnOk, OnErr, MatchResult}
+-- Streams of threads, and what is answered of them.
+use Rattle.std.proofs.Common.{◌≡◌, true, false, map, ◌≤◌, List, [], ◌∷◌, ◌++◌, Option, None, Some, ℕ, sym, ap, ◌∙◌, subst}
+use Rattle.std.specs.Prelude.{Result, Ok, Err, IsErr, IsSome, IfOk, IfErr, OnOk, OnErr, MatchResult}
 use Rattle.std.specs.List.{Contains}
 use Rattle.std.proofs.lemmas.List.Elements.{Contains-append_right, Contains-append_left, Contains-push}
 use Rattle.pn_join.specs.Marks.{Positions, position_of}
-use Rattle.pn_record.specs.declared.image.Image.{Image}
-use Rattle.pn_stream.specs.Batches.{Stream, Batch, SoFar}
-use Rattle.pn_stream.specs.Streams.{Run}
-use Rattle.pn_stream.specs.declared.fault.StreamFault.{StreamFault}
-use Rattle.pn_stream.proofs.Runs.{Run-append, SoFar-none, on_rest}
-use Rattle.pn_serve.specs.declared.server.messages.Messages.{Messages}
-use Rattle.pn_serve.specs.declared.server.reports.Report.{Report}
-use Rattle.pn_serve.specs.declared.server.reports.Report.TheVariants.{Messages as of_messages, End, Fault}
+use Rattle.pn_stream.specs.Batches.{Stream}
 use Rattle.pn_serve.specs.Server.Faults.{names_of}
-use Rattle.pn_serve.specs.declared.server.messages.TheConstants.{MAX_MESSAGES}
-use Rattle.pn_serve.specs.Server.Reports.{HasMessages, Leaves}
-use Rattle.pn_serve.specs.Server.Whole.{IsAllMessages, IsReadUpTo, IsWholeTo, EndsStream, IsTakenWhole, WasRead}
+use Rattle.pn_serve.specs.Server.Whole.{EndsStream, IsTakenWhole, IsWholeTo}
+use Rattle.pn_serve.specs.Server.Writers.{EndsInput}
 use Rattle.pn_serve.specs.declared.server.fault.ServeFault.{ServeFault}
 use Rattle.pn_serve.specs.declared.server.fault.ServeFault.TheVariants.{Stream as of_stream}
-use Rattle.pn_serve.specs.declared.server.stream_threads.StreamEnd.{StreamEnd}
+use Rattle.pn_serve.specs.declared.server.reporting.StreamEnd.{StreamEnd}
+use Rattle.pn_serve.specs.declared.server.writers.WriterEnd.{WriterEnd}
+use Rattle.pn_serve.specs.declared.server.writers.WriterEnd.TheVariants.{End}
 
-none_yet : (position : ℕ) (part : List ℕ) (left : Option (List ℕ)) → IfSome left (λ text. SoFar position (part ++ text) [] part left) → IfSome left (λ text. IsReadUpTo position (part ++ text) position part left)
-none_yet position part None so = tt
-none_yet position part (Some text) so = record { images = []; read = so; last_is = omega arith }
-
--- before the first report
-pub read_none : {S : Type 0} (left : S → Option (List ℕ)) (stream : Stream S) → WasRead left stream stream
-read_none left stream none = (none, none_yet stream.position stream.part (left stream.source) (SoFar-none stream.position stream.part [] (left stream.source) refl))
-
-one_more : (position last : ℕ) (front part now : List ℕ) (images : List Image) (first left leaves : Option (List ℕ)) (fault : Option StreamFault) → fault ≡ None
-    → IfSome first (λ text. IsReadUpTo position (front ++ text) last part left) → IfSome left (λ text. Batch 1 MAX_MESSAGES last (part ++ text) images fault now leaves)
-    → IfSome first (λ text. IsReadUpTo position (front ++ text) (last + length images) now leaves)
-one_more position last front part now images None left leaves fault none read batch = tt
-one_more position last front part now images (Some text) left leaves (Some fault) none read batch = let waits = none in cc
-one_more position last front part now images (Some text) left leaves None none read batch =
-    let more = on_rest read.read.rest part left (λ (t : List ℕ). Batch 1 MAX_MESSAGES last t images None now leaves) read.read.is_left batch in
-    let run : Run (position + length read.images) read.read.rest images more.rest = subst (λ (n : ℕ). Run n read.read.rest images more.rest) read.last_is more.run in
-    record {
-      images = read.images ++ images;
-      read = record { rest = more.rest; run = Run-append position (front ++ text) read.read.rest more.rest read.images images read.read.run run; is_left = more.ends.1 };
-      last_is = omega (arith, read.last_is, length-append read.images images);
-    }
-
-more_taken : {S : Type 0} (left : S → Option (List ℕ)) (first old new : Stream S) (messages : Messages) → WasRead left first old → Leaves left old (of_messages messages) new → WasRead left first new
-more_taken left first old new messages read leaves none =
-    let before = read leaves.0 in (
-      before.0,
-      subst (λ (n : ℕ). IfSome (left first.source) (λ text. IsReadUpTo first.position (first.part ++ text) n new.part (left new.source))) (sym leaves.2)
-          (one_more first.position old.position first.part old.part new.part messages.delivery.images (left first.source) (left old.source) (left new.source) new.fault none before.1 leaves.3),
-    )
-
--- once more messages were taken
-pub read_on : {S : Type 0} (left : S → Option (List ℕ)) (first old new : Stream S) (report : Report) → WasRead left first old → Leaves left old report new → HasMessages report → WasRead left first new
-read_on left first old new (of_messages messages) read leaves taken = more_taken left first old new messages read leaves
-read_on left first old new End read leaves taken = absurd taken
-read_on left first old new Fault read leaves taken = absurd taken
-
-all_messages : (position last : ℕ) (front part now : List ℕ) (first left leaves : Option (List ℕ)) → IfSome first (λ text. IsReadUpTo position (front ++ text) last part left)
-    → IfSome left (λ text. Batch 1 MAX_MESSAGES last (part ++ text) [] None now leaves) → IfSome first (λ text. IsAllMessages position (front ++ text) last)
-all_messages position last front part now None left leaves read batch = tt
-all_messages position last front part now (Some text) left leaves read batch =
-    let more = on_rest read.read.rest part left (λ (t : List ℕ). Batch 1 MAX_MESSAGES last t [] None now leaves) read.read.is_left batch in
-    let run : Run (position + length read.images) read.read.rest [] more.rest = subst (λ (n : ℕ). Run n read.read.rest [] more.rest) read.last_is more.run in
-    record {
-      images = read.images ++ [];
-      rest = more.rest;
-      run = Run-append position (front ++ text) read.read.rest more.rest read.images [] read.read.run run;
-      last_is = omega (arith, read.last_is, length-append read.images []);
-      no_line = elim more.ends.0 [
-        | inl enough ↦ absurd (omega (arith, enough.0))
-        | inr few ↦ few.1
-      ];
-    }
-
--- once the end was found
-pub whole_at_end : {S : Type 0} (left : S → Option (List ℕ)) (first old new : Stream S) (report : Report) → WasRead left first old → Leaves left old report new → report ≡ End → IsWholeTo left first new.position
-whole_at_end left first old new report read told is =
-    let leaves : Leaves left old End new = subst (λ (n : Report). Leaves left old n new) is told in
-    let before = read leaves.0 in
-    let whole = all_messages first.position old.position first.part old.part new.part (left first.source) (left old.source) (left new.source) before.1 leaves.3 in
-    (before.0, subst (λ (n : ℕ). IfSome (left first.source) (λ text. IsAllMessages first.position (first.part ++ text) n)) (sym leaves.2) whole)
+-- the stream whose one writer's input ended so
+pub ends_stream : {S : Type 0} (left : S → Option (List ℕ)) (before now : Option ℕ) (old new : Stream S) (end : WriterEnd) (ended : Result StreamEnd (List ℕ)) → IsSome before
+    → EndsInput left before old end now new → new.name ≡ old.name → IfOk ended (λ e. (end ≡ End) × (e.name ≡ new.name) × (e.last ≡ new.position)) → IfErr ended (λ name. name ≡ new.name)
+    → EndsStream left old ended
+ends_stream left before now old new end (Err name) begun ends same ok err = err ∙ same
+ends_stream left None now old new end (Ok e) begun ends same ok err = absurd (cc)
+ends_stream {S} left (Some before) now old new end (Ok e) begun ends same ok err =
+    let all : EndsInput left (Some before) old End now new = subst (λ (w : WriterEnd). EndsInput left (Some before) old w now new) ok.0 ends in
+    (ok.1 ∙ same, subst (λ (n : ℕ). IsWholeTo left old n) (sym ok.2) (all.0, all.2))
 
 -- the stream of a thread was taken to its end
 pub taken_by : {S : Type 0} (left : S → Option (List ℕ)) (marks : Positions) (stream : Stream S) (ended : Result StreamEnd (List ℕ)) (result : Result (Unit {0}) ServeFault) → EndsStream left stream ended

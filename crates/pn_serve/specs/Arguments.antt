@@ -1,6 +1,7 @@
 -- The program's arguments.
 pub mod Bounds
 pub mod Commands
+pub mod Faults
 pub mod Options
 pub mod PlanValues
 pub mod Plans

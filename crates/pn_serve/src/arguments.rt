@@ -1,23 +1,27 @@
 //! The program's arguments.
 
-ghost use Rattle.std.specs.Prelude.{◌≡◌, map, string_bytes, IfOk, IsSome, Ok, Option, Some};
+ghost use Rattle.std.specs.Prelude.{◌≡◌, map, string_bytes, IfOk, IsSome, Option, Some};
 ghost use Rattle.std.specs.declared.net.ip_addr.IpAddr.{IpAddr};
 ghost use Rattle.clap.specs.Words.{found_of, kind_of, rows_of, subcommand_rows_of};
 ghost use Rattle.pn_json.specs.Prelude.{IsUnless, ShowsUnless};
-ghost use Rattle.pn_serve.specs.Arguments.Plans.{Answers, Gives, HasSessions, Plans};
-ghost use Rattle.pn_serve.specs.Arguments.Commands.{idle_in, is_set, listens_at, address_in, replay_in, serve_in, service_in, settings_in, stay_in, Spells};
+ghost use Rattle.pn_serve.specs.Arguments.Plans.{Answers, Gives, HasSessions, Plans, Tells};
+ghost use Rattle.pn_serve.specs.Arguments.Commands.{idle_in, listens_at, address_in, replay_in, serve_in, service_in, settings_in, stay_in, Spells};
 ghost use Rattle.pn_serve.specs.Arguments.PlanValues.{address_value, plan_value, service_value};
 
 mod bounds;
+pub(crate) mod faults;
 pub(crate) mod options;
 pub(crate) mod plans;
+mod refusing;
 mod streams;
 
 use crate::arguments::bounds::layout_of;
+use crate::arguments::faults::OptionFault;
 use crate::arguments::options::{
-    MAX_CONNECTIONS, MAX_IDLE, MAX_PORT, command, option_number, option_text,
+    MAX_CONNECTIONS, MAX_IDLE, MAX_PORT, command, is_given, option_number, option_text,
 };
-use crate::arguments::streams::named_streams;
+use crate::arguments::refusing::told_fault;
+use crate::arguments::streams::{MAX_SOCKET_BYTES, named_streams};
 use crate::{Address, Plan, PlanFault, Service, Settings};
 use clap::error::ErrorKind;
 use clap::{ArgMatches, Error};
@@ -27,7 +31,7 @@ use std::alloc::Global;
 use std::net::IpAddr;
 
 /// Parses the command line; `words[0]` is the program. Faults come in the order of `PlanFault`.
-pub fn plan(alloc: Global, words: &[String]) -> Result<Plan, PlanFault>
+pub fn plan<'w>(alloc: Global, words: &'w [String]) -> Result<Plan, PlanFault<'w>>
     ensures plans { Plans (map string_bytes words.now) result }
     ensures sessions { IfOk result HasSessions }
 {
@@ -38,7 +42,7 @@ pub fn plan(alloc: Global, words: &[String]) -> Result<Plan, PlanFault>
 }
 
 // Answers help, the version, or why `clap` refuses the arguments.
-fn answer_to(alloc: Global, error: &Error) -> Result<Plan, PlanFault>
+fn answer_to<'w>(alloc: Global, error: &Error) -> Result<Plan, PlanFault<'w>>
     ensures { Answers (kind_of error.now) result }
 {
     match error.kind() {
@@ -49,17 +53,26 @@ fn answer_to(alloc: Global, error: &Error) -> Result<Plan, PlanFault>
     }
 }
 
-fn plan_of(alloc: Global, matches: &ArgMatches<'_>) -> Result<Plan, PlanFault>
+fn plan_of<'w>(alloc: Global, matches: &ArgMatches<'w>) -> Result<Plan, PlanFault<'w>>
     requires { IsSome (subcommand_rows_of matches.now) }
-    ensures { (found : _) → subcommand_rows_of matches.now ≡ Some found → Gives found result }
+    ensures { (found : _) → subcommand_rows_of matches.now ≡ Some found → Tells found result }
 {
     match matches.subcommand() {
-        Some((name, options)) => command_plan(alloc, name, options),
+        Some((name, options)) => told_plan(alloc, name, options),
         None => unreachable!(),
     }
 }
 
-fn command_plan(alloc: Global, name: &str, options: &ArgMatches<'_>) -> Result<Plan, PlanFault>
+fn told_plan<'w>(alloc: Global, name: &str, options: &ArgMatches<'w>) -> Result<Plan, PlanFault<'w>>
+    ensures { Tells (name.now, rows_of (found_of options.now)) result }
+{
+    match command_plan(alloc, name, options) {
+        Ok(planned) => Ok(planned),
+        Err(fault) => Err(told_fault(options, fault)),
+    }
+}
+
+fn command_plan(alloc: Global, name: &str, options: &ArgMatches<'_>) -> Result<Plan, OptionFault>
     ensures { Gives (name.now, rows_of (found_of options.now)) result }
 {
     if name == "serve" {
@@ -69,21 +82,25 @@ fn command_plan(alloc: Global, name: &str, options: &ArgMatches<'_>) -> Result<P
     }
 }
 
-fn serve_of(alloc: Global, options: &ArgMatches<'_>) -> Result<Plan, PlanFault>
+fn serve_of(alloc: Global, options: &ArgMatches<'_>) -> Result<Plan, OptionFault>
     ensures { (host : Option IpAddr) × Spells (listens_at (rows_of (found_of options.now))) host
-        × ShowsUnless PlanFault.Memory plan_value result (serve_in host (rows_of (found_of options.now))) }
+        × ShowsUnless OptionFault.Memory plan_value result (serve_in host (rows_of (found_of options.now))) }
 {
     let host = host_of(options);
     plan_at(alloc, host, options)
 }
 
-fn plan_at(alloc: Global, host: Option<IpAddr>, options: &ArgMatches<'_>) -> Result<Plan, PlanFault>
-    ensures { ShowsUnless PlanFault.Memory plan_value result (serve_in host (rows_of (found_of options.now))) }
+fn plan_at(
+    alloc: Global,
+    host: Option<IpAddr>,
+    options: &ArgMatches<'_>,
+) -> Result<Plan, OptionFault>
+    ensures { ShowsUnless OptionFault.Memory plan_value result (serve_in host (rows_of (found_of options.now))) }
 {
     let settings = settings_of(alloc, options)?;
-    let host = host.ok_or(PlanFault::Address)?;
+    let host = host.ok_or(OptionFault::Listen)?;
     let service = service_of(alloc, host, options)?;
-    let streams = named_streams(alloc, options)?;
+    let streams = named_streams(alloc, is_given(options, "stay"), options)?;
     Ok(Plan::Serve {
         settings,
         service,
@@ -101,8 +118,8 @@ fn host_of(options: &ArgMatches<'_>) -> Option<IpAddr>
     }
 }
 
-fn service_of(alloc: Global, host: IpAddr, options: &ArgMatches<'_>) -> Result<Service, PlanFault>
-    ensures { ShowsUnless PlanFault.Memory service_value result (Ok (service_in host (rows_of (found_of options.now)))) }
+fn service_of(alloc: Global, host: IpAddr, options: &ArgMatches<'_>) -> Result<Service, OptionFault>
+    ensures { ShowsUnless OptionFault.Memory service_value result (service_in host (rows_of (found_of options.now))) }
 {
     Ok(Service {
         sessions: option_number(options, "sessions", MAX_READERS as u32) as usize,
@@ -113,16 +130,18 @@ fn service_of(alloc: Global, host: IpAddr, options: &ArgMatches<'_>) -> Result<S
     })
 }
 
-// The Unix socket that is named, or else the port of the host.
-fn address_of(alloc: Global, host: IpAddr, options: &ArgMatches<'_>) -> Result<Address, PlanFault>
-    ensures { ShowsUnless PlanFault.Memory address_value result (Ok (address_in host (rows_of (found_of options.now)))) }
+// The Unix socket that is named, or else the port of the host. With `--stay`, a path that is too long is refused.
+fn address_of(alloc: Global, host: IpAddr, options: &ArgMatches<'_>) -> Result<Address, OptionFault>
+    ensures { ShowsUnless OptionFault.Memory address_value result (address_in host (rows_of (found_of options.now))) }
 {
     let path = option_text(options, "socket");
     if path.is_empty() {
-        Ok(Address::Port(host, option_number(options, "port", MAX_PORT) as u16))
-    } else {
-        Ok(Address::Path(String::from_str(alloc, path)?))
+        return Ok(Address::Port(host, option_number(options, "port", MAX_PORT) as u16));
     }
+    if path.len() > MAX_SOCKET_BYTES && is_given(options, "stay") {
+        return Err(OptionFault::Socket);
+    }
+    Ok(Address::Path(String::from_str(alloc, path)?))
 }
 
 // With `--stay`, how many connections are served at once.
@@ -147,20 +166,14 @@ fn idle_of(options: &ArgMatches<'_>) -> Option<u32>
     }
 }
 
-fn is_given(options: &ArgMatches<'_>, name: &str) -> bool
-    ensures { result ≡ is_set name.now (rows_of (found_of options.now)) }
-{
-    option_text(options, name) == "true"
-}
-
-fn replay_of(alloc: Global, options: &ArgMatches<'_>) -> Result<Plan, PlanFault>
-    ensures { ShowsUnless PlanFault.Memory plan_value result (replay_in (rows_of (found_of options.now))) }
+fn replay_of(alloc: Global, options: &ArgMatches<'_>) -> Result<Plan, OptionFault>
+    ensures { ShowsUnless OptionFault.Memory plan_value result (replay_in (rows_of (found_of options.now))) }
 {
     Ok(Plan::Replay(settings_of(alloc, options)?))
 }
 
-fn settings_of(alloc: Global, options: &ArgMatches<'_>) -> Result<Settings, PlanFault>
-    ensures { IsUnless PlanFault.Memory result (settings_in (rows_of (found_of options.now))) }
+fn settings_of(alloc: Global, options: &ArgMatches<'_>) -> Result<Settings, OptionFault>
+    ensures { IsUnless OptionFault.Memory result (settings_in (rows_of (found_of options.now))) }
 {
     let layout = layout_of(alloc, option_text(options, "bounds"))?;
     let workers = option_number(options, "workers", MAX_WORKERS as u32) as usize;

@@ -10,10 +10,12 @@ mod script;
 mod server;
 mod sessions;
 mod settings;
+mod stream_laws;
 
+pub use arguments::faults::{PlanFault, Refused, Why};
 pub use arguments::options::numbers_are_as_written;
 pub use arguments::plan;
-pub use arguments::plans::{Address, Plan, PlanFault, Service};
+pub use arguments::plans::{Address, Plan, Service, StreamPath};
 pub use laws::regions_converge;
 pub use machine::line_handler::LineHandler;
 pub use page_laws::{
@@ -30,8 +32,9 @@ pub use repeat_laws::{
 pub use script::line_loop::LineLoop;
 pub use script::{Counts, MAX_LINES, RunFault, run, run_to_exit};
 pub use server::{
-    Acceptor, ComesBack, Counter, Origin, ServeFault, SessionThread, Stream, close_region,
-    join_sessions, open_region, read_streams, serve,
+    Acceptor, ComesBack, Counter, FaultLog, Origin, ServeFault, SessionThread, Stream,
+    StreamFailure, WriterEnd, close_region, join_sessions, open_region, read_streams, serve,
 };
 pub use sessions::session;
 pub use settings::Settings;
+pub use stream_laws::streams_that_resume_leave_what_was_published;

@@ -6,7 +6,7 @@ ghost use Rattle.pn_apply.specs.declared.reducing.TheConstants.{MAX_WORKERS};
 ghost use Rattle.pn_line.specs.Prelude.{AppendsPrefix};
 ghost use Rattle.pn_live.specs.Prelude.{IsNewLive, tablets_in};
 ghost use Rattle.pn_live.specs.declared.region.opening.TheConstants.{MAX_READERS};
-ghost use Rattle.pn_serve.specs.Server.Faults.{IsOfRounds, NamesOne, names_of};
+ghost use Rattle.pn_serve.specs.Server.Faults.{NamesOne, names_of};
 ghost use Rattle.pn_serve.specs.Server.Reading.{RunsRounds};
 ghost use Rattle.pn_serve.specs.Server.Served.{EndsReading, EndsRegion, EndsServing};
 ghost use Rattle.pn_serve.specs.Server.Sessions.{AllRead};
@@ -15,13 +15,17 @@ ghost use Rattle.pn_protocol.specs.Prelude.{served_line};
 
 mod counter;
 mod fault;
+mod fault_log;
 mod mailboxes;
 mod messages;
+mod reporting;
 mod reports;
 mod rounds;
 mod session_threads;
 mod stream_threads;
 mod streams;
+mod writer_input;
+mod writers;
 
 use crate::Settings;
 use crate::server::mailboxes::StreamMailboxes;
@@ -30,6 +34,7 @@ use crate::server::session_threads::{StartedSessions, start_sessions};
 use crate::server::stream_threads::{StartedStreams, StreamThread, join_streams, start_streams};
 pub use counter::Counter;
 pub use fault::ServeFault;
+pub use fault_log::{FaultLog, StreamFailure};
 use pn_join::{Marks, NoMemory};
 use pn_line::{Sink, Source, WriteFault, write_all_of};
 use pn_live::{LiveReader, LiveRegion};
@@ -41,7 +46,8 @@ pub use session_threads::{Acceptor, ComesBack, SessionThread, join_sessions};
 use std::alloc::Global;
 use std::sync::Wait;
 use std::thread::Threads;
-pub use streams::{Origin, Stream, read_streams};
+pub use streams::read_streams;
+pub use writers::{Origin, Stream, WriterEnd};
 
 /// A live region and its readers.
 struct ServedRegion {
@@ -188,13 +194,22 @@ where
     ensures all { OnOk result (vec_len region.new.readers ≡ vec_len region.old.readers) }
     ensures ends { EndsReading S.left streams.items region.old.live region.new.live result }
 {
-    let started = start_streams(rt, alloc, streams, listener.round_counter())?;
+    let (rounds, faults) = (listener.round_counter(), listener.fault_log());
+    let started = start_streams(rt, alloc, streams, rounds, faults)?;
     let StartedStreams { mailboxes, threads } = started;
+    let mut mailboxes = mailboxes;
     let StartedSessions {
         running,
         is_refused,
     } = start_sessions(rt, alloc, listener, &region.live, &mut region.readers);
-    let read = run_unless_refused(rt, alloc, &mut region.live, workers, &mailboxes, is_refused);
+    let read = run_unless_refused(
+        rt,
+        alloc,
+        &mut region.live,
+        workers,
+        &mut mailboxes,
+        is_refused,
+    );
     mailboxes.close(rt);
     join_sessions(rt, &region.live, running, &mut region.readers);
     join_after_rounds(rt, read, threads, region.live.marks())
@@ -206,13 +221,12 @@ fn run_unless_refused<R: Threads + Wait + Sync>(
     alloc: Global,
     live: &mut LiveRegion,
     workers: usize,
-    mailboxes: &StreamMailboxes,
+    mailboxes: &mut StreamMailboxes,
     is_refused: bool,
 ) -> Result<(), ServeFault>
     requires workers { (1 ≤ workers) × (workers ≤ MAX_WORKERS) }
     ensures refused { IsTrue is_refused → (result ≡ Err ServeFault.Start) × (live.new ≡ live.old) }
-    ensures reads { IsFalse is_refused → RunsRounds (vec_len mailboxes.now.streams) live.old live.new result }
-    ensures named { IsFalse is_refused → IfErr result (IsOfRounds (map (λ stream. stream.name) mailboxes.now.streams.items)) }
+    ensures reads { IsFalse is_refused → RunsRounds mailboxes.old.at_fault (map (λ stream. stream.name) mailboxes.old.streams.items) live.old live.new result }
     ensures same { tablets_in live.new ≡ tablets_in live.old }
 {
     if is_refused {

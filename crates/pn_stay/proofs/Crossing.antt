@@ -4,12 +4,16 @@ use Rattle.std.proofs.Crossing.{crosses}
 use Rattle.pn_join.specs.contracts.marks.name.Name as name
 use Rattle.pn_live.proofs.Crossing.Readers.{reader_send}
 use Rattle.pn_serve.specs.contracts.server.counter.Counter as counter
+use Rattle.pn_serve.specs.contracts.server.fault_log.StreamFailure as failure
+use Rattle.pn_serve.specs.contracts.server.fault_log.FaultLog as faults
 use Rattle.pn_stay.specs.contracts.acceptor.SocketAcceptor as acceptor
 use Rattle.pn_stay.specs.contracts.socket_mailbox.SocketMailbox as mailbox
 use Rattle.pn_stay.specs.contracts.server.threads.LoopThread as loop
 use Rattle.pn_stay.specs.contracts.counters.StreamCounters as stream
 use Rattle.pn_stay.specs.contracts.counters.InputCounters as input
 use Rattle.pn_stay.specs.contracts.counters.Counters as counters
+use Rattle.pn_stay.specs.contracts.messages.Messages as messages
+use Rattle.pn_stay.specs.contracts.acceptor.AcceptNotes as notes
 
 name_send : IsSend name.the_row
 name_send = search (sendable, crosses) depth 40
@@ -30,10 +34,10 @@ pub input_sync : IsSync input.the_row
 input_sync = search (sendable, crosses) depth 40 fits 20000
 
 stream_send : IsSend stream.the_row
-stream_send = search (sendable, crosses, name_send, input_send, input_sync) depth 40 fits 20000
+stream_send = search (sendable, crosses, name_send, counter_send, counter_sync, input_send, input_sync) depth 40 fits 20000
 
 stream_sync : IsSync stream.the_row
-stream_sync = search (sendable, crosses, name_sync, input_send, input_sync) depth 40 fits 20000
+stream_sync = search (sendable, crosses, name_sync, counter_send, counter_sync, input_send, input_sync) depth 40 fits 20000
 
 pub counters_send : IsSend counters.the_row
 counters_send = search (sendable, crosses, counter_send, counter_sync, input_send, input_sync, stream_send) depth 40 fits 20000
@@ -41,8 +45,29 @@ counters_send = search (sendable, crosses, counter_send, counter_sync, input_sen
 pub counters_sync : IsSync counters.the_row
 counters_sync = search (sendable, crosses, counter_send, counter_sync, input_send, input_sync, stream_sync) depth 40 fits 20000
 
+pub messages_send : IsSend messages.the_row
+messages_send = search (sendable, crosses) depth 40 fits 20000
+
+pub messages_sync : IsSync messages.the_row
+messages_sync = search (sendable, crosses) depth 40 fits 20000
+
+failure_send : IsSend failure.the_row
+failure_send = search (sendable, crosses, name_send) depth 40 fits 20000
+
+failure_sync : IsSync failure.the_row
+failure_sync = search (sendable, crosses, name_sync) depth 40 fits 20000
+
+pub faults_send : IsSend faults.the_row
+faults_send = search (sendable, crosses, failure_send) depth 40 fits 20000
+
+pub faults_sync : IsSync faults.the_row
+faults_sync = search (sendable, crosses, failure_send, failure_sync) depth 40 fits 20000
+
+pub notes_send : IsSend notes.the_row
+notes_send = search (sendable, crosses, messages_send, messages_sync) depth 40 fits 20000
+
 pub acceptor_send : IsSend acceptor.the_row
-acceptor_send = search (sendable, crosses, counters_send, counters_sync) depth 40 fits 20000
+acceptor_send = search (sendable, crosses, counters_send, counters_sync, faults_send, faults_sync, messages_send, messages_sync) depth 40 fits 20000
 
 pub mailbox_send : IsSend mailbox.the_row
 mailbox_send = search (sendable, crosses) depth 40 fits 20000

@@ -3,6 +3,8 @@ pub mod Connections
 pub mod IdleTimeouts
 pub mod Interleaving
 pub mod Loops
+pub mod Messages
+pub mod Reasons
 pub mod Scripted
 pub mod Servers
 pub mod Sessions

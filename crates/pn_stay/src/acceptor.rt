@@ -6,11 +6,15 @@ ghost use Rattle.pn_live.specs.Prelude.{tablets_of};
 use crate::connection_limit::ConnectionLimit;
 use crate::counters::{Counters, CountingSource};
 use crate::listener::Listener;
+use crate::messages::Messages;
+use crate::reasons::describe_error;
+use crate::seldom::Seldom;
+use crate::shared::share;
 use crate::socket::{Socket, TrackedSocket};
 use crate::socket_mailbox::SocketMailbox;
 use pn_live::LiveReader;
-use pn_serve::{Acceptor, Counter, session};
-use std::alloc::Global;
+use pn_serve::{Acceptor, Counter, FaultLog, session};
+use std::alloc::{AllocError, Global};
 use std::io::BufReader;
 use std::sync::{Arc, Wait};
 use std::time::{Clock, Duration};
@@ -25,12 +29,19 @@ const RETRY: u64 = 10;
 /// How many milliseconds a quarter of a second has.
 const QUARTER: u64 = 250;
 
+/// What is told where as many connections are open as may be.
+const LIMIT_TEXT: &str = "cannot accept: all connections are open";
+
 /// A listening socket, for how many seconds its clients may be idle, and where they are counted.
 #[derive(Drop)]
 pub struct SocketAcceptor {
     pub listener: Listener,
     pub idle: Option<u32>,
     pub counters: Arc<Counters>,
+    /// Where faults of streams are noted, if somebody looks at them.
+    pub faults: Option<Arc<FaultLog>>,
+    /// Where a server that stays tells that it accepts nobody for now.
+    pub messages: Option<Arc<Messages>>,
 }
 
 impl SocketAcceptor {
@@ -60,6 +71,8 @@ impl Acceptor for SocketAcceptor {
             listener: self.listener.try_clone()?,
             idle: self.idle,
             counters: Arc::try_clone(&self.counters)?,
+            faults: share(&self.faults)?,
+            messages: share(&self.messages)?,
         })
     }
 
@@ -77,6 +90,54 @@ impl Acceptor for SocketAcceptor {
             Err(_) => None,
         }
     }
+
+    fn fault_log(&self) -> Option<Arc<FaultLog>> {
+        share(&self.faults).unwrap_or(None)
+    }
+}
+
+/// Tells that nobody is accepted for now, once a minute at most.
+#[derive(Drop)]
+pub(crate) struct AcceptNotes {
+    alloc: Global,
+    messages: Option<Arc<Messages>>,
+    refusals: Seldom,
+    limits: Seldom,
+}
+
+impl AcceptNotes {
+    /// Nothing was told so far.
+    pub(crate) fn new(alloc: Global, messages: Option<Arc<Messages>>) -> AcceptNotes {
+        AcceptNotes {
+            alloc,
+            messages,
+            refusals: Seldom::new(),
+            limits: Seldom::new(),
+        }
+    }
+
+    // Tells that the system refuses a socket.
+    fn tell_refusal<R: Wait + Clock>(&mut self, rt: &R, error: &io::Error) {
+        if let Some(messages) = &self.messages {
+            if self.refusals.is_due(rt) {
+                messages.leave(rt, refusal_text(self.alloc, error));
+            }
+        }
+    }
+
+    // Tells that as many connections are open as may be.
+    fn tell_limit<R: Wait + Clock>(&mut self, rt: &R) {
+        if let Some(messages) = &self.messages {
+            if self.limits.is_due(rt) {
+                messages.leave(rt, String::from_str(self.alloc, LIMIT_TEXT));
+            }
+        }
+    }
+}
+
+fn refusal_text(alloc: Global, error: &io::Error) -> Result<String, AllocError> {
+    let reason = describe_error(alloc, error)?;
+    format!(in alloc; "cannot accept: {reason}")
 }
 
 /// Accepts sockets for as long as the program runs, each once the limit allows one more. They go to the mailboxes in turn.
@@ -85,12 +146,18 @@ pub(crate) fn accept_all<R: Wait + Clock>(
     listener: &Listener,
     limit: &ConnectionLimit,
     mailboxes: &[Arc<SocketMailbox>],
+    notes: AcceptNotes,
 ) {
+    let mut notes = notes;
     for _ in rt.forever() {
         for mailbox in mailboxes.iter() {
+            if limit.is_reached(rt) {
+                notes.tell_limit(rt);
+            }
             limit.acquire(rt);
-            if accept_into(rt, listener, mailbox).is_err() {
+            if let Err(error) = accept_into(rt, listener, mailbox) {
                 limit.release(rt);
+                notes.tell_refusal(rt, &error);
                 thread::sleep(rt, Duration::from_millis(RETRY));
             }
         }

@@ -20,6 +20,11 @@ impl ConnectionLimit {
         }
     }
 
+    /// Whether no more may be opened for now.
+    pub(crate) fn is_reached<R: Wait>(&self, rt: &R) -> bool {
+        *self.free.lock(rt) == 0
+    }
+
     /// Counts a connection, once one more may be opened.
     pub(crate) fn acquire<R: Wait>(&self, rt: &R) {
         let guard = self.free.lock(rt);

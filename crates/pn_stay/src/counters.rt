@@ -46,6 +46,8 @@ impl InputCounters {
 pub struct StreamCounters {
     pub name: Name,
     pub input: Arc<InputCounters>,
+    /// The position up to which rounds have taken it, where they note that.
+    pub taken: Option<Arc<Counter>>,
     /// How many bytes its file has, where it is one that ends.
     pub size: Option<u64>,
 }
@@ -86,6 +88,13 @@ impl<S: Source + Drop> CountingSource<S> {
         ensures { S.left result.source ≡ S.left source }
     {
         CountingSource { source, counters }
+    }
+
+    /// The source, and its counters.
+    pub fn into_parts(self) -> (S, Option<Arc<InputCounters>>)
+        ensures { S.left result.0 ≡ S.left self.source }
+    {
+        (self.source, self.counters)
     }
 }
 

@@ -40,16 +40,7 @@ impl Listener {
 
     /// Listens at a path. A socket there is replaced where nobody listens on it.
     pub fn bind_path<R: Files + Net>(rt: &R, path: &str) -> io::Result<Listener> {
-        match bind(rt, path) {
-            Ok(listener) => Ok(listener),
-            Err(error) => {
-                if error.kind() != ErrorKind::AddrInUse || !is_stale(rt, path)? {
-                    return Err(error);
-                }
-                fs::remove_file(rt, path)?;
-                bind(rt, path)
-            }
-        }
+        Ok(Listener::Unix(bind_socket(rt, path)?))
     }
 
     /// Another handle of the same socket.
@@ -76,12 +67,26 @@ impl Listener {
     }
 }
 
+/// Listens at a path. A socket there is replaced where nobody listens on it.
+pub(crate) fn bind_socket<R: Files + Net>(rt: &R, path: &str) -> io::Result<UnixListener> {
+    match bind(rt, path) {
+        Ok(listener) => Ok(listener),
+        Err(error) => {
+            if error.kind() != ErrorKind::AddrInUse || !is_stale(rt, path)? {
+                return Err(error);
+            }
+            fs::remove_file(rt, path)?;
+            bind(rt, path)
+        }
+    }
+}
+
 // Nobody connects before the file has its mode, since the socket listens only then.
-fn bind<R: Files + Net>(rt: &R, path: &str) -> io::Result<Listener> {
+fn bind<R: Files + Net>(rt: &R, path: &str) -> io::Result<UnixListener> {
     let socket = rt.unix_socket()?;
     rt.bind_unix(socket.as_fd(), &net::SocketAddr::from_pathname(path)?)?;
     match begin_to_listen(rt, path, socket) {
-        Ok(listener) => Ok(Listener::Unix(listener)),
+        Ok(listener) => Ok(listener),
         Err(error) => {
             let _ = fs::remove_file(rt, path);
             Err(error)

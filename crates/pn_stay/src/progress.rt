@@ -49,7 +49,7 @@ impl Totals {
     fn read(alloc: Global, counters: &Counters) -> Result<Totals, AllocError> {
         let mut positions = Vec::with_capacity(alloc, counters.streams.len())?;
         for stream in counters.streams.iter() {
-            positions.push(stream.input.lines.get())?;
+            positions.push(position_of(stream))?;
         }
         Ok(Totals {
             positions,
@@ -76,6 +76,14 @@ impl Totals {
         self.rounds != before.rounds
             || self.connections != before.connections
             || self.lines != before.lines
+    }
+}
+
+// The last position that was taken, or how many lines were read, where a stream has no other.
+fn position_of(stream: &StreamCounters) -> u64 {
+    match &stream.taken {
+        Some(taken) => taken.get(),
+        None => stream.input.lines.get(),
     }
 }
 

@@ -1,6 +1,6 @@
 //! A server that stays: threads answer its connections while its live region reads streams.
 
-ghost use Rattle.std.specs.Prelude.{◌≡◌, ◌+◌, ◌≤◌, vec_len, vec_capacity, All, IfOk};
+ghost use Rattle.std.specs.Prelude.{◌≡◌, ◌+◌, ◌≤◌, map, vec_len, vec_capacity, All, IfOk};
 ghost use Rattle.pn_live.specs.Prelude.{tablets_in, tablets_of, IsNewLive};
 ghost use Rattle.pn_live.specs.declared.region.opening.TheConstants.{MAX_READERS};
 ghost use Rattle.pn_serve.specs.Server.Reading.{ReadsStreams};
@@ -10,6 +10,7 @@ mod threads;
 
 use crate::acceptor::SocketAcceptor;
 use crate::server::threads::start_answering;
+use crate::shared::share;
 use pn_line::Source;
 use pn_live::{LiveReader, LiveRegion};
 use pn_serve::{
@@ -17,6 +18,8 @@ use pn_serve::{
     join_sessions, open_region, read_streams,
 };
 use std::alloc::Global;
+use std::io;
+use std::io::ErrorKind;
 use std::marker::Model;
 use std::net::Net;
 use std::sync::{Arc, Wait};
@@ -61,7 +64,7 @@ impl StayingServer {
         settings: Settings,
         threads: usize,
         connections: usize,
-    ) -> Result<StayingServer, ServeFault>
+    ) -> io::Result<StayingServer>
     where
         R: Threads + Wait + Net + Clock + Sync + Copy + Send + 'static,
         requires { (1 ≤ threads) × (threads ≤ MAX_READERS) }
@@ -69,7 +72,9 @@ impl StayingServer {
         ensures threads { IfOk result (λ server. server.threads ≡ threads) }
     {
         let (layout, workers) = settings.into_parts();
-        let (live, readers) = open_region(rt, alloc, layout, threads)?;
+        let Ok((live, readers)) = open_region(rt, alloc, layout, threads) else {
+            return Err(io::Error::from(ErrorKind::OutOfMemory));
+        };
         let mut readers = readers;
         let rounds = acceptor.round_counter();
         match start_answering(rt, alloc, acceptor, connections, &live, &mut readers) {
@@ -80,9 +85,9 @@ impl StayingServer {
                 readers,
                 rounds,
             }),
-            Err(_) => {
+            Err(error) => {
                 let _ = close_region(rt, live, readers);
-                Err(ServeFault::Start)
+                Err(error)
             }
         }
     }
@@ -92,20 +97,29 @@ impl StayingServer {
         &mut self,
         rt: &R,
         alloc: Global,
-        streams: Vec<Stream<S, O>>,
+        streams: Vec<Stream<O>>,
     ) -> Result<(), ServeFault>
     where
         R: Threads + Wait + Sync + Copy + Send + 'static,
         S: Source + Drop + Send + 'static,
         O: Origin<S> + Drop + Send + 'static,
-        ensures reads { ReadsStreams (vec_len streams) self.old.live self.new.live result }
+        ensures reads { ReadsStreams (map (λ stream. stream.name) streams.items) self.old.live self.new.live result }
         ensures threads { self.new.threads ≡ self.old.threads }
     {
-        let rounds = match &self.rounds {
-            Some(rounds) => Arc::try_clone(rounds).ok(),
-            None => None,
-        };
+        let rounds = share(&self.rounds).unwrap_or(None);
         read_streams(rt, alloc, &mut self.live, self.workers, streams, rounds)
+    }
+
+    /// Closes the region, and leaves the threads to the end of the program.
+    pub fn leave<R: Wait>(self, rt: &R) {
+        let StayingServer {
+            live,
+            workers: _,
+            running: _,
+            readers,
+            rounds: _,
+        } = self;
+        let _ = close_region(rt, live, readers);
     }
 
     /// Waits for the threads, which end where the system tells nothing more of sockets, and closes the region.

@@ -1,32 +1,16 @@
 //! Where the program listens.
 
-use crate::fail;
-use crate::streams::{StreamFile, open_streams, refuse_streams, stream_counters};
-use pn_join::Name;
+use crate::failures::{fail, fail_at, is_explained};
 use pn_serve::{Address, Service};
-use pn_stay::{Counters, Listener, SocketAcceptor};
-use std::alloc::{AllocError, Global};
+use pn_stay::{Listener, remove_sockets};
 use std::fs::File;
 use std::net::{Net, SocketAddr, TcpListener, TcpStream};
 use std::process::ExitCode;
 use std::rt::Files;
-use std::sync::Arc;
 use std::{fs, io};
 
-/// The socket that it listens on, the streams, and the counters, where progress is to be shown.
-#[derive(Drop)]
-pub(crate) struct Inputs {
-    pub(crate) acceptor: SocketAcceptor,
-    pub(crate) streams: Vec<StreamFile>,
-    pub(crate) shown: Option<Arc<Counters>>,
-}
-
-/// Opens the streams, listens, and prints where. Else it prints why not.
-pub(crate) fn open_inputs<R>(
-    rt: &R,
-    service: &Service,
-    streams: Vec<(Name, String)>,
-) -> Result<Inputs, ExitCode>
+/// Listens, and prints where. Else it prints why not.
+pub(crate) fn listen<R>(rt: &R, service: &Service) -> Result<Listener, ExitCode>
 where
     R: AllocGlobal
         + Files<File = File>
@@ -34,30 +18,42 @@ where
         + Print
         + Eprint,
 {
-    let streams = match open_streams(rt, rt.alloc(), streams, service.is_progress_told) {
-        Ok(streams) => streams,
-        Err(fault) => return Err(refuse_streams(rt, fault)),
-    };
-    let Ok(listener) = listen(rt, &service.address) else {
-        return Err(fail(rt, "cannot listen"));
+    let listener = match bind(rt, &service.address) {
+        Ok(listener) => listener,
+        Err(error) => return Err(refuse_address(rt, service, &error)),
     };
     if print_address(rt, &service.address).is_err() {
         remove_socket(rt, &service.address);
         return Err(fail(rt, "write"));
     }
-    match count_inputs(rt.alloc(), listener, service, streams) {
-        Ok(inputs) => Ok(inputs),
-        Err(_) => Err(refuse_start(rt, &service.address)),
-    }
+    Ok(listener)
 }
 
-fn listen<R>(rt: &R, address: &Address) -> io::Result<Listener>
+fn bind<R>(rt: &R, address: &Address) -> io::Result<Listener>
 where
     R: Files<File = File> + Net<Listener = TcpListener, Stream = TcpStream>,
 {
     match address {
         Address::Port(host, port) => Listener::bind_port(rt, *host, *port),
         Address::Path(path) => Listener::bind_path(rt, path.as_str()),
+    }
+}
+
+fn refuse_address(
+    rt: &(impl AllocGlobal + Eprint),
+    service: &Service,
+    error: &io::Error,
+) -> ExitCode {
+    let is_explained = is_explained(service);
+    let text = match &service.address {
+        Address::Port(host, port) => {
+            format!(in rt.alloc(); "{}", SocketAddr::from((*host, *port)))
+        }
+        Address::Path(path) => String::from_str(rt.alloc(), path.as_str()),
+    };
+    match text {
+        Ok(text) => fail_at(rt, "cannot listen", text.as_str(), error, is_explained),
+        Err(_) => fail(rt, "cannot listen"),
     }
 }
 
@@ -70,38 +66,13 @@ fn print_address(rt: &impl Print, address: &Address) -> io::Result<()> {
     }
 }
 
-fn count_inputs(
-    alloc: Global,
-    listener: Listener,
-    service: &Service,
-    streams: Vec<StreamFile>,
-) -> Result<Inputs, AllocError> {
-    let counters = Counters::new(alloc, stream_counters(alloc, &streams)?)?;
-    let counters = Arc::new(alloc, counters)?;
-    let shown = if service.is_progress_told {
-        Some(Arc::try_clone(&counters)?)
-    } else {
-        None
-    };
-    Ok(Inputs {
-        acceptor: SocketAcceptor {
-            listener,
-            idle: service.idle,
-            counters,
-        },
-        streams,
-        shown,
-    })
+/// Removes the files of the Unix sockets that it listens on, once the program ends by itself.
+pub(crate) fn remove_places(rt: &impl Files, service: &Service, sockets: &[String]) {
+    remove_socket(rt, &service.address);
+    remove_sockets(rt, sockets);
 }
 
-/// Prints that it cannot start, and ends what it listened on.
-pub(crate) fn refuse_start(rt: &(impl Files + Eprint), address: &Address) -> ExitCode {
-    remove_socket(rt, address);
-    fail(rt, "cannot start")
-}
-
-/// Removes the file of a Unix socket once the program ends by itself.
-pub(crate) fn remove_socket(rt: &impl Files, address: &Address) {
+fn remove_socket(rt: &impl Files, address: &Address) {
     if let Address::Path(path) = address {
         let _ = fs::remove_file(rt, path.as_str());
     }

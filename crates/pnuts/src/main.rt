@@ -5,23 +5,28 @@ ghost use Rattle.std.specs.Prelude.{◌≤◌, IfOk};
 ghost use Rattle.pn_live.specs.declared.region.opening.TheConstants.{MAX_READERS};
 
 mod addresses;
+mod failures;
+mod inputs;
 mod sessions;
 mod staying;
-mod streams;
 
-use crate::addresses::{Inputs, open_inputs, refuse_start};
+use crate::failures::fail;
+use crate::inputs::{Notes, Streams, open_acceptor, open_streams, refuse_start};
 use crate::sessions::serve_streams;
-use crate::staying::{answer_on, fail_to_stay, start_staying};
+use crate::staying::{answer_on, fail_to_stay};
 use pn_serve::{Plan, PlanFault, RunFault, Service, Settings, plan, run_to_exit};
-use pn_stay::tell_progress;
-use std::alloc::Global;
+use pn_stay::{
+    MessagePrinter, SocketAcceptor, StayingServer, StreamSource, message_prefix, tell_progress,
+};
 use std::env::Env;
 use std::fs::File;
 use std::io::BufReader;
 use std::net::{Net, TcpListener, TcpStream};
 use std::process::ExitCode;
 use std::rt::Files;
+use std::sync::Wait;
 use std::thread::Threads;
+use std::time::Clock;
 use std::{env, io, thread};
 
 /// How many bytes of the script are read at a time.
@@ -34,45 +39,69 @@ fn main(rt: HostRuntime) -> ExitCode {
     let Prepared {
         settings,
         service,
-        inputs,
+        streams,
+        acceptor,
+        notes,
     } = match prepare(&rt) {
         Ok(prepared) => prepared,
         Err(status) => return status,
     };
-    let Inputs {
-        acceptor,
-        streams,
-        shown,
-    } = inputs;
-    if let Some(counters) = shown {
+    let Notes {
+        counters,
+        messages,
+        sockets,
+        ..
+    } = notes;
+    if service.is_progress_told {
         let telling = thread::spawn(&rt, move || tell_progress(&rt, rt.alloc(), &counters));
         if telling.is_err() {
-            return refuse_start(&rt, &service.address);
+            return refuse_start(&rt, &service, &sockets);
         }
     }
-    let Some(connections) = service.stay else {
-        return serve_streams(&rt, settings, &service, &acceptor, streams);
+    if let Some(messages) = messages {
+        let prefix = message_prefix(service.is_progress_told);
+        let Ok(printer) = MessagePrinter::new(rt.alloc(), messages, prefix) else {
+            return refuse_start(&rt, &service, &sockets);
+        };
+        if thread::spawn(&rt, move || printer.run(&rt)).is_err() {
+            return refuse_start(&rt, &service, &sockets);
+        }
+    }
+    let (streams, connections) = match streams {
+        Streams::Files(readers) => {
+            return serve_streams(&rt, settings, &service, &acceptor, readers);
+        }
+        Streams::Staying(streams, connections) => (streams, connections as usize),
     };
-    match start_staying(&rt, settings, &service, connections, acceptor, streams) {
-        Ok((server, streams)) => {
+    match StayingServer::start(
+        &rt,
+        rt.alloc(),
+        acceptor,
+        settings,
+        service.sessions,
+        connections,
+    ) {
+        Ok(server) => {
             let mut server = server;
             let read = server.read_streams(&rt, rt.alloc(), streams);
-            answer_on(&rt, &service.address, server, read)
+            answer_on(&rt, &service, &sockets, server, read)
         }
-        Err(fault) => fail_to_stay(&rt, &service.address, fault),
+        Err(error) => fail_to_stay(&rt, &service, &sockets, &error),
     }
 }
 
 // What is to be served.
 #[derive(Drop)]
-struct Prepared {
+struct Prepared<R: Drop> {
     settings: Settings,
     service: Service,
-    inputs: Inputs,
+    streams: Streams<R>,
+    acceptor: SocketAcceptor,
+    notes: Notes,
 }
 
 // Opens what the words ask to be served. Else all is done, or refused, and the program ends with this status.
-fn prepare<R>(rt: &R) -> Result<Prepared, ExitCode>
+fn prepare<R>(rt: &R) -> Result<Prepared<R>, ExitCode>
 where
     R: AllocGlobal
         + Env
@@ -82,7 +111,11 @@ where
         + Print
         + Eprint
         + Threads
-        + Sync,
+        + Wait
+        + Clock
+        + Sync
+        + Copy
+        + Drop,
     ensures { IfOk result (λ prepared. (1 ≤ prepared.service.sessions) × (prepared.service.sessions ≤ MAX_READERS)) }
 {
     let Ok(words) = collect_words(rt) else {
@@ -96,11 +129,14 @@ where
                 streams,
             },
         ) => {
-            let inputs = open_inputs(rt, &service, streams)?;
+            let (streams, notes) = open_streams(rt, &service, streams)?;
+            let acceptor = open_acceptor(rt, &service, &notes)?;
             Ok(Prepared {
                 settings,
                 service,
-                inputs,
+                streams,
+                acceptor,
+                notes,
             })
         }
         Ok(Plan::Replay(settings)) => Err(replay(rt, settings)),
@@ -120,30 +156,14 @@ fn show(rt: &impl Print, text: &str) -> ExitCode {
     }
 }
 
-fn refuse_plan(rt: &impl Eprint, fault: PlanFault) -> ExitCode {
-    match fault {
-        PlanFault::Words(text) => refuse(rt, text.as_str()),
-        PlanFault::Bounds => refuse(rt, "pnuts: bounds\n"),
-        PlanFault::Address => refuse(rt, "pnuts: address\n"),
-        PlanFault::Stream => refuse(rt, "pnuts: stream\n"),
-        PlanFault::Memory => fail(rt, "memory"),
-    }
-}
-
 // If standard error takes nothing, the status alone shows the fault.
-fn refuse(rt: &impl Eprint, text: &str) -> ExitCode {
-    let _ = eprint!(rt; "{text}");
+fn refuse_plan(rt: &impl Eprint, fault: PlanFault<'_>) -> ExitCode {
+    let _ = match fault {
+        PlanFault::Words(text) => eprint!(rt; "{text}"),
+        PlanFault::Memory => return fail(rt, "memory"),
+        _ => eprintln!(rt; "pnuts: {fault}"),
+    };
     ExitCode::from(REFUSED)
-}
-
-fn fail(rt: &impl Eprint, why: &str) -> ExitCode {
-    let _ = eprintln!(rt; "pnuts: {why}");
-    ExitCode::FAILURE
-}
-
-fn fail_about(rt: &impl Eprint, before: &str, name: &str, after: &str) -> ExitCode {
-    let _ = eprintln!(rt; "pnuts: {before}{name}{after}");
-    ExitCode::FAILURE
 }
 
 fn replay(

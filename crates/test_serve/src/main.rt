@@ -1,7 +1,7 @@
 //! Cases of `pn_serve`, a line each, of what the stored scripts of `test_rows` cannot say; `stdout` has what must be answered.
 //!
 //! `plan` and `says` read words; `run`, `blocks`, `writes` and `sessions` meet slow and failing readers and writers; `session` and
-//! `serve` answer sessions; `read` reads streams. A bar is a newline.
+//! `serve` answer sessions; `read` reads streams, and `writers` one whose writers come one after another. A bar is a newline.
 #![tactic(auto)]
 
 mod loopback;
@@ -10,6 +10,7 @@ mod rounds;
 mod scripts;
 mod sessions;
 mod talk;
+mod writers;
 
 use loopback::serve_stream;
 use plans::{plan_reply, says};
@@ -18,6 +19,7 @@ use scripts::{blocks, run_over, write_three_bytes};
 use sessions::{answer_session, fail_sessions};
 use std::test::Fail;
 use test_kit::answer_lines;
+use writers::read_writers;
 
 fn main(rt: HostRuntime) -> Result<(), Fail> {
     let alloc = rt.alloc();
@@ -30,6 +32,7 @@ fn main(rt: HostRuntime) -> Result<(), Fail> {
         Some(("sessions", how)) => fail_sessions(&rt, alloc, how),
         Some(("serve", position)) => serve_stream(&rt, alloc, position),
         Some(("read", _)) => few_rounds(&rt, alloc),
+        Some(("writers", line)) => read_writers(&rt, alloc, line),
         _ => write_three_bytes(alloc),
     })
 }

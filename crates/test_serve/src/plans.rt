@@ -1,6 +1,6 @@
 //! Words, and what they plan.
 
-use pn_serve::{Address, Plan, PlanFault, Service, Settings, plan};
+use pn_serve::{Address, Plan, PlanFault, Service, Settings, StreamPath, plan};
 use std::alloc::{AllocError, Global};
 use std::test::Fail;
 use test_kit::spell_out;
@@ -34,7 +34,7 @@ fn plan_text(alloc: Global, planned: &Plan) -> Result<String, Fail> {
             write_service(&mut text, service)?;
             write!(text, ":")?;
             for (name, path) in streams {
-                write!(text, " {}={path}", name.as_str())?;
+                write_stream(&mut text, name.as_str(), path)?;
             }
             Ok(text)
         }
@@ -55,6 +55,14 @@ fn write_service(text: &mut String, service: &Service) -> Result<(), AllocError>
     }
     if service.is_progress_told {
         write!(text, ", told")?;
+    }
+    Ok(())
+}
+
+fn write_stream(text: &mut String, name: &str, path: &StreamPath) -> Result<(), AllocError> {
+    match path {
+        StreamPath::File(path) => write!(text, " {name}={path}")?,
+        StreamPath::Listen(path) => write!(text, " {name} at {path}")?,
     }
     Ok(())
 }

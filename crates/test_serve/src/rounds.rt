@@ -1,9 +1,8 @@
-//! Streams with many messages at hand, read into a live region.
+//! Streams that are read from one writer after another into a live region.
 
 use pn_join::{Name, NoMemory};
 use pn_line::InMemory;
-use pn_serve::{Counter, Origin, Stream, close_region, open_region, read_streams};
-use pn_stream::StreamReader;
+use pn_serve::{Counter, Origin, Stream, WriterEnd, close_region, open_region, read_streams};
 use std::alloc::Global;
 use std::sync::{Arc, Wait};
 use std::test::Fail;
@@ -12,31 +11,39 @@ use std::thread::Threads;
 use std::time::{Clock, Duration};
 use test_kit::layout;
 
-/// How many messages each of two streams has. With 1,000 a report, each reports four times, the last time its end.
+/// How many messages each of two streams has. With 1,000 a report, each reports five times, the last time its end.
 const MESSAGES: u64 = 3_000;
 
-const MAX_ROUNDS: u64 = 8;
+const MAX_ROUNDS: u64 = 10;
 
-/// Takes a while to find that there is no next writer.
+/// Has one writer, and takes a while to find that there is no next one.
 #[derive(Drop)]
 struct SlowOrigin<R> {
     rt: R,
+    writer: Option<InMemory<'static>>,
 }
 
 impl<R: Clock + Drop> Origin<InMemory<'static>> for SlowOrigin<R> {
-    fn open_again(&mut self) -> Option<StreamReader<InMemory<'static>>> {
-        thread::sleep(&self.rt, Duration::from_millis(200));
-        None
+    ghost may_go_on = { Unit {0} };
+
+    fn next_writer(&mut self, _last: u64) -> Option<InMemory<'static>> {
+        let writer = self.writer.take();
+        if writer.is_none() {
+            thread::sleep(&self.rt, Duration::from_millis(200));
+        }
+        writer
     }
 
-    fn note_fault(&mut self) {}
+    fn hand_on(&mut self, _last: u64) {}
+
+    fn end_writer(&mut self, _source: InMemory<'static>, _end: &WriterEnd, _last: u64) {}
 }
 
 fn stream<R: Clock + Copy + Drop>(
     rt: &R,
     alloc: Global,
     name: &[u8],
-) -> Result<Stream<InMemory<'static>, SlowOrigin<R>>, Fail> {
+) -> Result<Stream<SlowOrigin<R>>, Fail> {
     let mut text = String::new(alloc);
     for at in 1..=MESSAGES {
         writeln!(
@@ -44,10 +51,12 @@ fn stream<R: Clock + Copy + Drop>(
             "{{\"at\":{at},\"image\":{{\"fields\":{{\"v\":\"x\"}},\"key\":\"k\",\"master\":\"w\",\"version\":[1,0]}}}}"
         )?;
     }
-    let source = InMemory::new(text.into_bytes().leak());
+    let writer = Some(InMemory::new(text.into_bytes().leak()));
     Ok(Stream {
-        reader: StreamReader::new(alloc, Name::read(name)?, 0, source),
-        origin: SlowOrigin { rt: *rt },
+        name: Name::read(name)?,
+        after: 0,
+        origin: SlowOrigin { rt: *rt, writer },
+        taken: None,
     })
 }
 

@@ -97,6 +97,7 @@ fn new_counters(alloc: Global, input: Arc<InputCounters>) -> Result<Counters, Fa
     streams.push(StreamCounters {
         name: Name::read(b"east")?,
         input,
+        taken: None,
         size: None,
     })?;
     Ok(Counters::new(alloc, streams)?)

@@ -8,6 +8,7 @@ mod clients;
 mod echo;
 mod served;
 mod talks;
+mod writers;
 
 use clients::{count_input, read_input, send_output, take_turns};
 use echo::Echo;
@@ -16,6 +17,7 @@ use served::{answer_flood, listen_twice, serve_session, stay_until_idle};
 use std::alloc::Global;
 use std::test::Fail;
 use test_kit::{answer_lines, spell_out};
+use writers::{leave_many, read_fifo, read_socket};
 
 /// How many turns a connection has at most.
 pub(crate) const TURNS: u32 = 100_000;
@@ -36,6 +38,9 @@ fn main(rt: HostRuntime) -> Result<(), Fail> {
             Some(("serves", at)) => serve_session(&rt, alloc, at),
             Some(("stays", at)) => stay_until_idle(&rt, alloc, at),
             Some(("flood", _)) => answer_flood(&rt, alloc),
+            Some(("writers", "socket")) => read_socket(&rt, alloc),
+            Some(("writers", "fifo")) => read_fifo(&rt, alloc),
+            Some(("messages", _)) => leave_many(&rt, alloc),
             _ => answer(alloc, line.as_str()),
         }
     })

@@ -4,7 +4,7 @@ use crate::show;
 use crate::talks::{At, flood, talk};
 use pn_join::{BadName, Name, NoMemory};
 use pn_line::InMemory;
-use pn_serve::{Counter, Origin, Settings, Stream, serve};
+use pn_serve::{Counter, Origin, Settings, Stream, WriterEnd, serve};
 use pn_stay::{Counters, Listener, SocketAcceptor, StayingServer};
 use pn_stream::StreamReader;
 use std::alloc::{AllocError, Global};
@@ -27,16 +27,20 @@ const PATH: &str = "socket-of-test";
 /// For how many milliseconds at most it waits for a server to have read its stream.
 const PATIENCE: u32 = 10_000;
 
-/// A stream that has no next writer.
+/// The one writer of a stream, until it is read.
 #[derive(Drop)]
-struct Once;
+struct Once(Option<InMemory<'static>>);
 
 impl Origin<InMemory<'static>> for Once {
-    fn open_again(&mut self) -> Option<StreamReader<InMemory<'static>>> {
-        None
+    ghost may_go_on = { Unit {0} };
+
+    fn next_writer(&mut self, _last: u64) -> Option<InMemory<'static>> {
+        self.0.take()
     }
 
-    fn note_fault(&mut self) {}
+    fn hand_on(&mut self, _last: u64) {}
+
+    fn end_writer(&mut self, _source: InMemory<'static>, _end: &WriterEnd, _last: u64) {}
 }
 
 fn new_settings(alloc: Global) -> Result<Settings, NoMemory> {
@@ -81,6 +85,8 @@ fn new_acceptor(
         listener,
         idle: Some(idle),
         counters: Arc::new(alloc, Counters::new(alloc, Vec::new(alloc))?)?,
+        faults: None,
+        messages: None,
     })
 }
 
@@ -188,11 +194,12 @@ where
 {
     let acceptor = new_acceptor(alloc, listener, 2).ok()?;
     let mut streams = Vec::with_capacity(alloc, 1).ok()?;
-    let reader = new_reader(alloc).ok()?;
     streams
         .push(Stream {
-            reader,
-            origin: Once,
+            name: Name::read(b"east").ok()?,
+            after: 0,
+            origin: Once(Some(InMemory::new(FIRST.as_bytes()))),
+            taken: None,
         })
         .ok()?;
     let settings = new_settings(alloc).ok()?;

@@ -9,24 +9,25 @@ use Rattle.pn_record.specs.Limits.{is_key}
 use Rattle.pn_record.specs.Reading.{reading}
 use Rattle.pn_tablet.specs.Layouts.{Bounds, layout_of}
 use Rattle.pn_tablet.specs.declared.layout.LayoutFault.{LayoutFault}
-use Rattle.pn_serve.specs.declared.arguments.plans.PlanFault.{PlanFault}
-use Rattle.pn_serve.specs.declared.arguments.plans.PlanFault.TheVariants as fault
+use Rattle.pn_serve.specs.declared.arguments.faults.OptionFault.{OptionFault}
+use Rattle.pn_serve.specs.declared.arguments.faults.OptionFault.TheVariants as fault
+use Rattle.pn_serve.specs.declared.arguments.faults.Why.TheVariants.{NoArray, NoJson, NoKey, NoLayout}
 
 -- a key of 1 to 256 bytes
-abbrev pub key_in : Data → Result (List ℕ) PlanFault
+abbrev pub key_in : Data → Result (List ℕ) OptionFault
 key_in d = do
-  text ← ok_or (as_str d) fault.Bounds
-  if is_key text then Ok text else Err fault.Bounds
+  text ← ok_or (as_str d) (fault.Bounds NoKey)
+  if is_key text then Ok text else Err (fault.Bounds NoKey)
 
--- a layout, or the fault of bounds that are none
-abbrev pub or_bounds : Result Bounds LayoutFault → Result Bounds PlanFault
+-- a layout, or why bounds are none
+abbrev pub or_bounds : Result Bounds LayoutFault → Result Bounds OptionFault
 or_bounds (Ok layout) = Ok layout
-or_bounds (Err other) = Err fault.Bounds
+or_bounds (Err other) = Err (fault.Bounds (NoLayout other))
 
 -- the layout whose bounds are a JSON array of keys
-unfoldable pub bounds_in : List ℕ → Result Bounds PlanFault
+unfoldable pub bounds_in : List ℕ → Result Bounds OptionFault
 bounds_in text = do
-  value ← ok_or (reading text) fault.Bounds
-  items ← ok_or (as_array value) fault.Bounds
+  value ← ok_or (reading text) (fault.Bounds NoJson)
+  items ← ok_or (as_array value) (fault.Bounds NoArray)
   keys ← each_in key_in items
   or_bounds (layout_of keys)

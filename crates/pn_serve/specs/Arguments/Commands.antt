@@ -1,5 +1,5 @@
 -- What `serve` and `replay` say with their options.
-use Rattle.std.specs.Prelude.{ℕ, Bool, ◌==◌, if◌then◌else◌, List, [], length, codes, Option, Some, None, unwrap_or, option_and_then, min, max, Result, Ok}
+use Rattle.std.specs.Prelude.{ℕ, Bool, ◌==◌, ◌&&◌, nat_lt, if◌then◌else◌, List, [], length, codes, Option, Some, None, unwrap_or, option_and_then, min, max, Result, Ok, Err}
 use Rattle.std.specs.Net.Grammar.{IsIpText}
 use Rattle.std.specs.Option.{ok_or}
 use Rattle.std.specs.Str.{bytes_eq}
@@ -14,8 +14,9 @@ use Rattle.pn_serve.specs.declared.arguments.options.TheConstants.{MAX_CONNECTIO
 use Rattle.pn_serve.specs.Settings.{SettingsValue}
 use Rattle.pn_serve.specs.Arguments.Bounds.{bounds_in}
 use Rattle.pn_serve.specs.Arguments.Streams.{streams_in}
-use Rattle.pn_serve.specs.declared.arguments.plans.PlanFault.{PlanFault}
-use Rattle.pn_serve.specs.declared.arguments.plans.PlanFault.TheVariants as fault
+use Rattle.pn_serve.specs.declared.arguments.faults.OptionFault.{OptionFault}
+use Rattle.pn_serve.specs.declared.arguments.faults.OptionFault.TheVariants as fault
+use Rattle.pn_serve.specs.declared.arguments.streams.TheConstants.{MAX_SOCKET_BYTES}
 use Rattle.pn_serve.specs.Arguments.PlanValues.{AddressValue, PlanValue, ServiceValue, path, port, replay, serve}
 
 -- the number that decimal digits write, in 32 bits
@@ -47,21 +48,32 @@ stay_in options = if is_set (codes "stay") options then Some (number_at (codes "
 abbrev pub idle_in : List Row → Option ℕ
 idle_in options = if is_absent (codes "idle") options then None else Some (number_at (codes "idle") MAX_IDLE options)
 
+-- with `--stay`, the path of the Unix socket is too long
+abbrev pub is_long : List Row → Bool
+is_long options = nat_lt MAX_SOCKET_BYTES (length (text_at (codes "socket") options)) && is_set (codes "stay") options
+
 -- a Unix socket, or else the port of this host
-abbrev pub address_in : IpAddr → List Row → AddressValue
+abbrev pub address_in : IpAddr → List Row → Result AddressValue OptionFault
 address_in host options =
-    if is_absent (codes "socket") options then port host (number_at (codes "port") MAX_PORT options)
-    else path (text_at (codes "socket") options)
+    if is_absent (codes "socket") options then Ok (port host (number_at (codes "port") MAX_PORT options))
+    else if is_long options then Err fault.Socket
+    else Ok (path (text_at (codes "socket") options))
 
 -- how sessions are served
-abbrev pub service_in : IpAddr → List Row → ServiceValue
-service_in host options = record {
-  sessions = number_at (codes "sessions") MAX_READERS options;
-  address = address_in host options;
-  stay = stay_in options;
-  idle = idle_in options;
-  is_progress_told = is_set (codes "progress") options;
-}
+abbrev pub service_in : IpAddr → List Row → Result ServiceValue OptionFault
+service_in host options = do
+  address ← address_in host options
+  Ok (record {
+    sessions = number_at (codes "sessions") MAX_READERS options;
+    address = address;
+    stay = stay_in options;
+    idle = idle_in options;
+    is_progress_told = is_set (codes "progress") options;
+  })
+
+-- the arguments of the streams
+abbrev pub stream_words : List Row → List Text
+stream_words options = unwrap_or (all_of (codes "streams") options) []
 
 -- the text of the host that is listened at
 abbrev pub listens_at : List Row → Text
@@ -73,21 +85,22 @@ Spells text None = (host : IpAddr) → ¬ (IsIpText text host)
 Spells text (Some host) = IsIpText text host
 
 -- the layout and the workers that options say
-abbrev pub settings_in : List Row → Result SettingsValue PlanFault
+abbrev pub settings_in : List Row → Result SettingsValue OptionFault
 settings_in options = do
   layout ← bounds_in (text_at (codes "bounds") options)
   Ok (record { layout = layout; workers = number_at (codes "workers") MAX_WORKERS options })
 
 -- what the options of `serve` say, where the text of the host writes this
-abbrev pub serve_in : Option IpAddr → List Row → Result PlanValue PlanFault
+abbrev pub serve_in : Option IpAddr → List Row → Result PlanValue OptionFault
 serve_in written options = do
   settings ← settings_in options
-  host ← ok_or written fault.Address
-  streams ← streams_in (unwrap_or (all_of (codes "streams") options) [])
-  Ok (serve settings (service_in host options) streams)
+  host ← ok_or written fault.Listen
+  service ← service_in host options
+  streams ← streams_in (is_set (codes "stay") options) (stream_words options)
+  Ok (serve settings service streams)
 
 -- what the options of `replay` say
-abbrev pub replay_in : List Row → Result PlanValue PlanFault
+abbrev pub replay_in : List Row → Result PlanValue OptionFault
 replay_in options = do
   settings ← settings_in options
   Ok (replay settings)
@@ -97,5 +110,5 @@ abbrev pub is_serve : Text × List Row → Bool
 is_serve command = bytes_eq command.0 (codes "serve")
 
 -- what a command says with its options, where the text of the host writes this
-abbrev pub plan_in : Option IpAddr → Text × List Row → Result PlanValue PlanFault
+abbrev pub plan_in : Option IpAddr → Text × List Row → Result PlanValue OptionFault
 plan_in written command = if is_serve command then serve_in written command.1 else replay_in command.1

@@ -8,10 +8,13 @@ use Rattle.pn_live.specs.declared.region.opening.TheConstants.{MAX_READERS}
 use Rattle.pn_serve.specs.Arguments.Options.{program}
 use Rattle.pn_serve.specs.declared.arguments.plans.Plan.{Plan}
 use Rattle.pn_serve.specs.declared.arguments.plans.Plan.TheVariants as plan
-use Rattle.pn_serve.specs.declared.arguments.plans.PlanFault.{PlanFault}
-use Rattle.pn_serve.specs.declared.arguments.plans.PlanFault.TheVariants as fault
+use Rattle.pn_serve.specs.declared.arguments.faults.OptionFault.{OptionFault}
+use Rattle.pn_serve.specs.declared.arguments.faults.OptionFault.TheVariants.{Memory}
+use Rattle.pn_serve.specs.declared.arguments.faults.PlanFault.{PlanFault}
+use Rattle.pn_serve.specs.declared.arguments.faults.PlanFault.TheVariants as fault
 use Rattle.pn_serve.specs.Arguments.PlanValues.{PlanValue, plan_value}
 use Rattle.pn_serve.specs.Arguments.Commands.{Spells, is_serve, listens_at, plan_in}
+use Rattle.pn_serve.specs.Arguments.Faults.{FaultValue, fault_value, told_fault}
 use Rattle.pn_json.specs.Answers.{ShowsUnless}
 
 -- what the text of the host writes, of a command that listens
@@ -19,19 +22,37 @@ abbrev pub Reads : Text × List Row → Option IpAddr → Type 0
 Reads command written = is_serve command ≡ true → Spells (listens_at command.1) written
 
 -- a command and its options give this plan, or their first fault
-pub record Gives (command : Text × List Row) (result : Result Plan PlanFault) : Type 0 where
+pub record Gives (command : Text × List Row) (result : Result Plan OptionFault) : Type 0 where
   pub written : Option IpAddr
   pub reads : Reads command written
-  pub shows : ShowsUnless fault.Memory plan_value result (plan_in written command)
+  pub shows : ShowsUnless Memory plan_value result (plan_in written command)
+
+-- what options say is this plan, or a fault that is told as this one
+abbrev pub Shown : List Row → Result Plan PlanFault → Result PlanValue OptionFault → Type 0
+Shown options (Ok planned) said = said ≡ Ok (plan_value planned)
+Shown options (Err fault.Memory) said = ⊤
+Shown options (Err found) said = (first : OptionFault) × (said ≡ Err first) × (told_fault options first ≡ fault_value found)
+
+-- a command and its options give this plan, or their first fault is told
+pub record Tells (command : Text × List Row) (result : Result Plan PlanFault) : Type 0 where
+  pub written : Option IpAddr
+  pub reads : Reads command written
+  pub shows : Shown command.1 result (plan_in written command)
 
 -- `clap` accepts the arguments, and their command says this
-pub record Says (words : List Text) (said : Result PlanValue PlanFault) : Type 0 where
+pub record Says (words : List Text) (said : Result PlanValue OptionFault) : Type 0 where
   pub taken : fault_of program words ≡ []
   pub command : Text × List Row
   pub found : subcommand_of program words ≡ Some command
   pub written : Option IpAddr
   pub reads : Reads command written
   pub means : plan_in written command ≡ said
+
+-- `clap` accepts the arguments, and the first fault of their command is told as this one
+pub record IsTold (words : List Text) (told : FaultValue) : Type 0 where
+  pub first : OptionFault
+  pub says : Says words (Err first)
+  pub tells : told_fault says.command.1 first ≡ told
 
 -- `clap` refuses the arguments, and they ask neither for help nor for the version
 pub record IsRefused (words : List Text) : Type 0 where
@@ -47,7 +68,7 @@ Plans words (Ok (plan.Version text)) = IsAmong DisplayVersion (fault_of program 
 Plans words (Ok planned) = Says words (Ok (plan_value planned))
 Plans words (Err (fault.Words text)) = IsRefused words
 Plans words (Err fault.Memory) = ⊤
-Plans words (Err found) = Says words (Err found)
+Plans words (Err found) = IsTold words (fault_value found)
 
 -- what is answered if `clap` accepts no arguments
 abbrev pub Answers : ErrorKind → Result Plan PlanFault → Type 0

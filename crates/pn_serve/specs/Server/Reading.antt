@@ -1,50 +1,50 @@
 -- All rounds of a live region that reads streams.
-use Rattle.std.specs.Prelude.{◌≡◌, ◌⊎◌, ℕ, ◌+◌, ◌≤◌, List, [], ◌∷◌, None, Result, Ok, Err}
-use Rattle.pn_stream.specs.Batches.{Stream}
+use Rattle.std.specs.Prelude.{◌≡◌, ◌≢◌, ◌⊎◌, ℕ, List, [], ◌∷◌, length, Result, Ok, Err}
 use Rattle.pn_live.specs.LiveRegions.{LiveRegionValue}
-use Rattle.pn_serve.specs.Server.Rounds.{RoundInputValue, IsSmall, TakesInput}
+use Rattle.pn_serve.specs.Server.Gathering.{IsInputOf}
+use Rattle.pn_serve.specs.Server.Rounds.{RoundInputValue, CanBeTaken, TakesInput}
 use Rattle.pn_serve.specs.declared.server.fault.ServeFault.{ServeFault}
 use Rattle.pn_serve.specs.declared.server.fault.ServeFault.TheVariants.{Start, Round}
+use Rattle.pn_serve.specs.declared.server.mailboxes.AtFault.{AtFault}
+use Rattle.pn_serve.specs.declared.server.mailboxes.AtFault.TheVariants.{GoOn}
 
--- these inputs, each from at most this many streams, were taken, round by round
-abbrev pub AllTaken : ℕ → LiveRegionValue → List RoundInputValue → LiveRegionValue → Type 0
-AllTaken streams old [] new = new ≡ old
-AllTaken streams old (input ∷ later) new =
-    (between : LiveRegionValue) × IsSmall streams input × TakesInput input old between (Ok input.ended) × AllTaken streams between later new
+-- the input that these streams gave over the region's marks was taken so, and can be taken; these streams go on
+pub record RunsRound (at_fault : AtFault) (names : List (List ℕ)) (old : LiveRegionValue) (input : RoundInputValue) (left : List (List ℕ)) (new : LiveRegionValue) (run : Result (Unit {0}) ServeFault) : Type 0 where
+  pub gathered : IsInputOf names old.marks input left
+  pub fits : CanBeTaken (length names) old.marks input
+  pub takes : TakesInput at_fault input old new run
 
--- how many streams ended
-abbrev pub ends_of : List RoundInputValue → ℕ
-ends_of [] = 0
-ends_of (input ∷ later) = input.ended + ends_of later
+-- these inputs were taken, round by round, each of the streams that still went on; and these streams go on
+abbrev pub AllTaken : AtFault → List (List ℕ) → LiveRegionValue → List RoundInputValue → List (List ℕ) → LiveRegionValue → Type 0
+AllTaken at_fault names old [] left new = (left ≡ names) × (new ≡ old)
+AllTaken at_fault names old (input ∷ later) left new = (between : LiveRegionValue) × (still : List (List ℕ))
+    × (names ≢ []) × RunsRound at_fault names old input still between (Ok tt) × AllTaken at_fault still between later left new
 
--- every round went well, and all streams ended
-pub record ReadToEnds (streams : ℕ) (old new : LiveRegionValue) : Type 0 where
+-- every round went well, until each stream had ended
+pub record ReadToEnds (at_fault : AtFault) (names : List (List ℕ)) (old new : LiveRegionValue) : Type 0 where
   pub rounds : List RoundInputValue
-  pub taken : AllTaken streams old rounds new
-  pub ended : streams ≤ ends_of rounds
+  pub taken : AllTaken at_fault names old rounds [] new
 
 -- the next round has this fault, or there was no memory for its input
-abbrev pub StopsAt : ℕ → LiveRegionValue → LiveRegionValue → ServeFault → Type 0
-StopsAt streams old new fault =
-    ((input : RoundInputValue) × IsSmall streams input × TakesInput input old new (Err fault)) ⊎ ((fault ≡ Round) × (new ≡ old))
+abbrev pub StopsAt : AtFault → List (List ℕ) → LiveRegionValue → LiveRegionValue → ServeFault → Type 0
+StopsAt at_fault names old new fault =
+    ((input : RoundInputValue) × (left : List (List ℕ)) × RunsRound at_fault names old input left new (Err fault)) ⊎ ((fault ≡ Round) × (new ≡ old))
 
 -- some rounds went well, and the next has this fault
-pub record ReadUpTo (streams : ℕ) (old new : LiveRegionValue) (fault : ServeFault) : Type 0 where
+pub record ReadUpTo (at_fault : AtFault) (names : List (List ℕ)) (old new : LiveRegionValue) (fault : ServeFault) : Type 0 where
   pub rounds : List RoundInputValue
   pub last : LiveRegionValue
-  pub taken : AllTaken streams old rounds last
-  pub stops : StopsAt streams last new fault
+  pub still : List (List ℕ)
+  pub taken : AllTaken at_fault names old rounds still last
+  pub stops : StopsAt at_fault still last new fault
 
 -- all streams were read, or a fault came
-abbrev pub RunsRounds : {T : Type 0} → ℕ → LiveRegionValue → LiveRegionValue → Result T ServeFault → Type 0
-RunsRounds streams old new (Ok done) = ReadToEnds streams old new
-RunsRounds streams old new (Err fault) = ReadUpTo streams old new fault
+abbrev pub RunsRounds : {T : Type 0} → AtFault → List (List ℕ) → LiveRegionValue → LiveRegionValue → Result T ServeFault → Type 0
+RunsRounds at_fault names old new (Ok done) = ReadToEnds at_fault names old new
+RunsRounds at_fault names old new (Err fault) = ReadUpTo at_fault names old new fault
 
--- all streams were read that are opened again, or a fault came; none was read if their threads were refused
-abbrev pub ReadsStreams : ℕ → LiveRegionValue → LiveRegionValue → Result (Unit {0}) ServeFault → Type 0
-ReadsStreams streams old new (Err Start) = new ≡ old
-ReadsStreams streams old new read = RunsRounds streams old new read
-
--- the stream begins with its first message
-abbrev pub IsAnew : {S : Type 0} → Stream S → Type 0
-IsAnew stream = (stream.position ≡ 0) × (stream.part ≡ []) × (stream.fault ≡ None)
+-- all streams of these names were read, of which a fault ends one alone, or a round was refused; none was read if their threads
+-- were refused
+abbrev pub ReadsStreams : List (List ℕ) → LiveRegionValue → LiveRegionValue → Result (Unit {0}) ServeFault → Type 0
+ReadsStreams names old new (Err Start) = new ≡ old
+ReadsStreams names old new read = RunsRounds GoOn names old new read

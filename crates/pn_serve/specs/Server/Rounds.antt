@@ -1,26 +1,34 @@
 -- Rounds of what streams gave, one after another.
-use Rattle.std.specs.Prelude.{◌≡◌, ◌⊎◌, ℕ, ◌≤◌, List, length, All, Option, None, Some, Result, Ok, Err}
+use Rattle.std.specs.Prelude.{◌≡◌, ◌⊎◌, ℕ, ◌+◌, ◌≤◌, List, length, All, Option, None, Some, Result, Ok, Err}
+use Rattle.pn_join.specs.Marks.{Positions, position_of}
 use Rattle.pn_stream.specs.Positions.{DeliveryValue}
 use Rattle.pn_tablet.specs.Refusals.{Refuses}
 use Rattle.pn_region.specs.Logged.{with_notices}
 use Rattle.pn_region.specs.Marking.{is_memory}
 use Rattle.pn_region.specs.Rounds.{round}
 use Rattle.pn_region.specs.declared.fault.RoundFault.{RoundFault}
+use Rattle.pn_region.specs.declared.fault.RoundFault.TheVariants.{Gap, TooManyStreams, Memory}
 use Rattle.pn_live.specs.LiveRegions.{LiveRegionValue, core, tablets_after_round, LeavesLive}
 use Rattle.pn_serve.specs.Server.Messages.{FitRound}
 use Rattle.pn_serve.specs.declared.server.fault.ServeFault.{ServeFault}
 use Rattle.pn_serve.specs.declared.server.fault.ServeFault.TheVariants.{Stream, Round}
+use Rattle.pn_serve.specs.declared.server.mailboxes.AtFault.{AtFault}
+use Rattle.pn_serve.specs.declared.server.mailboxes.AtFault.TheVariants.{Stop, GoOn}
 
--- what streams gave for one round: their messages, how many ended, and the first that has a fault
+-- what streams gave for one round: their messages, and the first stream that has a fault
 pub record RoundInputValue : Type 0 where
   pub deliveries : List DeliveryValue
-  pub ended : ℕ
   pub fault : Option (List ℕ)
 
--- 1 to 1,000 messages of each of at most this many streams
-pub record IsSmall (streams : ℕ) (input : RoundInputValue) : Type 0 where
+-- the delivery begins at most one past what was taken of its stream
+abbrev pub Continues : Positions → DeliveryValue → Type 0
+Continues marks delivery = delivery.first ≤ position_of marks delivery.stream + 1
+
+-- 1 to 1,000 messages of each of at most this many streams, which continue what was taken
+pub record CanBeTaken (streams : ℕ) (marks : Positions) (input : RoundInputValue) : Type 0 where
   pub fit : All FitRound input.deliveries
   pub few : length input.deliveries ≤ streams
+  pub continues : All (Continues marks) input.deliveries
 
 -- the live region took the round
 pub record IsRoundTaken (old : LiveRegionValue) (deliveries : List DeliveryValue) (new : LiveRegionValue) : Type 0 where
@@ -28,16 +36,28 @@ pub record IsRoundTaken (old : LiveRegionValue) (deliveries : List DeliveryValue
   pub published : new.tablets ≡ tablets_after_round old deliveries new.marks
   pub noted : new.log ≡ with_notices old.log (core old) (core new)
 
--- the live region refused the round
+-- the fault is no gap
+abbrev pub IsNoGap : RoundFault → Type 0
+IsNoGap (Gap stream wanted got) = ⊥
+IsNoGap TooManyStreams = Unit {0}
+IsNoGap Memory = Unit {0}
+
+-- the live region refused the round, for want of memory or since there were too many streams
 pub record IsRoundRefused (old : LiveRegionValue) (deliveries : List DeliveryValue) (new : LiveRegionValue) : Type 0 where
   pub fault : RoundFault
+  pub no_gap : IsNoGap fault
   pub refused : Refuses is_memory fault (round (core old) deliveries)
   pub left : LeavesLive fault old deliveries new
 
--- the round was run, and a stream's fault outranks the round's
-abbrev pub TakesInput : RoundInputValue → LiveRegionValue → LiveRegionValue → Result ℕ ServeFault → Type 0
-TakesInput input old new (Ok ended) = (input.fault ≡ None) × (ended ≡ input.ended) × IsRoundTaken old input.deliveries new
-TakesInput input old new (Err (Stream name)) =
-    (input.fault ≡ Some name) × (IsRoundTaken old input.deliveries new ⊎ IsRoundRefused old input.deliveries new)
-TakesInput input old new (Err Round) = (input.fault ≡ None) × IsRoundRefused old input.deliveries new
-TakesInput input old new (Err fault) = ⊥
+-- the stream with a fault, if that stops all streams
+abbrev pub stopping : AtFault → Option (List ℕ) → Option (List ℕ)
+stopping Stop fault = fault
+stopping GoOn fault = None
+
+-- the round was run, and the fault of a stream that stops all outranks the round's
+abbrev pub TakesInput : AtFault → RoundInputValue → LiveRegionValue → LiveRegionValue → Result (Unit {0}) ServeFault → Type 0
+TakesInput at_fault input old new (Ok done) = (stopping at_fault input.fault ≡ None) × IsRoundTaken old input.deliveries new
+TakesInput at_fault input old new (Err (Stream name)) =
+    (stopping at_fault input.fault ≡ Some name) × (IsRoundTaken old input.deliveries new ⊎ IsRoundRefused old input.deliveries new)
+TakesInput at_fault input old new (Err Round) = (stopping at_fault input.fault ≡ None) × IsRoundRefused old input.deliveries new
+TakesInput at_fault input old new (Err fault) = ⊥

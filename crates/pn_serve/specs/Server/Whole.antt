@@ -4,7 +4,7 @@ use Rattle.pn_join.specs.Marks.{Positions, position_of}
 use Rattle.pn_record.specs.declared.image.Image.{Image}
 use Rattle.pn_stream.specs.Batches.{Stream, SoFar}
 use Rattle.pn_stream.specs.Streams.{Run, NoLine}
-use Rattle.pn_serve.specs.declared.server.stream_threads.StreamEnd.{StreamEnd}
+use Rattle.pn_serve.specs.declared.server.reporting.StreamEnd.{StreamEnd}
 
 -- the text is messages in step after this position, up to this last one, and then no whole line
 pub record IsAllMessages (position : ℕ) (text : List ℕ) (last : ℕ) : Type 0 where
@@ -34,8 +34,3 @@ pub record IsReadUpTo (position : ℕ) (text : List ℕ) (last : ℕ) (part : Li
   pub images : List Image
   pub read : SoFar position text images part left
   pub last_is : last ≡ position + length images
-
--- unless a fault waits in the stream, messages in step were read of it
-abbrev pub WasRead : {S : Type 0} → (S → Option (List ℕ)) → Stream S → Stream S → Type 0
-WasRead left old new = new.fault ≡ None
-    → (old.fault ≡ None) × IfSome (left old.source) (λ text. IsReadUpTo old.position (old.part ++ text) new.position new.part (left new.source))

@@ -5,7 +5,7 @@ ghost use Rattle.clap.specs.Words.{Row, Text, app_of, first_of, found_of, new_ap
 ghost use Rattle.clap.specs.declared.builder.command.Command.TheViews.{out-Command};
 ghost use Rattle.clap.specs.declared.builder.value_parser.ValueParser.TheVariants as values;
 ghost use Rattle.pn_serve.specs.Arguments.Options.{bounds_option, flag_option, number_option, option_of, plain_option, program, serve as serve_app, streams_words, workers_option};
-ghost use Rattle.pn_serve.specs.Arguments.Commands.{number_at, number_in};
+ghost use Rattle.pn_serve.specs.Arguments.Commands.{is_set, number_at, number_in};
 
 use clap::builder::ValueParser;
 use clap::{Arg, ArgAction, ArgMatches, Command};
@@ -35,7 +35,7 @@ const REPLAY_ABOUT: &str =
     "Answers the script on standard input, a reply a line, on standard output";
 
 const SERVE_ABOUT: &str =
-    "Reads streams from files while it serves sessions over TCP or a Unix socket";
+    "Reads streams from files or sockets while it serves sessions over TCP or a Unix socket";
 
 /// The examples of `pnuts replay --help`.
 const REPLAY_EXAMPLES: &str = "\
@@ -48,7 +48,7 @@ const SERVE_EXAMPLES: &str = "\
 Examples:
   pnuts serve --sessions 2 --bounds '[\"g\",\"p\"]' --workers 3 east=east.log west=west.log
   pnuts serve --stay --connections 64 --listen ::1 --port 7071 east=/run/pnuts/east
-  pnuts serve --stay --socket /run/pnuts/socket --idle 60 --progress east=/run/pnuts/east";
+  pnuts serve --stay --socket /run/pnuts/socket --idle 60 --progress east=listen:/run/pnuts/east";
 
 const BOUNDS_HELP: &str =
     "The keys that divide all keys into tablets: a JSON array of up to 63, each less than the next";
@@ -65,7 +65,7 @@ const SOCKET_HELP: &str =
     "A Unix socket that is listened on in place of a port; only its owner may connect";
 
 const STAY_HELP: &str =
-    "Goes on until a signal ends it, and opens a FIFO again once its writer is gone";
+    "Goes on until a signal ends it, and reads one writer of a FIFO or socket after another";
 
 const CONNECTIONS_HELP: &str = "With --stay: how many connections are served at once: 1 to 65536";
 
@@ -74,6 +74,9 @@ const IDLE_HELP: &str =
 
 const PROGRESS_HELP: &str =
     "Says on standard error how far it is, once a second while something changes";
+
+const STREAMS_HELP: &str = "A stream's name and the file of its messages, or, with --stay, \
+     listen:PATH, a Unix socket for their writer; for 1 to 16 streams";
 
 /// The program's commands and options.
 pub(crate) fn command<'w>(alloc: Global) -> Result<Command<'w>, AllocError>
@@ -151,7 +154,7 @@ fn streams<'w>(alloc: Global) -> Arg<'w>
         .value_name("NAME=PATH")
         .action(ArgAction::Append)
         .required(true)
-        .help("A stream's name and the file of its messages, for 1 to 16 streams")
+        .help(STREAMS_HELP)
 }
 
 // An option with one value, and its default.
@@ -245,6 +248,13 @@ pub(crate) fn option_text<'w>(options: &ArgMatches<'w>, name: &str) -> &'w str
         Some(text) => text,
         None => "",
     }
+}
+
+/// Whether an option without value is given.
+pub(crate) fn is_given(options: &ArgMatches<'_>, name: &str) -> bool
+    ensures { result ≡ is_set name.now (rows_of (found_of options.now)) }
+{
+    option_text(options, name) == "true"
 }
 
 /// A number among the arguments is as written where it is from 1 to the option's most, 1 where none is written, and in

@@ -1,13 +1,8 @@
-//! Plans of the program's arguments, and why they are refused.
-
-ghost use Rattle.std.specs.Prelude.{◌≡◌};
-ghost use Rattle.pn_serve.specs.declared.arguments.plans.PlanFault.TheVariants.{Memory as no_memory};
+//! Plans of the program's arguments.
 
 use crate::Settings;
 use pn_join::Name;
-use std::alloc::AllocError;
 use std::net::IpAddr;
-use thiserror::Error;
 
 /// What the program's arguments ask for.
 #[derive(Debug, Drop)]
@@ -18,8 +13,8 @@ pub enum Plan {
     Serve {
         settings: Settings,
         service: Service,
-        /// The names of 1 to 16 streams, each once, with the paths of their files.
-        streams: Vec<(Name, String)>,
+        /// The names of 1 to 16 streams, each once, and where each is read.
+        streams: Vec<(Name, StreamPath)>,
     },
     /// Show this help.
     Help(String),
@@ -50,29 +45,11 @@ pub enum Address {
     Path(String),
 }
 
-/// Why arguments are refused.
-#[derive(Debug, Drop, Error)]
-pub enum PlanFault {
-    /// `clap` refuses them; the text says why.
-    #[error("{0}")]
-    Words(String),
-    /// The bounds are not a JSON array of rising keys.
-    #[error("bounds")]
-    Bounds,
-    /// The address is none of IPv4 or IPv6.
-    #[error("address")]
-    Address,
-    /// A stream has no `=`, no name, no path or another's name, or there are more than 16.
-    #[error("stream")]
-    Stream,
-    #[error("memory")]
-    Memory,
-}
-
-impl From<AllocError> for PlanFault {
-    ghost from_gives = { λ _ fault. fault ≡ no_memory };
-
-    fn from(_fault: AllocError) -> PlanFault {
-        PlanFault::Memory
-    }
+/// Where a stream is read.
+#[derive(Debug, Drop)]
+pub enum StreamPath {
+    /// From the file of a path.
+    File(String),
+    /// With `--stay`, on a Unix socket that is listened on, of a path of 1 to 107 bytes.
+    Listen(String),
 }

@@ -1,34 +1,79 @@
 //! The mailboxes in which the threads of streams leave reports, and the wakeup of the thread that takes them.
 
-ghost use Rattle.std.specs.Prelude.{◌≡◌, ◌≢◌, ◌+◌, [], ◌∷◌, ◌++◌, map, vec_len, None, IfOk, OnOk, MatchBool, MatchOption};
+ghost use Rattle.std.specs.Prelude.{◌≡◌, ◌≢◌, [], ◌∷◌, ◌++◌, map, vec_len, None, IfOk, IfSome, OnOk, MatchBool, MatchOption};
+ghost use Rattle.pn_serve.specs.Server.Reports.{name_in};
+ghost use Rattle.pn_serve.specs.Server.Rounds.{stopping};
 ghost use Rattle.pn_serve.specs.declared.server.mailboxes.Held.TheVariants.{Nothing, Left, Closed};
 
 use crate::server::counter::Counter;
 use crate::server::reports::Report;
-use pn_join::StreamName;
+use pn_join::{Marks, StreamName};
 use std::alloc::{AllocError, Global};
 use std::mem;
 use std::sync::{Arc, Condvar, Mutex, Wait};
 
-/// The mailboxes of all streams, what wakes the thread that takes their reports, and the count of its rounds where
-/// somebody looks at it.
+/// The mailboxes of the streams that are read, what wakes the thread that takes their reports, and the count of its rounds
+/// where somebody looks at it.
 #[derive(Drop)]
 pub(crate) struct StreamMailboxes {
     pub(crate) streams: Vec<StreamMailbox>,
+    pub(crate) at_fault: AtFault,
     pub(crate) wakeup: Arc<Wakeup>,
     pub(crate) rounds: Option<Arc<Counter>>,
 }
 
-/// The mailbox of the stream of a name.
+/// What follows from a stream's fault.
+#[derive(Clone, Copy, Debug, PartialEq, Eq)]
+pub(crate) enum AtFault {
+    /// No stream is read any more.
+    Stop,
+    /// The others are read on.
+    GoOn,
+}
+
+/// The mailbox of the stream of a name, and where its mark is shown.
 #[derive(Drop)]
 pub(crate) struct StreamMailbox {
     pub(crate) name: StreamName,
     pub(crate) mailbox: Arc<Mailbox>,
+    pub(crate) taken: Option<Arc<Counter>>,
+}
+
+impl AtFault {
+    /// The stream with a fault, if that stops all streams.
+    pub(crate) fn stopping(self, fault: Option<StreamName>) -> Option<StreamName>
+        ensures { result ≡ stopping self fault }
+    {
+        match self {
+            AtFault::Stop => fault,
+            AtFault::GoOn => None,
+        }
+    }
+}
+
+impl StreamMailbox {
+    /// Takes the stream's report, if there is one. A report of another stream is dropped.
+    pub(crate) fn take<R: Wait>(&self, rt: &R) -> Option<Report>
+        ensures { IfSome result (λ report. name_in report ≡ self.now.name) }
+    {
+        match self.mailbox.take(rt) {
+            Some(report) if report.is_of(&self.name) => Some(report),
+            _ => None,
+        }
+    }
+
+    // Shows how far the stream was taken.
+    fn show(&self, marks: &Marks) {
+        if let Some(taken) = &self.taken {
+            taken.set(marks.position(&self.name));
+        }
+    }
 }
 
 /// Where the thread of a stream leaves its reports.
 #[derive(Drop)]
 pub(crate) struct Reporter {
+    pub(crate) name: StreamName,
     mailbox: Arc<Mailbox>,
     wakeup: Arc<Wakeup>,
 }
@@ -38,38 +83,44 @@ impl StreamMailboxes {
     pub(crate) fn new(
         alloc: Global,
         streams: usize,
+        at_fault: AtFault,
         rounds: Option<Arc<Counter>>,
     ) -> Result<StreamMailboxes, AllocError>
+        ensures at_fault { IfOk result (λ mailboxes. mailboxes.at_fault ≡ at_fault) }
         ensures none { IfOk result (λ mailboxes. mailboxes.streams.items ≡ []) }
         ensures count { IfOk result (λ mailboxes. vec_len mailboxes.streams ≡ 0) }
     {
         Ok(StreamMailboxes {
             streams: Vec::with_capacity(alloc, streams)?,
+            at_fault,
             wakeup: Arc::new(alloc, Wakeup::new())?,
             rounds,
         })
     }
 
     /// Adds the mailbox of a stream. Answers where its thread leaves reports.
-    pub(crate) fn add(&mut self, alloc: Global, name: StreamName) -> Result<Reporter, AllocError>
+    pub(crate) fn add(
+        &mut self,
+        alloc: Global,
+        name: StreamName,
+        taken: Option<Arc<Counter>>,
+    ) -> Result<Reporter, AllocError>
         ensures names { OnOk result (map (λ stream. stream.name) self.new.streams.items
             ≡ map (λ stream. stream.name) self.old.streams.items ++ name ∷ []) }
-        ensures one { OnOk result (vec_len self.new.streams ≡ vec_len self.old.streams + 1) }
+        ensures at_fault { OnOk result (self.new.at_fault ≡ self.old.at_fault) }
     {
         let mailbox = Arc::new(alloc, Mailbox::new())?;
         let reporter = Reporter {
+            name,
             mailbox: Arc::try_clone(&mailbox)?,
             wakeup: Arc::try_clone(&self.wakeup)?,
         };
-        self.streams.push(StreamMailbox { name, mailbox })?;
+        self.streams.push(StreamMailbox {
+            name,
+            mailbox,
+            taken,
+        })?;
         Ok(reporter)
-    }
-
-    /// How many streams leave reports.
-    pub(crate) fn len(&self) -> usize
-        ensures { result ≡ vec_len self.now.streams }
-    {
-        self.streams.len()
     }
 
     /// Waits until a report is left, or was left since the last call.
@@ -77,10 +128,13 @@ impl StreamMailboxes {
         self.wakeup.wait(rt);
     }
 
-    /// Counts a round that was run.
-    pub(crate) fn count_round(&self) {
+    /// Counts a round that was run, and shows how far it took the streams.
+    pub(crate) fn count_round(&self, marks: &Marks) {
         if let Some(rounds) = &self.rounds {
             rounds.add(1);
+        }
+        for stream in self.streams.iter() {
+            stream.show(marks);
         }
     }
 

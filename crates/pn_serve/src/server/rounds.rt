@@ -1,24 +1,25 @@
 //! Rounds of the messages that streams report.
 
-ghost use Rattle.std.specs.Prelude.{◌≡◌, ◌+◌, ◌<◌, ◌≤◌, [], map, vec_len, vec_capacity, All, Contains, None, Some, Ok, Err, IfOk, IfErr, IfSome, OnOk, OnErr, MatchResult};
+ghost use Rattle.std.specs.Prelude.{◌≡◌, ◌+◌, ◌<◌, ◌≤◌, [], length, map, vec_len, vec_capacity, All, true, None, Ok, Err, IfOk, IfErr, IfSome, OnOk, OnErr, MatchResult};
 ghost use Rattle.pn_apply.specs.declared.reducing.TheConstants.{MAX_WORKERS};
 ghost use Rattle.pn_live.specs.Prelude.{tablets_in};
-ghost use Rattle.pn_serve.specs.Server.Faults.{IsOfRounds};
-ghost use Rattle.pn_serve.specs.Server.Gathering.{IsInputOf, no_input, value_of, with_report};
+ghost use Rattle.pn_region.specs.Marking.{leaves_gap};
+ghost use Rattle.pn_serve.specs.Server.Gathering.{IsInputOf, first_fault, goes_on, no_input, value_of, with_report};
 ghost use Rattle.pn_serve.specs.Server.Messages.{FitRound};
 ghost use Rattle.pn_serve.specs.Server.Reading.{RunsRounds};
-ghost use Rattle.pn_serve.specs.Server.Rounds.{IsRoundRefused, IsRoundTaken, IsSmall, TakesInput};
+ghost use Rattle.pn_serve.specs.Server.Rounds.{CanBeTaken, Continues, IsRoundRefused, IsRoundTaken, TakesInput, stopping};
 
 use crate::ServeFault;
-use crate::server::mailboxes::StreamMailboxes;
+use crate::server::mailboxes::{AtFault, StreamMailbox, StreamMailboxes};
 use crate::server::messages::Messages;
 use crate::server::reports::Report;
 use pn_apply::Open;
-use pn_join::StreamName;
+use pn_join::{Marks, StreamName};
 use pn_live::{Front, LiveRegion};
 use pn_region::{Round, RoundFault};
 use pn_stream::Delivery;
 use std::alloc::{AllocError, Global};
+use std::mem;
 use std::sync::Wait;
 use std::thread::Threads;
 
@@ -27,8 +28,6 @@ use std::thread::Threads;
 struct RoundInput {
     /// The messages of the streams that have some.
     deliveries: Vec<Delivery>,
-    /// How many streams are at their end.
-    ended: usize,
     /// The first stream with a fault.
     fault: Option<StreamName>,
 }
@@ -39,101 +38,129 @@ pub(crate) fn run_rounds<R: Threads + Wait + Sync>(
     alloc: Global,
     live: &mut LiveRegion,
     workers: usize,
-    mailboxes: &StreamMailboxes,
+    mailboxes: &mut StreamMailboxes,
 ) -> Result<(), ServeFault>
     requires workers { (1 ≤ workers) × (workers ≤ MAX_WORKERS) }
-    ensures reads { RunsRounds (vec_len mailboxes.now.streams) live.old live.new result }
-    ensures named { IfErr result (IsOfRounds (map (λ stream. stream.name) mailboxes.now.streams.items)) }
+    ensures reads { RunsRounds mailboxes.old.at_fault (map (λ stream. stream.name) mailboxes.old.streams.items) live.old live.new result }
     ensures same { tablets_in live.new ≡ tablets_in live.old }
 {
-    let mut reading = mailboxes.len();
     for _ in rt.forever() {
-        if reading == 0 {
+        if mailboxes.streams.is_empty() {
             return Ok(());
         }
         mailboxes.wait(rt);
-        let input = gather(rt, alloc, mailboxes)?;
-        let ended = run_round(rt, live, workers, input)?;
-        mailboxes.count_round();
-        reading = reading.saturating_sub(ended);
+        let input = gather(rt, alloc, mailboxes, live.marks())?;
+        run_round(rt, live, workers, mailboxes.at_fault, input)?;
+        mailboxes.count_round(live.marks());
     }
     unreachable!()
 }
 
-// Takes one report of each stream that has one. The fault is out of memory, before a report is taken.
+// Takes one report of each stream that has one. The streams that ended are read no more. The fault is out of memory, before a
+// report is taken.
 fn gather<R: Wait>(
     rt: &R,
     alloc: Global,
-    mailboxes: &StreamMailboxes,
+    mailboxes: &mut StreamMailboxes,
+    marks: &Marks,
 ) -> Result<RoundInput, ServeFault>
-    ensures gathered { IfOk result (λ input. IsInputOf (map (λ stream. stream.name) mailboxes.now.streams.items) (value_of input)) }
-    ensures small { IfOk result (λ input. IsSmall (vec_len mailboxes.now.streams) (value_of input)) }
-    ensures named { IfOk result (λ input. IfSome input.fault (Contains (map (λ stream. stream.name) mailboxes.now.streams.items))) }
+    ensures gathered { IfOk result (λ input. IsInputOf (map (λ stream. stream.name) mailboxes.old.streams.items) marks.now (value_of input)
+        (map (λ stream. stream.name) mailboxes.new.streams.items)) }
+    ensures fits { IfOk result (λ input. CanBeTaken (length mailboxes.old.streams.items) marks.now (value_of input)) }
     ensures fault { IfErr result (λ fault. fault ≡ ServeFault.Round) }
+    ensures at_fault { mailboxes.new.at_fault ≡ mailboxes.old.at_fault }
 {
-    let Ok(mut input) = new_input(alloc, mailboxes.len()) else {
+    let Ok((mut input, left)) = new_input(alloc, mailboxes.streams.len()) else {
         return Err(ServeFault::Round);
     };
-    for stream in mailboxes.streams.iter() {
-        let report = stream.mailbox.take(rt);
-        add_note(&mut input, &stream.name, report);
+    let streams = mem::replace(&mut mailboxes.streams, left);
+    for stream in streams {
+        let report = stream.take(rt);
+        if add_note(&mut input, marks, &stream.name, report) {
+            mailboxes.streams.push_reserved(stream);
+        } else {
+            stream.mailbox.close(rt);
+        }
     }
     Ok(input)
 }
 
-// No reports, with capacity for those of this many streams.
-fn new_input(alloc: Global, streams: usize) -> Result<RoundInput, AllocError>
-    ensures none { IfOk result (λ input. value_of input ≡ no_input) }
-    ensures capacity { IfOk result (λ input. vec_capacity input.deliveries ≡ streams) }
+// No reports, with capacity for those of this many streams, and no mailbox, with capacity for theirs.
+fn new_input(alloc: Global, streams: usize) -> Result<(RoundInput, Vec<StreamMailbox>), AllocError>
+    ensures none { IfOk result (λ made. value_of made.0 ≡ no_input) }
+    ensures capacity { IfOk result (λ made. vec_capacity made.0.deliveries ≡ streams) }
+    ensures left { IfOk result (λ made. made.1.items ≡ []) }
+    ensures capacity_left { IfOk result (λ made. vec_capacity made.1 ≡ streams) }
 {
-    Ok(RoundInput {
+    let input = RoundInput {
         deliveries: Vec::with_capacity(alloc, streams)?,
-        ended: 0,
         fault: None,
-    })
+    };
+    Ok((input, Vec::with_capacity(alloc, streams)?))
 }
 
-// Adds what the mailbox of the stream of a name gave.
-fn add_note(input: &mut RoundInput, name: &StreamName, report: Option<Report>)
+// Adds what the mailbox of the stream of a name gave. Answers whether the stream is read on.
+fn add_note(
+    input: &mut RoundInput,
+    marks: &Marks,
+    name: &StreamName,
+    report: Option<Report>,
+) -> bool
     requires fits { vec_len input.old.deliveries < vec_capacity input.old.deliveries }
-    requires few { input.old.ended < vec_capacity input.old.deliveries }
-    ensures added { value_of input.new ≡ with_report (value_of input.old) name.now report }
+    ensures added { value_of input.new ≡ with_report marks.now (value_of input.old) name.now report }
+    ensures goes_on { result ≡ goes_on marks.now report }
     ensures fit { All FitRound input.old.deliveries.items → All FitRound input.new.deliveries.items }
+    ensures continues { All (Continues marks.now) input.old.deliveries.items → All (Continues marks.now) input.new.deliveries.items }
     ensures one { vec_len input.new.deliveries ≤ vec_len input.old.deliveries + 1 }
-    ensures end { input.new.ended ≤ input.old.ended + 1 }
     ensures capacity { vec_capacity input.new.deliveries ≡ vec_capacity input.old.deliveries }
 {
     match report {
-        Some(Report::Messages(Messages { delivery })) => input.deliveries.push_reserved(delivery),
-        Some(Report::End) => input.ended += 1,
-        Some(Report::Fault) => {
-            if input.fault.is_none() {
-                input.fault = Some(*name);
-            }
+        Some(Report::Messages(Messages { delivery })) if !is_gap(marks, &delivery) => {
+            input.deliveries.push_reserved(delivery);
+            true
         }
-        None => {}
+        Some(Report::End(_)) => false,
+        Some(_) => {
+            add_fault(&mut input.fault, name);
+            false
+        }
+        None => true,
     }
 }
 
-// Runs one round of what the mailboxes gave, also if a stream has a fault. Answers how many streams ended.
+// Notes the stream with a fault, unless an earlier one has a fault.
+fn add_fault(fault: &mut Option<StreamName>, name: &StreamName)
+    ensures { fault.new ≡ first_fault fault.old name.now true }
+{
+    if fault.is_none() {
+        *fault = Some(*name);
+    }
+}
+
+// Whether a delivery begins past the position after its stream's mark.
+fn is_gap(marks: &Marks, delivery: &Delivery) -> bool
+    ensures { result ≡ leaves_gap marks.now delivery.now }
+{
+    marks.position(delivery.stream()) < delivery.first() - 1
+}
+
+// Runs one round of what the mailboxes gave, also if a stream has a fault.
 fn run_round<R: Threads + Wait + Sync>(
     rt: &R,
     live: &mut LiveRegion,
     workers: usize,
+    at_fault: AtFault,
     input: RoundInput,
-) -> Result<usize, ServeFault>
+) -> Result<(), ServeFault>
     requires workers { (1 ≤ workers) × (workers ≤ MAX_WORKERS) }
     requires fit { All FitRound input.deliveries.items }
-    ensures takes { TakesInput (value_of input) live.old live.new result }
+    requires continues { All (Continues live.old.marks) input.deliveries.items }
+    ensures takes { TakesInput at_fault (value_of input) live.old live.new result }
     ensures same { tablets_in live.new ≡ tablets_in live.old }
 {
-    let RoundInput {
-        deliveries,
-        ended,
-        fault,
-    } = input;
+    let RoundInput { deliveries, fault } = input;
     let round = apply_deliveries(rt, live, workers, deliveries);
-    conclude_round(fault, ended, round)
+    conclude_round(at_fault.stopping(fault), round)
 }
 
 // Runs one round of messages, at most 1,000 of each stream.
@@ -145,6 +172,7 @@ fn apply_deliveries<R: Threads + Wait + Sync>(
 ) -> Result<(Round, Front), RoundFault>
     requires workers { (1 ≤ workers) × (workers ≤ MAX_WORKERS) }
     requires fit { All FitRound deliveries.items }
+    requires continues { All (Continues live.old.marks) deliveries.items }
     ensures taken { OnOk result (IsRoundTaken live.old deliveries.items live.new) }
     ensures refused { OnErr result (IsRoundRefused live.old deliveries.items live.new) }
     ensures same { tablets_in live.new ≡ tablets_in live.old }
@@ -152,18 +180,17 @@ fn apply_deliveries<R: Threads + Wait + Sync>(
     live.round(rt, deliveries, workers, &Open)
 }
 
-// How many streams ended, unless a stream has a fault, which outranks the round's.
+// That the round went well, unless a stream has a fault that stops them, which outranks the round's.
 fn conclude_round(
     fault: Option<StreamName>,
-    ended: usize,
     round: Result<(Round, Front), RoundFault>,
-) -> Result<usize, ServeFault>
+) -> Result<(), ServeFault>
     ensures stream { IfSome fault (λ name. result ≡ Err (ServeFault.Stream name)) }
-    ensures round { fault ≡ None → MatchResult round (λ _. result ≡ Ok ended) (λ _. result ≡ Err ServeFault.Round) }
+    ensures round { fault ≡ None → MatchResult round (λ _. result ≡ Ok tt) (λ _. result ≡ Err ServeFault.Round) }
 {
     match (fault, round) {
         (Some(name), _) => Err(ServeFault::Stream(name)),
         (None, Err(_)) => Err(ServeFault::Round),
-        (None, Ok(_)) => Ok(ended),
+        (None, Ok(_)) => Ok(()),
     }
 }

@@ -5,6 +5,7 @@ ghost use Rattle.pn_live.specs.Prelude.{tablets_in, tablets_of};
 ghost use Rattle.pn_serve.specs.Server.Sessions.{AllRead};
 
 use crate::server::counter::Counter;
+use crate::server::fault_log::FaultLog;
 use crate::session;
 use pn_live::{LiveReader, LiveRegion};
 use std::alloc::Global;
@@ -32,6 +33,9 @@ pub trait Acceptor: Drop {
 
     /// The counter of rounds, where somebody looks at it.
     fn round_counter(&self) -> Option<Arc<Counter>>;
+
+    /// Where faults of streams are noted, where somebody asks for them.
+    fn fault_log(&self) -> Option<Arc<FaultLog>>;
 }
 
 /// Promises that the reader comes back: it reads the same tablets.
@@ -128,6 +132,10 @@ impl Acceptor for TcpListener {
     }
 
     fn round_counter(&self) -> Option<Arc<Counter>> {
+        None
+    }
+
+    fn fault_log(&self) -> Option<Arc<FaultLog>> {
         None
     }
 }

@@ -1,14 +1,17 @@
-//! Reads streams, each in its own thread, which leaves reports in its mailbox.
+//! Reads streams of one writer each, each in its own thread, which leaves reports in its mailbox.
 
-ghost use Rattle.std.specs.Prelude.{◌≡◌, ◌≤◌, ◌∷◌, [], ◌++◌, map, vec_len, All, IfOk, IfErr, IsErr, OnOk, OnErr, MatchResult};
+ghost use Rattle.std.specs.Prelude.{◌≡◌, ◌≤◌, ◌∷◌, [], ◌++◌, map, All, IfOk, IfErr, IsErr, OnOk, OnErr, MatchResult};
 ghost use Rattle.pn_join.specs.Prelude.{position_of};
 ghost use Rattle.pn_serve.specs.Server.Faults.{NamesOne, names_of};
 ghost use Rattle.pn_serve.specs.Server.Whole.{EndsStream, IsTakenWhole};
+ghost use Rattle.pn_serve.specs.declared.server.mailboxes.AtFault.TheVariants.{Stop};
 
 use crate::ServeFault;
 use crate::server::counter::Counter;
-use crate::server::mailboxes::{Reporter, StreamMailboxes};
-use crate::server::reports::{name_of, next_report};
+use crate::server::fault_log::{FaultLog, OneWriter};
+use crate::server::mailboxes::{AtFault, Reporter, StreamMailboxes};
+use crate::server::reporting::{StreamEnd, report_stream};
+use crate::server::writer_input::WriterInput;
 use pn_join::{Marks, StreamName};
 use pn_line::Source;
 use pn_stream::StreamReader;
@@ -17,13 +20,6 @@ use std::snapshot::Snapshot;
 use std::sync::{Arc, Wait};
 use std::thread;
 use std::thread::{Promise, PromisedHandle, Threads};
-
-/// The end of a stream: its name, and the position of its last message.
-#[derive(Drop)]
-pub(crate) struct StreamEnd {
-    pub(crate) name: StreamName,
-    pub(crate) last: u64,
-}
 
 /// Promises that `Ok` means the whole stream was read. An error is the stream's name.
 #[derive(Drop)]
@@ -57,9 +53,10 @@ impl<S: Source + Drop> StartedStreams<S> {
     ) -> Result<StartedStreams<S>, AllocError>
         ensures threads { IfOk result (λ started. started.threads.items ≡ []) }
         ensures mailboxes { IfOk result (λ started. started.mailboxes.streams.items ≡ []) }
+        ensures at_fault { IfOk result (λ started. started.mailboxes.at_fault ≡ Stop) }
     {
         Ok(StartedStreams {
-            mailboxes: StreamMailboxes::new(alloc, streams, rounds)?,
+            mailboxes: StreamMailboxes::new(alloc, streams, AtFault::Stop, rounds)?,
             threads: Vec::with_capacity(alloc, streams)?,
         })
     }
@@ -71,6 +68,7 @@ pub(crate) fn start_streams<R, S>(
     alloc: Global,
     streams: Vec<StreamReader<S>>,
     rounds: Option<Arc<Counter>>,
+    faults: Option<Arc<FaultLog>>,
 ) -> Result<StartedStreams<S>, ServeFault>
 where
     R: Threads + Wait + Copy + Send + 'static,
@@ -78,12 +76,13 @@ where
     ensures fault { IfErr result (λ fault. fault ≡ ServeFault.Start) }
     ensures threads { IfOk result (λ started. map (λ thread. thread.promise.0.value) started.threads.items ≡ streams.items) }
     ensures names { IfOk result (λ started. map (λ stream. stream.name) started.mailboxes.streams.items ≡ names_of streams.items) }
+    ensures at_fault { IfOk result (λ started. started.mailboxes.at_fault ≡ Stop) }
 {
     let Ok(mut started) = StartedStreams::new(alloc, streams.len(), rounds) else {
         return Err(ServeFault::Start);
     };
     for stream in streams {
-        if let Err(_) = start_stream(rt, alloc, &mut started, stream) {
+        if let Err(_) = start_stream(rt, alloc, &mut started, stream, &faults) {
             started.mailboxes.close(rt);
             return Err(ServeFault::Start);
         }
@@ -96,6 +95,7 @@ fn start_stream<R, S>(
     alloc: Global,
     started: &mut StartedStreams<S>,
     stream: StreamReader<S>,
+    faults: &Option<Arc<FaultLog>>,
 ) -> Result<(), AllocError>
 where
     R: Threads + Wait + Copy + Send + 'static,
@@ -104,42 +104,43 @@ where
         ≡ map (λ thread. thread.promise.0.value) started.old.threads.items ++ stream ∷ []) }
     ensures names { OnOk result (map (λ stream. stream.name) started.new.mailboxes.streams.items
         ≡ map (λ stream. stream.name) started.old.mailboxes.streams.items ++ stream.name ∷ []) }
+    ensures at_fault { OnOk result (started.new.mailboxes.at_fault ≡ started.old.mailboxes.at_fault) }
 {
-    let reporter = started.mailboxes.add(alloc, name_of(&stream))?;
+    let name = *stream.name();
+    let reporter = started.mailboxes.add(alloc, name, None)?;
     let host = *rt;
+    let origin = OneWriter {
+        rt: host,
+        name,
+        faults: share(faults)?,
+    };
     let promise = SaysWhetherWhole(Snapshot::of(&stream));
     let thread = thread::spawn_with(rt, promise, move || {
-        report_to_end(&host, stream, &reporter)
+        report_to_end(&host, alloc, stream, origin, &reporter)
     })?;
     started.threads.push(thread)?;
     Ok(())
 }
 
+// Another handle of the log, if there is one.
+fn share(faults: &Option<Arc<FaultLog>>) -> Result<Option<Arc<FaultLog>>, AllocError> {
+    match faults {
+        Some(log) => Ok(Some(Arc::try_clone(log)?)),
+        None => Ok(None),
+    }
+}
+
 // Reports a stream to its end, or until the mailbox is closed. The error is the stream's name.
-fn report_to_end<R: Wait, S: Source + Drop>(
+fn report_to_end<R: Wait + Copy, S: Source + Drop>(
     rt: &R,
+    alloc: Global,
     stream: StreamReader<S>,
+    origin: OneWriter<R>,
     reporter: &Reporter,
 ) -> Result<StreamEnd, StreamName>
     ensures { EndsStream S.left stream result }
 {
-    let mut stream = stream;
-    for _ in rt.forever() {
-        let report = next_report(&mut stream);
-        let is_end = report.is_end();
-        let has_messages = report.has_messages();
-        let is_wanted = reporter.leave(rt, report);
-        if is_end {
-            return Ok(StreamEnd {
-                name: name_of(&stream),
-                last: stream.position(),
-            });
-        }
-        if !has_messages || !is_wanted {
-            break;
-        }
-    }
-    Err(name_of(&stream))
+    report_stream(rt, alloc, WriterInput::of(stream), origin, reporter)
 }
 
 /// Waits for the threads of streams. The error is the first stream that was not read to its end, or that the marks fall

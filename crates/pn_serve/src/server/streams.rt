@@ -1,43 +1,24 @@
-//! Streams that may be opened again, read into a live region, each in its own thread.
+//! Streams that are read from one writer after another into a live region, each in its own thread.
 
-ghost use Rattle.std.specs.Prelude.{◌≡◌, ◌+◌, ◌≤◌, vec_len, IfErr, IfOk, IfSome, OnOk};
+ghost use Rattle.std.specs.Prelude.{◌≡◌, [], ◌∷◌, ◌++◌, ◌≤◌, map, IfErr, IfOk, OnOk};
 ghost use Rattle.pn_apply.specs.declared.reducing.TheConstants.{MAX_WORKERS};
 ghost use Rattle.pn_live.specs.Prelude.{tablets_in};
-ghost use Rattle.pn_serve.specs.Server.Reading.{IsAnew, ReadsStreams};
+ghost use Rattle.pn_serve.specs.Server.Reading.{ReadsStreams};
+ghost use Rattle.pn_serve.specs.declared.server.mailboxes.AtFault.TheVariants.{GoOn};
 
 use crate::ServeFault;
 use crate::server::counter::Counter;
-use crate::server::mailboxes::{Reporter, StreamMailboxes};
-use crate::server::reports::{Report, name_of, next_report};
+use crate::server::mailboxes::{AtFault, Reporter, StreamMailboxes};
+use crate::server::reporting::{next_input, report_stream};
+use crate::server::reports::Report;
 use crate::server::rounds::run_rounds;
+use crate::server::writers::{Origin, Stream};
 use pn_line::Source;
 use pn_live::LiveRegion;
-use pn_stream::StreamReader;
 use std::alloc::{AllocError, Global};
 use std::sync::{Arc, Wait};
 use std::thread;
 use std::thread::Threads;
-
-/// Where a stream is opened again, and where it is noted how it goes.
-pub trait Origin<S: Source + Drop> {
-    ghost use Rattle.std.specs.Prelude.{IfSome};
-    ghost use Rattle.pn_serve.specs.Server.Reading.{IsAnew};
-
-    /// After the end of the stream: it is read anew from its first message on, once there is a next writer. None if
-    /// it has none.
-    fn open_again(&mut self) -> Option<StreamReader<S>>
-        ensures { IfSome result (λ stream. IsAnew stream) };
-
-    /// Notes that the stream has a fault, and is read no further.
-    fn note_fault(&mut self);
-}
-
-/// A stream and where it is opened again.
-#[derive(Drop)]
-pub struct Stream<S: Source + Drop, O: Origin<S> + Drop> {
-    pub reader: StreamReader<S>,
-    pub origin: O,
-}
 
 /// Reads streams into a live region until all have ended, at most 1,000 messages of each a round. A stream's fault
 /// ends that stream alone. The fault is `Start`, or `Round`, after which no stream is read. Rounds are counted where
@@ -47,7 +28,7 @@ pub fn read_streams<R, S, O>(
     alloc: Global,
     live: &mut LiveRegion,
     workers: usize,
-    streams: Vec<Stream<S, O>>,
+    streams: Vec<Stream<O>>,
     rounds: Option<Arc<Counter>>,
 ) -> Result<(), ServeFault>
 where
@@ -55,11 +36,11 @@ where
     S: Source + Drop + Send + 'static,
     O: Origin<S> + Drop + Send + 'static,
     requires workers { (1 ≤ workers) × (workers ≤ MAX_WORKERS) }
-    ensures reads { ReadsStreams (vec_len streams) live.old live.new result }
+    ensures reads { ReadsStreams (map (λ stream. stream.name) streams.items) live.old live.new result }
     ensures same { tablets_in live.new ≡ tablets_in live.old }
 {
-    let mailboxes = start_threads(rt, alloc, streams, rounds)?;
-    let read = run_rounds(rt, alloc, live, workers, &mailboxes);
+    let mut mailboxes = start_threads::<R, S, O>(rt, alloc, streams, rounds)?;
+    let read = run_rounds(rt, alloc, live, workers, &mut mailboxes);
     mailboxes.close(rt);
     read
 }
@@ -68,21 +49,23 @@ where
 fn start_threads<R, S, O>(
     rt: &R,
     alloc: Global,
-    streams: Vec<Stream<S, O>>,
+    streams: Vec<Stream<O>>,
     rounds: Option<Arc<Counter>>,
 ) -> Result<StreamMailboxes, ServeFault>
 where
     R: Threads + Wait + Copy + Send + 'static,
     S: Source + Drop + Send + 'static,
     O: Origin<S> + Drop + Send + 'static,
-    ensures count { IfOk result (λ mailboxes. vec_len mailboxes.streams ≡ vec_len streams) }
+    ensures names { IfOk result (λ mailboxes. map (λ stream. stream.name) mailboxes.streams.items ≡ map (λ stream. stream.name) streams.items) }
+    ensures at_fault { IfOk result (λ mailboxes. mailboxes.at_fault ≡ GoOn) }
     ensures fault { IfErr result (λ fault. fault ≡ ServeFault.Start) }
 {
-    let Ok(mut mailboxes) = StreamMailboxes::new(alloc, streams.len(), rounds) else {
+    let made = StreamMailboxes::new(alloc, streams.len(), AtFault::GoOn, rounds);
+    let Ok(mut mailboxes) = made else {
         return Err(ServeFault::Start);
     };
     for stream in streams {
-        if let Err(_) = start_thread(rt, alloc, &mut mailboxes, stream) {
+        if let Err(_) = start_thread::<R, S, O>(rt, alloc, &mut mailboxes, stream) {
             mailboxes.close(rt);
             return Err(ServeFault::Start);
         }
@@ -94,45 +77,45 @@ fn start_thread<R, S, O>(
     rt: &R,
     alloc: Global,
     mailboxes: &mut StreamMailboxes,
-    stream: Stream<S, O>,
+    stream: Stream<O>,
 ) -> Result<(), AllocError>
 where
     R: Threads + Wait + Copy + Send + 'static,
     S: Source + Drop + Send + 'static,
     O: Origin<S> + Drop + Send + 'static,
-    ensures { OnOk result (vec_len mailboxes.new.streams ≡ vec_len mailboxes.old.streams + 1) }
+    ensures names { OnOk result (map (λ stream. stream.name) mailboxes.new.streams.items
+        ≡ map (λ stream. stream.name) mailboxes.old.streams.items ++ stream.name ∷ []) }
+    ensures at_fault { OnOk result (mailboxes.new.at_fault ≡ mailboxes.old.at_fault) }
 {
-    let reporter = mailboxes.add(alloc, name_of(&stream.reader))?;
+    let Stream {
+        name,
+        after,
+        origin,
+        taken,
+    } = stream;
+    let reporter = mailboxes.add(alloc, name, taken)?;
     let host = *rt;
-    thread::spawn(rt, move || { report_and_reopen(&host, stream, &reporter) })?;
+    thread::spawn(rt, move || {
+        report_writers::<R, S, O>(&host, alloc, after, origin, &reporter)
+    })?;
     Ok(())
 }
 
-// Reports the messages of a stream, and of those that are read after it, and then the end.
-fn report_and_reopen<R: Wait, S: Source + Drop, O: Origin<S> + Drop>(
+// Reports a stream from its first writer on, of which all up to this position was taken before.
+fn report_writers<R: Wait, S: Source + Drop, O: Origin<S> + Drop>(
     rt: &R,
-    stream: Stream<S, O>,
+    alloc: Global,
+    after: u64,
+    origin: O,
     reporter: &Reporter,
 ) {
-    let Stream { reader, origin } = stream;
-    let mut reader = reader;
     let mut origin = origin;
-    for _ in rt.forever() {
-        match next_report(&mut reader) {
-            Report::Messages(messages) => {
-                if !reporter.leave(rt, Report::Messages(messages)) {
-                    return;
-                }
-            }
-            Report::End => match origin.open_again() {
-                Some(next) => reader = next,
-                None => break,
-            },
-            Report::Fault => {
-                origin.note_fault();
-                break;
-            }
+    match next_input::<S, O>(alloc, reporter.name, after, &mut origin) {
+        Some(input) => {
+            let _ = report_stream(rt, alloc, input, origin, reporter);
+        }
+        None => {
+            let _ = reporter.leave(rt, Report::End(reporter.name));
         }
     }
-    let _ = reporter.leave(rt, Report::End);
 }

@@ -5,7 +5,7 @@ ghost use Rattle.pn_live.specs.Prelude.{tablets_in, tablets_of};
 ghost use Rattle.pn_serve.specs.Server.Sessions.{AllRead};
 ghost use Rattle.pn_serve.specs.Session.Knowing.{KnowsNoLess};
 
-use crate::acceptor::{SocketAcceptor, accept_all, tell_quarters};
+use crate::acceptor::{AcceptNotes, SocketAcceptor, accept_all, tell_quarters};
 use crate::connection_limit::ConnectionLimit;
 use crate::counters::Counters;
 use crate::event_loop::{EventLoop, MAILBOX};
@@ -43,6 +43,8 @@ where
         listener,
         idle,
         counters,
+        messages,
+        ..
     } = acceptor;
     let shared = Shared {
         alloc,
@@ -52,7 +54,8 @@ where
     };
     let mut mailboxes = Vec::new(alloc);
     let running = start_threads(rt, &shared, &mut mailboxes, live, readers)?;
-    start_accepting(rt, shared, listener, mailboxes)?;
+    let notes = AcceptNotes::new(alloc, messages);
+    start_accepting(rt, shared, listener, mailboxes, notes)?;
     Ok(running)
 }
 
@@ -71,6 +74,7 @@ fn start_accepting<R>(
     shared: Shared,
     listener: Listener,
     mailboxes: Vec<Arc<SocketMailbox>>,
+    notes: AcceptNotes,
 ) -> io::Result<()>
 where
     R: Threads + Wait + Clock + Copy + Send + 'static,
@@ -84,7 +88,7 @@ where
     let limit = shared.limit;
     let host = *rt;
     thread::spawn(rt, move || {
-        accept_all(&host, &listener, &limit, &mailboxes)
+        accept_all(&host, &listener, &limit, &mailboxes, notes)
     })?;
     Ok(())
 }

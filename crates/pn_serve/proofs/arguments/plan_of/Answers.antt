@@ -6,7 +6,7 @@ use Rattle.clap.specs.Simple.{subcommand_rows, subcommand_rows_of}
 use Rattle.clap.specs.Walk.{Row, Text}
 use Rattle.clap.specs.declared.parser.matches.ArgMatches.TheViews.{out-ArgMatches, out-SubCommand}
 use Rattle.clap.specs.declared.parser.matches.SubCommand.{SubCommand}
-use Rattle.pn_serve.specs.Arguments.Plans.{Gives}
+use Rattle.pn_serve.specs.Arguments.Plans.{Tells}
 use Rattle.pn_serve.proofs.arguments.plan_of.Goals as goal
 
 -- a name and options that were found are the command
@@ -30,7 +30,7 @@ none_met (Some b) none is = absurd (cc)
 pub returns : goal.returns
 returns c = λ found is.
     let command = is_command (subcommand_rows_of c.args.matches.now) found _ _ is (c.in-Some.ensures.name ∙ name_in (out-ArgMatches c.args.matches.now).subcommand) c.in-Some.ensures.rows in
-    subst (λ (command : Text × List Row). Gives command c.command_plan.result) command c.command_plan.ensures
+    subst (λ (command : Text × List Row). Tells command c.told_plan.result) command c.told_plan.ensures
 
 pub unreachable-requires : goal.unreachable-requires
 unreachable-requires c = none_met (out-ArgMatches c.args.matches.now).subcommand c.in-None.ensures.variant c.requires

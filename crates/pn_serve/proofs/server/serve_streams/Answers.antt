@@ -1,16 +1,11 @@
 -- The mailboxes and threads are those of the streams.
-use Rattle.std.proofs.Common.{◌≡◌, ℕ, length, subst, arith}
-use Rattle.std.specs.Prelude.{vec_len}
-use Rattle.pn_serve.specs.Server.Reading.{RunsRounds}
-use Rattle.pn_serve.specs.declared.server.mailboxes.StreamMailbox.{StreamMailbox}
 use Rattle.pn_serve.proofs.ServedStreams.{not_begun, reading_ends}
 use Rattle.pn_serve.proofs.server.serve_streams.Goals as goal
 
 pub returns-clause-ends : goal.returns-clause-ends
 returns-clause-ends g c =
-    let count : vec_len c.in_ok-started.started.mailboxes.streams ≡ length c.in_ok-started.started.mailboxes.streams.items = omega (arith, c.in_ok-started.started.mailboxes.streams.ok.0) in
-    reading_ends g.S.Source.left c.args.streams.items (λ (p : StreamMailbox). p.name) c.in_ok-started.started.mailboxes.streams.items _ c.args.region.now.live c.run_unless_refused-read.new.live _ c.marks.result.now c.run_unless_refused-read.result c.join_after_rounds.result
-    c.in_ok-started.ensures.names c.in_ok-started.ensures.threads c.run_unless_refused-read.ensures.refused (λ none. subst (λ (n : ℕ). RunsRounds n c.args.region.now.live c.run_unless_refused-read.new.live c.run_unless_refused-read.result) count (c.run_unless_refused-read.ensures.reads none)) c.run_unless_refused-read.ensures.named
+    reading_ends g.S.Source.left c.args.streams.items _ _ _ c.args.region.now.live c.run_unless_refused-read.new.live _ c.marks.result.now c.run_unless_refused-read.result c.join_after_rounds.result
+    c.in_ok-started.ensures.at_fault c.in_ok-started.ensures.names c.in_ok-started.ensures.threads c.run_unless_refused-read.ensures.refused c.run_unless_refused-read.ensures.reads
     c.join_after_rounds.ensures.first c.marks.ensures.marks c.join_after_rounds.ensures.taken c.join_after_rounds.ensures.named
 
 pub returns-in_err-started-clause-ends : goal.returns-in_err-started-clause-ends

@@ -6,9 +6,10 @@ use Rattle.pn_serve.specs.Arguments.Streams.{each_stream, stream_value}
 use Rattle.pn_protocol.proofs.Walks.{onto}
 use Rattle.pn_serve.proofs.arguments.streams.each_of.Given as goal
 
-abbrev pub invariant-loop-word : goal.invariant-loop-word
-invariant-loop-word l = record {
-  so_far : each_stream (texts l.words) ≡ onto (map stream_value l.streams.items) (each_stream (texts (drop l.word-index l.words)));
-  count : vec_len l.streams ≡ l.word-index;
+abbrev pub invariant-loop-index : goal.invariant-loop-index
+invariant-loop-index l = record {
+  so_far : each_stream l.stays 0 (texts l.words)
+      ≡ onto (map stream_value l.streams.items) (each_stream l.stays l.index (texts (drop l.index l.words)));
+  count : vec_len l.streams ≡ l.index;
   capacity : vec_capacity l.streams ≡ length l.words;
 }

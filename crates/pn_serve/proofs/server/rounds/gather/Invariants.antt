@@ -1,18 +1,21 @@
 -- What the mailboxes so far gave.
-use Rattle.std.proofs.Common.{◌≡◌, ◌≤◌, List, map, take, vec_len, vec_capacity, All, IfSome}
-use Rattle.std.specs.List.{Contains}
-use Rattle.pn_serve.specs.Server.Gathering.{Note, value_of, no_input, with_notes}
+use Rattle.std.proofs.Common.{◌≡◌, ◌≤◌, ◌++◌, length, map, vec_len, vec_capacity}
+use Rattle.std.specs.List.{All}
+use Rattle.std.specs.Vec.Iter.{into_iter_items}
+use Rattle.pn_serve.specs.Server.Gathering.{IsInputOf, value_of}
 use Rattle.pn_serve.specs.Server.Messages.{FitRound}
+use Rattle.pn_serve.specs.Server.Rounds.{Continues}
 use Rattle.pn_serve.proofs.server.rounds.gather.Given as goal
 
 abbrev pub invariant-loop-stream : goal.invariant-loop-stream
 invariant-loop-stream g l = record {
-  notes : List Note;
-  of_streams : map (λ note. note.name) notes ≡ map (λ stream. stream.name) (take l.stream-index l.mailboxes.streams.items);
-  together : value_of l.input ≡ with_notes no_input notes;
-  named : IfSome l.input.fault (Contains (map (λ stream. stream.name) l.mailboxes.streams.items));
+  gathered : IsInputOf (map (λ stream. stream.name) l.yielded) l.marks (value_of l.input) (map (λ stream. stream.name) l.mailboxes.streams.items);
+  all : l.yielded ++ into_iter_items l.stream-iterator ≡ l.fn.mailboxes.streams.items;
   fit : All FitRound l.input.deliveries.items;
-  few : vec_len l.input.deliveries ≤ l.stream-index;
-  ended : l.input.ended ≤ l.stream-index;
-  capacity : vec_capacity l.input.deliveries ≡ vec_len l.mailboxes.streams;
+  continues : All (Continues l.marks) l.input.deliveries.items;
+  few : vec_len l.input.deliveries ≤ length l.yielded;
+  few_left : vec_len l.mailboxes.streams ≤ length l.yielded;
+  capacity : vec_capacity l.input.deliveries ≡ length l.fn.mailboxes.streams.items;
+  capacity_left : vec_capacity l.mailboxes.streams ≡ length l.fn.mailboxes.streams.items;
+  at_fault : l.mailboxes.at_fault ≡ l.fn.mailboxes.at_fault;
 }

@@ -1,44 +1,52 @@
 -- Each round goes on from those before it.
-use Rattle.std.proofs.Common.{ℕ, map, refl, sym, ◌∙◌, subst, arith}
-use Rattle.std.specs.Prelude.{vec_len}
-use Rattle.pn_serve.specs.Server.Faults.{IsOfRounds}
+use Rattle.std.proofs.Common.{◌≡◌, ℕ, ◌==◌, true, false, map, refl, sym, ap, ◌∙◌, arith}
+use Rattle.std.specs.Prelude.{vec_len, Ok, Err}
 use Rattle.pn_serve.specs.Server.Gathering.{value_of}
 use Rattle.pn_serve.specs.declared.server.mailboxes.StreamMailbox.{StreamMailbox}
-use Rattle.pn_serve.proofs.RoundsRead.{SoFar, none_yet, one_more, all_read, stopped, not_gathered, at_fault, fault_named, passed_on}
+use Rattle.pn_serve.proofs.RoundsRead.{none_yet, one_more, stopped, as_answer, ran, no_names}
 use Rattle.pn_serve.proofs.server.rounds.run_rounds.Goals as goal
 
 pub loop-init : goal.loop-init
-loop-init g c =
-    let streams = vec_len c.args.mailboxes.now.streams in
-    record { so_far = subst (λ (n : ℕ). SoFar streams n c.args.live.now c.args.live.now) (sym c.len-reading.ensures) (none_yet streams c.args.live.now); same = refl }
-
-pub loop-preserved : goal.loop-preserved
-loop-preserved g c = record {
-  so_far =
-      one_more _ _ _ c.in_ok-ended.ended _ _ _ (value_of c.in_ok-input.input) c.loop.invariant.so_far c.in_ok-input.ensures.small c.in_ok-ended.ensures.takes
-      (omega (arith, c.saturating_sub-reading.ensures));
-  same = c.run_round.ensures.same ∙ c.loop.invariant.same;
+loop-init g c = record {
+  so_far = none_yet c.args.mailboxes.now.at_fault (map (λ (s : StreamMailbox). s.name) c.args.mailboxes.now.streams.items) c.args.live.now;
+  same = refl;
+  at_fault = refl;
 }
 
-pub returns-then-reading-eq0-clause-reads : goal.returns-then-reading-eq0-clause-reads
-returns-then-reading-eq0-clause-reads g c = all_read _ _ _ _ c.loop.invariant.so_far (omega (arith, c.if-reading-eq0.true))
+pub loop-preserved : goal.loop-preserved
+loop-preserved g c =
+    let name = λ (s : StreamMailbox). s.name in
+    let at_fault = c.args.mailboxes.now.at_fault in
+    let streams = c.loop.mailboxes.streams.items in
+    let left = map name c.gather.new.mailboxes.streams.items in
+    let input = value_of c.in_ok-input.input in
+    let so_far = c.loop.invariant in
+    let run =
+    ran name streams at_fault c.gather.new.mailboxes.at_fault c.marks.result.now c.loop.live c.run_round.new.live input left (Ok tt) c.marks.ensures.marks (c.in_ok-input.ensures.at_fault ∙ so_far.at_fault)
+    c.in_ok-input.ensures.gathered c.in_ok-input.ensures.fits c.in_ok-run_round.ensures.takes in
+    record {
+      so_far = one_more at_fault (map name c.args.mailboxes.now.streams.items) c.args.live.now (map name streams) c.loop.live input left c.run_round.new.live so_far.so_far
+          (λ none.
+          let zero : vec_len c.loop.mailboxes.streams ≡ 0 = let empty = no_names name streams none in omega (arith, empty, c.loop.mailboxes.streams.ok.0) in
+          let never : true ≡ false = sym (ap (λ (n : ℕ). n == 0) zero) ∙ sym c.is_empty.ensures ∙ c.if-is_empty.false in
+          absurd (cc))
+          run;
+      same = c.run_round.ensures.same ∙ so_far.same;
+      at_fault = c.in_ok-input.ensures.at_fault ∙ so_far.at_fault;
+    }
 
-pub returns-in_err-input-clause-reads : goal.returns-in_err-input-clause-reads
-returns-in_err-input-clause-reads g c =
-    at_fault _ _ _ c.in_err-input.field-0.0 c.from_residual.result c.from_residual.ensures.1 (not_gathered _ _ _ _ _ c.loop.invariant.so_far c.in_err-input.ensures.fault)
-
-pub returns-in_err-input-clause-named : goal.returns-in_err-input-clause-named
-returns-in_err-input-clause-named g c =
-    let names = map (λ (p : StreamMailbox). p.name) c.args.mailboxes.now.streams.items in
-    passed_on (IsOfRounds names) c.in_err-input.field-0.0 c.from_residual.result c.from_residual.ensures.1 (subst (IsOfRounds names) (sym c.in_err-input.ensures.fault) tt)
-
-pub returns-in_err-ended-clause-reads : goal.returns-in_err-ended-clause-reads
-returns-in_err-ended-clause-reads g c =
-    at_fault _ _ _ c.in_err-ended.field-0.0 c.from_residual-in_err-ended.result c.from_residual-in_err-ended.ensures.1
-    (stopped _ _ _ _ _ (value_of c.in_ok-input.input) c.in_err-ended.field-0.0 c.loop.invariant.so_far c.in_ok-input.ensures.small c.in_err-ended.ensures.takes)
-
-pub returns-in_err-ended-clause-named : goal.returns-in_err-ended-clause-named
-returns-in_err-ended-clause-named g c =
-    let names = map (λ (p : StreamMailbox). p.name) c.args.mailboxes.now.streams.items in
-    passed_on (IsOfRounds names) c.in_err-ended.field-0.0 c.from_residual-in_err-ended.result c.from_residual-in_err-ended.ensures.1
-    (fault_named names (value_of c.in_ok-input.input) c.loop.live c.run_round.new.live c.in_err-ended.field-0.0 c.in_err-ended.ensures.takes c.in_ok-input.ensures.named)
+pub returns-in_err-run_round-clause-reads : goal.returns-in_err-run_round-clause-reads
+returns-in_err-run_round-clause-reads g c =
+    let name = λ (s : StreamMailbox). s.name in
+    let at_fault = c.args.mailboxes.now.at_fault in
+    let names = map name c.args.mailboxes.now.streams.items in
+    let streams = c.loop.mailboxes.streams.items in
+    let left = map name c.gather.new.mailboxes.streams.items in
+    let input = value_of c.in_ok-input.input in
+    let so_far = c.loop.invariant in
+    let fault = c.in_err-run_round.field-0.0 in
+    let run =
+    ran name streams at_fault c.gather.new.mailboxes.at_fault c.marks.result.now c.loop.live c.run_round.new.live input left (Err fault) c.marks.ensures.marks (c.in_ok-input.ensures.at_fault ∙ so_far.at_fault)
+    c.in_ok-input.ensures.gathered c.in_ok-input.ensures.fits c.in_err-run_round.ensures.takes in
+    as_answer at_fault names c.args.live.now c.run_round.new.live fault c.from_residual-in_err-run_round.result c.from_residual-in_err-run_round.ensures.1
+    (stopped at_fault names c.args.live.now (map name streams) c.loop.live input left c.run_round.new.live fault so_far.so_far run)

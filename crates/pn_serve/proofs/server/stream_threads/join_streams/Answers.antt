@@ -4,8 +4,7 @@ use Rattle.std.specs.Vec.Iter.{into_iter_items}
 use Rattle.std.proofs.lemmas.List.Elements.{All-push}
 use Rattle.pn_serve.specs.Server.Faults.{NamesOne, names_of}
 use Rattle.pn_serve.specs.Server.Whole.{IsTakenWhole}
-use Rattle.pn_serve.proofs.Gatherings.{map_push}
-use Rattle.pn_serve.proofs.RoundsRead.{passed_on}
+use Rattle.pn_serve.proofs.Passing.{map_push, passed_on}
 use Rattle.pn_serve.proofs.StreamsRead.{named_by, taken_by, is_one}
 use Rattle.pn_serve.proofs.server.stream_threads.join_streams.Goals as goal
 

@@ -1,0 +1,159 @@
+-- What was read of a writer's input, one look after another.
+use Rattle.std.proofs.Common.{◌≡◌, ℕ, ◌+◌, ◌≤◌, max, pred, List, [], ◌++◌, length, Option, None, Some, IfSome, inl, inr, refl, sym, ap, ◌∙◌, subst, arith, length-append}
+use Rattle.pn_record.specs.declared.image.Image.{Image}
+use Rattle.pn_stream.specs.Batches.{Stream, Batch, SoFar}
+use Rattle.pn_stream.specs.Resuming.{Begins, Lacks}
+use Rattle.pn_stream.specs.Streams.{Run, NoLine, IsLeft}
+use Rattle.pn_stream.specs.declared.fault.StreamFault.{StreamFault}
+use Rattle.pn_stream.proofs.Runs.{Run-append, Run-none, SoFar-none, on_rest}
+use Rattle.pn_serve.specs.declared.server.messages.Messages.{Messages}
+use Rattle.pn_serve.specs.declared.server.messages.TheConstants.{MAX_MESSAGES}
+use Rattle.pn_serve.specs.declared.server.writer_input.Given.TheVariants.{Messages as of_messages, Ended}
+use Rattle.pn_serve.specs.declared.server.writers.WriterEnd.{WriterEnd}
+use Rattle.pn_serve.specs.declared.server.writers.WriterEnd.TheVariants.{End, Fault}
+use Rattle.pn_serve.specs.Server.Whole.{IsAllMessages, IsReadUpTo}
+use Rattle.pn_serve.specs.Server.Writers.{BeginsWithin, EndsInput, Gives, line_after, start_of}
+
+none_yet : (position : ℕ) (part : List ℕ) (left : Option (List ℕ)) → IfSome left (λ text. SoFar position (part ++ text) [] part left) → IfSome left (λ text. IsReadUpTo position (part ++ text) position part left)
+none_yet position part None so = tt
+none_yet position part (Some text) so = record { images = []; read = so; last_is = omega arith }
+
+-- nothing is read yet
+nothing : (position : ℕ) (part : List ℕ) (left : Option (List ℕ)) → IfSome left (λ text. IsReadUpTo position (part ++ text) position part left)
+nothing position part left = none_yet position part left (SoFar-none position part [] left refl)
+
+-- once more messages were read
+one_more : (least most position last : ℕ) (front part now : List ℕ) (images : List Image) (first left leaves : Option (List ℕ)) (fault : Option StreamFault) → fault ≡ None
+    → IfSome first (λ text. IsReadUpTo position (front ++ text) last part left) → IfSome left (λ text. Batch least most last (part ++ text) images fault now leaves)
+    → IfSome first (λ text. IsReadUpTo position (front ++ text) (last + length images) now leaves)
+one_more least most position last front part now images None left leaves fault none read batch = tt
+one_more least most position last front part now images (Some text) left leaves (Some fault) none read batch = let waits = none in cc
+one_more least most position last front part now images (Some text) left leaves None none read batch =
+    let more = on_rest read.read.rest part left (λ (t : List ℕ). Batch least most last t images None now leaves) read.read.is_left batch in
+    let run : Run (position + length read.images) read.read.rest images more.rest = subst (λ (n : ℕ). Run n read.read.rest images more.rest) read.last_is more.run in
+    record {
+      images = read.images ++ images;
+      read = record { rest = more.rest; run = Run-append position (front ++ text) read.read.rest more.rest read.images images read.read.run run; is_left = more.ends.1 };
+      last_is = omega (arith, read.last_is, length-append read.images images);
+    }
+
+-- once no whole line was found after some messages
+all_messages : (position last : ℕ) (front part now : List ℕ) (first left leaves : Option (List ℕ)) → IfSome first (λ text. IsReadUpTo position (front ++ text) last part left)
+    → IfSome left (λ text. Batch 1 MAX_MESSAGES last (part ++ text) [] None now leaves) → IfSome first (λ text. IsAllMessages position (front ++ text) last)
+all_messages position last front part now None left leaves read batch = tt
+all_messages position last front part now (Some text) left leaves read batch =
+    let more = on_rest read.read.rest part left (λ (t : List ℕ). Batch 1 MAX_MESSAGES last t [] None now leaves) read.read.is_left batch in
+    let run : Run (position + length read.images) read.read.rest [] more.rest = subst (λ (n : ℕ). Run n read.read.rest [] more.rest) read.last_is more.run in
+    record {
+      images = read.images ++ [];
+      rest = more.rest;
+      run = Run-append position (front ++ text) read.read.rest more.rest read.images [] read.read.run run;
+      last_is = omega (arith, read.last_is, length-append read.images []);
+      no_line = elim more.ends.0 [
+        | inl enough ↦ absurd (omega (arith, enough.0))
+        | inr few ↦ few.1
+      ];
+    }
+
+-- where there is no whole line at all
+no_messages : (position last : ℕ) (front now : List ℕ) (first leaves : Option (List ℕ)) → last ≡ position → IfSome first (λ text. NoLine (front ++ text) × IsLeft (front ++ text) now leaves)
+    → IfSome first (λ text. IsAllMessages position (front ++ text) last)
+no_messages position last front now None leaves is lacks = tt
+no_messages position last front now (Some text) leaves is lacks =
+    record { images = []; rest = front ++ text; run = Run-none position (front ++ text); last_is = omega (arith, is); no_line = lacks.0 }
+
+-- messages in step were read of a writer's input, from its first one on, unless a fault waits
+pub record WasReadBy {S : Type 0} (left : S → Option (List ℕ)) (before : Option ℕ) (old : Stream S) (now : Option ℕ) (new : Stream S) : Type 0 where
+  pub begins : BeginsWithin before now old.position
+  pub read : new.fault ≡ None → (old.fault ≡ None)
+      × IfSome (left old.source) (λ text. IsReadUpTo (start_of before now old.position) (old.part ++ text) new.position new.part (left new.source))
+  pub nothing_yet : now ≡ None → new ≡ old
+
+module _ {S : Type 0} (left : S → Option (List ℕ)) where
+  -- before the first look
+  pub read_none : (before : Option ℕ) (stream : Stream S) → WasReadBy left before stream before stream
+  read_none (Some before) stream =
+      record { begins = refl; read = λ none. (none, nothing stream.position stream.part (left stream.source)); nothing_yet = λ no. absurd (cc) }
+  read_none None stream =
+      record { begins = tt; read = λ none. (none, nothing stream.position stream.part (left stream.source)); nothing_yet = λ no. refl }
+
+  next_ones : (before : Option ℕ) (first old new : Stream S) (messages : Messages) (from : ℕ) (next : Option ℕ) → WasReadBy left before first (Some from) old
+      → Gives left (Some from) old (of_messages messages) next new → WasReadBy left before first next new
+  next_ones before first old new messages from next was gives =
+      let same : next ≡ Some from = gives.0 in
+      let start : start_of before (Some from) first.position ≡ start_of before next first.position = ap (λ (n : Option ℕ). start_of before n first.position) (sym same) in
+      record {
+        begins = subst (λ (n : Option ℕ). BeginsWithin before n first.position) (sym same) was.begins;
+        read = λ none.
+            let so = was.read gives.1.0 in (
+              so.0,
+              subst (λ (n : ℕ). IfSome (left first.source) (λ text. IsReadUpTo n (first.part ++ text) new.position new.part (left new.source))) start
+                  (subst (λ (n : ℕ). IfSome (left first.source) (λ text. IsReadUpTo (start_of before (Some from) first.position) (first.part ++ text) n new.part (left new.source))) (sym gives.1.2)
+                  (one_more 1 MAX_MESSAGES (start_of before (Some from) first.position) old.position first.part old.part new.part messages.delivery.images (left first.source) (left old.source) (left new.source) new.fault none so.1 gives.1.3)),
+            );
+        nothing_yet = λ no. let some = sym same ∙ no in absurd (cc);
+      }
+
+  first_one : (old new : Stream S) (messages : Messages) (next : Option ℕ) → Gives left None old (of_messages messages) next new → WasReadBy left None old next new
+  first_one old new messages next gives =
+      let begins : Begins left old new messages.delivery = gives.2 in
+      let from = pred new.position in
+      let least = begins.least in
+      let at : from + length messages.delivery.images ≡ new.position = omega (arith, begins.one, least) in
+      let read : IfSome (left old.source) (λ text. IsReadUpTo from (old.part ++ text) new.position new.part (left new.source)) =
+      subst (λ (n : ℕ). IfSome (left old.source) (λ text. IsReadUpTo from (old.part ++ text) n new.part (left new.source))) at
+      (one_more 1 1 from from old.part old.part new.part messages.delivery.images (left old.source) (left old.source) (left new.source) None refl (nothing from old.part (left old.source)) begins.batch)
+      in
+      subst (λ (n : Option ℕ). WasReadBy left None old n new) (sym gives.1) (record {
+        begins = omega (arith, begins.most, least);
+        read = λ none. (gives.0, read);
+        nothing_yet = λ no. absurd (cc);
+      })
+
+  -- once more messages were given
+  pub read_on : (before : Option ℕ) (first old new : Stream S) (messages : Messages) (now next : Option ℕ) → WasReadBy left before first now old
+      → Gives left now old (of_messages messages) next new → WasReadBy left before first next new
+  read_on before first old new messages (Some from) next was gives = next_ones before first old new messages from next was gives
+  read_on (Some before) first old new messages None next was gives = let no = was.begins in absurd (cc)
+  read_on None first old new messages None next was gives =
+      let same = was.nothing_yet refl in
+      subst (λ (o : Stream S). Gives left None o (of_messages messages) next new → WasReadBy left None first next new) (sym same)
+      (first_one first new messages next) gives
+
+  -- positions rise, but that the first message may have any one
+  pub last_more : (before : Option ℕ) (first old new : Stream S) (messages : Messages) (now next : Option ℕ) (was last : ℕ) → WasReadBy left before first now old
+      → Gives left now old (of_messages messages) next new → first.position ≤ was → last ≡ max was old.position → max last new.position ≡ max was new.position
+  last_more before first old new messages (Some from) next was last so gives within is = omega (arith, gives.1.2, is)
+  last_more before first old new messages None next was last so gives within is =
+      let same : old.position ≡ first.position = ap (λ (s : Stream S). s.position) (so.nothing_yet refl) in omega (arith, same, within, is)
+
+  -- how the input ended
+  pub ends_input : (before : Option ℕ) (first old new : Stream S) (end : WriterEnd) (now next : Option ℕ) → WasReadBy left before first now old
+      → Gives left now old (Ended end) next new → EndsInput left before first end next new
+  ends_input before first old new End (Some from) next was gives =
+      let same : next ≡ Some from = gives.0 in
+      let so = was.read gives.1.0 in
+      let all = all_messages (start_of before (Some from) first.position) old.position first.part old.part new.part (left first.source) (left old.source) (left new.source) so.1 gives.1.3 in
+      subst (λ (n : Option ℕ). EndsInput left before first End n new) (sym same) (
+        so.0,
+        was.begins,
+        subst (λ (n : ℕ). IfSome (left first.source) (λ text. IsAllMessages (start_of before (Some from) first.position) (first.part ++ text) n)) (sym gives.1.2) all,
+      )
+  ends_input (Some before) first old new End None next was gives = let no = was.begins in absurd (cc)
+  ends_input None first old new End None next was gives =
+      let same : next ≡ None = gives.1 in
+      let at : old ≡ first = was.nothing_yet refl in
+      let lacks : Lacks left first new = subst (λ (o : Stream S). Lacks left o new) at gives.2 in
+      let fault : first.fault ≡ None = subst (λ (o : Stream S). o.fault ≡ None) at gives.0 in
+      subst (λ (n : Option ℕ). EndsInput left None first End n new) (sym same)
+      (fault, tt, no_messages first.position new.position first.part new.part (left first.source) (left new.source) lacks.position lacks.none)
+  ends_input before first old new (Fault fault position line) (Some from) next was gives =
+      let same : next ≡ Some from = gives.0 in
+      let at : new.position ≡ old.position = gives.1.1 in
+      subst (λ (n : Option ℕ). EndsInput left before first (Fault fault position line) n new) (sym same)
+      (gives.1.2 ∙ ap (λ (n : ℕ). n + 1) (sym at), gives.1.3 ∙ ap (λ (n : ℕ). line_after (Some from) n) (sym at))
+  ends_input before first old new (Fault fault position line) None next was gives =
+      let same : next ≡ None = gives.0 in
+      let at : new.position ≡ old.position = gives.2 in
+      subst (λ (n : Option ℕ). EndsInput left before first (Fault fault position line) n new) (sym same)
+      (gives.3 ∙ ap (λ (n : ℕ). n + 1) (sym at), gives.4)

@@ -1,0 +1,35 @@
+-- Messages that were handed on go on from what was read.
+use Rattle.std.proofs.Common.{ℕ, Option, refl, sym, ap, ◌∙◌, subst, arith}
+use Rattle.pn_stream.specs.Batches.{Stream}
+use Rattle.pn_serve.proofs.WritersRead.{WasReadBy, read_none, read_on, last_more, ends_input}
+use Rattle.pn_serve.proofs.server.reporting.read_writer.Goals as goal
+
+pub loop-init : goal.loop-init
+loop-init g c = record { read = read_none g.S.Source.left c.args.input.now.before c.args.input.now.reader; last = λ within. omega (arith, within); name = refl }
+
+pub loop-preserved : goal.loop-preserved
+loop-preserved g c =
+    let left = g.S.Source.left in
+    let first = c.args.input.now in
+    let old = c.loop.input in
+    let new = c.next-in-loop.new.self in
+    let handed = c.hand_on.new.self in
+    let gives = c.in-Messages.ensures.gives in
+    let so = read_on left first.before first.reader old.reader new.reader c.in-Messages.messages old.before new.before c.loop.invariant.read gives in
+    record {
+      read =
+          subst (λ (before : Option ℕ). WasReadBy left first.before first.reader before handed.reader) (sym c.hand_on.ensures.before)
+          (subst (λ (reader : Stream g.row.S.Denot). WasReadBy left first.before first.reader new.before reader) (sym c.hand_on.ensures.reader) so);
+      last = λ within.
+          let at = ap (λ (reader : Stream g.row.S.Denot). reader.position) c.hand_on.ensures.reader in
+          let more = last_more left first.before first.reader old.reader new.reader c.in-Messages.messages old.before new.before first.last old.last c.loop.invariant.read gives within (c.loop.invariant.last within) in
+          omega (arith, c.hand_on.ensures.last, c.next-in-loop.ensures.last, more, at);
+      name = ap (λ (reader : Stream g.row.S.Denot). reader.name) c.hand_on.ensures.reader ∙ c.next-in-loop.ensures.name ∙ c.loop.invariant.name;
+    }
+
+pub returns-in-Ended-clause-ends : goal.returns-in-Ended-clause-ends
+returns-in-Ended-clause-ends g c =
+    let first = c.args.input.now in
+    let old = c.loop.input in
+    let new = c.next-in-loop.new.self in
+    ends_input g.S.Source.left first.before first.reader old.reader new.reader c.in-Ended.end old.before new.before c.loop.invariant.read c.in-Ended.ensures.gives

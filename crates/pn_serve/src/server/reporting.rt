@@ -1,0 +1,144 @@
+//! Reports a stream from one writer after another, in its thread.
+
+ghost use Rattle.std.specs.Prelude.{◌≡◌, ◌≤◌, max, min, None, IfOk, IfErr, IfSome, IsOk, IsSome, MatchResult};
+ghost use Rattle.pn_join.specs.declared.marks.TheConstants.{LAST_POSITION};
+ghost use Rattle.pn_serve.specs.Server.Whole.{EndsStream};
+ghost use Rattle.pn_serve.specs.Server.Writers.{EndsInput, IsReaderFrom};
+ghost use Rattle.pn_serve.specs.declared.server.writers.WriterEnd.TheVariants.{End};
+
+use crate::server::mailboxes::Reporter;
+use crate::server::reports::Report;
+use crate::server::writer_input::{Given, WriterInput};
+use crate::server::writers::{Origin, WriterEnd};
+use pn_join::StreamName;
+use pn_line::Source;
+use std::alloc::Global;
+use std::sync::Wait;
+
+/// The end of a stream: its name, and the position of its last message.
+#[derive(Drop)]
+pub(crate) struct StreamEnd {
+    pub(crate) name: StreamName,
+    pub(crate) last: u64,
+}
+
+/// Reports a stream from this input on, from one writer after another, until there is none, or until the mailbox is closed.
+/// The error is the stream's name.
+pub(crate) fn report_stream<R: Wait, S: Source + Drop, O: Origin<S> + Drop>(
+    rt: &R,
+    alloc: Global,
+    input: WriterInput<S>,
+    origin: O,
+    reporter: &Reporter,
+) -> Result<StreamEnd, StreamName>
+    ensures { (O.may_go_on → ⊥) → IsSome input.before → EndsStream S.left input.reader result }
+{
+    let mut input = input;
+    let mut origin = origin;
+    for _ in rt.forever() {
+        let Some(end) = read_writer(rt, &mut input, &mut origin, reporter) else {
+            return Err(input.name());
+        };
+        let ended = end_of(&input, &end);
+        match what_comes_next(alloc, input, &end, &mut origin) {
+            Some(next) => input = next,
+            None => {
+                let _ = reporter.leave(rt, last_report(&ended));
+                return ended;
+            }
+        }
+    }
+    unreachable!()
+}
+
+// Reports the messages of a writer. Answers how its input ended, or None where the mailbox takes nothing more.
+fn read_writer<R: Wait, S: Source + Drop, O: Origin<S>>(
+    rt: &R,
+    input: &mut WriterInput<S>,
+    origin: &mut O,
+    reporter: &Reporter,
+) -> Option<WriterEnd>
+    ensures ends { IfSome result (λ end. EndsInput S.left input.old.before input.old.reader end input.new.before input.new.reader) }
+    ensures last { input.old.reader.position ≤ input.old.last → IsSome result → input.new.last ≡ max input.old.last input.new.reader.position }
+    ensures name { input.new.reader.name ≡ input.old.reader.name }
+{
+    for _ in rt.forever() {
+        match input.next() {
+            Given::Messages(messages) => {
+                if !reporter.leave(rt, Report::Messages(messages)) {
+                    return None;
+                }
+                input.hand_on();
+                origin.hand_on(input.last);
+            }
+            Given::Ended(end) => return Some(end),
+        }
+    }
+    unreachable!()
+}
+
+// How a stream ends if no writer follows this one.
+fn end_of<S: Source + Drop>(
+    input: &WriterInput<S>,
+    end: &WriterEnd,
+) -> Result<StreamEnd, StreamName>
+    ensures ok { IfOk result (λ ended. (end.now ≡ End) × (ended.name ≡ input.now.reader.name) × (ended.last ≡ input.now.reader.position)) }
+    ensures err { IfErr result (λ name. name ≡ input.now.reader.name) }
+    ensures whole { end.now ≡ End → IsOk result }
+{
+    let name = input.name();
+    match end {
+        WriterEnd::End => Ok(StreamEnd {
+            name,
+            last: input.reader.position(),
+        }),
+        WriterEnd::Fault { .. } => Err(name),
+    }
+}
+
+// What comes after a writer's input: that of the next one, which begins from what was handed on, with no part of the last one's
+// line. None where the stream has ended.
+fn what_comes_next<S: Source + Drop, O: Origin<S>>(
+    alloc: Global,
+    input: WriterInput<S>,
+    end: &WriterEnd,
+    origin: &mut O,
+) -> Option<WriterInput<S>>
+    ensures goes_on { IsSome result → O.may_go_on }
+    ensures anew { IfSome result (λ next. IsReaderFrom input.reader.name (min input.last LAST_POSITION) next.reader) }
+    ensures before { IfSome result (λ next. next.before ≡ None) }
+    ensures last { IfSome result (λ next. next.last ≡ min input.last LAST_POSITION) }
+{
+    let WriterInput { reader, last, .. } = input;
+    let name = *reader.name();
+    origin.end_writer(reader.into_source(), end, last);
+    next_input(alloc, name, last, origin)
+}
+
+/// The input of the next writer of a stream, all of which was handed on up to `last`. None where the stream has ended.
+pub(crate) fn next_input<S: Source + Drop, O: Origin<S>>(
+    alloc: Global,
+    name: StreamName,
+    last: u64,
+    origin: &mut O,
+) -> Option<WriterInput<S>>
+    ensures goes_on { IsSome result → O.may_go_on }
+    ensures anew { IfSome result (λ next. IsReaderFrom name (min last LAST_POSITION) next.reader) }
+    ensures before { IfSome result (λ next. next.before ≡ None) }
+    ensures last { IfSome result (λ next. next.last ≡ min last LAST_POSITION) }
+{
+    match origin.next_writer(last) {
+        Some(source) => Some(WriterInput::begin(alloc, name, last, source)),
+        None => None,
+    }
+}
+
+// The last report of a stream that ended so.
+fn last_report(ended: &Result<StreamEnd, StreamName>) -> Report
+    ensures { MatchResult ended.now (λ end. result ≡ Report.End end.name) (λ name. result ≡ Report.Fault name) }
+{
+    match ended {
+        Ok(end) => Report::End(end.name),
+        Err(name) => Report::Fault(*name),
+    }
+}

@@ -1,0 +1,135 @@
+//! A writer's input while it is read.
+
+ghost use Rattle.std.specs.Prelude.{◌≡◌, ◌+◌, max, min, None, Some, IsSome};
+ghost use Rattle.pn_join.specs.declared.marks.TheConstants.{LAST_POSITION};
+ghost use Rattle.pn_serve.specs.Server.Writers.{Gives, IsReaderFrom, line_after};
+
+use crate::server::messages::{MAX_MESSAGES, Messages};
+use crate::server::writers::WriterEnd;
+use pn_join::{LAST_POSITION, StreamName};
+use pn_line::Source;
+use pn_stream::{ResumeFault, StreamReader};
+use std::alloc::Global;
+
+/// A writer's input, the position before its first message once that is known, and the last position of the stream that
+/// was handed on.
+#[derive(Drop)]
+pub(crate) struct WriterInput<S: Source + Drop> {
+    pub(crate) reader: StreamReader<S>,
+    pub(crate) before: Option<u64>,
+    pub(crate) last: u64,
+}
+
+/// What a writer gives next.
+#[derive(Drop)]
+pub(crate) enum Given {
+    /// The next messages.
+    Messages(Messages),
+    /// Nothing more.
+    Ended(WriterEnd),
+}
+
+impl<S: Source + Drop> WriterInput<S> {
+    /// The input of a reader, which gives the messages after its position.
+    pub(crate) fn of(reader: StreamReader<S>) -> WriterInput<S>
+        ensures reader { result.reader ≡ reader }
+        ensures before { result.before ≡ Some reader.position }
+    {
+        let position = reader.position();
+        WriterInput {
+            reader,
+            before: Some(position),
+            last: position,
+        }
+    }
+
+    /// The input of a writer of the stream, of which all messages up to `last` were handed on. Its first message may have
+    /// any position up to one past that.
+    pub(crate) fn begin(alloc: Global, name: StreamName, last: u64, source: S) -> WriterInput<S>
+        ensures reader { IsReaderFrom name (min last LAST_POSITION) result.reader }
+        ensures before { result.before ≡ None }
+        ensures last { result.last ≡ min last LAST_POSITION }
+    {
+        let last = last.min(LAST_POSITION);
+        WriterInput {
+            reader: StreamReader::new(alloc, name, last, source),
+            before: None,
+            last,
+        }
+    }
+
+    /// The name of the stream.
+    pub(crate) fn name(&self) -> StreamName
+        ensures { result ≡ self.now.reader.name }
+    {
+        *self.reader.name()
+    }
+
+    /// Waits for the next message, and gives it with those at hand, or says how the input ended.
+    pub(crate) fn next(&mut self) -> Given
+        ensures gives { Gives S.left self.old.before self.old.reader result self.new.before self.new.reader }
+        ensures name { self.new.reader.name ≡ self.old.reader.name }
+        ensures last { self.new.last ≡ self.old.last }
+    {
+        match self.before {
+            Some(_) => self.next_messages(),
+            None => self.first_message(),
+        }
+    }
+
+    // The next messages after those before.
+    fn next_messages(&mut self) -> Given
+        requires { IsSome self.old.before }
+        ensures gives { Gives S.left self.old.before self.old.reader result self.new.before self.new.reader }
+        ensures name { self.new.reader.name ≡ self.old.reader.name }
+        ensures last { self.new.last ≡ self.old.last }
+    {
+        match self.reader.next_ready(MAX_MESSAGES) {
+            Ok(delivery) if delivery.images().is_empty() => Given::Ended(WriterEnd::End),
+            Ok(delivery) => Given::Messages(Messages { delivery }),
+            Err(fault) => Given::Ended(self.fault(ResumeFault::Stream(fault))),
+        }
+    }
+
+    // The first message of the writer.
+    fn first_message(&mut self) -> Given
+        requires { self.old.before ≡ None }
+        ensures gives { Gives S.left self.old.before self.old.reader result self.new.before self.new.reader }
+        ensures name { self.new.reader.name ≡ self.old.reader.name }
+        ensures last { self.new.last ≡ self.old.last }
+    {
+        match self.reader.resume() {
+            Ok(Some(delivery)) => {
+                self.before = Some(self.reader.position().saturating_sub(1));
+                Given::Messages(Messages { delivery })
+            }
+            Ok(None) => Given::Ended(WriterEnd::End),
+            Err(fault) => Given::Ended(self.fault(fault)),
+        }
+    }
+
+    // The fault at the position that was due, and at the line that was read there.
+    fn fault(&self, fault: ResumeFault) -> WriterEnd
+        ensures { result ≡ WriterEnd.Fault fault (self.now.reader.position + 1) (line_after self.now.before self.now.reader.position) }
+    {
+        let position = self.reader.position();
+        let messages = match self.before {
+            Some(before) => position.saturating_sub(before),
+            None => 0,
+        };
+        WriterEnd::Fault {
+            fault,
+            position: position + 1,
+            line: messages + 1,
+        }
+    }
+
+    /// Notes that its messages so far were handed on.
+    pub(crate) fn hand_on(&mut self)
+        ensures last { self.new.last ≡ max self.old.last self.old.reader.position }
+        ensures reader { self.new.reader ≡ self.old.reader }
+        ensures before { self.new.before ≡ self.old.before }
+    {
+        self.last = self.last.max(self.reader.position());
+    }
+}

@@ -1,0 +1,50 @@
+//! Writers of streams: where they come from, one after another, and how their inputs end.
+
+use crate::server::counter::Counter;
+use pn_join::StreamName;
+use pn_line::Source;
+use pn_stream::ResumeFault;
+use std::sync::Arc;
+
+/// How a writer's input ended.
+#[derive(Clone, Copy, Debug, PartialEq, Eq)]
+pub enum WriterEnd {
+    /// No whole line is left of it.
+    End,
+    /// Its line of this number, from 1, is not the message that was due: the one at the position, or for the first
+    /// line of a writer one before it.
+    Fault {
+        fault: ResumeFault,
+        position: u64,
+        line: u64,
+    },
+}
+
+/// Where the writers of a stream come from.
+pub trait Origin<S: Source + Drop> {
+    ghost use Rattle.std.specs.Prelude.{IsSome};
+
+    // False for a stream that has no further writer.
+    ghost may_go_on: { Type 0 };
+
+    /// Waits for the next writer of the stream, of which all messages up to `last` were handed to rounds. None where
+    /// the stream has ended. It is called for the first writer, too.
+    fn next_writer(&mut self, last: u64) -> Option<S>
+        ensures { IsSome result → may_go_on };
+
+    /// Notes that all messages up to `last` were handed to rounds.
+    fn hand_on(&mut self, last: u64);
+
+    /// Notes how a writer's input ended, and takes back what it was read from.
+    fn end_writer(&mut self, source: S, end: &WriterEnd, last: u64);
+}
+
+/// A stream that is read from one writer after another, and what it was taken up to before.
+#[derive(Drop)]
+pub struct Stream<O: Drop> {
+    pub name: StreamName,
+    pub after: u64,
+    pub origin: O,
+    /// Set to the region's mark of the stream after each round.
+    pub taken: Option<Arc<Counter>>,
+}

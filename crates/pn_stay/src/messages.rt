@@ -1,0 +1,176 @@
+//! Lines for standard error. A thread of its own writes them, so that nobody else waits for who reads them.
+
+ghost use Rattle.std.specs.Prelude.{◌≡◌, ◌<◌, ◌≤◌, ◌↔◌, ◌++◌, ◌∷◌, [], length, IfOk, IsTrue};
+ghost use Rattle.pn_stay.specs.Messages.{one_more};
+
+use std::alloc::{AllocError, Global};
+use std::marker::Model;
+use std::mem;
+use std::sync::{Arc, Condvar, Mutex, Wait};
+
+/// How many lines wait at most.
+pub const MAX_WAITING: usize = 1_024;
+
+/// Lines that wait to be written to standard error.
+#[derive(Drop)]
+pub struct Messages {
+    waiting: Mutex<WaitingLines>,
+    left: Condvar,
+}
+
+impl Messages {
+    /// No line waits.
+    pub fn new(alloc: Global) -> Result<Messages, AllocError> {
+        Ok(Messages {
+            waiting: Mutex::new(WaitingLines::new(alloc)?),
+            left: Condvar::new(),
+        })
+    }
+
+    /// Leaves a line to be written. One for which there is no memory is dropped.
+    pub fn leave<R: Wait>(&self, rt: &R, line: Result<String, AllocError>) {
+        let mut waiting = self.waiting.lock(rt);
+        match line {
+            Ok(line) => waiting.add(line),
+            Err(_) => waiting.drop_one(),
+        }
+        self.left.notify_one();
+    }
+
+    /// Waits until a line was left, and exchanges those that wait for others.
+    pub fn exchange<R: Wait>(&self, rt: &R, others: &mut WaitingLines) {
+        let guard = self.waiting.lock(rt);
+        let mut waiting = self
+            .left
+            .wait_while(rt, guard, |waiting| waiting.is_empty());
+        mem::swap(&mut *waiting, others);
+    }
+}
+
+/// Lines in their order. One for which there is no place is dropped, and counted.
+#[derive(Drop)]
+pub struct WaitingLines {
+    lines: Vec<String>,
+    dropped: u64,
+}
+
+impl Model for WaitingLines {
+    ghost use Rattle.std.specs.Prelude.{◌≤◌, vec_len, vec_capacity};
+    ghost use Rattle.pn_stay.specs.Messages.{Waiting};
+    ghost use Rattle.pn_stay.specs.declared.messages.TheConstants.{MAX_WAITING};
+
+    ghost Value = { Waiting };
+
+    ghost view = { λ waiting. (waiting.lines.items, waiting.dropped) };
+
+    ghost invariant = { λ waiting. (vec_len waiting.lines ≤ MAX_WAITING) × (MAX_WAITING ≤ vec_capacity waiting.lines) };
+}
+
+impl WaitingLines {
+    /// No lines, and the memory for the most that wait.
+    pub fn new(alloc: Global) -> Result<WaitingLines, AllocError>
+        ensures { IfOk result (λ waiting. waiting ≡ ([], 0)) }
+    {
+        Ok(WaitingLines {
+            lines: Vec::with_capacity(alloc, MAX_WAITING)?,
+            dropped: 0,
+        })
+    }
+
+    /// The lines.
+    pub fn lines(&self) -> &[String]
+        ensures { result.now ≡ self.now.0 }
+    {
+        &self.lines
+    }
+
+    /// How many lines were dropped.
+    pub fn dropped(&self) -> u64
+        ensures { result ≡ self.now.1 }
+    {
+        self.dropped
+    }
+
+    /// Whether there is no line, and none was dropped.
+    pub fn is_empty(&self) -> bool
+        ensures { IsTrue result ↔ (self.now ≡ ([], 0)) }
+    {
+        self.lines.is_empty() && self.dropped == 0
+    }
+
+    /// Adds a line, or drops it where there is no place.
+    pub fn add(&mut self, line: String)
+        ensures added { length self.old.0 < MAX_WAITING → self.new ≡ (self.old.0 ++ line ∷ [], self.old.1) }
+        ensures dropped { MAX_WAITING ≤ length self.old.0 → self.new ≡ (self.old.0, one_more self.old.1) }
+    {
+        if self.lines.len() < MAX_WAITING {
+            self.lines.push_reserved(line);
+        } else {
+            self.drop_one();
+        }
+    }
+
+    /// Counts a line that is dropped.
+    pub fn drop_one(&mut self)
+        ensures { self.new ≡ (self.old.0, one_more self.old.1) }
+    {
+        self.dropped = self.dropped.saturating_add(1);
+    }
+
+    /// Forgets all lines.
+    pub fn clear(&mut self)
+        ensures { self.new ≡ ([], 0) }
+    {
+        self.lines.clear();
+        self.dropped = 0;
+    }
+}
+
+/// Writes lines to standard error.
+#[derive(Drop)]
+pub struct MessagePrinter {
+    messages: Arc<Messages>,
+    // What it exchanges for lines that wait.
+    lines: WaitingLines,
+    // What goes before each line.
+    prefix: &'static str,
+}
+
+impl MessagePrinter {
+    /// Has the memory that it needs.
+    pub fn new(
+        alloc: Global,
+        messages: Arc<Messages>,
+        prefix: &'static str,
+    ) -> Result<MessagePrinter, AllocError> {
+        Ok(MessagePrinter {
+            messages,
+            lines: WaitingLines::new(alloc)?,
+            prefix,
+        })
+    }
+
+    /// Writes the lines that are left, for as long as the program runs.
+    pub fn run<R: Wait + Eprint>(self, rt: &R) {
+        let MessagePrinter {
+            messages,
+            lines,
+            prefix,
+        } = self;
+        let mut lines = lines;
+        for _ in rt.forever() {
+            messages.exchange(rt, &mut lines);
+            print_lines(rt, &lines, prefix);
+            lines.clear();
+        }
+    }
+}
+
+fn print_lines<R: Eprint>(rt: &R, waiting: &WaitingLines, prefix: &str) {
+    for line in waiting.lines().iter() {
+        let _ = eprintln!(rt; "{prefix}pnuts: {line}");
+    }
+    if waiting.dropped() > 0 {
+        let _ = eprintln!(rt; "{prefix}pnuts: {} lines were dropped", waiting.dropped());
+    }
+}

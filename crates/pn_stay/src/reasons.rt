@@ -1,0 +1,153 @@
+//! Why a writer's input is read no further, and why the system refuses something: in words, and in a line for the writer.
+
+ghost use Rattle.std.specs.Prelude.{◌≡◌, ◌++◌, codes, decimal, string_bytes, IfOk};
+ghost use Rattle.pn_stay.specs.Reasons.{image_word, stream_word, member_detail, stream_detail, refusal_line, image_words, stream_words, reason_words, failure_words};
+
+use pn_join::Name;
+use pn_record::ImageFault;
+use pn_stream::{ResumeFault, StreamFault};
+use std::alloc::{AllocError, Global};
+use std::io;
+
+/// The line that tells a writer where the stream goes on: one past this position at the latest.
+pub fn format_after(alloc: Global, last: u64) -> Result<String, AllocError>
+    ensures { IfOk result (λ line. string_bytes line ≡ codes "{\"after\":" ++ (decimal last ++ codes "}\n")) }
+{
+    format!(in alloc; "{{\"after\":{last}}}\n")
+}
+
+/// The line that tells a writer up to which position the stream was taken.
+pub fn format_taken(alloc: Global, last: u64) -> Result<String, AllocError>
+    ensures { IfOk result (λ line. string_bytes line ≡ codes "{\"taken\":" ++ (decimal last ++ codes "}\n")) }
+{
+    format!(in alloc; "{{\"taken\":{last}}}\n")
+}
+
+/// The line that tells a writer why it is read no further, where the message at this position was wanted.
+pub fn format_refusal(
+    alloc: Global,
+    fault: &ResumeFault,
+    position: u64,
+) -> Result<String, AllocError>
+    ensures { IfOk result (λ line. string_bytes line ≡ refusal_line fault.now position) }
+{
+    match fault {
+        ResumeFault::Gap { got, wanted } => {
+            format!(in alloc; "{{\"error\":\"gap\",\"got\":{got},\"wanted\":{wanted}}}\n")
+        }
+        ResumeFault::Stream(fault) => {
+            let word = name_fault(fault);
+            let detail = format_detail(alloc, fault)?;
+            format!(in alloc; "{{\"at\":{position},\"error\":\"{word}\"{detail}}}\n")
+        }
+    }
+}
+
+/// What standard error says of a stream that failed, as `stream east failed at 5 (line 3): not-json`.
+pub fn format_failure(
+    alloc: Global,
+    name: &Name,
+    fault: &ResumeFault,
+    position: u64,
+    line: u64,
+) -> Result<String, AllocError>
+    ensures { IfOk result (λ text. string_bytes text ≡ failure_words name.now fault.now position line) }
+{
+    let name = name.as_str();
+    let reason = describe_fault(alloc, fault)?;
+    format!(in alloc; "stream {name} failed at {position} (line {line}): {reason}")
+}
+
+// The reason in words, as `out-of-range master`.
+fn describe_fault(alloc: Global, fault: &ResumeFault) -> Result<String, AllocError>
+    ensures { IfOk result (λ text. string_bytes text ≡ reason_words fault.now) }
+{
+    match fault {
+        ResumeFault::Gap { got, wanted } => { format!(in alloc; "gap, got {got}, wanted {wanted}") }
+        ResumeFault::Stream(fault) => describe_stream_fault(alloc, fault),
+    }
+}
+
+fn describe_stream_fault(alloc: Global, fault: &StreamFault) -> Result<String, AllocError>
+    ensures { IfOk result (λ text. string_bytes text ≡ stream_words fault.now) }
+{
+    match fault {
+        StreamFault::OutOfStep { wanted: _, got } => format!(in alloc; "out-of-step, got {got}"),
+        StreamFault::BadMessage { at: _, fault } => describe_image(alloc, fault),
+        StreamFault::Read | StreamFault::LineTooLong | StreamFault::Memory | StreamFault::Failed =>
+            String::from_str(alloc, name_fault(fault)),
+    }
+}
+
+fn describe_image(alloc: Global, fault: &ImageFault) -> Result<String, AllocError>
+    ensures { IfOk result (λ text. string_bytes text ≡ image_words fault.now) }
+{
+    match fault {
+        ImageFault::BadShape(member) => format!(in alloc; "bad-shape {}", member.word()),
+        ImageFault::OutOfRange(member) => format!(in alloc; "out-of-range {}", member.word()),
+        ImageFault::TooLong | ImageFault::NotJson | ImageFault::Memory => {
+            String::from_str(alloc, name_image_fault(fault))
+        }
+    }
+}
+
+fn name_fault(fault: &StreamFault) -> &'static str
+    ensures { result.now ≡ stream_word fault.now }
+{
+    match fault {
+        StreamFault::Read => "read",
+        StreamFault::LineTooLong => "too-long",
+        StreamFault::BadMessage { at: _, fault } => name_image_fault(fault),
+        StreamFault::OutOfStep { .. } => "out-of-step",
+        StreamFault::Memory => "memory",
+        StreamFault::Failed => "read",
+    }
+}
+
+fn name_image_fault(fault: &ImageFault) -> &'static str
+    ensures { result.now ≡ image_word fault.now }
+{
+    match fault {
+        ImageFault::TooLong => "too-long",
+        ImageFault::NotJson => "not-json",
+        ImageFault::Memory => "memory",
+        ImageFault::BadShape(_) => "bad-shape",
+        ImageFault::OutOfRange(_) => "out-of-range",
+    }
+}
+
+// What a writer's line says beside the word.
+fn format_detail(alloc: Global, fault: &StreamFault) -> Result<String, AllocError>
+    ensures { IfOk result (λ text. string_bytes text ≡ stream_detail fault.now) }
+{
+    match fault {
+        StreamFault::OutOfStep { wanted: _, got } => format!(in alloc; ",\"got\":{got}"),
+        StreamFault::BadMessage { at: _, fault } => format_member(alloc, fault),
+        StreamFault::Read | StreamFault::LineTooLong | StreamFault::Memory | StreamFault::Failed =>
+            Ok(String::new(alloc)),
+    }
+}
+
+fn format_member(alloc: Global, fault: &ImageFault) -> Result<String, AllocError>
+    ensures { IfOk result (λ text. string_bytes text ≡ member_detail fault.now) }
+{
+    match fault {
+        ImageFault::BadShape(member) | ImageFault::OutOfRange(member) => {
+            format!(in alloc; ",\"member\":\"{}\"", member.word())
+        }
+        ImageFault::TooLong | ImageFault::NotJson | ImageFault::Memory => Ok(String::new(alloc)),
+    }
+}
+
+/// What the system says of an error, without its number.
+pub fn describe_error(alloc: Global, error: &io::Error) -> Result<String, AllocError> {
+    let text = format!(in alloc; "{error}")?;
+    String::from_str(alloc, cut_number(text.as_str()))
+}
+
+fn cut_number(text: &str) -> &str {
+    match text.split_once(" (os error ") {
+        Some((words, _)) => words,
+        None => text,
+    }
+}

@@ -1,0 +1,11 @@
+//! Streams: where their writers come from, and what is told of them.
+
+pub(crate) mod fifo;
+pub(crate) mod files;
+pub(crate) mod input;
+pub(crate) mod listener;
+pub(crate) mod notes;
+pub(crate) mod opening;
+pub(crate) mod origin;
+pub(crate) mod sockets;
+pub(crate) mod writer;

@@ -1,0 +1,208 @@
+//! Opens the streams of a server that stays: files that are read once, FIFOs and sockets.
+
+ghost use Rattle.std.specs.Prelude.{◌≡◌, [], ◌∷◌, ◌++◌, map, All, IfOk, OnOk};
+
+use crate::counters::StreamCounters;
+use crate::messages::Messages;
+use crate::shared::share;
+use crate::streams::fifo::{FifoPoll, FifoWriters};
+use crate::streams::files::{OpenFault, new_counters, read_size};
+use crate::streams::input::{FILE_READ_SIZE, StreamInput, open_source};
+use crate::streams::listener::StreamListener;
+use crate::streams::notes::StreamNotes;
+use crate::streams::origin::{StreamOrigin, Writers};
+use crate::streams::sockets::SocketWriters;
+use crate::streams::writer::Progress;
+use pn_join::Name;
+use pn_serve::{Counter, Stream, StreamPath};
+use std::alloc::{AllocError, Global};
+use std::fs::{File, Files};
+use std::net::Net;
+use std::os::unix::fs::FileTypeExt;
+use std::sync::{Arc, Wait};
+use std::time::Clock;
+use std::{fs, io};
+
+/// The streams of a server that stays.
+#[derive(Drop)]
+pub struct OpenedStreams<R: Drop> {
+    pub streams: Vec<Stream<StreamOrigin<R>>>,
+    /// The counters of those that are counted.
+    pub counters: Vec<StreamCounters>,
+    /// The paths of the sockets at which writers come.
+    pub sockets: Vec<String>,
+}
+
+/// Where it is told how streams go, and whether what is read of them is counted.
+#[derive(Drop)]
+pub struct StreamSetting<R> {
+    pub rt: R,
+    pub alloc: Global,
+    pub messages: Arc<Messages>,
+    pub is_counted: bool,
+}
+
+/// Opens streams in their order, and waits for no writer. After a fault the sockets are removed.
+pub fn open_origins<R>(
+    setting: &StreamSetting<R>,
+    streams: Vec<(Name, StreamPath)>,
+) -> Result<OpenedStreams<R>, OpenFault>
+where
+    R: Files<File = File> + Net + Wait + Clock + Copy + Drop,
+    ensures names { IfOk result (λ opened. map (λ stream. stream.name) opened.streams.items ≡ map (λ stream. stream.0) streams.items) }
+    ensures first { IfOk result (λ opened. All (λ stream. stream.after ≡ 0) opened.streams.items) }
+{
+    let mut opened = OpenedStreams {
+        streams: Vec::with_capacity(setting.alloc, streams.len())?,
+        counters: Vec::new(setting.alloc),
+        sockets: Vec::new(setting.alloc),
+    };
+    for (name, path) in streams {
+        if let Err(fault) = open_origin(setting, &mut opened, name, path) {
+            remove_sockets(&setting.rt, &opened.sockets);
+            return Err(fault);
+        }
+    }
+    Ok(opened)
+}
+
+/// Removes the files of sockets.
+pub fn remove_sockets<R: Files>(rt: &R, paths: &[String]) {
+    for path in paths {
+        let _ = fs::remove_file(rt, path.as_str());
+    }
+}
+
+fn open_origin<R>(
+    setting: &StreamSetting<R>,
+    opened: &mut OpenedStreams<R>,
+    name: Name,
+    path: StreamPath,
+) -> Result<(), OpenFault>
+where
+    R: Files<File = File> + Net + Wait + Clock + Copy + Drop,
+    requires { All (λ stream. stream.after ≡ 0) opened.old.streams.items }
+    ensures first { OnOk result (All (λ stream. stream.after ≡ 0) opened.new.streams.items) }
+    ensures names { OnOk result (map (λ stream. stream.name) opened.new.streams.items ≡ map (λ stream. stream.name) opened.old.streams.items ++ name ∷ []) }
+{
+    let notes = new_notes(setting, name)?;
+    let (writers, size) = open_writers(&notes, path, &mut opened.sockets)?;
+    let taken = Arc::try_clone(&notes.progress.taken)?;
+    add_counters(&mut opened.counters, &notes, size)?;
+    opened.streams.push(Stream {
+        name,
+        after: 0,
+        origin: StreamOrigin { notes, writers },
+        taken: Some(taken),
+    })?;
+    Ok(())
+}
+
+// Adds the counters of a stream that is counted.
+fn add_counters<R>(
+    counters: &mut Vec<StreamCounters>,
+    notes: &StreamNotes<R>,
+    size: Option<u64>,
+) -> Result<(), AllocError> {
+    if let Some(input) = share(&notes.counters)? {
+        counters.push(StreamCounters {
+            name: notes.name,
+            input,
+            taken: Some(Arc::try_clone(&notes.progress.taken)?),
+            size,
+        })?;
+    }
+    Ok(())
+}
+
+fn new_notes<R: Copy>(
+    setting: &StreamSetting<R>,
+    name: Name,
+) -> Result<StreamNotes<R>, AllocError> {
+    let alloc = setting.alloc;
+    Ok(StreamNotes {
+        rt: setting.rt,
+        alloc,
+        name,
+        messages: Arc::try_clone(&setting.messages)?,
+        counters: new_counters(alloc, setting.is_counted)?,
+        progress: Progress {
+            handed: Arc::new(alloc, Counter::new())?,
+            taken: Arc::new(alloc, Counter::new())?,
+        },
+    })
+}
+
+// The writers that come to a path, and how many bytes its file has, where it ends. A socket's path is added.
+fn open_writers<R>(
+    notes: &StreamNotes<R>,
+    path: StreamPath,
+    sockets: &mut Vec<String>,
+) -> Result<(Writers<R>, Option<u64>), OpenFault>
+where
+    R: Files<File = File> + Net + Wait + Clock + Copy + Drop,
+{
+    match path {
+        StreamPath::Listen(path) => Ok((listen(notes, path, sockets)?, None)),
+        StreamPath::File(path) => match is_fifo(&notes.rt, path.as_str()) {
+            Ok(true) => open_fifo(notes, path),
+            Ok(false) => open_file(notes, path),
+            Err(error) => Err(OpenFault::of(notes.name, path, error)),
+        },
+    }
+}
+
+fn listen<R>(
+    notes: &StreamNotes<R>,
+    path: String,
+    sockets: &mut Vec<String>,
+) -> Result<Writers<R>, OpenFault>
+where
+    R: Files<File = File> + Net + Wait + Clock + Copy + Drop,
+{
+    let shown = String::from_str(notes.alloc, path.as_str())?;
+    match StreamListener::bind(&notes.rt, path.as_str()) {
+        Ok(listener) => {
+            sockets.push(path)?;
+            Ok(Writers::Socket(SocketWriters::new(listener, shown)))
+        }
+        Err(error) => Err(OpenFault::of(notes.name, path, error)),
+    }
+}
+
+fn is_fifo<R: Files>(rt: &R, path: &str) -> io::Result<bool> {
+    Ok(fs::metadata(rt, path)?.file_type().is_fifo())
+}
+
+fn open_fifo<R>(
+    notes: &StreamNotes<R>,
+    path: String,
+) -> Result<(Writers<R>, Option<u64>), OpenFault>
+where
+    R: Files<File = File> + Net + Wait + Clock + Copy + Drop,
+{
+    match FifoPoll::new(&notes.rt, notes.alloc) {
+        Ok(poll) => Ok((Writers::Fifo(FifoWriters::new(path, poll)), None)),
+        Err(error) => Err(OpenFault::of(notes.name, path, error)),
+    }
+}
+
+fn open_file<R>(
+    notes: &StreamNotes<R>,
+    path: String,
+) -> Result<(Writers<R>, Option<u64>), OpenFault>
+where
+    R: Files<File = File> + Net + Wait + Clock + Copy + Drop,
+{
+    match File::open(&notes.rt, path.as_str()) {
+        Ok(file) => {
+            let size = read_size(&file);
+            let input = StreamInput::File(file);
+            match open_source(notes.alloc, input, FILE_READ_SIZE, &notes.counters) {
+                Ok(source) => Ok((Writers::File(Some(source)), size)),
+                Err(_) => Err(OpenFault::Memory),
+            }
+        }
+        Err(error) => Err(OpenFault::of(notes.name, path, error)),
+    }
+}

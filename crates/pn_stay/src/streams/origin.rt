@@ -1,0 +1,55 @@
+//! Where the writers of a stream come from.
+
+use crate::streams::fifo::FifoWriters;
+use crate::streams::input::StreamSource;
+use crate::streams::notes::StreamNotes;
+use crate::streams::sockets::{SocketWriters, end_socket};
+use pn_serve::{Origin, WriterEnd};
+use std::fs::{File, Files};
+use std::net::Net;
+use std::sync::Wait;
+use std::time::Clock;
+
+/// Where the writers of a stream come from.
+#[derive(Drop)]
+pub struct StreamOrigin<R: Drop> {
+    pub(crate) notes: StreamNotes<R>,
+    pub(crate) writers: Writers<R>,
+}
+
+/// The writers of a stream.
+#[derive(Drop)]
+pub(crate) enum Writers<R: Drop> {
+    /// A file, which is read once.
+    File(Option<StreamSource<R>>),
+    Fifo(FifoWriters<R>),
+    Socket(SocketWriters),
+}
+
+impl<R> Origin<StreamSource<R>> for StreamOrigin<R>
+where
+    R: Files<File = File> + Net + Wait + Clock + Copy + Drop,
+{
+    ghost may_go_on = { Unit {0} };
+
+    fn next_writer(&mut self, last: u64) -> Option<StreamSource<R>> {
+        match &mut self.writers {
+            Writers::File(source) => source.take(),
+            Writers::Fifo(writers) => Some(writers.next_writer(&self.notes)),
+            Writers::Socket(writers) => Some(writers.next_writer(&self.notes, last)),
+        }
+    }
+
+    fn hand_on(&mut self, last: u64) {
+        self.notes.progress.handed.set(last);
+    }
+
+    fn end_writer(&mut self, source: StreamSource<R>, end: &WriterEnd, _last: u64) {
+        self.notes.tell_end(end);
+        match &mut self.writers {
+            Writers::File(_) => {}
+            Writers::Fifo(writers) => writers.end_writer(source, end),
+            Writers::Socket(_) => end_socket(source, end),
+        }
+    }
+}

@@ -1,0 +1,109 @@
+//! Streams from a socket: one writer after another.
+
+ghost use Rattle.std.specs.Prelude.{◌≡◌, true};
+
+use crate::seldom::Seldom;
+use crate::streams::input::{SOCKET_READ_SIZE, StreamInput, StreamSource, open_source};
+use crate::streams::listener::StreamListener;
+use crate::streams::notes::StreamNotes;
+use crate::streams::writer::{Progress, WriterSocket};
+use pn_line::Source;
+use pn_serve::WriterEnd;
+use std::sync::{Arc, Wait};
+use std::time::{Clock, Duration};
+use std::{io, thread};
+
+/// For how many milliseconds nobody is accepted after the system refused a socket, as where no descriptor is left.
+const RETRY: u64 = 100;
+
+/// The writers of a socket.
+#[derive(Drop)]
+pub(crate) struct SocketWriters {
+    listener: StreamListener,
+    path: String,
+    has_begun: bool,
+    refusals: Seldom,
+}
+
+impl SocketWriters {
+    /// Those who come to the socket at a path.
+    pub(crate) fn new(listener: StreamListener, path: String) -> SocketWriters {
+        SocketWriters {
+            listener,
+            path,
+            has_begun: false,
+            refusals: Seldom::new(),
+        }
+    }
+
+    /// Waits for the next writer that writes anything. It is told after which position it goes on.
+    pub(crate) fn next_writer<R>(&mut self, notes: &StreamNotes<R>, last: u64) -> StreamSource<R>
+    where
+        R: Wait + Clock + Copy + Drop,
+    {
+        for _ in notes.rt.forever() {
+            match self.accept(notes, last) {
+                Ok(source) => {
+                    let mut source = source;
+                    if source.has_more().unwrap_or(false) {
+                        self.note_begin(notes);
+                        return source;
+                    }
+                }
+                Err(error) => self.note_refusal(notes, &error),
+            }
+        }
+        unreachable!()
+    }
+
+    fn accept<R>(&self, notes: &StreamNotes<R>, last: u64) -> io::Result<StreamSource<R>>
+    where
+        R: Wait + Clock + Copy + Drop,
+    {
+        let stream = self.listener.accept()?;
+        let progress = Progress {
+            handed: Arc::try_clone(&notes.progress.handed)?,
+            taken: Arc::try_clone(&notes.progress.taken)?,
+        };
+        let socket = WriterSocket::begin(notes.rt, notes.alloc, stream, progress, last)?;
+        let input = StreamInput::Socket(socket);
+        open_source(notes.alloc, input, SOCKET_READ_SIZE, &notes.counters)
+    }
+
+    // Every writer but the first begins again.
+    fn note_begin<R: Wait + Drop>(&mut self, notes: &StreamNotes<R>)
+        ensures { self.new.has_begun ≡ true }
+    {
+        if self.has_begun {
+            notes.begin_again();
+        }
+        self.has_begun = true;
+    }
+
+    fn note_refusal<R>(&mut self, notes: &StreamNotes<R>, error: &io::Error)
+    where
+        R: Wait + Clock + Drop,
+    {
+        if self.refusals.is_due(&notes.rt) {
+            notes.tell_error("accept", self.path.as_str(), error);
+        }
+        thread::sleep(&notes.rt, Duration::from_millis(RETRY));
+    }
+}
+
+/// Tells a writer how its input ended, and closes its socket.
+pub(crate) fn end_socket<R: Clock + Drop>(source: StreamSource<R>, end: &WriterEnd) {
+    let (reader, _) = source.into_parts();
+    if let StreamInput::Socket(socket) = reader.into_inner() {
+        let mut socket = socket;
+        socket.tell_taken();
+        if let WriterEnd::Fault {
+            fault,
+            position,
+            ..
+        } = end
+        {
+            socket.tell_fault(fault, *position);
+        }
+    }
+}

@@ -1,0 +1,185 @@
+//! The socket of a stream's writer. While it is read, the writer is told what is taken.
+
+ghost use Rattle.std.specs.Prelude.{◌≡◌, ◌≢◌, ◌*◌, ◌≤◌, ◌↔◌, ◌⊎◌, true, Ok, Err, IfOk, IsTrue, OnErr};
+ghost use Rattle.std.specs.Duration.{as_nanos};
+ghost use Rattle.std.specs.IoError.{error_kind};
+ghost use Rattle.pn_stay.specs.declared.streams.writer.TheConstants.{PAUSE};
+
+use crate::reasons::{format_after, format_refusal, format_taken};
+use pn_serve::Counter;
+use pn_stream::ResumeFault;
+use std::alloc::{AllocError, Global};
+use std::io;
+use std::io::{ErrorKind, Read, Write};
+use std::os::unix::net::UnixStream;
+use std::sync::Arc;
+use std::time::{Clock, Duration, Instant};
+
+/// How many milliseconds lie between two lines that tell what is taken, at least.
+const PAUSE: u64 = 100;
+
+/// For how many milliseconds a writer is waited for that takes nothing.
+const PATIENCE: u64 = 1;
+
+/// Up to which positions a stream was handed to rounds, and was taken by them.
+#[derive(Drop)]
+pub(crate) struct Progress {
+    pub(crate) handed: Arc<Counter>,
+    pub(crate) taken: Arc<Counter>,
+}
+
+/// The socket of a writer.
+#[derive(Drop)]
+pub struct WriterSocket<R> {
+    rt: R,
+    alloc: Global,
+    stream: UnixStream,
+    progress: Progress,
+    // The position that the writer was told last, and when.
+    told: u64,
+    told_at: Option<Instant>,
+    // Whether a read ends after a tenth of a second.
+    is_timed: bool,
+    // Whether the writer takes lines: none follows one of which it took a part.
+    is_told: bool,
+}
+
+impl<R: Clock + Drop> WriterSocket<R> {
+    /// Tells a writer after which position the stream goes on.
+    pub(crate) fn begin(
+        rt: R,
+        alloc: Global,
+        stream: UnixStream,
+        progress: Progress,
+        last: u64,
+    ) -> io::Result<WriterSocket<R>> {
+        stream.set_write_timeout(Some(Duration::from_millis(PATIENCE)))?;
+        let mut socket = WriterSocket {
+            rt,
+            alloc,
+            stream,
+            progress,
+            told: last,
+            told_at: None,
+            is_timed: false,
+            is_told: true,
+        };
+        let _ = socket.tell(format_after(alloc, last));
+        Ok(socket)
+    }
+
+    /// Tells the writer what is taken, where it was not told.
+    pub(crate) fn tell_taken(&mut self) {
+        let taken = self.progress.taken.get();
+        if taken > self.told {
+            self.told_at = Instant::now(&self.rt).ok();
+            if self.tell(format_taken(self.alloc, taken)) {
+                self.told = taken;
+            }
+        }
+    }
+
+    /// Tells the writer why it is read no further.
+    pub(crate) fn tell_fault(&mut self, fault: &ResumeFault, position: u64) {
+        let _ = self.tell(format_refusal(self.alloc, fault, position));
+    }
+
+    // Writes a line, which is dropped where the writer does not take it at once. Whether it was taken whole.
+    fn tell(&mut self, line: Result<String, AllocError>) -> bool {
+        let Ok(line) = line else { return false };
+        if !self.is_told {
+            return false;
+        }
+        match (&self.stream).write(line.as_bytes()) {
+            Ok(count) => self.is_told = count == line.len(),
+            Err(error) => {
+                self.is_told = passes(&error);
+                return false;
+            }
+        }
+        self.is_told
+    }
+
+    // Tells what is taken, ten times a second at most.
+    fn tell_in_time(&mut self) {
+        if self.progress.taken.get() > self.told && is_over(&self.rt, &self.told_at) {
+            self.tell_taken();
+        }
+    }
+
+    // Whether rounds are still to take what was handed to them, or the writer is to be told so.
+    fn is_behind(&self) -> bool {
+        self.told < self.progress.handed.get() || self.told < self.progress.taken.get()
+    }
+
+    // A read ends after a tenth of a second where there may be something to tell then.
+    fn set_timeout(&mut self) {
+        let is_timed = self.is_told && self.is_behind();
+        if is_timed == self.is_timed {
+            return;
+        }
+        let most = if is_timed {
+            Some(Duration::from_millis(PAUSE))
+        } else {
+            None
+        };
+        if self.stream.set_read_timeout(most).is_ok() {
+            self.is_timed = is_timed;
+        }
+    }
+}
+
+// Whether the pause since then is over.
+fn is_over<R: Clock>(rt: &R, then: &Option<Instant>) -> bool {
+    match then {
+        Some(then) => has_passed(then.elapsed(rt)),
+        None => true,
+    }
+}
+
+// Whether the pause has passed. Where the clock fails, it has.
+fn has_passed(elapsed: io::Result<Duration>) -> bool
+    ensures told { IfOk elapsed (λ elapsed. IsTrue result ↔ (PAUSE * 1_000_000 ≤ as_nanos elapsed)) }
+    ensures unknown { OnErr elapsed (result ≡ true) }
+{
+    match elapsed {
+        Ok(elapsed) => elapsed >= Duration::from_millis(PAUSE),
+        Err(_) => true,
+    }
+}
+
+impl<R: Clock + Drop> Read for WriterSocket<R> {
+    fn read(&mut self, buf: &mut [u8]) -> io::Result<usize> {
+        for _ in 0..u64::MAX {
+            self.tell_in_time();
+            self.set_timeout();
+            match (&self.stream).read(buf) {
+                Ok(count) => return Ok(count),
+                Err(error) if passes(&error) => {}
+                Err(error) => return end_or_fault(error),
+            }
+        }
+        Ok(0)
+    }
+}
+
+// Whether an error says that the call is to be made again: it would have waited, or the program was stopped meanwhile.
+fn passes(error: &io::Error) -> bool
+    ensures { IsTrue result ↔ ((error_kind error.now ≡ ErrorKind.WouldBlock) ⊎ (error_kind error.now ≡ ErrorKind.Interrupted)) }
+{
+    match error.kind() {
+        ErrorKind::WouldBlock | ErrorKind::Interrupted => true,
+        _ => false,
+    }
+}
+
+// A writer that went while lines for it were left is at its end.
+fn end_or_fault(error: io::Error) -> io::Result<usize>
+    ensures end { error_kind error ≡ ErrorKind.ConnectionReset → result ≡ Ok 0 }
+    ensures fault { error_kind error ≢ ErrorKind.ConnectionReset → result ≡ Err error }
+{
+    match error.kind() {
+        ErrorKind::ConnectionReset => Ok(0),
+        _ => Err(error),
+    }
+}

@@ -1,0 +1,181 @@
+//! What a server reads, and where it listens.
+
+use crate::addresses::{listen, remove_places};
+use crate::failures::{fail_serving, is_explained, refuse_streams};
+use pn_join::Name;
+use pn_serve::{FaultLog, ServeFault, Service, Stream, StreamPath};
+use pn_stay::{
+    Counters, FileSource, Listener, Messages, OpenFault, SocketAcceptor, StreamCounters,
+    StreamOrigin, StreamSetting, open_files, open_origins, remove_sockets, share,
+};
+use pn_stream::StreamReader;
+use std::alloc::{AllocError, Global};
+use std::fs::File;
+use std::net::{Net, TcpListener, TcpStream};
+use std::process::ExitCode;
+use std::rt::Files;
+use std::sync::{Arc, Wait};
+use std::time::Clock;
+
+/// The streams of a server.
+#[derive(Drop)]
+pub(crate) enum Streams<R: Drop> {
+    /// Files, which are read to their ends.
+    Files(Vec<StreamReader<FileSource>>),
+    /// Those of a server that stays, and how many connections of it may be open.
+    Staying(Vec<Stream<StreamOrigin<R>>>, u32),
+}
+
+/// What is counted and told of the streams, and the paths of their sockets.
+#[derive(Drop)]
+pub(crate) struct Notes {
+    pub(crate) counters: Arc<Counters>,
+    /// Where the faults of streams are noted, if somebody looks at them.
+    pub(crate) faults: Option<Arc<FaultLog>>,
+    /// Where it is told how the streams of a server that stays go.
+    pub(crate) messages: Option<Arc<Messages>>,
+    pub(crate) sockets: Vec<String>,
+}
+
+/// Opens the streams that the words ask for, or prints why not.
+pub(crate) fn open_streams<R>(
+    rt: &R,
+    service: &Service,
+    streams: Vec<(Name, StreamPath)>,
+) -> Result<(Streams<R>, Notes), ExitCode>
+where
+    R: AllocGlobal + Files<File = File> + Net + Eprint + Wait + Clock + Copy + Drop,
+{
+    let opened = match service.stay {
+        Some(connections) => open_to_stay(rt, service, connections, streams),
+        None => open_to_end(rt, service, streams),
+    };
+    match opened {
+        Ok(opened) => Ok(opened),
+        Err(fault) => Err(refuse_streams(rt, fault, is_explained(service))),
+    }
+}
+
+fn open_to_end<R>(
+    rt: &R,
+    service: &Service,
+    streams: Vec<(Name, StreamPath)>,
+) -> Result<(Streams<R>, Notes), OpenFault>
+where
+    R: AllocGlobal + Files<File = File> + Drop,
+{
+    let alloc = rt.alloc();
+    let faults = new_fault_log(alloc, service, streams.len())?;
+    let opened = open_files(rt, alloc, streams, service.is_progress_told)?;
+    let notes = Notes {
+        counters: new_counters(alloc, opened.counters)?,
+        faults,
+        messages: None,
+        sockets: Vec::new(alloc),
+    };
+    Ok((Streams::Files(opened.readers), notes))
+}
+
+fn open_to_stay<R>(
+    rt: &R,
+    service: &Service,
+    connections: u32,
+    streams: Vec<(Name, StreamPath)>,
+) -> Result<(Streams<R>, Notes), OpenFault>
+where
+    R: AllocGlobal + Files<File = File> + Net + Wait + Clock + Copy + Drop,
+{
+    let alloc = rt.alloc();
+    let messages = new_messages(alloc)?;
+    let setting = StreamSetting {
+        rt: *rt,
+        alloc,
+        messages: Arc::try_clone(&messages)?,
+        is_counted: service.is_progress_told,
+    };
+    let opened = open_origins(&setting, streams)?;
+    let counters = match new_counters(alloc, opened.counters) {
+        Ok(counters) => counters,
+        Err(_) => {
+            remove_sockets(rt, &opened.sockets);
+            return Err(OpenFault::Memory);
+        }
+    };
+    let notes = Notes {
+        counters,
+        faults: None,
+        messages: Some(messages),
+        sockets: opened.sockets,
+    };
+    Ok((Streams::Staying(opened.streams, connections), notes))
+}
+
+fn new_messages(alloc: Global) -> Result<Arc<Messages>, AllocError> {
+    Ok(Arc::new(alloc, Messages::new(alloc)?)?)
+}
+
+fn new_counters(alloc: Global, streams: Vec<StreamCounters>) -> Result<Arc<Counters>, AllocError> {
+    Ok(Arc::new(alloc, Counters::new(alloc, streams)?)?)
+}
+
+fn new_fault_log(
+    alloc: Global,
+    service: &Service,
+    streams: usize,
+) -> Result<Option<Arc<FaultLog>>, AllocError> {
+    if service.is_progress_told {
+        Ok(Some(Arc::new(alloc, FaultLog::new(alloc, streams)?)?))
+    } else {
+        Ok(None)
+    }
+}
+
+/// Listens, and prints where. Else it prints why not.
+pub(crate) fn open_acceptor<R>(
+    rt: &R,
+    service: &Service,
+    notes: &Notes,
+) -> Result<SocketAcceptor, ExitCode>
+where
+    R: AllocGlobal
+        + Files<File = File>
+        + Net<Listener = TcpListener, Stream = TcpStream>
+        + Print
+        + Eprint,
+{
+    let listener = match listen(rt, service) {
+        Ok(listener) => listener,
+        Err(status) => {
+            remove_sockets(rt, &notes.sockets);
+            return Err(status);
+        }
+    };
+    match new_acceptor(listener, service, notes) {
+        Ok(acceptor) => Ok(acceptor),
+        Err(_) => Err(refuse_start(rt, service, &notes.sockets)),
+    }
+}
+
+fn new_acceptor(
+    listener: Listener,
+    service: &Service,
+    notes: &Notes,
+) -> Result<SocketAcceptor, AllocError> {
+    Ok(SocketAcceptor {
+        listener,
+        idle: service.idle,
+        counters: Arc::try_clone(&notes.counters)?,
+        faults: share(&notes.faults)?,
+        messages: share(&notes.messages)?,
+    })
+}
+
+/// Prints that the program cannot start, and ends what it listened on.
+pub(crate) fn refuse_start(
+    rt: &(impl Files + Eprint),
+    service: &Service,
+    sockets: &[String],
+) -> ExitCode {
+    remove_places(rt, service, sockets);
+    fail_serving(rt, ServeFault::Start, is_explained(service))
+}
