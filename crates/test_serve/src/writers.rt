@@ -46,16 +46,14 @@ impl<R: Wait + Copy> Origin<InMemory<'static>> for Script<R> {
     }
 
     fn end_writer(&mut self, _source: InMemory<'static>, end: &WriterEnd, last: u64) {
-        self.note(
-            match end {
-                WriterEnd::End => format!(in self.alloc; ", end at {last}; "),
-                WriterEnd::Fault {
-                    fault,
-                    position,
-                    line,
-                } => format!(in self.alloc; ", {fault} (at {position}, line {line}); "),
-            },
-        );
+        self.note(match end {
+            WriterEnd::End => format!(in self.alloc; ", end at {last}; "),
+            WriterEnd::Fault {
+                fault,
+                position,
+                line,
+            } => format!(in self.alloc; ", {fault} (at {position}, line {line}); "),
+        });
     }
 }
 
@@ -82,7 +80,12 @@ where
     let (ended, region) = read_stream(rt, alloc, stream)?;
     let found = found(alloc, &region)?;
     let told = told.lock(rt);
-    Ok(format!(in alloc; "{}, {}taken {}, {found}", told.as_str(), ended_text(ended), taken.get())?)
+    Ok(format!(in alloc;
+        "{}, {}taken {}, {found}",
+        told.as_str(),
+        ended_text(ended),
+        taken.get()
+    )?)
 }
 
 fn ended_text(ended: Result<(), ServeFault>) -> &'static str {
