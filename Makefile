@@ -83,15 +83,17 @@ $(LIVE): $(SOURCES)
 licences:
 	@packaging/licences.py out/third-party
 
-# Installs the built program with its pages for man, completions, licences and service. After a build it needs no toolchain.
+# Installs the built program with its pages for man, completions, licences, service and feeds. After a build it needs no toolchain.
 install: licences
 	@packaging/install "$(PNUTS)" --prefix "$(PREFIX)" --destdir "$(DESTDIR)/"
+	@packaging/install --feeds --prefix "$(PREFIX)" --destdir "$(DESTDIR)/"
 
 # Removes what `make install` installed, but for an environment file that was changed.
 uninstall:
+	@packaging/install --remove --feeds --prefix "$(PREFIX)" --destdir "$(DESTDIR)/"
 	@packaging/install --remove --prefix "$(PREFIX)" --destdir "$(DESTDIR)/"
 
-# Builds a Debian package of the program.
+# Builds the Debian packages of the program and of its feeds.
 deb: $(PROVED) licences
 	@packaging/deb "$(PNUTS)" "$(DEBS)"
 
@@ -99,7 +101,7 @@ deb: $(PROVED) licences
 bench: build
 	@cd crates/pn_bench && rt run -- $$(< args) < stdin > /dev/null
 	@status=0; \
-	for it in run rounds sessions; do "bench/$$it" "$(PROGRAM)" || status=1; done; \
+	for it in run rounds sessions streams; do "bench/$$it" "$(PROGRAM)" || status=1; done; \
 	for it in live layouts; do "bench/$$it" "$(BENCH)" || status=1; done; \
 	bench/instructions "$(PROGRAM)"; \
 	exit $$status

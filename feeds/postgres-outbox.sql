@@ -8,14 +8,50 @@ CREATE TABLE outbox (
     PRIMARY KEY (xid, id)
 );
 
--- The head: the first row, which names this outbox. A feed that does not find it knows that the beginning is gone.
-INSERT INTO outbox (id, xid, image) VALUES (0, '0', gen_random_uuid()::text);
+-- The head: the first row. It names this outbox, and says up to which position rows were deleted, and which row had this position.
+INSERT INTO outbox (id, xid, image) VALUES
+    (0, '0', json_build_object('id', 0, 'outbox', gen_random_uuid(), 'position', 0, 'xid', '0')::text);
 
--- All rows stay: a region that starts anew reads from the first.
-CREATE FUNCTION outbox_keeps_all() RETURNS trigger LANGUAGE plpgsql AS $$
+-- Rows stay, until outbox_forget deletes them.
+CREATE FUNCTION outbox_keeps_rows() RETURNS trigger LANGUAGE plpgsql AS $$
 BEGIN
-    RAISE EXCEPTION 'the outbox keeps all rows';
+    IF current_setting('outbox.forgets', true) IS DISTINCT FROM 'yes' THEN
+        RAISE EXCEPTION 'the outbox keeps its rows: outbox_forget deletes those that all regions have';
+    END IF;
+    RETURN NULL;
 END $$;
 
-CREATE TRIGGER outbox_keeps_all BEFORE UPDATE OR DELETE OR TRUNCATE ON outbox
-    FOR EACH STATEMENT EXECUTE FUNCTION outbox_keeps_all();
+CREATE TRIGGER outbox_keeps_rows BEFORE UPDATE OR DELETE OR TRUNCATE ON outbox
+    FOR EACH STATEMENT EXECUTE FUNCTION outbox_keeps_rows();
+
+-- Deletes what all regions have: give it the position that each of them has taken, of every region there is. Answers up to
+-- which position rows are deleted now. A region that has less, or starts from its first message, has to start from copies then.
+CREATE FUNCTION outbox_forget(VARIADIC taken bigint[]) RETURNS bigint LANGUAGE plpgsql AS $$
+DECLARE
+    head json;
+    up_to bigint;
+    gone bigint;
+    ends outbox;
+BEGIN
+    IF array_position(taken, NULL) IS NOT NULL OR cardinality(taken) = 0 THEN
+        RAISE EXCEPTION 'outbox_forget needs the position of every region';
+    END IF;
+    SELECT min(one) INTO up_to FROM unnest(taken) AS one;
+    SELECT image::json INTO head FROM outbox WHERE (xid, id) = ('0'::xid8, 0) FOR UPDATE;
+    gone := head ->> 'position';
+    IF up_to <= gone THEN
+        RETURN gone;
+    END IF;
+    SELECT * INTO ends FROM outbox
+        WHERE (xid, id) > ((head ->> 'xid')::xid8, (head ->> 'id')::bigint) AND xid < pg_snapshot_xmin(pg_current_snapshot())
+        ORDER BY xid, id OFFSET up_to - gone - 1 LIMIT 1;
+    IF NOT FOUND THEN
+        RAISE EXCEPTION 'the outbox has no position %', up_to;
+    END IF;
+    PERFORM set_config('outbox.forgets', 'yes', true);
+    DELETE FROM outbox WHERE (xid, id) > ('0'::xid8, 0) AND (xid, id) <= (ends.xid, ends.id);
+    UPDATE outbox SET image = json_build_object(
+        'id', ends.id, 'outbox', head ->> 'outbox', 'position', up_to, 'xid', ends.xid::text)::text WHERE (xid, id) = ('0'::xid8, 0);
+    PERFORM set_config('outbox.forgets', 'no', true);
+    RETURN up_to;
+END $$;

@@ -77,8 +77,10 @@ class Staying:
             self.process = subprocess.Popen([*line, *(f"{name}={path}" for name, path in streams)], **pipes, stderr=errors or file)
 
     def __enter__(self) -> "Staying":
-        self.first = self.process.stdout.readline()
+        is_ready = select.select([self.process.stdout], [], [], SECONDS)[0]
+        self.first = self.process.stdout.readline() if is_ready else b""
         if not self.first.startswith(b"listening on "):
+            self.__exit__()
             raise AssertionError(f"it does not listen: {self.first!r}, {self.said()!r}")
         return self
 

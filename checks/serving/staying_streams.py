@@ -6,8 +6,8 @@ import time
 from collections import Counter
 from collections.abc import Callable
 
-from common.served import Client, fifo, row_of, same, written
-from serving.staying import Beside, Staying, key_of, messages, pages, replayed, until, watch
+from common.served import Client, fifo, message, row_of, same, written
+from serving.staying import Beside, Staying, messages, pages, replayed, until, watch
 
 LIVES, MESSAGES = 20, 20_000
 
@@ -39,8 +39,10 @@ def check_killed_writers(program: str, folder: str) -> None:
         writer = stay.enter_context(Beside(write, path, cut(streams["east"])))
         region = stay.enter_context(Staying(program, folder, [("east", path), ("west", west)], *words))
         stay.enter_context(Beside(watch, region.port, 32))
+        with Client(region.port) as client:
+            until("the first writer is read", lambda: "'v': 'x'" in str(client.read("k001")))
         for life in range(1, LIVES + 1):
-            # Some die while they wait for the region, and some once it has all of theirs.
+            # Some die while they write, and some once the region has all of theirs.
             region.wait_for_words(begun, life - 1)
             time.sleep(random.choice([0.02, 0.3]))
             writer.kill()
@@ -57,21 +59,22 @@ def check_killed_writers(program: str, folder: str) -> None:
         print(f"  {LIVES} writers died, and {len(wanted)} records of {MESSAGES:,} messages are there")
 
 
-def check_failing_stream(program: str, folder: str) -> None:
-    """A stream that fails has failed for good, in whichever way, and all others go on."""
-    faults = {"gap": messages(2, 1), "shape": b"{}\n", "long": b" " * 70_000 + b"\n", "again": messages(1, 1) * 2}
-    pipes = {name: fifo(folder, name) for name in ["east", *faults]}
-    streams = [(name, path) for name, (path, _) in pipes.items()]
-    with Staying(program, folder, streams) as region, Client(region.port) as client:
-        for at, name in enumerate(faults, 1):
-            path, pipe = pipes[name]
-            pipe.write(faults[name])
-            region.wait_for_words(b"pnuts: stream %b failed\n" % name.encode())
-            pipe.close()
-            pipes["east"][1].write(messages(at, 1))
-            client.wait_for(key_of(at), row_of(key_of(at), 0, "x"))
-        said = sorted(region.said().splitlines())
-        same("what is said", said, sorted(b"pnuts: stream %b failed" % name.encode() for name in faults))
+def check_failing_files(program: str, folder: str) -> None:
+    """A file's stream fails for good, in whichever way, and it is said where and why; all others go on."""
+    faults = {
+        "gap": (messages(2, 1), b"1 (line 1): gap, got 2, wanted 1"),
+        "shape": (messages(1, 2) + b"{}\n", b"3 (line 3): bad-shape at"),
+        "long": (messages(1, 1) + b" " * 70_000 + b"\n", b"2 (line 2): too-long"),
+        "again": (messages(1, 1) * 2, b"2 (line 2): out-of-step, got 1"),
+    }
+    files = [(name, written(folder, name, text)) for name, (text, _) in faults.items()]
+    path, pipe = fifo(folder, "east")
+    wanted = sorted(b"pnuts: stream %b failed at %b" % (name.encode(), where) for name, (_, where) in faults.items())
+    with Staying(program, folder, [("east", path), *files]) as region, Client(region.port) as client, pipe:
+        for at in (1, 2):
+            pipe.write(message(at, f"east{at}", 0, "x"))
+            client.wait_for(f"east{at}", row_of(f"east{at}", 0, "x"))
+            until("all faults are said", lambda: sorted(region.said().splitlines()) == wanted)
         same("it is running", region.is_running(), True)
 
 

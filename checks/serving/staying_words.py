@@ -15,6 +15,7 @@ from faults.watched import Watched
 from serving.staying import KEYS, Staying, key_of, messages, until
 
 UMASK = 0o022
+IN_USE = "Address already in use"
 # For how long the system takes over a file's mode.
 MODE_WAITS = 0.3
 # As `prctl` and the rights of processes have them.
@@ -44,10 +45,12 @@ def bound(path: str, listens: bool) -> socket.socket:
     return other
 
 
-def fails_to_listen(program: str, east: str, *words: str) -> None:
+def fails_to_listen(program: str, east: str, why: str, *words: str) -> None:
+    """Does not start. With --stay it says where it cannot listen, and why."""
     line = [program, "serve", *words, f"east={east}"]
     ran = subprocess.run(line, stdin=subprocess.DEVNULL, capture_output=True, timeout=SECONDS)
-    same(f"how it ends with {words}", (ran.returncode, ran.stdout, ran.stderr), (1, b"", b"pnuts: cannot listen\n"))
+    reason = f": {why}".encode() if "--stay" in words else b""
+    same(f"how it ends with {words}", (ran.returncode, ran.stdout, ran.stderr), (1, b"", b"pnuts: cannot listen%b\n" % reason))
 
 
 def check_addresses(program: str, folder: str) -> None:
@@ -67,8 +70,8 @@ def check_addresses(program: str, folder: str) -> None:
                 client.wait_for("k001", row_of("k001", 0, "x"))
                 client.end()
             same("how it ends", served.end(), (0, b"served 1\n", b""))
-    for address in ("192.0.2.1", "2001:db8::1"):
-        fails_to_listen(program, east, "--stay", "--listen", address)
+    for address, shown in (("192.0.2.1", "192.0.2.1:7070"), ("2001:db8::1", "[2001:db8::1]:7070")):
+        fails_to_listen(program, east, f"{shown}: Cannot assign requested address", "--stay", "--listen", address)
     for address in ("localhost", "127.0.0.1:80", "[::1]", ""):
         line = [program, "serve", "--stay", "--listen", address, f"east={east}"]
         same(f"its status with {address!r}", subprocess.run(line, capture_output=True, timeout=SECONDS).returncode, 2)
@@ -86,13 +89,15 @@ def check_unix_socket(program: str, folder: str) -> None:
                 for _ in range(3):
                     with connected(path) as client:
                         client.wait_for("k001", row_of("k001", 0, "x"))
-                fails_to_listen(program, east, "--stay", "--socket", path)
+                fails_to_listen(program, east, f"{path}: {IN_USE}", "--stay", "--socket", path)
                 with connected(path) as client:
                     same("what is answered after another one tried", client.read("k001"), {"row": row_of("k001", 0, "x")})
                 same("it is running", region.is_running(), True)
-        fails_to_listen(program, east, "--socket", plain)
-        fails_to_listen(program, east, "--socket", os.path.join(folder, "none", "socket"))
-        fails_to_listen(program, east, "--socket", os.path.join(folder, "x" * 120))
+        none, long = os.path.join(folder, "none", "socket"), os.path.join(folder, "x" * 120)
+        for stays in ([], ["--stay"]):
+            fails_to_listen(program, east, f"{plain}: {IN_USE}", *stays, "--socket", plain)
+            fails_to_listen(program, east, f"{none}: No such file or directory", *stays, "--socket", none)
+        fails_to_listen(program, east, "", "--socket", long)
         with open(plain, "rb") as file:
             same("a file that is no socket", file.read(), b"x")
     finally:
@@ -102,7 +107,7 @@ def check_unix_socket(program: str, folder: str) -> None:
     serves_and_ends(program, east, path)
     same("its file once it has ended", os.path.exists(path), False)
     with bound(path, True):
-        fails_to_listen(program, east, "--socket", path)
+        fails_to_listen(program, east, "", "--socket", path)
         same("another program's file", os.path.exists(path), True)
 
 

@@ -1,4 +1,4 @@
-"""Installs and removes a program: by `make install` in a temporary folder, and as a package of Debian in a system of its own.
+"""Installs and removes a program: by `make install` in a temporary folder, and as packages of Debian in a system of its own.
 It also runs `make quick`, which builds a program without proofs in some minutes where there is none.
 
   checks/run install PROGRAM
@@ -26,7 +26,7 @@ from common.parts import RUN
 from common.tried import program_parser
 from usage.fresh_system import System, make_root, missing, remove_group, run
 from usage.installed import check_make_install, check_quick, check_told
-from usage.packaged import check_lintian, check_package
+from usage.packaged import check_lintian, check_packages
 
 
 # Where files are put, seen by nobody else: the first of these that neither the project nor the program is in.
@@ -38,17 +38,18 @@ def say(text: str) -> None:
 
 
 def check_deb(program: Path, folder: Path) -> None:
-    """Builds the package, makes a system, and does in it with the package all that is done with one."""
+    """Builds the packages, makes a system, and does in it with the packages all that is done with them."""
     run(["make", "-C", TOP, "deb", f"DEBS={folder}", f"PNUTS={program}"])
-    package = next(folder.glob("*.deb"))
-    say(f"make deb: built {package.name}")
+    packages = sorted(folder.glob("*.deb"))
+    say(f"make deb: built {' and '.join(package.name for package in packages)}")
     root = folder / "root"
     make_root(root)
     say("made a new system")
-    check_lintian(root, package)
-    say("lintian has nothing to say against the package")
+    for package in packages:
+        check_lintian(root, package)
+    say("lintian has nothing to say against the packages")
     with System(root) as system:
-        for done in chain(check_package(system, package), check_told(system, program)):
+        for done in chain(check_packages(system, packages), check_told(system, program)):
             say(done)
 
 

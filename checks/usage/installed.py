@@ -16,17 +16,23 @@ from usage.packaged import check_serving, differing, trace
 
 PREFIX = "/usr/local"
 ENVIRONMENT = "etc/default/pnuts"
+FEEDS = ("postgres-outbox", "rabbitmq-stream", "redis-stream")
 FILES = {
     "bin/pnuts": 0o755,
     ENVIRONMENT: 0o644,
+    "lib/systemd/system/pnuts-feed@.service": 0o644,
     "lib/systemd/system/pnuts.service": 0o644,
     "lib/sysusers.d/pnuts.conf": 0o644,
+    **{f"share/pnuts-feeds/{name}": 0o755 for name in FEEDS},
+    **{f"share/pnuts-feeds/feed/{path.name}": 0o644 for path in (TOP / "feeds/feed").glob("*.py")},
     "share/bash-completion/completions/pnuts": 0o644,
+    "share/doc/pnuts-feeds/README.md": 0o644,
     "share/doc/pnuts/third-party": 0o644,
     "share/fish/vendor_completions.d/pnuts.fish": 0o644,
     "share/man/man1/pnuts.1": 0o644,
     "share/man/man5/pnuts-formats.5": 0o644,
     "share/man/man8/pnuts.8": 0o644,
+    "share/pnuts-feeds/postgres-outbox.sql": 0o644,
     "share/zsh/site-functions/_pnuts": 0o644,
 }
 SHELLS = {
@@ -72,11 +78,13 @@ def make(target: str, folder: Path, program: Path) -> str:
 
 
 def check_unit(installed: Path) -> None:
-    """The unit names the paths that the program and its environment file have once they are installed, and so does its page."""
-    unit, page = ((installed / it).read_text(encoding="utf-8") for it in ("lib/systemd/system/pnuts.service", "share/man/man8/pnuts.8"))
+    """The units name the paths that programs and environment files have once they are installed, and so does their page."""
+    units, page = installed / "lib/systemd/system", (installed / "share/man/man8/pnuts.8").read_text(encoding="utf-8")
+    unit, feed = ((units / it).read_text(encoding="utf-8") for it in ("pnuts.service", "pnuts-feed@.service"))
     found = [it.split(" ")[0] for it in unit.splitlines() if it.startswith(("ExecStart=", "EnvironmentFile="))]
     same("the unit", found, [f"EnvironmentFile={PREFIX}/{ENVIRONMENT}", f"ExecStart={PREFIX}/bin/pnuts"])
-    same("paths that are not filled in", re.findall("@[A-Z]+@", unit + page), [])
+    same("whether the feeds' unit names both", [it in feed for it in (f"={PREFIX}/{ENVIRONMENT}-feed-%i\n", f" {PREFIX}/share/pnuts-feeds/$")], [True] * 2)
+    same("paths that are not filled in", re.findall("@[A-Z]+@", unit + feed + page), [])
     same("whether its page names the environment file", f"{PREFIX}/{ENVIRONMENT}" in page, True)
 
 
@@ -132,7 +140,7 @@ def check_quick(folder: Path) -> Iterator[str]:
     folder.mkdir()
     run(["objcopy", "--add-section", f".debug_str_offsets={script}", quick, folder / "pnuts"])
     run(["make", "-C", TOP, "deb", f"DEBS={folder}", f"PNUTS={folder}/pnuts"])
-    (package,) = folder.glob("*.deb")
+    (package,) = folder.glob("pnuts_*.deb")
     _, version, _ = package.name.split("_")
     run(["dpkg", "--compare-versions", version, "lt", version.removesuffix("~quick")])
     yield f"make quick: says that it is not proved, answers the script, and a proved package replaces its {package.name}"
@@ -163,7 +171,8 @@ def check_make_install(program: Path, folder: Path) -> Iterator[str]:
     environment.write_bytes(as_it_was)
     make("uninstall", root, program)
     same("files left", files_in(root), {})
-    same("whether its folder of documents is left", (installed / "share/doc/pnuts").exists(), False)
+    left = [name for name in ("share/doc/pnuts", "share/doc/pnuts-feeds", "share/pnuts-feeds") if (installed / name).exists()]
+    same("which folders of its own are left", left, [])
     yield "make uninstall: a changed environment file is kept, and all else removed"
 
 

@@ -1,4 +1,4 @@
-"""What is done with the package of Debian in a system: installed, served, upgraded over itself, and removed."""
+"""What is done with the packages of Debian in a system: installed, served, fed, upgraded over themselves, and removed."""
 
 from __future__ import annotations
 
@@ -7,18 +7,25 @@ import os
 import shlex
 import shutil
 import sys
-from collections.abc import Iterator
+from collections.abc import Iterator, Sequence
 from pathlib import Path
 
 from common.crates import TOP
-from common.served import message, row_of, same
+from common.served import image, message, row_of, same
 from usage.fresh_system import CLEAN, System, run
 
 # What a session is read by, in another system.
 ONE_SESSION = Path(__file__).resolve().parent / "one_session.py"
-UNIT = "/lib/systemd/system/pnuts.service"
+UNITS = ("/lib/systemd/system/pnuts.service", "/lib/systemd/system/pnuts-feed@.service")
 ENVIRONMENT = "etc/default/pnuts"
-FIFO = "/run/pnuts/east"
+SOCKET = "/run/pnuts/east"
+# How a program writes into the socket. It waits until the region has closed it.
+WRITE = f"socat -t 10 - UNIX-CONNECT:{SOCKET}"
+
+# A feed of Redis, and what it is told.
+FEED = "pnuts-feed@east"
+FEED_ENVIRONMENT = "etc/default/pnuts-feed-east"
+FEED_WORDS = 'FEED=redis-stream\nFEED_WORDS="--url redis://127.0.0.1:6379/0 east"\n'
 
 # What changes by a user, which a package keeps.
 USERS = {"etc/group", "etc/gshadow", "etc/passwd", "etc/shadow"}
@@ -68,19 +75,21 @@ def check_lintian(root: Path, package: Path) -> None:
     run(["unshare", "--mount", f"--root={root}", "runuser", "--user=nobody", "--", *line], env={**CLEAN, "HOME": "/tmp"})
 
 
-def shown(system: System, *names: str) -> list[str]:
-    """What systemd says of the service under these names."""
-    return [system.run("systemctl", "show", "pnuts", "--value", f"--property={name}").strip() for name in names]
+def shown(system: System, *names: str, unit: str = "pnuts") -> list[str]:
+    """What systemd says of a service under these names."""
+    return [system.run("systemctl", "show", unit, "--value", f"--property={name}").strip() for name in names]
 
 
-def check_unit(system: System) -> None:
-    """systemd knows each line of the unit, and finds the service little exposed."""
+def check_units(system: System) -> None:
+    """systemd knows each line of the units, and finds the services little exposed."""
     verify = ("systemd-analyze", "verify", "--recursive-errors=no")
-    same("what is said against the unit", system.status(*verify, UNIT), (0, ""))
+    for unit in UNITS:
+        named = unit.replace("@", "@east")
+        same(f"what is said against {named}", system.status(*verify, named), (0, ""))
+        system.run("systemd-analyze", "security", "--no-pager", f"--threshold={EXPOSURE}", "--offline=yes", unit)
     (system.root / "etc/unknown.service").write_text(UNKNOWN, encoding="utf-8")
     same("a unit with an unknown line is refused", system.status(*verify, "/etc/unknown.service")[0], 1)
     (system.root / "etc/unknown.service").unlink()
-    system.run("systemd-analyze", "security", "--no-pager", f"--threshold={EXPOSURE}", "--offline=yes", UNIT)
 
 
 def check_bounds(system: System, process: str) -> None:
@@ -93,18 +102,24 @@ def check_bounds(system: System, process: str) -> None:
 
 
 def check_serving(system: System) -> str:
-    """Writes a message into the FIFO, as a user who is in the group pnuts, and reads it in a session. The process that serves."""
+    """Writes a message into the socket as the user pnuts, which no other one may, and reads it in a session. The process that serves."""
     system.wait_for("active", "systemctl", "is-active", "pnuts")
-    system.wait_for("fifo pnuts:pnuts 660", "stat", "--format=%F %U:%G %a", FIFO)
-    write = f"echo {shlex.quote(message(1, 'k', 0, 'x').decode().strip())} > {FIFO}"
-    system.run("setpriv", "--reuid=nobody", "--regid=pnuts", "--clear-groups", "bash", "-c", write)
-    process = shown(system, "MainPID")[0]
-    words = system.run("cat", f"/proc/{process}/cmdline").split("\0")
+    system.wait_for("socket pnuts:pnuts 600", "stat", "--format=%F %U:%G %a", SOCKET)
+    write = f"echo {shlex.quote(message(1, 'k', 0, 'x').decode().strip())} | "
+    same("what is told the writer first", system.run("bash", "-c", f"{write} runuser -u pnuts -- {WRITE}")[:9], '{"after":')
+    other = f"{write} setpriv --reuid=nobody --regid=pnuts --clear-groups {WRITE}"
+    same("whether another user may write", "Permission denied" in system.status("bash", "-c", other)[1], True)
+    check_record(system, 0, "x")
+    return shown(system, "MainPID")[0]
+
+
+def check_record(system: System, number: int, text: str) -> None:
+    """Reads the record in a session, once it has this version."""
+    words = system.run("cat", f"/proc/{shown(system, 'MainPID')[0]}/cmdline").split("\0")
     address = words[words.index("--port") + 1] if "--port" in words else "7070"
     if "--socket" in words:
         address = system.path(words[words.index("--socket") + 1])
-    system.run_beside(sys.executable, str(ONE_SESSION), address, "k", json.dumps(row_of("k", 0, "x")))
-    return process
+    system.run_beside(sys.executable, str(ONE_SESSION), address, "k", json.dumps(row_of("k", number, text)))
 
 
 def check_example(system: System) -> None:
@@ -140,6 +155,25 @@ def check_operation(system: System) -> int:
     return len(lines)
 
 
+def check_feed(system: System) -> None:
+    """A feed of Redis gives what is added, also once it, the region and both were killed."""
+    (system.root / FEED_ENVIRONMENT).write_text(FEED_WORDS, encoding="utf-8")
+    system.run("redis-server", "--daemonize", "yes", "--save", "", "--dir", SCRATCH)
+    system.wait_for("PONG", "redis-cli", "PING")
+    system.run("systemctl", "enable", "--now", FEED)
+    for number, killed in enumerate([[], [FEED], ["pnuts"], [FEED, "pnuts"]], 1):
+        for unit in killed:
+            system.run("systemctl", "kill", "--signal=KILL", unit)
+        system.run("redis-cli", "XADD", "east", "*", "image", json.dumps(image("k", number, "x")))
+        system.wait_for("active", "systemctl", "is-active", "pnuts")
+        check_record(system, number, "x")
+    same("the feed's user", shown(system, "User", unit=FEED), ["pnuts"])
+    same("the folder that it may keep files in", system.run("stat", "--format=%F %U:%G %a", "/var/lib/pnuts-feeds").strip(), "directory pnuts:pnuts 750")
+    system.run("systemctl", "disable", "--now", FEED)
+    system.run("redis-cli", "SHUTDOWN", "NOSAVE")
+    (system.root / FEED_ENVIRONMENT).unlink()
+
+
 def check_wheel(system: System) -> int:
     """Does what the README of the client for Python says, in a new environment of a system without a network. How many lines."""
     client = TOP / "clients/python"
@@ -150,25 +184,25 @@ def check_wheel(system: System) -> int:
     return len(lines)
 
 
-def check_package(system: System, package: Path) -> Iterator[str]:
-    """Installs the package, uses it, and removes it. Says what was done."""
-    before = trace(system.root)
-    system.run("dpkg", "--install", f"/{package.name}")
+def check_packages(system: System, packages: Sequence[Path]) -> Iterator[str]:
+    """Installs the packages, uses them, and removes them. Says what was done."""
+    before, install = trace(system.root), ["dpkg", "--install", *(f"/{package.name}" for package in packages)]
+    system.run(*install)
     same("the service", shown(system, "UnitFileState", "ActiveState"), ["disabled", "inactive"])
     yield "installed: the service is there, and off"
-    check_unit(system)
-    yield f"systemd knows each line of the unit, and finds an exposure of at most {EXPOSURE / 10}"
+    check_units(system)
+    yield f"systemd knows each line of the units, and finds exposures of at most {EXPOSURE / 10}"
     system.run("systemctl", "enable", "--now", "pnuts")
     process = check_serving(system)
     check_bounds(system, process)
-    yield "enabled: it serves what is written into its FIFO, as its own user and without a capability"
+    yield "enabled: it serves what is written into its stream's socket, as its own user and without a capability"
     same("the process that serves another feed and client", check_serving(system), process)
     yield "its feed and its client ended: it stays for the next ones"
     system.run("systemctl", "kill", "--signal=KILL", "pnuts")
     system.wait_for("1", "systemctl", "show", "pnuts", "--value", "--property=NRestarts")
     process = check_serving(system)
     yield "killed: it came back, and serves"
-    system.run("dpkg", "--install", f"/{package.name}")
+    system.run(*install)
     same("another process serves", check_serving(system) != process, True)
     yield "upgraded over itself: it was started anew, and serves"
     check_example(system)
@@ -178,7 +212,9 @@ def check_package(system: System, package: Path) -> Iterator[str]:
     system.run("systemctl", "restart", "pnuts")
     check_serving(system)
     yield f"did the {check_operation(system)} lines that pnuts(8) shows as examples"
-    system.run("dpkg", "--purge", "pnuts")
+    check_feed(system)
+    yield "a feed of Redis, enabled: it gives what is added, also once it and the region were killed"
+    system.run("dpkg", "--purge", "pnuts-feeds", "pnuts")
     same("the service", system.status("systemctl", "is-active", "pnuts")[1], "inactive")
     same("whether its runtime directory is there", system.status("test", "-e", "/run/pnuts")[0], 1)
     same("whether its user is there", system.status("id", "pnuts")[0], 0)

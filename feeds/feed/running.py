@@ -1,17 +1,26 @@
-"""One life of a feed: every message from the broker's first on, in order, to a region."""
+"""The life of a feed: messages of a broker, in order, to a region."""
 
 from __future__ import annotations
 
 import sys
-from collections.abc import Iterator, Sequence
-from typing import Protocol
+from collections.abc import Generator, Sequence
+from contextlib import closing
+from typing import Any, Protocol
 
 from .bodies import BadBody, line_of
+from .ids import Ids
 from .output import Output, RegionGone
+from .pairs import BadPairs
+from .sockets import Refused, RegionAway, Unusable
+
+
+COPIES = "Start the region from copies of another one, which has it."
+# The id of each message at the broker, and its body.
+Batches = Generator[Sequence[tuple[Any, bytes]], None, None]
 
 
 class Lost(Exception):
-    """The broker no longer has what the stream began with, or what was given."""
+    """The broker does not have what the region wants next, or what was given."""
 
 
 class Unreachable(Exception):
@@ -21,46 +30,110 @@ class Unreachable(Exception):
 class Source(Protocol):
     """A broker's stream."""
 
-    def batches(self) -> Iterator[Sequence[bytes]]:
-        """The bodies of all messages from the first on, or from the first that no earlier call gave, each once and in order.
+    def batches(self, after: int) -> Batches:
+        """The messages after this position, each once and in order.
 
         A batch is what is at hand. An empty one comes at least once a second while there is nothing, so that the feed
         sees whether its region is there. Raises Unreachable where the broker is away, and Lost.
         """
 
+    def describe(self, identity: Any) -> str:
+        """What the broker calls the message of this id."""
+
+
+def tell(name: str, what: str) -> None:
+    """Writes a line for whoever runs the feed."""
+    print(f"{name}: {what}", file=sys.stderr, flush=True)
+
 
 def run(name: str, source: Source, output: Output) -> int:
-    """Gives all messages to the region until it goes, and answers the exit status."""
+    """Gives all messages to the region until it goes for good, and answers the exit status."""
+    feed = _Feed(name, source, output)
     try:
-        _give(name, source, output)
+        feed.give()
     except RegionGone:
         return 0
-    except (BadBody, Lost) as fault:
-        print(f"{name}: {fault}", file=sys.stderr)
+    except Refused as fault:
+        feed.tell_refusal(fault)
+    except Unusable as fault:
+        tell(name, str(fault))
+    except (BadBody, BadPairs, Lost) as fault:
+        tell(name, str(fault))
+        feed.finish()
     except KeyboardInterrupt:
         pass
     return 1
 
 
-def _give(name: str, source: Source, output: Output) -> None:
-    position = 0
-    away = False
-    while True:
+class _Feed:
+    """How far the messages are given."""
+
+    def __init__(self, name: str, source: Source, output: Output) -> None:
+        self._name = name
+        self._source = source
+        self._output = output
+        self._ids = Ids()
+        self._position = 0
+        self._away = False
+
+    def give(self) -> None:
+        """Gives messages, from what the region wants first, as often as it is connected to."""
+        self._position = self._output.begin()
+        while True:
+            try:
+                self._give_all()
+            except RegionAway as fault:
+                tell(self._name, f"the region went: {fault}")
+            self._ids.begin()
+            self._position = self._output.begin()
+            tell(self._name, f"the region is back, and has {self._position} messages")
+
+    def finish(self) -> None:
+        """Ends the stream after a fault of the broker's."""
         try:
-            for bodies in source.batches():
-                if away:
-                    print(f"{name}: the broker is back", file=sys.stderr)
-                    away = False
-                if not bodies:
-                    output.check()
-                    continue
-                lines = []
-                for body in bodies:
-                    position += 1
-                    lines.append(line_of(position, body))
-                output.write(b"".join(lines))
-        except Unreachable as fault:
-            if not away:
-                print(f"{name}: waiting for the broker: {fault}", file=sys.stderr)
-                away = True
-            output.pause(0.2)
+            self._output.finish()
+        except Refused as fault:
+            self.tell_refusal(fault)
+        except Unusable as fault:
+            tell(self._name, str(fault))
+
+    def tell_refusal(self, fault: Refused) -> None:
+        """Tells which message the region refused, and why."""
+        found = self._ids.at(fault.position)
+        which = "" if found is None else f" position {fault.position}, {self._source.describe(found)}"
+        tell(self._name, f"the region refuses{which}: {fault.reason}")
+
+    def _give_all(self) -> None:
+        while True:
+            try:
+                with closing(self._source.batches(self._position)) as batches:
+                    for messages in batches:
+                        self._see_broker()
+                        self._hand_on(messages)
+            except Unreachable as fault:
+                if not self._away:
+                    tell(self._name, f"waiting for the broker: {fault}")
+                    self._away = True
+                self._output.pause(0.2)
+
+    def _see_broker(self) -> None:
+        if self._away:
+            tell(self._name, "the broker is back")
+            self._away = False
+
+    def _hand_on(self, messages: Sequence[tuple[Any, bytes]]) -> None:
+        if not messages:
+            self._output.check()
+            return
+        first = self._position + 1
+        self._ids.add(first, [identity for identity, _ in messages])
+        lines: list[bytes] = []
+        try:
+            for _, body in messages:
+                lines.append(line_of(first + len(lines), body))
+        except BadBody as fault:
+            raise BadBody(f"{fault}; it is {self._source.describe(messages[len(lines)][0])}") from fault
+        finally:
+            self._output.write(b"".join(lines))
+            self._position += len(lines)
+        self._ids.forget(self._output.taken)

@@ -2,7 +2,6 @@
 
 from __future__ import annotations
 
-import json
 import os
 import shutil
 import socket
@@ -34,7 +33,7 @@ def needs(*programs: str) -> None:
 
 def image(number: int) -> bytes:
     """An image whose key tells its place in the stream."""
-    return json.dumps({"fields": {"v": "x" * 20}, "key": f"k{number}", "master": "w", "version": [1, 0]}).encode()
+    return b'{"fields":{"v":"xxxxxxxxxxxxxxxxxxxx"},"key":"k%d","master":"w","version":[1,0]}' % number
 
 
 def wait_until(holds: Callable[[], bool], seconds: float = 30.0) -> None:

@@ -2,61 +2,18 @@
 
 from __future__ import annotations
 
-import subprocess
-import tempfile
 import threading
 import unittest
 
-from .support import feed, free_port, image, needs, wait_until, wanted
-
-try:
-    import redis
-except ImportError as fault:
-    raise unittest.SkipTest("missing: python3-redis") from fault
-
-
-class Server:
-    """A redis-server of its own, with an append-only file."""
-
-    def __init__(self, folder: str) -> None:
-        self._folder = folder
-        self.port = free_port()
-        self.url = f"redis://127.0.0.1:{self.port}/0"
-        self.client = redis.Redis.from_url(self.url)
-        self.start()
-
-    def start(self) -> None:
-        """Starts it, and waits until it answers."""
-        words = f"redis-server --bind 127.0.0.1 --port {self.port} --dir {self._folder} --appendonly yes --appendfsync always"
-        self._program = subprocess.Popen([*words.split(), "--save", ""], stdout=subprocess.DEVNULL)
-        wait_until(self._answers)
-
-    def _answers(self) -> bool:
-        try:
-            return bool(self.client.ping())
-        except redis.exceptions.RedisError:
-            return False
-
-    def kill(self) -> None:
-        """Kills it."""
-        self._program.kill()
-        self._program.wait()
-
-    def add(self, first: int, count: int, stream: str = "east") -> None:
-        """Adds images, each again until Redis has said that it has it."""
-        for number in range(first, first + count):
-            self.client.xadd(stream, {"image": image(number)})
+from .redis_server import server_of
+from .support import feed, image, wanted
 
 
 class Redis(unittest.TestCase):
     """One server for each test."""
 
     def setUp(self) -> None:
-        needs("redis-server")
-        folder = tempfile.TemporaryDirectory()
-        self.addCleanup(folder.cleanup)
-        self.server = Server(folder.name)
-        self.addCleanup(self.server.kill)
+        self.server = server_of(self)
         self.words = ("redis-stream", "--url", self.server.url, "east")
 
     def test_all_from_the_first_and_what_comes_later(self) -> None:
@@ -108,7 +65,7 @@ class Redis(unittest.TestCase):
         with feed(*self.words) as running:
             status, said = running.ended()
             self.assertEqual((status, running.lines), (1, []))
-            self.assertIn("no longer has 1 entries", said)
+            self.assertIn("no longer has 1 of 10 entries", said)
 
     def test_a_stream_that_was_made_anew(self) -> None:
         self.server.add(1, 3)

@@ -1,0 +1,131 @@
+"""Writers of a stream's socket that go in the middle, and the next ones: checks of `checks/run streams`."""
+import contextlib
+import random
+import time
+from collections.abc import Callable, Iterator
+
+from common.served import Client, same, written
+from serving.staying import Beside, Staying, messages, pages, replayed, until, watch
+from serving.writers import Writer, said_of_faults, socket_in
+
+MESSAGES, PLACES, CLIENTS = 20_000, 1_000, 32
+KILLED, STREAMS, OF_EACH = 60, 16, 2_000
+WORDS = ["--bounds", '["k030","k060"]', "--workers", "2"]
+
+
+def first_of(place: int, after: int, rng: random.Random) -> int:
+    """Where a writer begins: mostly with what the region does not have, often before that, and now and then with all."""
+    if place % 20 == 0:
+        return 1
+    return rng.randint(1, after + 1) if place % 3 == 0 else after + 1
+
+
+def go_at(path: str, place: int, after: int, text: bytes, starts: list[int], rng: random.Random) -> int:
+    """A writer that goes after so many bytes of a stream. How many messages of it are whole then."""
+    line = after + rng.randint(0, 2 * MESSAGES // PLACES)
+    begin, end = starts[min(line, MESSAGES)], starts[min(line + 1, MESSAGES)]
+    # Each place in a line comes, from before its first byte to before its newline.
+    cut = begin + place % (end - begin) if end > begin else begin
+    with Writer(path) as writer:
+        # One that has not read what the region said leaves a reset connection.
+        same(f"what the region has at place {place}", writer.look() if place % 2 else writer.begin(), after)
+        writer.send(text[starts[first_of(place, after, rng) - 1] : cut])
+    return min(line, MESSAGES)
+
+
+def starts_of(text: bytes) -> list[int]:
+    """Where each line begins, and where the last one ends."""
+    starts = [0]
+    for line in text.splitlines(keepends=True):
+        starts.append(starts[-1] + len(line))
+    return starts
+
+
+def check_thousand_places(program: str, folder: str) -> None:
+    """A writer goes at a thousand places, in lines and between, the next one comes at once: the region says what it has, and has all in the end.
+
+    Another stream loads meanwhile, and 32 clients read: nobody is shown an older version.
+    """
+    rng = random.Random(1)
+    path, east = socket_in(folder)
+    streams = {"east": messages(1, MESSAGES), "west": messages(1, MESSAGES // 2, "y")}
+    text, starts = streams["east"], starts_of(streams["east"])
+    told = [east, ("west", written(folder, "west", streams["west"]))]
+    with Staying(program, folder, told, *WORDS) as region, Beside(watch, region.port, CLIENTS), Client(region.port) as client:
+        after = 0
+        for place in range(PLACES):
+            after = go_at(path, place, after, text, starts, rng)
+        with Writer(path) as writer:
+            same("what the region has after all", writer.begin(), after)
+            writer.send(text[starts[after] :])
+            wanted = replayed(program, streams, *WORDS)
+            until("the records are those of a replay", lambda: list(pages(client)) == wanted)
+        same("what is said of faults", said_of_faults(region), [])
+        print(f"  {PLACES} writers went, the last one after {after:,} messages; {len(wanted)} records of {MESSAGES:,} are there")
+
+
+def write_slowly(is_over: Callable[[], bool], path: str, text: bytes) -> None:
+    """Writes a stream from where the region is, in parts of any size."""
+    starts, rng = starts_of(text), random.Random()
+    with Writer(path) as writer:
+        left = memoryview(text)[starts[writer.begin()] :]
+        while left:
+            part = rng.randint(1, 2_000)
+            writer.send(left[:part])
+            left = left[part:]
+            time.sleep(0.0005)
+        while not is_over():
+            time.sleep(0.01)
+
+
+@contextlib.contextmanager
+def killed_again_and_again(path: str, text: bytes, times: int) -> Iterator[None]:
+    """Writers that are killed, one after another, while the next one waits already or comes at once. The last one is left."""
+    with contextlib.ExitStack() as stay:
+        writer = stay.enter_context(Beside(write_slowly, path, text))
+        for at in range(times):
+            time.sleep(random.random() * 0.05)
+            if at % 2:
+                before, writer = writer, stay.enter_context(Beside(write_slowly, path, text))
+                time.sleep(0.01)
+                before.kill()
+            else:
+                writer.kill()
+                writer = stay.enter_context(Beside(write_slowly, path, text))
+        yield
+
+
+def check_killed_writers(program: str, folder: str) -> None:
+    """Sixty writers are killed while they write, and the next one waits already or comes at once: in the end all is there."""
+    path, east = socket_in(folder)
+    streams = {"east": messages(1, MESSAGES)}
+    with Staying(program, folder, [east], *WORDS) as region, Beside(watch, region.port, CLIENTS), Client(region.port) as client:
+        with killed_again_and_again(path, streams["east"], KILLED):
+            wanted = replayed(program, streams, *WORDS)
+            until("the records are those of a replay", lambda: list(pages(client)) == wanted)
+        same("what is said of faults", said_of_faults(region), [])
+
+
+def check_sixteen_streams(program: str, folder: str) -> None:
+    """Sixteen streams by sockets, whose writers go in turn in the middle of a line, have all records in the end."""
+    named = {f"s{at:02}": socket_in(folder, f"s{at:02}") for at in range(STREAMS)}
+    streams = {name: messages(1, OF_EACH, name) for name in named}
+    starts = {name: starts_of(text) for name, text in streams.items()}
+    with Staying(program, folder, [told for _, told in named.values()], *WORDS) as region, contextlib.ExitStack() as stay:
+        stay.enter_context(Beside(watch, region.port, CLIENTS))
+        writers = {name: Writer(path) for name, (path, _) in named.items()}
+        for part in range(1, 11):
+            whole = part * OF_EACH // 10
+            for name, (path, _) in named.items():
+                after = writers[name].begin()
+                same(f"what the region has of {name}", after, whole - OF_EACH // 10)
+                writers[name].send(streams[name][starts[name][after] : starts[name][whole] + (30 if part < 10 else 0)])
+                if part < 10:
+                    writers[name].socket.close()
+                    writers[name] = Writer(path)
+        client = stay.enter_context(Client(region.port))
+        wanted = replayed(program, streams, *WORDS)
+        until("the records are those of a replay", lambda: list(pages(client)) == wanted)
+        for writer in writers.values():
+            writer.socket.close()
+        same("what is said of faults", said_of_faults(region), [])

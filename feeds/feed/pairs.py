@@ -1,0 +1,108 @@
+"""A file of which offset of a broker is which position of a stream."""
+
+from __future__ import annotations
+
+import hashlib
+import json
+import os
+from bisect import bisect_left, bisect_right
+from dataclasses import dataclass
+from pathlib import Path
+
+EVERY = 1_000
+MOST = 2_000
+
+
+class BadPairs(Exception):
+    """The file is none of this stream's, or cannot be written."""
+
+
+@dataclass(frozen=True, order=True)
+class Pair:
+    """A message of the stream: its position, its offset at the broker, and a digest of its body."""
+
+    position: int
+    offset: int
+    # Empty where the body was never seen.
+    digest: str
+
+    @classmethod
+    def of(cls, position: int, offset: int, body: bytes) -> Pair:
+        """The pair of a message."""
+        return cls(position, offset, hashlib.sha256(body).hexdigest()[:16])
+
+    def is_at(self, offset: int, body: bytes) -> bool:
+        """Whether the broker's message of this offset and body is the one meant."""
+        return self.offset == offset and self.digest in ("", Pair.of(0, 0, body).digest)
+
+
+class Pairs:
+    """Pairs of one stream, in the order of their positions: of each thousand messages one, and fewer of those long ago.
+
+    Without a path they are kept for the life of the feed alone.
+    """
+
+    def __init__(self, path: str | None, stream: str, first: Pair) -> None:
+        self._path = None if path is None else Path(path)
+        self._stream = stream
+        self._pairs = [first]
+        if self._path is not None and self._path.exists():
+            self._pairs = self._in_file(self._path)
+
+    def until(self, position: int) -> Pair:
+        """The last pair at or before this position, from 1."""
+        return self._pairs[bisect_right(self._pairs, position, key=_position_of) - 1]
+
+    def from_offset(self, offset: int) -> Pair | None:
+        """The first pair at or after this offset."""
+        return next((pair for pair in self._pairs if pair.offset >= offset), None)
+
+    def see(self, position: int, offset: int, body: bytes) -> None:
+        """A message was read. Now and then it becomes a pair. Raises BadPairs where another message had its position."""
+        if position % EVERY != 1:
+            return
+        pair, known = Pair.of(position, offset, body), self.until(position)
+        if known.position != position or not known.digest:
+            self.add(pair)
+        elif known != pair:
+            raise BadPairs(f"position {position} of the stream {self._stream} is another message than before: {pair} and not {known}")
+
+    def add(self, pair: Pair) -> None:
+        """Keeps a pair, in the file too."""
+        at = bisect_left(self._pairs, pair.position, key=_position_of)
+        is_known = at < len(self._pairs) and self._pairs[at].position == pair.position
+        self._pairs[at : at + is_known] = [pair]
+        if len(self._pairs) > MOST:
+            half = MOST // 2
+            self._pairs = self._pairs[:half:2] + self._pairs[half:]
+        self._write()
+
+    def _in_file(self, path: Path) -> list[Pair]:
+        try:
+            told = json.loads(path.read_bytes())
+            pairs = [Pair(*pair) for pair in told["pairs"]]
+            stream = told["stream"]
+        except (OSError, ValueError, KeyError, TypeError) as fault:
+            raise BadPairs(f"{path} is no file of positions and offsets: {fault}") from fault
+        if stream != self._stream or not pairs or pairs != sorted(pairs):
+            raise BadPairs(f"{path} has no positions of the stream {self._stream}")
+        return pairs
+
+    def _write(self) -> None:
+        """The file is the one before or the new one, whenever the machine stops."""
+        if self._path is None:
+            return
+        text = json.dumps({"pairs": [(pair.position, pair.offset, pair.digest) for pair in self._pairs], "stream": self._stream})
+        written = self._path.with_name(f"{self._path.name}.new")
+        try:
+            with written.open("w", encoding="utf-8") as file:
+                file.write(f"{text}\n")
+                file.flush()
+                os.fsync(file.fileno())
+            written.rename(self._path)
+        except OSError as fault:
+            raise BadPairs(f"cannot write {self._path}: {fault.strerror}") from fault
+
+
+def _position_of(pair: Pair) -> int:
+    return pair.position

@@ -1,0 +1,106 @@
+"""Stands in for a region that takes a stream on a socket: it says what it has, and looks at the order of what comes."""
+
+from __future__ import annotations
+
+import json
+import select
+import socket
+import threading
+import time
+from pathlib import Path
+
+from .support import image
+
+TOLD_EVERY = 0.1
+
+
+class Region:
+    """Takes one writer after another. What comes has to be the image of its position."""
+
+    def __init__(self, path: Path, has: int = 0, *, refuses: int = 0, slow: bool = False) -> None:
+        self.path = path
+        # The last position that it has; how often one came that it had; and what no feed may send.
+        self.has = has
+        self.again = 0
+        self.faults: list[str] = []
+        self.writers = 0
+        self._refuses = refuses
+        self._slow = slow
+        self._connection: socket.socket | None = None
+        self.start(has)
+
+    def start(self, has: int) -> None:
+        """Listens, and has all up to this position."""
+        self.has = self._told = has
+        self._stops = False
+        self._listener = socket.socket(socket.AF_UNIX)
+        self._listener.bind(str(self.path))
+        self._listener.listen()
+        self._thread = threading.Thread(target=self._serve, daemon=True)
+        self._thread.start()
+
+    def stop(self) -> None:
+        """Goes, without a reason and wherever the writer is."""
+        self._stops = True
+        self.path.unlink(missing_ok=True)
+        for one in (self._listener, self._connection):
+            if one is not None:
+                try:
+                    one.shutdown(socket.SHUT_RDWR)
+                except OSError:
+                    pass
+        self._thread.join(10)
+        self._listener.close()
+
+    def _serve(self) -> None:
+        while not self._stops:
+            try:
+                self._connection, _ = self._listener.accept()
+            except OSError:
+                return
+            with self._connection:
+                self.writers += 1
+                try:
+                    self._take_all(self._connection)
+                except OSError:
+                    pass
+
+    def _take_all(self, writer: socket.socket) -> None:
+        """Takes a writer's lines until it goes or is refused."""
+        last, rest, told = 0, b"", time.monotonic()
+        writer.sendall(b'{"after":%d}\n' % self.has)
+        while not self._stops:
+            if select.select([writer], [], [], TOLD_EVERY)[0]:
+                if not (part := writer.recv(1_000 if self._slow else 65_536)):
+                    return
+                *lines, rest = (rest + part).split(b"\n")
+                for line in lines:
+                    last, reason = self._take(line, last)
+                    if reason:
+                        writer.sendall(json.dumps(reason, separators=(",", ":")).encode() + b"\n")
+                        return
+            if self._slow:
+                time.sleep(0.002)
+            if time.monotonic() - told >= TOLD_EVERY and self._told != self.has:
+                self._told, told = self.has, time.monotonic()
+                writer.sendall(b'{"taken":%d}\n' % self.has)
+
+    def _take(self, line: bytes, last: int) -> tuple[int, dict[str, object] | None]:
+        """The position of a line, and why it is refused."""
+        position = int(line[len(b'{"at":') : line.index(b",")])
+        if last and position != last + 1:
+            self.faults.append(f"{position} after {last}")
+            return position, {"at": last + 1, "error": "out-of-step", "got": position}
+        if not 1 <= position <= self.has + 1:
+            self.faults.append(f"{position} where {self.has} were there")
+            return position, {"error": "gap", "got": position, "wanted": self.has + 1}
+        if position == self._refuses:
+            return position, {"at": position, "error": "bad-shape", "member": "fields"}
+        if line != b'{"at":%d,"image":%b}' % (position, image(position)):
+            self.faults.append(f"another image at {position}")
+        if position <= self.has:
+            self.again += 1
+        self.has = max(self.has, position)
+        return position, None
+
+
