@@ -43,7 +43,7 @@ STAGE ?= notices
 SOAK ?= 60
 SECONDS ?= 240
 
-.PHONY: run quick test edits build licences install uninstall deb bench bench-beside checks checks-client checks-feeds \
+.PHONY: run quick test edits build licences install uninstall deb bench bench-beside checks checks-clients checks-feeds \
 	checks-brokers checks-install pictures races fuzz definitions rows toolchain
 
 # Shows the program at work: the replies to the script on standard output. It proves nothing. A program that is current answers
@@ -125,9 +125,9 @@ races: toolchain
 fuzz: build
 	@fuzz/fuzz "$(PROGRAM)" --seconds $(SECONDS)
 
-# Tests the client for Python against the built program.
-checks-client: build
-	@PNUTS="$(PROGRAM)" clients/python/test
+# Tests the clients against the built program. Those whose language is missing are skipped.
+checks-clients: build
+	@checks/run clients "$(PROGRAM)"
 
 # Tests the feeds against brokers that are started for it; those that are missing are skipped.
 checks-feeds:

@@ -5,7 +5,7 @@ It also runs `make quick`, which builds a program without proofs in some minutes
 
 That system is made by debootstrap in memory, from the network, and started by systemd; it has no network then. All is
 apart from the system that runs the check (`unshare`), and ends with it, files included. The check needs root. Without
-that, or where a package of Debian is missing, it says so and is skipped. It takes a minute of a processor, and a gigabyte of memory.
+that, or where a package of Debian is missing, it says so and is skipped. It takes two minutes of a processor, and two gigabytes of memory.
 
 Exit status 0 where all is as it should be, or skipped.
 """
@@ -26,6 +26,7 @@ from common.parts import RUN
 from common.tried import program_parser
 from usage.fresh_system import System, make_root, missing, remove_group, run
 from usage.installed import check_make_install, check_quick, check_told
+from usage.installed_clients import check_clients
 from usage.packaged import check_lintian, check_packages
 
 
@@ -49,7 +50,7 @@ def check_deb(program: Path, folder: Path) -> None:
         check_lintian(root, package)
     say("lintian has nothing to say against the packages")
     with System(root) as system:
-        for done in chain(check_packages(system, packages), check_told(system, program)):
+        for done in chain(check_packages(system, packages), check_told(system, program), check_clients(system, program)):
             say(done)
 
 

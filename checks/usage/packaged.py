@@ -30,11 +30,10 @@ FEED_WORDS = 'FEED=redis-stream\nFEED_WORDS="--url redis://127.0.0.1:6379/0 east
 # What changes by a user, which a package keeps.
 USERS = {"etc/group", "etc/gshadow", "etc/passwd", "etc/shadow"}
 
-# Files of the check in the system, and how the lines of its examples and of the client's README begin.
+# Files of the check in the system, and how the lines of its examples begin.
 SCRATCH = "/var/tmp"
 INDENT = "    "
 ROW = '{"row":'
-IMPORT = "cd /; python3 -c 'from pnuts_client import Client'"
 
 # The exposure that systemd may find at most, in tenths, and lines of a unit that it has to refuse.
 EXPOSURE = 15
@@ -174,16 +173,6 @@ def check_feed(system: System) -> None:
     (system.root / FEED_ENVIRONMENT).unlink()
 
 
-def check_wheel(system: System) -> int:
-    """Does what the README of the client for Python says, in a new environment of a system without a network. How many lines."""
-    client = TOP / "clients/python"
-    text = (client / "README.md").read_text(encoding="utf-8").partition("\n## ")[0]
-    lines = [it.removeprefix(INDENT) for it in text.splitlines() if it.startswith(INDENT)]
-    shutil.copytree(client, system.root / SCRATCH[1:] / "clients/python")
-    system.run("bash", "-ec", "\n".join([f"cd {SCRATCH}", *lines, IMPORT]))
-    return len(lines)
-
-
 def check_packages(system: System, packages: Sequence[Path]) -> Iterator[str]:
     """Installs the packages, uses them, and removes them. Says what was done."""
     before, install = trace(system.root), ["dpkg", "--install", *(f"/{package.name}" for package in packages)]
@@ -222,4 +211,3 @@ def check_packages(system: System, packages: Sequence[Path]) -> Iterator[str]:
     system.run("userdel", "pnuts")
     same("what differs", differing(system.root, before), set())
     yield "purged while it ran: neither a process nor a file is left, and of its user no more than its name"
-    yield f"the {check_wheel(system)} lines of the client for Python make its wheel and install it, without a network"

@@ -4,7 +4,7 @@
 
 Commands, members, refusals, options and the reasons that writers of streams are told are read off the sources. Each has to stand
 in docs/formats.md; commands also in README.md, the slow program and the fuzzer's words; what sessions have in clients/README.md
-and the client for Python.
+and in each client.
 Commands and options that README.md, docs/ or the packages name have to be those of the program.
 
 Exit status: 0 where nothing is missing, 1 where something is, 2 for a wrong argument.
@@ -60,6 +60,13 @@ def unknown(kind: str, words: Iterable[str], known: set[str], where: str) -> Ite
     return (f"{where} tells of the {kind} {word}, which the program does not have" for word in sorted(set(words) - known))
 
 
+def clients() -> dict[str, list[Path]]:
+    """The document on sessions, and the sources of each client."""
+    sources = {"Python": below("clients/python/src"), "JavaScript": below("clients/javascript/src"),
+               "Go": [it for it in below("clients/go") if not it.stem.endswith("_test")]}
+    return {"clients/README.md": [TOP / "clients/README.md"], **{f"the client for {name}": paths for name, paths in sources.items()}}
+
+
 def all_faults() -> Iterator[str]:
     protocol = sources("pn_protocol")
     commands = found(COMMAND, protocol)
@@ -68,7 +75,6 @@ def all_faults() -> Iterator[str]:
     options = {f"--{it}" for it in found(OPTION, sources("pn_serve"))}
     reasons = found(REASON, sources("pn_stay"))
     formats, readme = (TOP / "docs/formats.md").read_text(), (TOP / "README.md").read_text()
-    lookups = text_of([TOP / "clients/README.md"]), text_of(below("clients/python/src"))
     if min(map(len, (commands, members, refusals, options, reasons))) < 5:
         yield "the sources do not say their words in the way that this script reads them"
     for kind, words in (("command", commands), ("member", members), ("refusal", refusals), ("option", options), ("reason", reasons)):
@@ -76,9 +82,9 @@ def all_faults() -> Iterator[str]:
     yield from missing("command", commands, "README.md", readme)
     yield from missing("command", commands, "the slow program (checks)", text_of(below("checks")))
     yield from missing("command", commands, "fuzz/words.dict", (TOP / "fuzz/words.dict").read_text())
-    for where, text in zip(("clients/README.md", "the client for Python"), lookups):
-        yield from missing("command", LOOKUPS, where, text)
-        yield from missing("refusal", refusals - OF_SCRIPTS, where, text)
+    for where, paths in clients().items():
+        yield from missing("command", LOOKUPS, where, text_of(paths))
+        yield from missing("refusal", refusals - OF_SCRIPTS, where, text_of(paths))
     told = readme + text_of(sorted((TOP / "docs").glob("*.md")))
     yield from unknown("command", TOLD_COMMAND.findall(told), commands, "README.md or docs/")
     yield from unknown("option", TOLD_OPTION.findall(told + text_of(below("packaging"))), options | BY_CLAP, "README.md, docs/ or packaging/")

@@ -9,6 +9,7 @@ import ssl
 import subprocess
 import tempfile
 import threading
+import time
 from collections.abc import Callable, Iterator, Mapping, Sequence
 from contextlib import contextmanager
 from pathlib import Path
@@ -90,3 +91,13 @@ def replies(*lines: str, end: bool = False) -> Callable[[socket.socket], None]:
             asked.read()
 
     return serve
+
+
+def rate(reads: int, work: Callable[[], object]) -> float:
+    """How many reads a second, the best of three."""
+    best = 0.0
+    for _ in range(3):
+        begin = time.perf_counter()
+        work()
+        best = max(best, reads / (time.perf_counter() - begin))
+    return best

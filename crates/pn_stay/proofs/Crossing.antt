@@ -4,6 +4,7 @@ use Rattle.std.proofs.Crossing.{crosses}
 use Rattle.pn_join.specs.contracts.marks.name.Name as name
 use Rattle.pn_live.proofs.Crossing.Readers.{reader_send}
 use Rattle.pn_serve.specs.contracts.server.counter.Counter as counter
+use Rattle.pn_serve.specs.contracts.server.fault_log.StreamFailure as failure
 use Rattle.pn_serve.specs.contracts.server.fault_log.FaultLog as faults
 use Rattle.pn_stay.specs.contracts.acceptor.SocketAcceptor as acceptor
 use Rattle.pn_stay.specs.contracts.socket_mailbox.SocketMailbox as mailbox
@@ -50,11 +51,17 @@ messages_send = search (sendable, crosses) depth 40 fits 20000
 pub messages_sync : IsSync messages.the_row
 messages_sync = search (sendable, crosses) depth 40 fits 20000
 
+failure_send : IsSend failure.the_row
+failure_send = search (sendable, crosses, name_send) depth 40 fits 20000
+
+failure_sync : IsSync failure.the_row
+failure_sync = search (sendable, crosses, name_sync) depth 40 fits 20000
+
 pub faults_send : IsSend faults.the_row
-faults_send = search (sendable, crosses, name_send) depth 40 fits 20000
+faults_send = search (sendable, crosses, failure_send) depth 40 fits 20000
 
 pub faults_sync : IsSync faults.the_row
-faults_sync = search (sendable, crosses, name_send, name_sync) depth 40 fits 20000
+faults_sync = search (sendable, crosses, failure_send, failure_sync) depth 40 fits 20000
 
 pub notes_send : IsSend notes.the_row
 notes_send = search (sendable, crosses, messages_send, messages_sync) depth 40 fits 20000

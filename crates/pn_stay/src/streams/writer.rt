@@ -1,12 +1,11 @@
 //! The socket of a stream's writer. While it is read, the writer is told what is taken.
 
-ghost use Rattle.std.specs.Prelude.{◌≡◌, ◌≢◌, ◌*◌, ◌≤◌, ◌↔◌, true, Ok, Err, IfOk, IsTrue, OnErr};
+ghost use Rattle.std.specs.Prelude.{◌≡◌, ◌≢◌, ◌*◌, ◌≤◌, ◌↔◌, ◌⊎◌, true, Ok, Err, IfOk, IsTrue, OnErr};
 ghost use Rattle.std.specs.Duration.{as_nanos};
 ghost use Rattle.std.specs.IoError.{error_kind};
 ghost use Rattle.pn_stay.specs.declared.streams.writer.TheConstants.{PAUSE};
 
 use crate::reasons::{format_after, format_refusal, format_taken};
-use crate::socket::is_wait;
 use pn_serve::Counter;
 use pn_stream::ResumeFault;
 use std::alloc::{AllocError, Global};
@@ -65,7 +64,7 @@ impl<R: Clock + Drop> WriterSocket<R> {
             is_timed: false,
             is_told: true,
         };
-        socket.tell(format_after(alloc, last));
+        let _ = socket.tell(format_after(alloc, last));
         Ok(socket)
     }
 
@@ -73,27 +72,32 @@ impl<R: Clock + Drop> WriterSocket<R> {
     pub(crate) fn tell_taken(&mut self) {
         let taken = self.progress.taken.get();
         if taken > self.told {
-            self.told = taken;
             self.told_at = Instant::now(&self.rt).ok();
-            self.tell(format_taken(self.alloc, taken));
+            if self.tell(format_taken(self.alloc, taken)) {
+                self.told = taken;
+            }
         }
     }
 
     /// Tells the writer why it is read no further.
     pub(crate) fn tell_fault(&mut self, fault: &ResumeFault, position: u64) {
-        self.tell(format_refusal(self.alloc, fault, position));
+        let _ = self.tell(format_refusal(self.alloc, fault, position));
     }
 
-    // Writes a line. What the writer does not take at once is dropped.
-    fn tell(&mut self, line: Result<String, AllocError>) {
-        let Ok(line) = line else { return };
+    // Writes a line, which is dropped where the writer does not take it at once. Whether it was taken whole.
+    fn tell(&mut self, line: Result<String, AllocError>) -> bool {
+        let Ok(line) = line else { return false };
         if !self.is_told {
-            return;
+            return false;
         }
         match (&self.stream).write(line.as_bytes()) {
             Ok(count) => self.is_told = count == line.len(),
-            Err(error) => self.is_told = is_wait(&error),
+            Err(error) => {
+                self.is_told = passes(&error);
+                return false;
+            }
         }
+        self.is_told
     }
 
     // Tells what is taken, ten times a second at most.
@@ -151,11 +155,21 @@ impl<R: Clock + Drop> Read for WriterSocket<R> {
             self.set_timeout();
             match (&self.stream).read(buf) {
                 Ok(count) => return Ok(count),
-                Err(error) if is_wait(&error) => {}
+                Err(error) if passes(&error) => {}
                 Err(error) => return end_or_fault(error),
             }
         }
         Ok(0)
+    }
+}
+
+// Whether an error says that the call is to be made again: it would have waited, or the program was stopped meanwhile.
+fn passes(error: &io::Error) -> bool
+    ensures { IsTrue result ↔ ((error_kind error.now ≡ ErrorKind.WouldBlock) ⊎ (error_kind error.now ≡ ErrorKind.Interrupted)) }
+{
+    match error.kind() {
+        ErrorKind::WouldBlock | ErrorKind::Interrupted => true,
+        _ => false,
     }
 }
 

@@ -1,0 +1,168 @@
+package pnuts
+
+import (
+	"bufio"
+	"bytes"
+	"context"
+	"fmt"
+	"net"
+	"runtime"
+	"sync"
+	"sync/atomic"
+	"time"
+)
+
+const (
+	// window is how many lines are in flight on a connection at most.
+	window = 64
+	// pieceSize is how many bytes are read or written at a time.
+	pieceSize = 64 * 1024
+	// maxLine is how many bytes a line has at most. A page of 1,000 rows has fewer.
+	maxLine = 64 * 1024 * 1024
+)
+
+// A call is a line, whether lines of text follow its reply, and where both go.
+type call struct {
+	line     []byte
+	hasLines bool
+	replied  chan received
+}
+
+// What was received for a call: the members of the reply, and the text that follows it.
+type received struct {
+	reply map[string]any
+	text  []byte
+}
+
+// A connection is a session of the region. One goroutine writes its lines, and one reads their replies.
+type connection struct {
+	// Calls before and after their lines were written.
+	unsent, sent chan *call
+	// How many calls it has, and how many lines came.
+	calls, lines atomic.Int64
+	// Done once it has ended, because of the fault.
+	ended  context.Context
+	cancel context.CancelFunc
+	ending sync.Once
+	fault  error
+	// Whether it was opened, or is to be.
+	opening sync.Once
+}
+
+func newConnection() *connection {
+	ended, cancel := context.WithCancel(context.Background())
+	return &connection{unsent: make(chan *call, window), sent: make(chan *call, window), ended: ended, cancel: cancel}
+}
+
+// run opens the connection, and returns once nothing of it is left.
+func (c *connection) run(where address, timeout time.Duration) {
+	opening, stop := context.WithTimeout(c.ended, timeout)
+	defer stop()
+	socket, err := where.dial(opening)
+	if err != nil {
+		c.end(&ConnectionFailed{err})
+		return
+	}
+	var both sync.WaitGroup
+	both.Add(2)
+	go func() { defer both.Done(); c.end(&ConnectionFailed{c.write(socket)}) }()
+	go func() { defer both.Done(); c.end(c.read(socket)) }()
+	<-c.ended.Done()
+	socket.Close()
+	both.Wait()
+}
+
+// end ends the connection. Calls without a reply fail with the first fault.
+func (c *connection) end(fault error) {
+	c.ending.Do(func() { c.fault = fault; c.cancel() })
+}
+
+// ask sends a line, and waits for its reply. A call that gives up leaves its place, so that later replies find theirs.
+func (c *connection) ask(ctx context.Context, asked *call) (received, error) {
+	c.calls.Add(1)
+	defer c.calls.Add(-1)
+	for unsent := c.unsent; ; {
+		select {
+		case unsent <- asked:
+			unsent = nil
+		case reply := <-asked.replied:
+			return reply, nil
+		case <-c.ended.Done():
+			return received{}, c.fault
+		case <-ctx.Done():
+			return received{}, ctx.Err()
+		}
+	}
+}
+
+// write writes the lines of calls: those that are at hand together, and all of them before it waits.
+func (c *connection) write(socket net.Conn) error {
+	out := bufio.NewWriterSize(socket, pieceSize)
+	for asked := (*call)(nil); ; {
+		select {
+		case asked = <-c.unsent:
+		case <-c.ended.Done():
+			return c.fault
+		}
+		select {
+		case c.sent <- asked:
+		case <-c.ended.Done():
+			return c.fault
+		}
+		out.Write(asked.line)
+		if len(c.unsent) == 0 {
+			// Others may be about to send.
+			runtime.Gosched()
+		}
+		if len(c.unsent) == 0 || len(c.sent) == window {
+			if err := out.Flush(); err != nil {
+				return err
+			}
+		}
+	}
+}
+
+// read gives each call its reply, in order.
+func (c *connection) read(socket net.Conn) error {
+	lines := bufio.NewScanner(socket)
+	lines.Buffer(make([]byte, pieceSize), maxLine)
+	lines.Split(c.wholeLine)
+	for lines.Scan() {
+		value, isJSON := valueOf(lines.Bytes())
+		got := received{reply: as[map[string]any](value)}
+		if !isJSON || got.reply == nil {
+			return &ProtocolError{fmt.Sprintf("a reply is none of a region: %.200q", lines.Bytes())}
+		}
+		select {
+		case asked := <-c.sent:
+			if !asked.hasLines || got.readText(lines) {
+				asked.replied <- got
+			}
+		default:
+			return &ProtocolError{"a reply came to no line"}
+		}
+	}
+	if lines.Err() == bufio.ErrTooLong {
+		return &ProtocolError{"a reply does not end"}
+	}
+	return &ConnectionFailed{fmt.Errorf("it ended, error %v", lines.Err())}
+}
+
+// wholeLine finds a line with its newline, and counts it. What comes without one is none.
+func (c *connection) wholeLine(data []byte, _ bool) (int, []byte, error) {
+	size := bytes.IndexByte(data, '\n') + 1
+	if size == 0 {
+		return 0, nil, nil
+	}
+	c.lines.Add(1)
+	return size, data[:size], nil
+}
+
+// readText reads the lines that follow a reply which says how many, and says whether all came.
+func (r *received) readText(lines *bufio.Scanner) bool {
+	left := as[int64](r.reply["lines"])
+	for ; left > 0 && lines.Scan(); left-- {
+		r.text = append(r.text, lines.Bytes()...)
+	}
+	return left <= 0
+}

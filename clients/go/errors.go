@@ -1,0 +1,98 @@
+package pnuts
+
+import (
+	"context"
+	"fmt"
+)
+
+// ConnectionFailed says that the region could not be reached, or that the connection ended before the reply.
+type ConnectionFailed struct{ Cause error }
+
+func (e *ConnectionFailed) Error() string { return "pnuts: the connection failed: " + e.Cause.Error() }
+
+// Unwrap gives the cause.
+func (e *ConnectionFailed) Unwrap() error { return e.Cause }
+
+// TimedOut says that the reply did not come in time. Another try may get it.
+type TimedOut struct{}
+
+func (*TimedOut) Error() string { return "pnuts: no reply in time" }
+
+// Unwrap makes it an error of a deadline.
+func (*TimedOut) Unwrap() error { return context.DeadlineExceeded }
+
+// ProtocolError says that what came is no reply to what was sent: the other side is no region, or one of another version.
+type ProtocolError struct{ Text string }
+
+func (e *ProtocolError) Error() string { return "pnuts: " + e.Text }
+
+// A Refusal is any error that the region answered with.
+type Refusal interface {
+	error
+	// Members of the region's reply.
+	Members() map[string]any
+}
+
+// Refused is a refusal that no other type is for, and a part of each other.
+type Refused struct {
+	Reason  string
+	members map[string]any
+}
+
+func (e *Refused) Error() string { return fmt.Sprintf("pnuts: refused: %v", e.members) }
+
+// Members are those of the region's reply.
+func (e *Refused) Members() map[string]any { return e.members }
+
+// BadLine says that the line was at fault: Reason is too-long, not-json, bad-shape, out-of-range or read-only. Member names
+// the member at fault, where there is one.
+type BadLine struct {
+	Refused
+	Member string
+}
+
+// Recovering says that a tablet that the answer needs was lost and has not adopted a copy yet.
+type Recovering struct {
+	Refused
+	Tablet int64
+}
+
+// RecordBehind says that the record is not there in the version that was required. Has is its version, nil where it is absent.
+type RecordBehind struct {
+	Refused
+	Has *Version
+}
+
+// CopyBehind says that the copy does not reach what was asked for: of Stream it has Has, and Wanted was wanted.
+type CopyBehind struct {
+	Refused
+	Stream      string
+	Has, Wanted int64
+}
+
+// NoEntry says that the reader was not let into a tablet. Another try may be.
+type NoEntry struct{ Refused }
+
+// OutOfMemory says that the region had no memory for the answer. Another try may get it.
+type OutOfMemory struct{ Refused }
+
+// refusalOf is the error of a reply with a member "error".
+func refusalOf(reply map[string]any) error {
+	base := Refused{as[string](reply["error"]), reply}
+	switch base.Reason {
+	case "too-long", "not-json", "bad-shape", "out-of-range", "read-only":
+		return &BadLine{base, as[string](reply["member"])}
+	case "recovering":
+		return &Recovering{base, as[int64](reply["tablet"])}
+	case "no-entry":
+		return &NoEntry{base}
+	case "memory":
+		return &OutOfMemory{base}
+	case "behind":
+		if stream := as[string](reply["stream"]); stream != "" {
+			return &CopyBehind{base, stream, as[int64](reply["has"]), as[int64](reply["wanted"])}
+		}
+		return &RecordBehind{base, versionOf(reply["has"])}
+	}
+	return &base
+}

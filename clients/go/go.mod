@@ -1,0 +1,3 @@
+module keqapwi.example/pnuts
+
+go 1.19

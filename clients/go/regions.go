@@ -1,0 +1,64 @@
+package pnuts
+
+import (
+	"context"
+	"fmt"
+	"sort"
+)
+
+// Regions are several regions that are read as one. Each has the keys of a range.
+type Regions struct {
+	// The first key of each region's range but the first, and the clients.
+	bounds  []string
+	clients []*Client
+}
+
+// NewRegions takes one client more than bounds: the first region has the keys below the first bound, each other those from
+// its bound on. To close the clients is the caller's.
+func NewRegions(bounds []string, clients []*Client) (*Regions, error) {
+	if len(clients) != len(bounds)+1 {
+		return nil, fmt.Errorf("pnuts: %d bounds take %d regions, not %d", len(bounds), len(bounds)+1, len(clients))
+	}
+	for at := range bounds {
+		if at > 0 && bounds[at] <= bounds[at-1] {
+			return nil, fmt.Errorf("pnuts: the bounds do not rise at %q", bounds[at])
+		}
+	}
+	return &Regions{bounds, clients}, nil
+}
+
+// Of is the client of the region that has a key.
+func (r *Regions) Of(key string) *Client { return r.clients[r.indexOf(key)] }
+
+func (r *Regions) indexOf(key string) int {
+	return sort.Search(len(r.bounds), func(at int) bool { return r.bounds[at] > key })
+}
+
+// Get is as that of a client, of all regions that have some of the keys, at once.
+func (r *Regions) Get(ctx context.Context, keys []string) ([]*Record, error) {
+	found, places, shares := make([]*Record, len(keys)), make([][]int, len(r.clients)), make([][]string, len(r.clients))
+	for place, key := range keys {
+		region := r.indexOf(key)
+		places[region] = append(places[region], place)
+		shares[region] = append(shares[region], key)
+	}
+	return found, together(len(r.clients), func(region int) error {
+		records, err := r.clients[region].Get(ctx, shares[region])
+		for at, place := range places[region] {
+			found[place] = records[at]
+		}
+		return err
+	})
+}
+
+// Scan is as that of a client, from one region on to the next.
+func (r *Regions) Scan(ctx context.Context, query Query) *Scanner {
+	scanner, low := &Scanner{ctx: ctx}, ""
+	for at, high := range append(append([]string{}, r.bounds...), "") {
+		if share, isAny := query.within(low, high); isAny {
+			scanner.parts = append(scanner.parts, part{r.clients[at], share})
+		}
+		low = high
+	}
+	return scanner
+}

@@ -1,0 +1,73 @@
+// A session of a region, with any number of lines in flight.
+
+import { connect } from "./addresses.js";
+import { ConnectionFailed, TimedOut } from "./errors.js";
+import { Pipeline } from "./pipeline.js";
+
+/** For more milliseconds than this no timer can be set. */
+const MAX_TIMER = 2 ** 31 - 1;
+
+export class Connection {
+  #socket;
+  #pipeline = new Pipeline();
+  #unsent = [];
+  /** Why it ended, once it has. */
+  fault;
+
+  constructor(address, tls) {
+    this.#socket = connect(address, tls);
+    this.#socket.on("data", (data) => this.#receive(data));
+    this.#socket.on("error", (fault) => this.end(new ConnectionFailed(`the connection broke: ${fault.message}`, { cause: fault })));
+    this.#socket.on("close", () => this.end(new ConnectionFailed("the region closed the connection")));
+  }
+
+  /** How many lines are in flight, none once it has ended. */
+  get size() {
+    return this.#pipeline.size;
+  }
+
+  /**
+   * The reply to a line, within milliseconds. A call that gives up leaves its place, so that later replies find theirs.
+   * Where nothing came meanwhile, the connection ends.
+   */
+  ask(line, hasLines, milliseconds) {
+    return new Promise((resolve, reject) => {
+      const before = this.#pipeline.lines;
+      const giveUp = () => {
+        reject(new TimedOut("no reply in time"));
+        if (this.#pipeline.lines === before) {
+          this.end(new ConnectionFailed("nothing came for as long as a call waits"));
+        }
+      };
+      const timer = milliseconds < MAX_TIMER ? setTimeout(giveUp, milliseconds) : undefined;
+      const once = (settle) => (value) => {
+        clearTimeout(timer);
+        settle(value);
+      };
+      this.#pipeline.send({ hasLines, resolve: once(resolve), reject: once(reject) });
+      this.#send(line);
+    });
+  }
+
+  /** Ends the session. Calls without a reply fail with the first fault. */
+  end(fault) {
+    this.fault ??= fault;
+    this.#socket.destroy();
+    this.#pipeline.abandon().forEach((call) => call.reject(this.fault));
+  }
+
+  /** Lines that are asked for together go out together. */
+  #send(line) {
+    if (this.#unsent.push(line) === 1) {
+      process.nextTick(() => this.#socket.write(this.#unsent.splice(0).join("")));
+    }
+  }
+
+  #receive(data) {
+    try {
+      this.#pipeline.receive(data);
+    } catch (fault) {
+      this.end(fault);
+    }
+  }
+}

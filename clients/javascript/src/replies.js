@@ -1,0 +1,59 @@
+// What replies mean. Another command is one more meaning here, undefined of what is no reply to it.
+
+import { inspect } from "node:util";
+import { BadLine, CopyBehind, NoEntry, OutOfMemory, ProtocolError, RecordBehind, Recovering, Refused } from "./errors.js";
+import { Record } from "./records.js";
+
+const KINDS = new Map([
+  ["too-long", BadLine],
+  ["not-json", BadLine],
+  ["bad-shape", BadLine],
+  ["out-of-range", BadLine],
+  ["read-only", BadLine],
+  ["recovering", Recovering],
+  ["behind", RecordBehind],
+  ["no-entry", NoEntry],
+  ["memory", OutOfMemory],
+]);
+
+/** What a reply to a line says; throws what it refuses. */
+export function answerOf(line, reply, meaning) {
+  if (typeof reply?.error === "string") {
+    throw refusalOf(reply);
+  }
+  const answer = reply ? meaning(reply) : undefined;
+  if (answer === undefined) {
+    throw new ProtocolError(`no reply to ${line.slice(0, 80)}: ${inspect(reply).slice(0, 200)}`);
+  }
+  return answer;
+}
+
+export const row = (reply) => recordOf(reply.row);
+
+export function rowsOf(count) {
+  return (reply) => (reply.rows?.length === count ? rows(reply) : undefined);
+}
+
+export function page(reply) {
+  const records = rows(reply);
+  const isNext = reply.next === null || Array.isArray(reply.next?.where);
+  return records && isNext ? { records, next: reply.next } : undefined;
+}
+
+export const text = (reply) => reply.text;
+
+function rows(reply) {
+  const records = Array.isArray(reply.rows) ? reply.rows.map(recordOf) : undefined;
+  return records?.includes(undefined) ? undefined : records;
+}
+
+function recordOf(row) {
+  const isRow = typeof row?.key === "string" && row.contents?.length > 0 && row.version?.length === 2;
+  return isRow ? new Record(row) : row === null ? null : undefined;
+}
+
+/** The error of a reply that has a member `error`. */
+function refusalOf(reply) {
+  const kind = KINDS.get(reply.error) ?? Refused;
+  return kind === RecordBehind && "stream" in reply ? new CopyBehind(reply) : new kind(reply);
+}

@@ -1,0 +1,134 @@
+// The client: against the program, and against servers that fail.
+
+import assert from "node:assert/strict";
+import { existsSync, readFileSync, readdirSync } from "node:fs";
+import { join } from "node:path";
+import { test } from "node:test";
+import { setTimeout as sleep } from "node:timers/promises";
+import * as all from "../src/index.js";
+import { BadLine, ConnectionFailed, CopyBehind, ProtocolError, RecordBehind, TimedOut, compareVersions, eq, has } from "../src/index.js";
+import { COUNT, KEYS, NONE, PEOPLE, fake, folderOf, freePort, keysOf, ofTheProgram, open, opened, region, waitFor } from "./support.js";
+
+test("lookups", ofTheProgram, async (t) => {
+  const client = await opened(t);
+  const record = await client.read("k001", { atLeast: [1, 0] });
+  assert.deepEqual([record.key, record.version, record.state, record.fields], ["k001", [1, 0], "one", { city: "Rome" }]);
+  assert.deepEqual(record.contents, [{ fields: { city: "Rome" }, master: "w" }]);
+  assert.equal(await client.read("z"), null);
+  await assert.rejects(client.read("k001", { atLeast: [1, 1] }), (fault) => fault instanceof RecordBehind && fault.has[1] === 0);
+  assert.deepEqual(await keysOf(await client.get([...KEYS, "z", "k000"])), [...KEYS, undefined, "k000"]);
+});
+
+test("scans", ofTheProgram, async (t) => {
+  const client = await opened(t);
+  assert.deepEqual(await keysOf(client.scan({ limit: 7 })), KEYS);
+  const where = [eq("city", "Rome"), has("city")];
+  assert.deepEqual(await keysOf(client.scan({ from: "k010", to: "k016", where, limit: 2 })), ["k011", "k013", "k015"]);
+  await assert.rejects(client.page({ limit: 1001 }), (fault) => fault instanceof BadLine && fault.member === "query");
+});
+
+test("copies", ofTheProgram, async (t) => {
+  const client = await opened(t);
+  const folder = folderOf(t);
+  await client.copy(0, join(folder, "copy"), { need: { east: COUNT } });
+  const text = readFileSync(join(folder, "copy"), "utf8");
+  assert(text.startsWith('{"copy":1,"from":null,"to":null}\n{"at":250,"stream":"east"}\n') && text.endsWith('\n{"end":251}\n'));
+  await assert.rejects(client.copy(0, join(folder, "other"), { need: { east: COUNT + 1 } }), (fault) => {
+    assert.deepEqual([fault instanceof CopyBehind, fault.stream, fault.has, fault.wanted], [true, "east", COUNT, COUNT + 1]);
+    return true;
+  });
+  assert.deepEqual(readdirSync(folder), ["copy"]);
+});
+
+test("many lines in flight, over a pool", ofTheProgram, async (t) => {
+  const client = await opened(t, { connections: 2 }, ["--sessions=2"]);
+  const keys = Array.from({ length: 20 * COUNT }, (_, at) => KEYS[at % COUNT]);
+  assert.deepEqual(await keysOf(await Promise.all(keys.map((key) => client.read(key)))), keys);
+});
+
+test("a region that is killed and comes back", ofTheProgram, async (t) => {
+  const port = await freePort();
+  const killed = await region(t, PEOPLE, [], port);
+  const client = open(t, killed.address, { retries: 20 });
+  await waitFor(client, KEYS.at(-1));
+  await killed.kill();
+  const asked = client.read(KEYS[0]);
+  await region(t, PEOPLE, [], port);
+  await asked;
+  await waitFor(client, KEYS.at(-1));
+});
+
+test("nobody listens", async (t) => {
+  const client = open(t, `tcp://127.0.0.1:${await freePort()}`, { retries: 0 });
+  await assert.rejects(client.read("k"), ConnectionFailed);
+});
+
+test("half a reply, and another session", async (t) => {
+  const client = open(t, await fake(t, [['{"row":'], [NONE]]));
+  assert.equal(await client.read("k"), null);
+});
+
+test("half a copy, and another session", async (t) => {
+  const whole = '{"lines":2}\n{"copy":1,"from":null,"to":null}\n{"end":0}\n';
+  const client = open(t, await fake(t, [[whole.slice(0, -5)], [whole]]));
+  const path = join(folderOf(t), "copy");
+  await client.copy(0, path);
+  assert.equal(readFileSync(path, "utf8"), whole.slice(whole.indexOf("\n") + 1));
+});
+
+test("a late reply is never that of another line", async (t) => {
+  const late = '{"row":{"contents":[{"deleted":true,"master":"w"}],"key":"k","state":"deleted","version":[1,1]}}\n';
+  const client = open(t, await fake(t, [[NONE, 300, late + NONE], []]), { timeout: 200 });
+  const asked = [client.read("a"), client.read("k")];
+  assert.equal(await asked[0], null);
+  await assert.rejects(asked[1], TimedOut);
+  await sleep(150);
+  assert.equal(await client.read("z").catch((fault) => fault.name), "TimedOut");
+});
+
+test("a silent connection is given up", async (t) => {
+  const client = open(t, await fake(t, [[], [NONE]]), { timeout: 200 });
+  await assert.rejects(client.read("k"), TimedOut);
+  assert.equal(await client.read("k"), null);
+});
+
+test("no region", async (t) => {
+  const client = open(t, await fake(t, [["HTTP/1.1 400 Bad Request\n"]]));
+  await assert.rejects(client.read("k"), ProtocolError);
+});
+
+test("fewer rows than keys", async (t) => {
+  const client = open(t, await fake(t, [['{"rows":[null]}\n']]));
+  await assert.rejects(client.get(["a", "b"]), ProtocolError);
+});
+
+test("a refusal keeps the session", async (t) => {
+  const client = open(t, await fake(t, [['{"error":"behind","has":null}\n', NONE]]));
+  await assert.rejects(client.read("k", { atLeast: [1, 0] }), (fault) => fault instanceof RecordBehind && fault.has === null);
+  assert.equal(await client.read("k"), null);
+});
+
+test("a client that was closed", async (t) => {
+  const client = open(t, await fake(t, [[]]));
+  const asked = client.read("k");
+  await client.close();
+  await assert.rejects(asked, ConnectionFailed);
+  await assert.rejects(client.read("k"), ConnectionFailed);
+});
+
+test("a copy that cannot be written", async (t) => {
+  const client = open(t, await fake(t, [['{"lines":1}\n{"end":0}\n']]));
+  await assert.rejects(client.copy(0, join(folderOf(t), "none", "copy")), { code: "ENOENT" });
+});
+
+test("versions are ordered", () => {
+  const versions = [[2, 0], [1, 5], [1, 0]];
+  assert.deepEqual(versions.sort(compareVersions), [[1, 0], [1, 5], [2, 0]]);
+});
+
+test("all that has types is there, and no more", () => {
+  const types = readFileSync(new URL("../index.d.ts", import.meta.url), "utf8");
+  const typed = [...types.matchAll(/^export (?:class|function) (\w+)/gm)].map(([, name]) => name);
+  assert.deepEqual(Object.keys(all).sort(), typed.sort());
+  assert(existsSync(new URL("../package.json", import.meta.url)));
+});
