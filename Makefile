@@ -129,9 +129,9 @@ fuzz: build
 checks-clients: build
 	@checks/run clients "$(PROGRAM)"
 
-# Tests the feeds against brokers that are started for it; those that are missing are skipped.
+# Tests the feeds against brokers that are started for it, and with the built program where it is there; brokers that are missing are skipped.
 checks-feeds:
-	@feeds/test
+	@PNUTS="$(realpath $(PROGRAM))" feeds/test
 
 # Tests the feeds, gives 200,000 images through each, and runs both examples with real brokers, a database and proxies. Debian's
 # packages: redis-server python3-redis python3-hiredis rabbitmq-server python3-pika postgresql python3-psycopg2 haproxy openssl

@@ -2,6 +2,8 @@
 import contextlib
 import itertools
 import json
+import os
+import signal
 import threading
 import time
 
@@ -152,6 +154,24 @@ def send_slowly(writer: Writer, count: int) -> None:
     for at in range(1, count + 1):
         writer.send(messages(at, 1))
         time.sleep(0.005)
+
+
+def check_stopped_region(program: str, folder: str) -> None:
+    """A region that is stopped by a signal and goes on reads its writers on, at a socket and at a FIFO."""
+    (path, west), (at, east) = made(folder, "west"), socket_in(folder)
+    with Staying(program, folder, [east, west]) as region, Client(region.port) as client, open(path, "wb", buffering=0) as pipe, Writer(at) as writer:
+        same("what the region has", writer.begin(), 0)
+        for number in range(1, 31):
+            writer.send(messages(number, 1))
+            pipe.write(message(number, "west", number, "x"))
+            # While it waits for more with something to tell, and while it does not.
+            time.sleep(number % 3 * 0.07)
+            os.kill(region.process.pid, signal.SIGSTOP)
+            time.sleep(0.02)
+            os.kill(region.process.pid, signal.SIGCONT)
+            client.wait_for(key_of(number), row_of(key_of(number), 0, "x"))
+            client.wait_for("west", row_of("west", number, "x"))
+        same("what is said", region.said(), b"")
 
 
 def check_sources_that_stand(program: str, folder: str) -> None:

@@ -96,7 +96,10 @@ def unread(connection: socket.socket) -> int:
 
 
 def check_deaf_writer(program: str, folder: str) -> None:
-    """A writer that reads nothing, for so long that no more can be told it, is read on, and holds up nobody; the next one is taken."""
+    """A writer that reads nothing, for so long that no more can be told it, is read on, and holds up nobody.
+
+    Once it reads, it is told how far the region is in the end; and the next one is taken.
+    """
     path, east = socket_in(folder)
     west, (_, other) = socket_in(folder, "west")
     with Staying(program, folder, [east, ("west", other)]) as region, Client(region.port) as client, Writer(path) as deaf, Writer(west) as writer:
@@ -115,6 +118,9 @@ def check_deaf_writer(program: str, folder: str) -> None:
         client.wait_for(key_of(last), row_of(key_of(last), last // 100, "x"))
         writer.send(message(1, "west", 0, "x"))
         same("what another stream's writer is told", writer.taken(), 1)
+        same("what it reads first in the end", deaf.begin(), 0)
+        while deaf.taken() != last:
+            pass
         deaf.socket.close()
         wait_for_after(path, last)
         same("what is said of faults", said_of_faults(region), [])

@@ -12,7 +12,7 @@ from common.tried import program_parser
 
 def parts(program: str) -> list[Part]:
     examples = [Part(name, [str(TOP / "examples" / name / "demo"), "--program", program], may_miss=True) for name in ("postgres", "regions")]
-    feeds = [Part("feeds", [str(TOP / "feeds/test")]), Part("rates", [str(TOP / "feeds/rates"), program], may_miss=True)]
+    feeds = [Part("feeds", ["env", f"PNUTS={program}", str(TOP / "feeds/test")]), Part("rates", [str(TOP / "feeds/rates"), program], may_miss=True)]
     return [*feeds, *examples]
 
 

@@ -150,7 +150,7 @@ def check_operation(system: System) -> int:
     lines = [it.removeprefix(INDENT) for it in text.splitlines() if it.startswith(INDENT)]
     (system.root / SCRATCH[1:] / "east.log").write_bytes(message(1, "k", 0, "x"))
     shown = [system.run("bash", "-c", f"cd {SCRATCH}; {line}") for line in lines]
-    same("replies to the lines that ask", [it[: len(ROW)] for line, it in zip(lines, shown) if "socat" in line], [ROW])
+    same("replies to the lines that ask", [it[: len(ROW)] for line, it in zip(lines, shown) if '"do"' in line], [ROW])
     return len(lines)
 
 
@@ -159,6 +159,8 @@ def check_feed(system: System) -> None:
     (system.root / FEED_ENVIRONMENT).write_text(FEED_WORDS, encoding="utf-8")
     system.run("redis-server", "--daemonize", "yes", "--save", "", "--dir", SCRATCH)
     system.wait_for("PONG", "redis-cli", "PING")
+    # What it has of the stream so far is not the broker's.
+    system.run("systemctl", "restart", "pnuts")
     system.run("systemctl", "enable", "--now", FEED)
     for number, killed in enumerate([[], [FEED], ["pnuts"], [FEED, "pnuts"]], 1):
         for unit in killed:

@@ -8,9 +8,10 @@ import tempfile
 import time
 import unittest
 from collections.abc import Iterator, Sequence
-from contextlib import ExitStack, contextmanager
+from contextlib import AbstractContextManager, ExitStack, contextmanager
 from pathlib import Path
 
+from .program import ProgramRegion
 from .region import Region
 from .support import FEEDS, wait_until
 
@@ -84,10 +85,14 @@ class Resuming(unittest.TestCase):
                 region.stop()
             self.assertEqual(region.faults, [])
 
-    @contextmanager
-    def feed(self, region: Region, *more: str) -> Iterator[Program]:
+    def feed(self, region: Region, *more: str) -> AbstractContextManager[Program]:
         """The feed of this region."""
-        program = Program((*self.words, str(region.path), *more))
+        return self.feed_at(region.path, *more)
+
+    @contextmanager
+    def feed_at(self, path: Path, *more: str) -> Iterator[Program]:
+        """The feed of the region whose socket is at this path."""
+        program = Program((*self.words, str(path), *more))
         try:
             yield program
         finally:
@@ -196,3 +201,25 @@ class Resuming(unittest.TestCase):
             self.assertEqual((status, region.has), (1, 2))
             self.assertIn("message 3 is no line of JSON", said)
             self.assertIn(self.id_of(3), said)
+
+    def test_the_program(self) -> None:
+        with tempfile.TemporaryDirectory() as folder:
+            region = ProgramRegion(Path(folder))
+            self.addCleanup(region.kill)
+            self.fill(1, 3_000)
+            for part in (500, 1_500, 3_000):
+                with self.feed_at(region.path) as program:
+                    region.wait_for(part)
+            with self.feed_at(region.path) as program:
+                self.fill(3_001, 10)
+                region.wait_for(3_010)
+                region.kill()
+                region.start()
+                region.wait_for(3_010)
+                self.add_body(b'{"fields":{},"key":"","master":"w","version":[1,0]}')
+                status, said = program.ended()
+            self.assertEqual(status, 1)
+            self.assertIn(f"the region refuses position 3011, {self.id_of(3011)}", said)
+            self.assertIn('{"at":3011,"error":"out-of-range","member":"key"}', said)
+            self.assertIn("pnuts: stream east failed at 3011 ", region.said())
+            self.assertEqual(region.said().count("failed"), 1)
