@@ -19,7 +19,7 @@ MEGABYTE = 1_000_000
 LITTLE, TEXT = 20 * MEGABYTE, b"y" * 4_000
 BIG = b'{"at":%d,"image":{"fields":{"a":"%b","b":"%b"},"key":"big%d","master":"w","version":[1,0]}}\n'
 # How long a region is looked at, and how often a second it may wake up while nothing comes.
-LOOKED, WAKE_UPS = 3.0, 10
+LOOKED, WAKE_UPS = 3.0, 30
 
 
 def read_all(handle: int, wanted: int) -> list[bytes]:
@@ -125,6 +125,7 @@ def check_streams_at_rest(program: str, folder: str) -> None:
     fifos = [made(folder, f"f{at}") for at in range(8)]
     streams = [stream for _, stream in sockets + fifos]
     with Staying(program, folder, streams) as region, contextlib.ExitStack() as stay:
+        time.sleep(1)
         rests(region, "without a writer")
         writers = [stay.enter_context(Writer(path)) for path, _ in sockets]
         pipes = [stay.enter_context(open(path, "wb", buffering=0)) for path, _ in fifos]
