@@ -10,11 +10,12 @@ from common.tried import parser_of
 
 
 def parts(program: str, scripts: str, live: str, soak: str) -> list[Part]:
-    narrow = {"clients": [program], "exit-statuses": [program], "live-copies": [program], "memory-limit": [program],
+    narrow = {"exit-statuses": [program], "live-copies": [program], "memory-limit": [program],
               "json-lines": [program, "--lines", "100000"], "random-scripts": [scripts, "--scripts", "3000"], "random-words": [program],
               "readme": [program], "words": []}
     wide = {"sessions": [program], "out-of-memory": [program, live], "failing-calls": [program], "damaged-input": [program],
-            "damaged-streams": [program], "stay": [program], "streams": [program], "abuse": [program, "--seconds", soak]}
+            "damaged-streams": [program], "clients": [program],
+            "stay": [program], "streams": [program], "abuse": [program, "--seconds", soak]}
     return [Part(name, [str(RUN), name, *words], those is wide) for those in (narrow, wide) for name, words in those.items()]
 
 

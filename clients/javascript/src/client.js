@@ -26,7 +26,7 @@ export class Client {
     this.#tls = tls;
     this.#timeout = timeout;
     this.#retries = retries;
-    this.#connections = new Array(connections).fill(undefined);
+    this.#connections = new Array(Math.max(connections, 1)).fill(undefined);
   }
 
   async read(key, { atLeast } = {}) {

@@ -1,6 +1,6 @@
 -- Lists that grow, and faults that are passed on.
 use Rattle.std.proofs.Common.{List, [], ◌∷◌, ◌++◌, map, ◌≡◌, refl, sym, ap, subst, IfErr}
-use Rattle.std.specs.Prelude.{Result, Err, IsErrAnd}
+use Rattle.std.specs.Prelude.{Result, IsErrAnd}
 use Rattle.std.proofs.lemmas.Result.{err_from_is_err_and}
 use Rattle.pn_serve.specs.declared.server.fault.ServeFault.{ServeFault}
 

@@ -1,5 +1,5 @@
 -- Rounds of what streams gave, one after another.
-use Rattle.std.proofs.Common.{◌≡◌, ◌≢◌, ◌⊎◌, ℕ, ◌+◌, ◌≤◌, ◌<◌, List, [], ◌∷◌, ◌++◌, Option, None, Some, IfSome, IfErr, OnOk, OnErr, inl, inr, refl, sym, ap, ◌∙◌, subst, arith, length, map}
+use Rattle.std.proofs.Common.{◌≡◌, ◌≢◌, ◌⊎◌, ℕ, ◌+◌, ◌≤◌, List, [], ◌∷◌, ◌++◌, Option, None, Some, IfSome, IfErr, OnOk, OnErr, inl, inr, refl, sym, ap, subst, arith, length, map}
 use Rattle.std.specs.Prelude.{Result, Ok, Err, IsErrAnd, MatchResult}
 use Rattle.std.specs.List.{All, Contains}
 use Rattle.std.specs.Result.{result_map_both}
@@ -17,7 +17,7 @@ use Rattle.pn_region.specs.declared.fault.RoundFault.TheVariants.{Gap, TooManySt
 use Rattle.pn_region.proofs.GapLaws.{gap_is_missing}
 use Rattle.pn_live.specs.LiveRegions.{LiveRegionValue, core, LeavesLive}
 use Rattle.pn_serve.specs.Server.Faults.{IsOfRounds}
-use Rattle.pn_serve.specs.Server.Reading.{AllTaken, ReadToEnds, ReadUpTo, RunsRound, RunsRounds, StopsAt}
+use Rattle.pn_serve.specs.Server.Reading.{AllTaken, ReadToEnds, ReadUpTo, RunsRound, RunsRounds}
 use Rattle.pn_serve.specs.Server.Gathering.{IsInputOf}
 use Rattle.pn_serve.specs.Server.Rounds.{RoundInputValue, CanBeTaken, Continues, IsNoGap, IsRoundTaken, IsRoundRefused, TakesInput, stopping}
 use Rattle.pn_serve.specs.declared.server.fault.ServeFault.{ServeFault}

@@ -1,6 +1,7 @@
 -- Served streams: the reports of their threads, the rounds, and which fault is answered.
 pub mod Faults
 pub mod Gathering
+pub mod Honest
 pub mod Messages
 pub mod Reading
 pub mod Reports

@@ -10,6 +10,7 @@ mod script;
 mod server;
 mod sessions;
 mod settings;
+mod stream_laws;
 
 pub use arguments::faults::{PlanFault, Refused, Why};
 pub use arguments::options::numbers_are_as_written;
@@ -36,3 +37,4 @@ pub use server::{
 };
 pub use sessions::session;
 pub use settings::Settings;
+pub use stream_laws::streams_that_resume_leave_what_was_published;

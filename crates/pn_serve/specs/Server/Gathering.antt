@@ -1,5 +1,5 @@
 -- What the mailboxes of streams gave for one round.
-use Rattle.std.specs.Prelude.{◌≡◌, ℕ, Bool, true, not, if◌then◌else◌, List, [], ◌∷◌, ◌++◌, map, filter, Option, None, Some, IfSome, All}
+use Rattle.std.specs.Prelude.{◌≡◌, ℕ, Bool, true, not, if◌then◌else◌, List, [], ◌∷◌, ◌++◌, map, Option, None, Some, IfSome, All}
 use Rattle.pn_join.specs.Marks.{Positions}
 use Rattle.pn_serve.specs.Server.Reports.{name_in, messages_of, is_fault, ends}
 use Rattle.pn_serve.specs.Server.Rounds.{RoundInputValue}

@@ -1,5 +1,5 @@
 -- Messages that were handed on go on from what was read.
-use Rattle.std.proofs.Common.{◌≡◌, ℕ, max, Option, refl, sym, ap, ◌∙◌, subst, arith}
+use Rattle.std.proofs.Common.{ℕ, Option, refl, sym, ap, ◌∙◌, subst, arith}
 use Rattle.pn_stream.specs.Batches.{Stream}
 use Rattle.pn_serve.proofs.WritersRead.{WasReadBy, read_none, read_on, last_more, ends_input}
 use Rattle.pn_serve.proofs.server.reporting.read_writer.Goals as goal

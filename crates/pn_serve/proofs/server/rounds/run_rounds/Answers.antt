@@ -1,5 +1,5 @@
 -- Each round goes on from those before it.
-use Rattle.std.proofs.Common.{◌≡◌, ℕ, [], ◌==◌, true, false, map, length, refl, sym, ap, ◌∙◌, arith}
+use Rattle.std.proofs.Common.{◌≡◌, ℕ, ◌==◌, true, false, map, refl, sym, ap, ◌∙◌, arith}
 use Rattle.std.specs.Prelude.{vec_len, Ok, Err}
 use Rattle.pn_serve.specs.Server.Gathering.{value_of}
 use Rattle.pn_serve.specs.declared.server.mailboxes.StreamMailbox.{StreamMailbox}
