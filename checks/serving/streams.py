@@ -2,7 +2,7 @@
 
   checks/run streams PROGRAM [CHECK ..]
 
-All take some four minutes. Exit status 0 where each holds.
+All take some five minutes. Exit status 0 where each holds.
 """
 from common.tried import checks_in, checks_parser, try_checks
 from serving import stream_faults, stream_fifos, stream_limits, stream_lives, stream_places, stream_random
