@@ -17,6 +17,7 @@ use pn_serve::{
     Acceptor, Counter, Origin, ServeFault, SessionThread, Settings, Stream, close_region,
     join_sessions, open_region, read_streams,
 };
+use pn_tablet::Layout;
 use std::alloc::Global;
 use std::io;
 use std::io::ErrorKind;
@@ -72,9 +73,7 @@ impl StayingServer {
         ensures threads { IfOk result (λ server. server.threads ≡ threads) }
     {
         let (layout, workers) = settings.into_parts();
-        let Ok((live, readers)) = open_region(rt, alloc, layout, threads) else {
-            return Err(io::Error::from(ErrorKind::OutOfMemory));
-        };
+        let (live, readers) = open_for(rt, alloc, layout, threads)?;
         let mut readers = readers;
         let rounds = acceptor.round_counter();
         match start_answering(rt, alloc, acceptor, connections, &live, &mut readers) {
@@ -134,5 +133,23 @@ impl StayingServer {
         let mut readers = readers;
         join_sessions(rt, &live, running, &mut readers);
         let _ = close_region(rt, live, readers);
+    }
+}
+
+// Opens a live region with a reader for each thread.
+fn open_for<R: Wait>(
+    rt: &R,
+    alloc: Global,
+    layout: Layout,
+    threads: usize,
+) -> io::Result<(LiveRegion, Vec<LiveReader>)>
+    requires { (1 ≤ threads) × (threads ≤ MAX_READERS) }
+    ensures is_new { IfOk result (λ opened. IsNewLive layout opened.0) }
+    ensures own { IfOk result (λ opened. AllRead (tablets_in opened.0) opened.1.items) }
+    ensures count { IfOk result (λ opened. vec_len opened.1 ≡ threads) }
+{
+    match open_region(rt, alloc, layout, threads) {
+        Ok(opened) => Ok(opened),
+        Err(_) => Err(io::Error::from(ErrorKind::OutOfMemory)),
     }
 }

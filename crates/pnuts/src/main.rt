@@ -158,7 +158,7 @@ fn show(rt: &impl Print, text: &str) -> ExitCode {
 
 // If standard error takes nothing, the status alone shows the fault.
 fn refuse_plan(rt: &impl Eprint, fault: PlanFault<'_>) -> ExitCode {
-    let _ = match fault {
+    let _ = match &fault {
         PlanFault::Words(text) => eprint!(rt; "{text}"),
         PlanFault::Memory => return fail(rt, "memory"),
         _ => eprintln!(rt; "pnuts: {fault}"),
