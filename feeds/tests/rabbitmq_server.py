@@ -68,8 +68,9 @@ class Server:
             return False
 
     def kill(self) -> None:
-        """Kills the node."""
-        os.killpg(self._program.pid, signal.SIGKILL)
+        """Kills the node, where it runs."""
+        with suppress(ProcessLookupError):
+            os.killpg(self._program.pid, signal.SIGKILL)
         self._program.wait()
 
     def end(self) -> None:

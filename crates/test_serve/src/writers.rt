@@ -85,8 +85,8 @@ where
     if after > 0 {
         return Ok(format!(in alloc; "a gap, {end}")?);
     }
-    let told = told.lock(rt);
-    Ok(format!(in alloc; "{}, {end}", told.as_str())?)
+    let told = String::from_str(alloc, told.lock(rt).as_str())?;
+    Ok(format!(in alloc; "{told}, {end}")?)
 }
 
 fn ended_text(ended: Result<(), ServeFault>) -> &'static str {
