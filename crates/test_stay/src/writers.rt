@@ -1,7 +1,7 @@
 //! Writers of a stream, one after another: at a socket, and at a FIFO. And lines for standard error.
 
 use crate::show;
-use pn_join::Name;
+use pn_join::{LAST_POSITION, Name};
 use pn_serve::{Origin, Stream, StreamPath, WriterEnd};
 use pn_stay::{
     Messages, StreamOrigin, StreamSetting, StreamSource, WaitingLines, open_origins, remove_sockets,
@@ -76,6 +76,7 @@ fn read_writer<R>(
 where
     R: Files<File = File> + Net + Wait + Clock + Copy + Drop,
 {
+    let last = last.min(LAST_POSITION);
     let Some(source) = stream.origin.next_writer(last) else {
         return Err(Fail::new("there is no next writer"));
     };
@@ -151,13 +152,13 @@ fn show_messages<R: Wait>(rt: &R, alloc: Global, messages: &Messages) -> Result<
 /// of them.
 pub(crate) fn read_socket<R>(rt: &R, alloc: Global) -> Result<String, Fail>
 where
-    R: Files<File = File> + Net + Threads + Wait + Clock + Sync + Copy + Drop + Send + 'static,
+    R: Files<File = File> + Net + Threads + Wait + Clock + Copy + Drop,
 {
     let path = StreamPath::Listen(String::from_str(alloc, STREAM_PATH)?);
     let opened = open(rt, alloc, path)?;
     let mut stream = opened.stream;
-    let host = *rt;
-    let client = thread::spawn(rt, move || write_twice(&host, alloc))?;
+    let writers = (connect(rt)?, connect(rt)?);
+    let client = thread::spawn(rt, move || write_twice(alloc, writers))?;
     let last = read_writer(alloc, &mut stream, 0)?;
     let last = read_writer(alloc, &mut stream, last)?;
     let told = client.join(rt)?;
@@ -167,22 +168,26 @@ where
     Ok(format!(in alloc; "{told} {said} {last}")?)
 }
 
+fn connect<R: Net>(rt: &R) -> io::Result<UnixStream> {
+    rt.connect_unix(&net::SocketAddr::from_pathname(STREAM_PATH)?)
+}
+
 // Two writers: what both were told.
-fn write_twice<R: Net>(rt: &R, alloc: Global) -> io::Result<String> {
+fn write_twice(alloc: Global, writers: (UnixStream, UnixStream)) -> io::Result<String> {
+    let (first, second) = writers;
     let mut told = String::new(alloc);
-    write_once(rt, alloc, &mut told, (1, 5))?;
-    write_once(rt, alloc, &mut told, (9, 9))?;
+    write_once(alloc, first, &mut told, (1, 5))?;
+    write_once(alloc, second, &mut told, (9, 9))?;
     Ok(told)
 }
 
 // Writes a message, and once something is told another one.
-fn write_once<R: Net>(
-    rt: &R,
+fn write_once(
     alloc: Global,
+    stream: UnixStream,
     told: &mut String,
     positions: (u64, u64),
 ) -> io::Result<()> {
-    let stream = rt.connect_unix(&net::SocketAddr::from_pathname(STREAM_PATH)?)?;
     let mut lines = BufReader::new(alloc, stream.try_clone()?)?;
     lines.read_line(told)?;
     send(&stream, message(alloc, positions.0)?)?;
