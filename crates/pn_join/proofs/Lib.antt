@@ -1,3 +1,4 @@
+pub mod BlockFacts
 pub mod Changing
 pub mod Each
 pub mod EditJoins

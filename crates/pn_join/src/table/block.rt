@@ -18,13 +18,14 @@ mod search;
 mod slices;
 mod splits;
 
-use crate::table::block::search::{copy_keys, insert_last_key};
+use crate::table::block::search::insert_last_key;
 use crate::table::block_entries::BlockEntries;
 use crate::table::entry_counts::{add_to_counts, copy_counts};
 use crate::table::leaf::{Leaf, share_leaves};
 use crate::table::leaf_join::{binary_search, join_in_leaf};
 use crate::{Dup, Join, NoMemory};
 pub use opening::{OpenBlock, Opening};
+pub use search::copy_keys;
 use std::alloc::Global;
 use std::marker::Model;
 

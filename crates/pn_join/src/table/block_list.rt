@@ -21,8 +21,7 @@ mod joins;
 mod search;
 mod slices;
 
-use crate::table::block::Block;
-use crate::table::block::search::copy_keys;
+use crate::table::block::{Block, copy_keys};
 use crate::table::block_ref::BlockRef;
 use crate::table::entries::Entries;
 use crate::table::entry_counts::copy_counts;

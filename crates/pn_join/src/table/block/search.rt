@@ -160,7 +160,7 @@ pub(super) fn last_key<K: Dup, C>(
 }
 
 /// Copies of the keys.
-pub(super) fn copy_keys<K: Dup>(alloc: Global, keys: &[K]) -> Result<Vec<K>, NoMemory> {
+pub fn copy_keys<K: Dup>(alloc: Global, keys: &[K]) -> Result<Vec<K>, NoMemory> {
     let mut copies = Vec::with_capacity(alloc, keys.len())?;
     for key in keys {
         copies.push(key.dup()?)?;
