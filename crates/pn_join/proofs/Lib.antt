@@ -1,4 +1,5 @@
 pub mod BlockFacts
+pub mod BlockGrowth
 pub mod Changing
 pub mod Each
 pub mod EditJoins

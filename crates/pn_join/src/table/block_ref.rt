@@ -1,7 +1,8 @@
 //! Blocks that copies of a table share.
 
-ghost use Rattle.std.specs.Prelude.{◌≡◌, IfOk, OnErr};
-ghost use Rattle.pn_join.specs.BlockLeaves.{held_leaves};
+ghost use Rattle.std.specs.Prelude.{◌≡◌, ◌<◌, ◌++◌, length, IfOk, OnOk, OnErr};
+ghost use Rattle.pn_join.specs.Leaves.{all_entries, IsLeafList};
+ghost use Rattle.pn_join.specs.PutInLeaves.{IsPutOf, ChangesOneLeaf};
 
 use crate::table::block::Block;
 use crate::{Dup, Join, NoMemory};
@@ -90,5 +91,37 @@ impl<K: Ord + Dup, C: Join> BlockRef<K, C> {
             Held::Shared(block) => Held::Shared(Arc::try_clone(block)?),
         };
         Ok(BlockRef { held })
+    }
+
+    /// Joins a content into that at the key. An error leaves the leaves as they were.
+    pub fn join_entry(&mut self, alloc: Global, key: K, content: C) -> Result<(), NoMemory>
+        requires { C.valid content }
+        ensures ok { OnOk result (IsPutOf K.cmp C.meaning C.joined C.valid key content
+            (all_entries self.old) (all_entries self.new)) }
+        ensures one { OnOk result (ChangesOneLeaf self.old self.new) }
+        ensures err { OnErr result (self.new ≡ self.old) }
+        ensures leaf_list { IsLeafList K.cmp C.valid self.old × IsLeafList K.cmp C.valid self.new }
+    {
+        let mut block = self.take(alloc)?;
+        let joined = block.join_entry(key, content);
+        *self = BlockRef::seal(alloc, block);
+        joined
+    }
+
+    /// Takes out the second half of the leaves. An error leaves them in.
+    pub fn halve(&mut self, alloc: Global) -> Result<Self, NoMemory>
+        requires { 1 < length self.old }
+        ensures whole { IfOk result (λ back. self.old ≡ self.new ++ back) }
+        ensures some { IfOk result (λ back. (0 < length self.new) × (0 < length back)) }
+        ensures err { OnErr result (self.new ≡ self.old) }
+    {
+        let mut block = self.take(alloc)?;
+        let half = block.count() / 2;
+        let back = block.back(half);
+        if back.is_ok() {
+            block.truncate(half);
+        }
+        *self = BlockRef::seal(alloc, block);
+        Ok(BlockRef::seal(alloc, back?))
     }
 }

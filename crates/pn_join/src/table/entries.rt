@@ -33,7 +33,7 @@ impl<'t, K: Ord + Dup, C: Join> Model for Entries<'t, K, C> {
 impl<'t, K: Ord + Dup, C: Join> Entries<'t, K, C> {
     /// These entries, and then those of the blocks.
     pub(crate) fn new(left: BlockEntries<'t, K, C>, blocks: &'t [BlockRef<K, C>]) -> Self
-        ensures { result ≡ left ++ entries_in blocks.now }
+        ensures { result ≡ left.entry ++ entries_in blocks.now }
     {
         Entries {
             left,

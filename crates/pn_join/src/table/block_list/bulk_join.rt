@@ -118,8 +118,7 @@ impl<K: Ord + Dup, C: Join> BlockList<K, C> {
         let mut index = self.blocks.len();
         while index > 0 {
             index -= 1;
-            let start = self.leaves_before(index);
-            if self.leaf_counts[index] - start > MAX_BLOCK_LEAVES && self.halve(index).is_err() {
+            if self.leaves_in(index) > MAX_BLOCK_LEAVES && self.halve(index).is_err() {
                 return;
             }
         }

@@ -1,6 +1,6 @@
 //! Joins one entry into one block.
 
-ghost use Rattle.std.specs.Prelude.{◌≡◌, ◌<◌, ◌≤◌, ◌∷◌, [], length, OnOk, OnErr};
+ghost use Rattle.std.specs.Prelude.{◌≡◌, ◌<◌, ◌≤◌, ◌∷◌, [], length, get_or, OnOk, OnErr};
 ghost use Rattle.pn_join.specs.Blocks.{entries_in, in_blocks, AreBlocks};
 ghost use Rattle.pn_join.specs.Leaves.{all_entries, leaf_for};
 ghost use Rattle.pn_join.specs.PutInLeaves.{IsPutOf, ChangesOneLeaf};
@@ -47,11 +47,23 @@ impl<K: Ord + Dup, C: Join> BlockList<K, C> {
     }
 
     /// How many leaves a block has.
-    fn leaves_in(&self, index: usize) -> usize {
+    pub(super) fn leaves_in(&self, index: usize) -> usize
+        ensures { result ≡ length (get_or self.now index []) }
+    {
         match self.block(index) {
             Some(block) => block.count(),
             None => 0,
         }
+    }
+
+    /// How many entries and leaves a block has.
+    fn sizes_of(&self, index: usize) -> (usize, usize)
+        requires { index < length self.now }
+        ensures entries { result.0 ≡ length (all_entries (get_or self.now index [])) }
+        ensures leaves { result.1 ≡ length (get_or self.now index []) }
+    {
+        let block = self.blocks[index].block();
+        (block.len(), block.count())
     }
 
     /// Joins a content into that at the key, in the block that the key belongs into.
@@ -69,52 +81,46 @@ impl<K: Ord + Dup, C: Join> BlockList<K, C> {
         if self.len() == usize::MAX || self.count() == usize::MAX {
             return Err(NoMemory);
         }
-        let place = &mut self.blocks[index];
-        let mut block = place.take(alloc)?;
-        let (entries, leaves) = (block.len(), block.count());
-        let joined = block.join_entry(key, content);
-        let more = block.len() - entries;
-        let more_leaves = block.count() - leaves;
-        *place = BlockRef::seal(alloc, block);
-        raise_from(&mut self.entry_counts, index, more);
-        raise_from(&mut self.leaf_counts, index, more_leaves);
-        joined
+        let (entries, leaves) = self.sizes_of(index);
+        self.blocks[index].join_entry(alloc, key, content)?;
+        let (more, more_leaves) = self.sizes_of(index);
+        raise_from(&mut self.entry_counts, index, more - entries);
+        raise_from(&mut self.leaf_counts, index, more_leaves - leaves);
+        Ok(())
     }
 
     /// Divides a block in two. No leaf changes, also on an error.
     pub(super) fn halve(&mut self, index: usize) -> Result<(), NoMemory>
-        requires { index < length self.old }
+        requires within { index < length self.old }
+        requires two { 1 < length (get_or self.old index []) }
         ensures same { all_entries self.new ≡ all_entries self.old }
         ensures blocks { AreBlocks K.cmp C.valid self.new }
     {
         let alloc = self.alloc();
+        let start = self.entries_before(index);
+        let start_leaf = self.leaves_before(index);
         self.blocks.reserve(1)?;
         self.entry_counts.reserve(1)?;
         self.leaf_counts.reserve(1)?;
-        let start = self.entries_before(index);
-        let start_leaf = self.leaves_before(index);
-        let half = self.leaves_in(index) / 2;
-        if half == 0 {
-            return Ok(());
+        let back = self.blocks[index].halve(alloc)?;
+        let front = self.blocks[index].block();
+        let (end, end_leaf) = (start + front.len(), start_leaf + front.count());
+        self.blocks.insert(index + 1, back).unwrap();
+        self.entry_counts.insert(index, end).unwrap();
+        self.leaf_counts.insert(index, end_leaf).unwrap();
+        self.insert_last_key(index);
+        Ok(())
+    }
+
+    /// Adds the last key of a block that was halved to the last keys, if there is memory for it.
+    fn insert_last_key(&mut self, index: usize)
+        ensures { self.new ≡ self.old }
+    {
+        if index >= self.blocks.len() || index > self.last_keys.len() {
+            return;
         }
-        let mut front = self.blocks[index].take(alloc)?;
-        let Ok(back) = front.back(half) else {
-            self.blocks[index] = BlockRef::seal(alloc, front);
-            return Err(NoMemory);
-        };
-        front.truncate(half);
-        let end = start + front.len();
-        if let Some(Ok(key)) = front.last_key()
-            && index <= self.last_keys.len()
-        {
+        if let Some(Ok(key)) = self.blocks[index].block().last_key() {
             let _ = self.last_keys.insert(index, key);
         }
-        self.blocks[index] = BlockRef::seal(alloc, front);
-        self.blocks
-            .insert(index + 1, BlockRef::seal(alloc, back))
-            .unwrap();
-        self.entry_counts.insert(index, end).unwrap();
-        self.leaf_counts.insert(index, start_leaf + half).unwrap();
-        Ok(())
     }
 }

@@ -1,0 +1,60 @@
+-- Blocks added to a list, and the first blocks of one.
+use Rattle.std.proofs.Common.{◌≡◌, ℕ, zero, suc, ◌+◌, ◌^◌, ◌<◌, ◌≤◌, List, [], ◌∷◌, ◌++◌, length, get_or, take, drop, Ordering, IsTrue, refl, sym, ap, ◌∙◌, arith, append_assoc, take-append-drop}
+use Rattle.std.proofs.lemmas.List.{length-append}
+use Rattle.std.proofs.lemmas.List.Concat.{flat_map-append}
+use Rattle.std.specs.List.{AllByRecursion}
+use Rattle.pn_join.specs.Blocks.{in_blocks, entries_in, AreBlocks}
+use Rattle.pn_join.specs.Leaves.{all_entries, IsLeaf, IsLeafList, AreEntryCounts}
+use Rattle.pn_join.specs.Tables.{IsTable}
+use Rattle.pn_join.proofs.Each.{each_prefix, each_back, each_append}
+use Rattle.pn_join.proofs.LeafListGrowth.{all_push}
+use Rattle.pn_join.proofs.Rising.{Rising-from_sorted, sorted_from_Rising, Rising-back}
+use Rattle.pn_join.proofs.SliceFacts.{IsTable-prefix}
+
+pub all_append : {A : Type 0} (xs ys : List (List A)) → all_entries (xs ++ ys) ≡ all_entries xs ++ all_entries ys
+all_append xs ys = flat_map-append (λ leaf. leaf) xs ys
+
+pub in_blocks-push : {A : Type 0} (blocks : List (List (List A))) (block : List (List A)) → in_blocks (blocks ++ block ∷ []) ≡ in_blocks blocks ++ all_entries block ∷ []
+in_blocks-push [] block = refl
+in_blocks-push (b ∷ bs) block = ap (λ es. all_entries b ∷ es) (in_blocks-push bs block)
+
+module _ {K X : Type 0} (cmp : K → K → Ordering) (valid : X → Type 0) where
+  -- the last entries of a table
+  pub IsTable-back : (xs ys : List (K × X)) → IsTable cmp valid (xs ++ ys) → IsTable cmp valid ys
+  IsTable-back xs ys table = record {
+    rising = sorted_from_Rising cmp ys (Rising-back cmp xs ys (Rising-from_sorted cmp (xs ++ ys) table.rising));
+    contents = each_back (λ e. valid e.1) xs ys table.contents;
+  }
+
+  -- the first leaves of a list
+  pub IsLeafList-prefix : (xs ys : List (List (K × X))) → IsLeafList cmp valid (xs ++ ys) → IsLeafList cmp valid xs
+  IsLeafList-prefix xs ys leaf_list = record {
+    sizes = each_prefix (λ leaf. IsLeaf leaf) xs ys leaf_list.sizes;
+    table = IsTable-prefix cmp valid (all_entries xs) (all_entries ys) (rw (all_append xs ys) at leaf_list.table);
+  }
+
+  -- the last leaves of a list
+  pub IsLeafList-back : (xs ys : List (List (K × X))) → IsLeafList cmp valid (xs ++ ys) → IsLeafList cmp valid ys
+  IsLeafList-back xs ys leaf_list = record {
+    sizes = each_back (λ leaf. IsLeaf leaf) xs ys leaf_list.sizes;
+    table = IsTable-back (all_entries xs) (all_entries ys) (rw (all_append xs ys) at leaf_list.table);
+  }
+
+  -- the first blocks of a list
+  pub first_blocks : (blocks : List (List (List (K × X)))) (k : ℕ) → AreBlocks cmp valid blocks → AreBlocks cmp valid (take k blocks)
+  first_blocks blocks k are =
+      let whole : take k blocks ++ drop k blocks ≡ blocks = take-append-drop k blocks in
+      record {
+        some = each_prefix (λ block. 0 < length block) (take k blocks) (drop k blocks) (rw whole are.some);
+        leaf_list = IsLeafList-prefix (all_entries (take k blocks)) (all_entries (drop k blocks)) (rw (ap all_entries (sym whole) ∙ all_append (take k blocks) (drop k blocks)) at are.leaf_list);
+      }
+
+  -- a block after all others
+  pub pushed_blocks : (blocks : List (List (List (K × X)))) (block : List (List (K × X))) → AreBlocks cmp valid blocks → AllByRecursion (λ leaf. IsLeaf leaf) block → 0 < length block → IsTable cmp valid (entries_in blocks ++ all_entries block) → AreBlocks cmp valid (blocks ++ block ∷ [])
+  pushed_blocks blocks block are sizes one table = record {
+    some = each_append (λ b. 0 < length b) blocks (block ∷ []) are.some (one, tt);
+    leaf_list = rw (all_push blocks block) (record {
+      sizes = each_append (λ leaf. IsLeaf leaf) (all_entries blocks) block are.leaf_list.sizes sizes;
+      table = rw (all_append (all_entries blocks) block) table;
+    });
+  }
