@@ -95,22 +95,9 @@ impl<K: Ord + Dup, C: Join> BlockList<K, C> {
         } else {
             restore_blocks(alloc, &mut self.blocks, taken);
         }
-        self.count_anew();
+        count_anew(&self.blocks, &mut self.entry_counts, &mut self.leaf_counts);
         self.halve_long_blocks();
         done
-    }
-
-    /// Sets all counts of the blocks.
-    fn count_anew(&mut self) {
-        let mut entries = 0_usize;
-        let mut leaves = 0_usize;
-        for index in 0..self.blocks.len() {
-            let block = self.blocks[index].block();
-            entries = entries.saturating_add(block.len());
-            leaves = leaves.saturating_add(block.count());
-            self.entry_counts[index] = entries;
-            self.leaf_counts[index] = leaves;
-        }
     }
 
     /// Halves the blocks that have too many leaves, while there is memory. No leaf changes.
@@ -193,5 +180,22 @@ fn restore_blocks<K: Ord + Dup, C: Join>(
 ) {
     while let Some(Taken { index, block }) = taken.pop() {
         blocks[index] = BlockRef::seal(alloc, block.cancel());
+    }
+}
+
+/// Sets all counts of the blocks.
+fn count_anew<K: Ord + Dup, C: Join>(
+    blocks: &[BlockRef<K, C>],
+    entry_counts: &mut [usize],
+    leaf_counts: &mut [usize],
+) {
+    let mut entries = 0_usize;
+    let mut leaves = 0_usize;
+    for index in 0..blocks.len() {
+        let block = blocks[index].block();
+        entries = entries.saturating_add(block.len());
+        leaves = leaves.saturating_add(block.count());
+        entry_counts[index] = entries;
+        leaf_counts[index] = leaves;
     }
 }

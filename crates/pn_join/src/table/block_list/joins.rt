@@ -2,7 +2,7 @@
 
 ghost use Rattle.std.specs.Prelude.{◌≡◌, ◌<◌, ◌≤◌, ◌∷◌, [], length, get_or, OnOk, OnErr};
 ghost use Rattle.pn_join.specs.Blocks.{entries_in, in_blocks, AreBlocks};
-ghost use Rattle.pn_join.specs.Leaves.{all_entries, leaf_for};
+ghost use Rattle.pn_join.specs.Leaves.{all_entries, leaf_for, IsLeafList};
 ghost use Rattle.pn_join.specs.PutInLeaves.{IsPutOf, ChangesOneLeaf};
 
 use super::{BlockList, MAX_BLOCK_LEAVES};
@@ -56,16 +56,6 @@ impl<K: Ord + Dup, C: Join> BlockList<K, C> {
         }
     }
 
-    /// How many entries and leaves a block has.
-    fn sizes_of(&self, index: usize) -> (usize, usize)
-        requires { index < length self.now }
-        ensures entries { result.0 ≡ length (all_entries (get_or self.now index [])) }
-        ensures leaves { result.1 ≡ length (get_or self.now index []) }
-    {
-        let block = self.blocks[index].block();
-        (block.len(), block.count())
-    }
-
     /// Joins a content into that at the key, in the block that the key belongs into.
     fn join_in_block(&mut self, index: usize, key: K, content: C) -> Result<(), NoMemory>
         requires valid { C.valid content }
@@ -81,9 +71,9 @@ impl<K: Ord + Dup, C: Join> BlockList<K, C> {
         if self.len() == usize::MAX || self.count() == usize::MAX {
             return Err(NoMemory);
         }
-        let (entries, leaves) = self.sizes_of(index);
+        let (entries, leaves) = sizes_of(&self.blocks[index]);
         self.blocks[index].join_entry(alloc, key, content)?;
-        let (more, more_leaves) = self.sizes_of(index);
+        let (more, more_leaves) = sizes_of(&self.blocks[index]);
         raise_from(&mut self.entry_counts, index, more - entries);
         raise_from(&mut self.leaf_counts, index, more_leaves - leaves);
         Ok(())
@@ -123,4 +113,14 @@ impl<K: Ord + Dup, C: Join> BlockList<K, C> {
             let _ = self.last_keys.insert(index, key);
         }
     }
+}
+
+/// How many entries and leaves a block has.
+fn sizes_of<K: Ord + Dup, C: Join>(block: &BlockRef<K, C>) -> (usize, usize)
+    ensures entries { result.0 ≡ length (all_entries block.now) }
+    ensures leaves { result.1 ≡ length block.now }
+    ensures leaf_list { IsLeafList K.cmp C.valid block.now }
+{
+    let block = block.block();
+    (block.len(), block.count())
 }
