@@ -163,7 +163,10 @@ impl<K: Ord + Dup, C: Join> BlockList<K, C> {
     {
         let block = self.block_of_leaf(index);
         let start = self.leaves_before(block);
-        self.block(block)?.leaf(index.saturating_sub(start))
+        match self.block(block) {
+            Some(block) => block.leaf(index.saturating_sub(start)),
+            None => None,
+        }
     }
 
     /// The entry at an index among all entries.
@@ -173,7 +176,10 @@ impl<K: Ord + Dup, C: Join> BlockList<K, C> {
     {
         let block = self.block_at(index);
         let start = self.entries_before(block);
-        self.block(block)?.entry_at(index.saturating_sub(start))
+        match self.block(block) {
+            Some(block) => block.entry_at(index.saturating_sub(start)),
+            None => None,
+        }
     }
 
     /// The index of a key among all entries.

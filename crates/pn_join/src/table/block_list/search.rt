@@ -4,7 +4,7 @@ ghost use Rattle.std.specs.Prelude.{◌≡◌, ◌+◌, ◌-◌, ◌<◌, true, 
 ghost use Rattle.std.specs.FinMap.{find};
 ghost use Rattle.std.specs.Option.{option_copied};
 ghost use Rattle.pn_join.specs.Blocks.{in_blocks, entries_in, AreBlocks};
-ghost use Rattle.pn_join.specs.Leaves.{all_entries, ends_below, leaf_for};
+ghost use Rattle.pn_join.specs.Leaves.{begins_below, ends_below, leaf_for};
 
 use super::BlockList;
 use crate::{Dup, Join};
@@ -41,7 +41,13 @@ impl<K: Ord + Dup, C: Join> BlockList<K, C> {
         ensures is_valid { IfSome result (λ content. C.valid content.now) }
         ensures blocks { AreBlocks K.cmp C.valid self.now }
     {
-        self.block(block)?.get(key)
+        let Some(block) = self.block(block) else {
+            return None;
+        };
+        match block.get(key) {
+            Some(content) => Some(content),
+            None => None,
+        }
     }
 
     /// The index of the block that a key belongs into.
@@ -90,13 +96,12 @@ impl<K: Ord + Dup, C: Join> BlockList<K, C> {
     /// Whether the block before this one ends below the key, or this is the first. It does if this one begins below
     /// the key.
     fn previous_ends_below(&self, index: usize, key: &K) -> bool
-        requires { index < length self.now }
         ensures { IsTrue result → 0 < index → ends_below K.cmp key.now (get_or (in_blocks self.now) (index - 1) []) ≡ true }
     {
-        if index == 0 || self.blocks[index].block().begins_below(key) {
+        if index == 0 || self.block_begins_below(index, key) {
             return true;
         }
-        self.blocks[index - 1].block().ends_below(key)
+        self.block_ends_below(index - 1, key)
     }
 
     /// Whether the block does not end below the key, or is the last.
@@ -104,9 +109,31 @@ impl<K: Ord + Dup, C: Join> BlockList<K, C> {
         requires { index < length self.now }
         ensures { IsTrue result → index + 1 < length self.now → ends_below K.cmp key.now (get_or (in_blocks self.now) index []) ≡ false }
     {
-        if index + 1 == self.blocks.len() {
+        let count = self.blocks.len();
+        if index + 1 == count {
             return true;
         }
-        !self.blocks[index].block().ends_below(key)
+        !self.block_ends_below(index, key)
+    }
+
+    /// Whether the first key of a block is less than this one. That of none is not.
+    fn block_begins_below(&self, index: usize, key: &K) -> bool
+        ensures below { result ≡ begins_below K.cmp key.now (get_or (in_blocks self.now) index []) }
+        ensures blocks { AreBlocks K.cmp C.valid self.now }
+    {
+        match self.block(index) {
+            Some(block) => block.begins_below(key),
+            None => false,
+        }
+    }
+
+    /// Whether the last key of a block is less than this one. That of none is not.
+    fn block_ends_below(&self, index: usize, key: &K) -> bool
+        ensures { result ≡ ends_below K.cmp key.now (get_or (in_blocks self.now) index []) }
+    {
+        match self.block(index) {
+            Some(block) => block.ends_below(key),
+            None => false,
+        }
     }
 }
