@@ -1,5 +1,5 @@
 -- The entries of blocks, and searches in them.
-use Rattle.std.proofs.Common.{◌≡◌, ℕ, zero, suc, ◌+◌, ◌-◌, ◌<◌, ◌≤◌, Bool, cond, List, [], ◌∷◌, ◌++◌, length, get_or, take, drop, min, Ordering, refl, sym, ap, ◌∙◌, arith, append-nil}
+use Rattle.std.proofs.Common.{◌≡◌, ℕ, zero, suc, ◌+◌, ◌-◌, ◌<◌, ◌≤◌, Bool, cond, leb, List, [], ◌∷◌, ◌++◌, length, get_or, slice_get, take, drop, min, Option, Some, None, Ordering, refl, sym, ap, ◌∙◌, arith, append-nil}
 use Rattle.std.specs.List.{AllByRecursion, prefix_len}
 use Rattle.std.specs.List.Sorted.{IsPartitionedBy}
 use Rattle.std.specs.Cmp.{IsTotalOrder}
@@ -7,9 +7,10 @@ use Rattle.std.specs.FinMap.{find}
 use Rattle.std.proofs.lemmas.List.{length-append}
 use Rattle.std.proofs.lemmas.List.Concat.{flat_map-append}
 use Rattle.pn_join.specs.Blocks.{in_blocks, entries_in, AreBlocks}
-use Rattle.pn_join.specs.Leaves.{all_entries, begins_below, ends_below, leaf_for, IsLeaf, IsLeafList}
+use Rattle.pn_join.specs.Leaves.{all_entries, counts_after, begins_below, ends_below, leaf_for, IsLeaf, IsLeafList}
 use Rattle.pn_join.specs.Tables.{IsTable}
 use Rattle.pn_join.proofs.Each.{each_prefix, each_back, each_weaker}
+use Rattle.pn_join.proofs.LeafListIndices.{leaf_at, leaf_at-prefix, entry_in_list, rest_in_list}
 use Rattle.pn_join.proofs.LeafListSearch.{parted, leaf_for-search, find_in_list}
 use Rattle.pn_join.proofs.Rising.{Rising, Rising-from_sorted}
 
@@ -104,6 +105,45 @@ module _ {K X : Type 0} (cmp : K → K → Ordering) (valid : X → Type 0) wher
       ap (λ k. min k last) (is ∙ sym (prefix_of_blocks key blocks))
       ∙ ap (min (prefix_len (λ entries. ends_below cmp key entries) (in_blocks blocks))) same
       ∙ sym (leaf_for-search cmp key o (in_blocks blocks))
+
+module _ {A : Type 0} where
+  -- the block that is at an index
+  pub block_there : (blocks : List (List (List A))) (i : ℕ) (block : List (List A)) → Some block ≡ slice_get blocks i → get_or blocks i [] ≡ block
+  block_there [] i block is = cc
+  block_there (b ∷ bs) zero block is = cc
+  block_there (b ∷ bs) (suc i) block is = block_there bs i block is
+
+  pub block_missing : (blocks : List (List (List A))) (i : ℕ) → None ≡ slice_get blocks i → get_or blocks i [] ≡ []
+  block_missing [] i is = refl
+  block_missing (b ∷ bs) zero is = cc
+  block_missing (b ∷ bs) (suc i) is = block_missing bs i is
+
+  -- the leaf at an index stands in this block
+  pub leaf_in_block : (blocks : List (List (List A))) (index i : ℕ) → i ≡ prefix_len (λ end. leb end index) (counts_after 0 blocks) → slice_get (all_entries blocks) index ≡ slice_get (get_or blocks i []) (index - length (all_entries (take i blocks)))
+  leaf_in_block blocks index i at =
+      let same : 0 + index ≡ index = omega arith in
+      let is : i ≡ leaf_at 0 index blocks = at ∙ leaf_at-prefix 0 index blocks in
+      rw (same, ← is) at (entry_in_list 0 index blocks)
+
+  -- the entry at an index stands in this block
+  pub entry_in_block : (blocks : List (List (List A))) (index i : ℕ) → i ≡ prefix_len (λ end. leb end index) (counts_after 0 (in_blocks blocks)) → slice_get (entries_in blocks) index ≡ slice_get (all_entries (get_or blocks i [])) (index - length (all_entries (take i (in_blocks blocks))))
+  entry_in_block blocks index i at =
+      let same : 0 + index ≡ index = omega arith in
+      let is : i ≡ leaf_at 0 index (in_blocks blocks) = at ∙ leaf_at-prefix 0 index (in_blocks blocks) in
+      let there : slice_get (all_entries (in_blocks blocks)) index ≡ slice_get (get_or (in_blocks blocks) i []) (index - length (all_entries (take i (in_blocks blocks)))) = rw (same, ← is) at (entry_in_list 0 index (in_blocks blocks)) in
+      ap (λ es. slice_get es index) (sym (all_in_blocks blocks)) ∙ there
+      ∙ ap (λ es. slice_get es (index - length (all_entries (take i (in_blocks blocks))))) (at_block blocks i)
+
+  -- the entries from an index on: those left of its block, and those of the blocks after it
+  pub rest_in_blocks : (blocks : List (List (List A))) (index i : ℕ) → i ≡ prefix_len (λ end. leb end index) (counts_after 0 (in_blocks blocks)) → drop index (entries_in blocks) ≡ drop (index - length (all_entries (take i (in_blocks blocks)))) (all_entries (get_or blocks i [])) ++ entries_in (drop (suc i) blocks)
+  rest_in_blocks blocks index i at =
+      let same : 0 + index ≡ index = omega arith in
+      let n = index - length (all_entries (take i (in_blocks blocks))) in
+      let is : i ≡ leaf_at 0 index (in_blocks blocks) = at ∙ leaf_at-prefix 0 index (in_blocks blocks) in
+      let rest : drop index (all_entries (in_blocks blocks)) ≡ drop n (get_or (in_blocks blocks) i []) ++ all_entries (drop (suc i) (in_blocks blocks)) = rw (same, ← is) at (rest_in_list 0 index (in_blocks blocks)) in
+      ap (drop index) (sym (all_in_blocks blocks)) ∙ rest
+      ∙ ap (λ es. drop n es ++ all_entries (drop (suc i) (in_blocks blocks))) (at_block blocks i)
+      ∙ ap (λ es. drop n (all_entries (get_or blocks i [])) ++ es) (ap all_entries (drop_blocks (suc i) blocks) ∙ all_in_blocks (drop (suc i) blocks))
 
 -- the last of the entries are those of the last leaf
 module _ {K X : Type 0} (cmp : K → K → Ordering) (key : K) where

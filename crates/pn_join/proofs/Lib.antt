@@ -1,5 +1,6 @@
 pub mod BlockFacts
 pub mod BlockGrowth
+pub mod BlockHalves
 pub mod BlockJoin
 pub mod Changing
 pub mod Each
