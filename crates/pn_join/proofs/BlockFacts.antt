@@ -1,5 +1,5 @@
 -- The entries of blocks, and searches in them.
-use Rattle.std.proofs.Common.{◌≡◌, ℕ, zero, suc, ◌+◌, ◌-◌, ◌<◌, ◌≤◌, Bool, cond, leb, List, [], ◌∷◌, ◌++◌, length, get_or, slice_get, take, drop, min, Option, Some, None, Ordering, refl, sym, ap, ◌∙◌, arith, append-nil}
+use Rattle.std.proofs.Common.{◌≡◌, ℕ, zero, suc, ◌+◌, ◌-◌, ◌<◌, ◌≤◌, Bool, cond, leb, List, [], ◌∷◌, ◌++◌, length, get_or, slice_get, take, drop, min, Option, Some, None, unwrap_or, Ordering, refl, sym, ap, ◌∙◌, arith, append-nil}
 use Rattle.std.specs.List.{AllByRecursion, prefix_len}
 use Rattle.std.specs.List.Sorted.{IsPartitionedBy}
 use Rattle.std.specs.Cmp.{IsTotalOrder}
@@ -107,6 +107,22 @@ module _ {K X : Type 0} (cmp : K → K → Ordering) (valid : X → Type 0) wher
       ∙ sym (leaf_for-search cmp key o (in_blocks blocks))
 
 module _ {A : Type 0} where
+  -- a block with entries has leaves
+  pub has_leaves : (block : List (List A)) → 0 < length (all_entries block) → 0 < length block
+  has_leaves [] some = absurd (omega (arith, some))
+  has_leaves (l ∷ ls) some = omega arith
+
+  pub there_or_none : (blocks : List (List (List A))) (i : ℕ) → unwrap_or (slice_get blocks i) [] ≡ get_or blocks i []
+  there_or_none [] i = refl
+  there_or_none (b ∷ bs) zero = refl
+  there_or_none (b ∷ bs) (suc i) = there_or_none bs i
+
+  pub drop_next : (blocks : List (List (List A))) (i : ℕ) → drop 1 (drop i blocks) ≡ drop (suc i) blocks
+  drop_next [] zero = refl
+  drop_next [] (suc i) = refl
+  drop_next (b ∷ bs) zero = refl
+  drop_next (b ∷ bs) (suc i) = drop_next bs i
+
   -- the block that is at an index
   pub block_there : (blocks : List (List (List A))) (i : ℕ) (block : List (List A)) → Some block ≡ slice_get blocks i → get_or blocks i [] ≡ block
   block_there [] i block is = cc

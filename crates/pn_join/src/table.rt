@@ -206,9 +206,10 @@ impl<K: Ord + Dup, C: Join> Table<K, C> {
         self.recall_table();
         other.recall_table();
         let told = self.leaf_list.join_and_tell(&other.leaf_list)?;
-        if !told.is_done {
-            *self = self.join_with(other)?;
+        if told.is_done {
+            return Ok(told.changes);
         }
+        *self = self.join_with(other)?;
         Ok(told.changes)
     }
 }

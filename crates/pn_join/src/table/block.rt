@@ -283,7 +283,7 @@ impl<K: Ord + Dup, C: Join> Block<K, C> {
 }
 
 /// The items from an index on.
-fn from_on<T>(items: &[T], index: usize) -> &[T]
+pub fn from_on<T>(items: &[T], index: usize) -> &[T]
     ensures { result.now ≡ drop index items.now }
 {
     items.get(index..).unwrap_or_default()

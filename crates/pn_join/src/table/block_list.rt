@@ -21,7 +21,7 @@ mod joins;
 mod search;
 mod slices;
 
-use crate::table::block::{Block, copy_keys};
+use crate::table::block::{Block, copy_keys, from_on};
 use crate::table::block_ref::BlockRef;
 use crate::table::entries::Entries;
 use crate::table::entry_counts::copy_counts;
@@ -214,11 +214,7 @@ impl<K: Ord + Dup, C: Join> BlockList<K, C> {
         let first = self.block_at(index);
         let start = self.entries_before(first);
         let left = Block::iter_in(self.block(first), index.saturating_sub(start));
-        let rest = self
-            .blocks
-            .get(first.saturating_add(1)..)
-            .unwrap_or_default();
-        Entries::new(left, rest)
+        Entries::new(left, from_on(from_on(&self.blocks, first), 1))
     }
 
     /// An equal list. Blocks are shared where possible.

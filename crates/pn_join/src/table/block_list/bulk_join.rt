@@ -34,7 +34,8 @@ impl<K: Ord + Dup, C: Join> BlockList<K, C> {
     {
         other.recall_blocks();
         let edits = self.edits_from(other)?;
-        self.put(edits)
+        let done = self.put(edits)?;
+        Ok(done)
     }
 
     /// The same, with what the other's entries change.

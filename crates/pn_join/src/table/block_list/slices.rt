@@ -54,7 +54,8 @@ impl<K: Ord + Dup, C: Join> BlockList<K, C> {
     {
         let index = self.block_at(from);
         let start = self.entries_before(index);
-        share_part(&self.blocks[index], from - start, to - start)
+        let block = &self.blocks[index];
+        share_part(block, from - start, to - start)
     }
 }
 
