@@ -18,6 +18,10 @@ pub in_blocks-push : {A : Type 0} (blocks : List (List (List A))) (block : List 
 in_blocks-push [] block = refl
 in_blocks-push (b ∷ bs) block = ap (λ es. all_entries b ∷ es) (in_blocks-push bs block)
 
+-- the entries with those of a block after all others
+pub entries_push : {A : Type 0} (blocks : List (List (List A))) (block : List (List A)) → entries_in (blocks ++ block ∷ []) ≡ entries_in blocks ++ all_entries block
+entries_push blocks block = ap all_entries (all_push blocks block) ∙ all_append (all_entries blocks) block
+
 module _ {K X : Type 0} (cmp : K → K → Ordering) (valid : X → Type 0) where
   -- the last entries of a table
   pub IsTable-back : (xs ys : List (K × X)) → IsTable cmp valid (xs ++ ys) → IsTable cmp valid ys
