@@ -1,5 +1,6 @@
 -- A join of one entry into its block is a join into the list.
 use Rattle.std.proofs.Common.{◌≡◌, ℕ, zero, suc, ◌+◌, ◌^◌, ◌<◌, ◌≤◌, List, [], ◌∷◌, ◌++◌, length, get_or, set, take, drop, Some, option_map, Ordering, refl, sym, ap, ◌∙◌, arith, append_assoc}
+use Rattle.std.proofs.lemmas.List.{length-append}
 use Rattle.std.specs.List.{AllByRecursion}
 use Rattle.std.specs.Cmp.{IsTotalOrder}
 use Rattle.std.specs.FinMap.{find, put}
@@ -46,6 +47,17 @@ module _ {A : Type 0} where
   changes : (old new : List (List A)) → 0 < length old → ReindicesOneLeaf old new → ChangesOneLeaf old new
   changes [] new some one = absurd (omega (arith, some))
   changes (l ∷ ls) new some one = one
+
+  -- where one leaf is changed or cut in two, there is at most one more
+  pub changes_grow : (old new : List (List A)) → ChangesOneLeaf old new → (length old ≤ length new) × (length new ≤ length old + 1)
+  changes_grow [] new one = (omega (arith, one), omega (arith, one))
+  changes_grow (l ∷ ls) new one =
+      let was : length (l ∷ ls) ≡ length (one.before ++ one.was ∷ one.after) = ap length one.old_leaves in
+      let is : length new ≡ length (one.before ++ (one.is ++ one.after)) = ap length one.new_leaves in
+      let first = length-append one.before (one.was ∷ one.after) in
+      let second = length-append one.before (one.is ++ one.after) in
+      let third = length-append one.is one.after in
+      (omega (arith, was, is, first, second, third, one.one_or_two.0), omega (arith, was, is, first, second, third, one.one_or_two.1))
 
   module _ (before old new after : List (List A)) (one : ReindicesOneLeaf old new) where
     was_between : before ++ (old ++ after) ≡ (before ++ one.before) ++ one.was ∷ (one.after ++ after)

@@ -35,13 +35,13 @@ impl<K: Ord + Dup, C: Join> BlockList<K, C> {
     }
 
     /// The content at a key if this block has it. No other block has it then.
-    fn get_in_block(&self, block: usize, key: &K) -> Option<&C>
-        ensures here { option_copied result ≡ find K.cmp key.now (get_or (in_blocks self.now) block []) }
+    fn get_in_block(&self, index: usize, key: &K) -> Option<&C>
+        ensures here { option_copied result ≡ find K.cmp key.now (get_or (in_blocks self.now) index []) }
         ensures found { IfSome result (λ content. find K.cmp key.now (entries_in self.now) ≡ Some content.now) }
         ensures is_valid { IfSome result (λ content. C.valid content.now) }
         ensures blocks { AreBlocks K.cmp C.valid self.now }
     {
-        let Some(block) = self.block(block) else {
+        let Some(block) = self.block(index) else {
             return None;
         };
         match block.get(key) {
