@@ -88,6 +88,10 @@ impl<K: Ord + Dup, C: Join> BlockList<K, C> {
         ensures err { OnErr result (entries_in self.new ≡ entries_in self.old) }
         ensures blocks { AreBlocks K.cmp C.valid self.new }
     {
+        let Some(first) = all.first() else {
+            return Ok(true);
+        };
+        let from = first.block;
         let alloc = self.alloc();
         let mut taken = Vec::with_capacity(alloc, all.len())?;
         let done = open_blocks(alloc, &mut self.blocks, &mut taken, all);
@@ -96,7 +100,12 @@ impl<K: Ord + Dup, C: Join> BlockList<K, C> {
         } else {
             restore_blocks(alloc, &mut self.blocks, taken);
         }
-        count_anew(&self.blocks, &mut self.entry_counts, &mut self.leaf_counts);
+        count_anew(
+            &self.blocks,
+            from,
+            &mut self.entry_counts,
+            &mut self.leaf_counts,
+        );
         self.halve_long_blocks();
         done
     }
@@ -106,7 +115,9 @@ impl<K: Ord + Dup, C: Join> BlockList<K, C> {
         let mut index = self.blocks.len();
         while index > 0 {
             index -= 1;
-            if self.leaves_in(index) > MAX_BLOCK_LEAVES && self.halve(index).is_err() {
+            let start = self.leaves_before(index);
+            let is_long = self.leaf_counts[index].saturating_sub(start) > MAX_BLOCK_LEAVES;
+            if is_long && self.leaves_in(index) > MAX_BLOCK_LEAVES && self.halve(index).is_err() {
                 return;
             }
         }
@@ -184,19 +195,28 @@ fn restore_blocks<K: Ord + Dup, C: Join>(
     }
 }
 
-/// Sets all counts of the blocks.
+/// Sets the counts of the blocks from an index on.
 fn count_anew<K: Ord + Dup, C: Join>(
     blocks: &[BlockRef<K, C>],
+    from: usize,
     entry_counts: &mut [usize],
     leaf_counts: &mut [usize],
 ) {
-    let mut entries = 0_usize;
-    let mut leaves = 0_usize;
-    for index in 0..blocks.len() {
+    let mut entries = count_before(entry_counts, from);
+    let mut leaves = count_before(leaf_counts, from);
+    for index in from..blocks.len() {
         let block = blocks[index].block();
         entries = entries.saturating_add(block.len());
         leaves = leaves.saturating_add(block.count());
         entry_counts[index] = entries;
         leaf_counts[index] = leaves;
+    }
+}
+
+/// The count up to the end of the block before this one.
+fn count_before(counts: &[usize], index: usize) -> usize {
+    match index.checked_sub(1) {
+        Some(before) => counts.get(before).copied().unwrap_or(0),
+        None => 0,
     }
 }
