@@ -1,11 +1,12 @@
 -- Blocks added to a list, and the first blocks of one.
-use Rattle.std.proofs.Common.{◌≡◌, ℕ, zero, suc, ◌+◌, ◌^◌, ◌<◌, ◌≤◌, List, [], ◌∷◌, ◌++◌, length, get_or, take, drop, Ordering, IsTrue, refl, sym, ap, ◌∙◌, arith, append_assoc, take-append-drop}
+use Rattle.std.proofs.Common.{◌≡◌, ℕ, zero, suc, ◌+◌, ◌^◌, ◌<◌, ◌≤◌, List, [], ◌∷◌, ◌++◌, ◌-◌, length, get_or, take, drop, slice_range, Ordering, IsTrue, refl, sym, ap, ◌∙◌, arith, append_assoc, take-append-drop}
 use Rattle.std.proofs.lemmas.List.{length-append}
 use Rattle.std.proofs.lemmas.List.Concat.{flat_map-append}
 use Rattle.std.specs.List.{AllByRecursion}
 use Rattle.pn_join.specs.Blocks.{in_blocks, entries_in, AreBlocks}
 use Rattle.pn_join.specs.Leaves.{all_entries, IsLeaf, IsLeafList, AreEntryCounts}
 use Rattle.pn_join.specs.Tables.{IsTable}
+use Rattle.pn_join.proofs.BlockFacts.{take_whole}
 use Rattle.pn_join.proofs.Each.{each_prefix, each_back, each_append}
 use Rattle.pn_join.proofs.LeafListGrowth.{all_push}
 use Rattle.pn_join.proofs.Rising.{Rising-from_sorted, sorted_from_Rising, Rising-back}
@@ -62,3 +63,9 @@ module _ {K X : Type 0} (cmp : K → K → Ordering) (valid : X → Type 0) wher
       table = rw (all_append (all_entries blocks) block) table;
     });
   }
+
+-- the slice of all
+pub whole_slice : {A : Type 0} (xs : List A) (n : ℕ) → n ≡ length xs → slice_range xs 0 n ≡ xs
+whole_slice xs n is =
+    let all : length xs ≤ n - 0 = omega (arith, is) in
+    take_whole xs (n - 0) all
