@@ -15,3 +15,4 @@ pub mod PutInLeaves
 pub mod LeafListChanges
 pub mod TableChanges
 pub mod Tables
+pub mod TakenBlocks

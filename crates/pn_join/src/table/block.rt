@@ -13,17 +13,18 @@ ghost use Rattle.pn_join.specs.Tables.{IsTable};
 
 mod bulk_join;
 mod halves;
+mod iteration;
 mod opening;
 mod search;
 mod slices;
 mod splits;
 
 use crate::table::block::search::insert_last_key;
-use crate::table::block_entries::BlockEntries;
 use crate::table::entry_counts::{add_to_counts, copy_counts};
 use crate::table::leaf::{Leaf, share_leaves};
 use crate::table::leaf_join::{binary_search, join_in_leaf};
 use crate::{Dup, Join, NoMemory};
+pub use iteration::from_on;
 pub use opening::{OpenBlock, Opening};
 pub use search::copy_keys;
 use std::alloc::Global;
@@ -152,38 +153,6 @@ impl<K: Ord + Dup, C: Join> Block<K, C> {
         }
     }
 
-    /// All entries.
-    pub(crate) fn iter(&self) -> BlockEntries<'_, K, C>
-        ensures all { result ≡ all_entries self.now }
-        ensures leaf_list { IsLeafList K.cmp C.valid self.now }
-    {
-        BlockEntries::new(&[], &self.leaves)
-    }
-
-    /// The entries from an index on.
-    pub(crate) fn iter_from(&self, index: usize) -> BlockEntries<'_, K, C>
-        ensures rest { result ≡ drop index (all_entries self.now) }
-        ensures leaf_list { IsLeafList K.cmp C.valid self.now }
-    {
-        let leaf = self.leaf_at(index);
-        let first = self.entries_of(leaf);
-        let before = self.start(leaf);
-        BlockEntries::new(
-            from_on(first, index.saturating_sub(before)),
-            from_on(from_on(&self.leaves, leaf), 1),
-        )
-    }
-
-    /// The entries of a block from an index on. None if there is no block.
-    pub(crate) fn iter_in(block: Option<&Self>, index: usize) -> BlockEntries<'_, K, C>
-        ensures { result ≡ drop index (all_entries (unwrap_or (option_map (λ block. block.now) block.entry) [])) }
-    {
-        match block {
-            Some(block) => block.iter_from(index),
-            None => BlockEntries::new(&[], &[]),
-        }
-    }
-
     /// An equal list. Leaves are shared where possible.
     pub(crate) fn share(&self) -> Result<Self, NoMemory>
         ensures { IfOk result (λ copy. copy ≡ self.now) }
@@ -280,13 +249,6 @@ impl<K: Ord + Dup, C: Join> Block<K, C> {
         insert_last_key(&mut self.last_keys, &self.leaves, index);
         Ok(())
     }
-}
-
-/// The items from an index on.
-pub fn from_on<T>(items: &[T], index: usize) -> &[T]
-    ensures { result.now ≡ drop index items.now }
-{
-    items.get(index..).unwrap_or_default()
 }
 
 /// Adds the entries that were split off a leaf as a leaf after it.

@@ -1,10 +1,12 @@
 //! Joins all entries of another list at once, if no leaf gets too many.
 
-ghost use Rattle.std.specs.Prelude.{◌≡◌, false, IsTrue, IfOk, OnErr};
+ghost use Rattle.std.specs.Prelude.{◌≡◌, ◌≤◌, [], false, length, vec_capacity, IsTrue, IfOk, OnErr};
 ghost use Rattle.pn_join.specs.BlockEdits.{changes_in_blocks, AreAimedAtBlocks};
-ghost use Rattle.pn_join.specs.Blocks.{entries_in, AreBlocks};
+ghost use Rattle.pn_join.specs.Blocks.{in_blocks, entries_in, AreBlocks};
+ghost use Rattle.pn_join.specs.Leaves.{all_entries};
 ghost use Rattle.pn_join.specs.TableChanges.{AreChanges, AreValid, puts};
 ghost use Rattle.pn_join.specs.Tables.{contents_at, key_by_key};
+ghost use Rattle.pn_join.specs.TakenBlocks.{filled, was, becomes, AreHoles};
 
 use super::{BlockList, MAX_BLOCK_LEAVES};
 use crate::table::block::{Block, OpenBlock, Opening};
@@ -92,6 +94,9 @@ impl<K: Ord + Dup, C: Join> BlockList<K, C> {
             return Ok(true);
         };
         let from = first.block;
+        if self.len().checked_add(count_edits(&all)).is_none() {
+            return Err(NoMemory);
+        }
         let alloc = self.alloc();
         let mut taken = Vec::with_capacity(alloc, all.len())?;
         let done = open_blocks(alloc, &mut self.blocks, &mut taken, all);
@@ -126,9 +131,9 @@ impl<K: Ord + Dup, C: Join> BlockList<K, C> {
 
 /// A block that was taken out of a list to be opened, and its index.
 #[derive(Drop)]
-struct Taken<K: Ord + Dup, C: Join> {
-    index: usize,
-    block: OpenBlock<K, C>,
+pub struct Taken<K: Ord + Dup, C: Join> {
+    pub index: usize,
+    pub block: OpenBlock<K, C>,
 }
 
 /// Takes the blocks of the edits out and opens them; an empty block stays in the place of each. Returns whether all edits fit.
@@ -137,7 +142,17 @@ fn open_blocks<K: Ord + Dup, C: Join>(
     blocks: &mut Vec<BlockRef<K, C>>,
     taken: &mut Vec<Taken<K, C>>,
     all: Vec<BlockEdits<K, C>>,
-) -> Result<bool, NoMemory> {
+) -> Result<bool, NoMemory>
+    requires aimed { AreAimedAtBlocks K.cmp blocks.old.items all.items }
+    requires valid { AreValid C.valid (changes_in_blocks all.items) }
+    requires none { taken.old.items ≡ [] }
+    requires capacity { length all.items ≤ vec_capacity taken.old }
+    requires blocks { AreBlocks K.cmp C.valid blocks.old.items }
+    ensures same { filled was taken.new.items (in_blocks blocks.new.items) ≡ in_blocks blocks.old.items }
+    ensures done { IfOk result (λ done. IsTrue done → all_entries (filled becomes taken.new.items (in_blocks blocks.new.items))
+        ≡ puts K.cmp (entries_in blocks.old.items) (changes_in_blocks all.items)) }
+    ensures holes { AreHoles taken.new.items blocks.new.items }
+{
     for edits in all {
         if !open_block(alloc, blocks, taken, edits)? {
             return Ok(false);
@@ -178,7 +193,10 @@ fn finish_blocks<K: Ord + Dup, C: Join>(
     alloc: Global,
     blocks: &mut Vec<BlockRef<K, C>>,
     mut taken: Vec<Taken<K, C>>,
-) {
+)
+    requires { AreHoles taken.items blocks.old.items }
+    ensures { in_blocks blocks.new.items ≡ filled becomes taken.items (in_blocks blocks.old.items) }
+{
     while let Some(Taken { index, block }) = taken.pop() {
         blocks[index] = BlockRef::seal(alloc, block.finish());
     }
@@ -189,10 +207,22 @@ fn restore_blocks<K: Ord + Dup, C: Join>(
     alloc: Global,
     blocks: &mut Vec<BlockRef<K, C>>,
     mut taken: Vec<Taken<K, C>>,
-) {
+)
+    requires { AreHoles taken.items blocks.old.items }
+    ensures { in_blocks blocks.new.items ≡ filled was taken.items (in_blocks blocks.old.items) }
+{
     while let Some(Taken { index, block }) = taken.pop() {
         blocks[index] = BlockRef::seal(alloc, block.cancel());
     }
+}
+
+/// How many edits there are.
+fn count_edits<K, C>(all: &[BlockEdits<K, C>]) -> usize {
+    let mut count = 0_usize;
+    for edits in all {
+        count = count.saturating_add(edits.edits.len());
+    }
+    count
 }
 
 /// Sets the counts of the blocks from an index on.
