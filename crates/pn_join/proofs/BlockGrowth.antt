@@ -69,3 +69,22 @@ pub whole_slice : {A : Type 0} (xs : List A) (n : ℕ) → n ≡ length xs → s
 whole_slice xs n is =
     let all : length xs ≤ n - 0 = omega (arith, is) in
     take_whole xs (n - 0) all
+
+module _ {A : Type 0} where
+  one_dropped : (list : List A) (next : ℕ) (leaf d : A) → next < length list → leaf ≡ get_or list next d → leaf ∷ drop (next + 1) list ≡ drop next list
+  one_dropped [] next leaf d lt is = absurd (omega (arith, lt))
+  one_dropped (x ∷ xs) zero leaf d lt is = ap (λ y. y ∷ xs) is
+  one_dropped (x ∷ xs) (suc i) leaf d lt is =
+      let at : suc i + 1 ≡ suc (i + 1) = omega arith in
+      ap (λ n. leaf ∷ drop n (x ∷ xs)) at ∙ one_dropped xs i leaf d (omega (arith, lt)) is
+
+  -- an item goes from those that are left to those so far
+  pub next_parted : (list back : List A) (next index : ℕ) (leaf d : A) → next < length list → leaf ≡ get_or list next d → back ++ drop next list ≡ drop index list → (back ++ leaf ∷ []) ++ drop (next + 1) list ≡ drop index list
+  next_parted list back next index leaf d lt is parted =
+      append_assoc back (leaf ∷ []) (drop (next + 1) list) ∙ ap (λ ls. back ++ ls) (one_dropped list next leaf d lt is) ∙ parted
+
+-- the leaves so far and the next one are leaves of a table
+pub next_leaves : {K X : Type 0} (cmp : K → K → Ordering) (valid : X → Type 0) (list back : List (List (K × X))) (next index : ℕ) (leaf : List (K × X)) → IsLeafList cmp valid list → next < length list → leaf ≡ get_or list next [] → back ++ drop next list ≡ drop index list → IsLeafList cmp valid (back ++ leaf ∷ [])
+next_leaves cmp valid list back next index leaf leaf_list lt is parted =
+    let last : IsLeafList cmp valid (drop index list) = IsLeafList-back cmp valid (take index list) (drop index list) (rw (take-append-drop index list) leaf_list) in
+    IsLeafList-prefix cmp valid (back ++ leaf ∷ []) (drop (next + 1) list) (rw (next_parted list back next index leaf [] lt is parted) last)

@@ -29,7 +29,8 @@ impl<K: Ord + Dup, C: Join> Block<K, C> {
         let mut back = Block::new(alloc);
         let mut next = index;
         while next < self.leaves.len() {
-            back.push(self.leaves[next].share(alloc)?)?;
+            let leaf = self.leaves[next].share(alloc)?;
+            back.push(leaf)?;
             next += 1;
         }
         Ok(back)
