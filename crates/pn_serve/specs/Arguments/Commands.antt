@@ -9,8 +9,7 @@ use Rattle.clap.specs.ValueTests.{is_unsigned_in}
 use Rattle.clap.specs.Words.{Row, Text, all_of, first_of, one_of}
 use Rattle.pn_json.specs.Answers.{◌>>=◌}
 use Rattle.pn_apply.specs.declared.reducing.TheConstants.{MAX_WORKERS}
-use Rattle.pn_live.specs.declared.region.opening.TheConstants.{MAX_READERS}
-use Rattle.pn_serve.specs.declared.arguments.options.TheConstants.{MAX_CONNECTIONS, MAX_IDLE, MAX_PORT}
+use Rattle.pn_serve.specs.declared.arguments.options.TheConstants.{MAX_CONNECTIONS, MAX_IDLE, MAX_PORT, MAX_SESSIONS}
 use Rattle.pn_serve.specs.Settings.{SettingsValue}
 use Rattle.pn_serve.specs.Arguments.Bounds.{bounds_in}
 use Rattle.pn_serve.specs.Arguments.Streams.{streams_in}
@@ -64,7 +63,7 @@ abbrev pub service_in : IpAddr → List Row → Result ServiceValue OptionFault
 service_in host options = do
   address ← address_in host options
   Ok (record {
-    sessions = number_at (codes "sessions") MAX_READERS options;
+    sessions = number_at (codes "sessions") MAX_SESSIONS options;
     address = address;
     stay = stay_in options;
     idle = idle_in options;

@@ -5,8 +5,7 @@ use Rattle.clap.specs.declared.builder.action.ArgAction.TheVariants.{Append, Set
 use Rattle.clap.specs.declared.builder.value_parser.ValueParser.{ValueParser}
 use Rattle.clap.specs.declared.builder.value_parser.ValueParser.TheVariants as values
 use Rattle.pn_apply.specs.declared.reducing.TheConstants.{MAX_WORKERS}
-use Rattle.pn_live.specs.declared.region.opening.TheConstants.{MAX_READERS}
-use Rattle.pn_serve.specs.declared.arguments.options.TheConstants.{MAX_CONNECTIONS, MAX_IDLE, MAX_PORT}
+use Rattle.pn_serve.specs.declared.arguments.options.TheConstants.{MAX_CONNECTIONS, MAX_IDLE, MAX_PORT, MAX_SESSIONS}
 
 -- an option with one value, and its default
 abbrev pub option_of : Text → Text → Rule
@@ -26,7 +25,7 @@ workers_option = number_option (codes "workers") (codes "1") MAX_WORKERS
 
 -- how many sessions are served
 abbrev pub sessions_option : Rule
-sessions_option = number_option (codes "sessions") (codes "4") MAX_READERS
+sessions_option = number_option (codes "sessions") (codes "4") MAX_SESSIONS
 
 -- the port that is listened on
 abbrev pub port_option : Rule
