@@ -5,6 +5,7 @@ ghost use Rattle.std.specs.Prelude.{◌≡◌, ◌≤◌, map};
 ghost use Rattle.pn_apply.specs.declared.reducing.TheConstants.{MAX_WORKERS};
 ghost use Rattle.pn_live.specs.Prelude.{tablets_in};
 ghost use Rattle.pn_serve.specs.Server.Events.{RunsCommands, RunsEvents};
+ghost use Rattle.pn_serve.specs.declared.server.mailboxes.AtFault.TheVariants.{GoOn};
 
 use crate::ServeFault;
 use crate::control::mailboxes::ControlMailboxes;
@@ -52,7 +53,7 @@ pub(crate) fn run_commands<R: Wait>(
     live: &mut LiveRegion,
     controls: &ControlMailboxes,
 ) -> u64
-    ensures runs { RunsCommands live.old live.new }
+    ensures runs { RunsCommands GoOn live.old live.new }
     ensures same { tablets_in live.new ≡ tablets_in live.old }
 {
     controls.note_log(rt, live);
