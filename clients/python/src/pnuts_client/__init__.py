@@ -3,6 +3,7 @@
 from .addresses import Address, Tcp, Unix, address_of
 from .aio import AsyncClient
 from .client import Client
+from .control import Control, Notice, Notices, Tablet
 from .errors import (
     BadLine,
     ConnectionFailed,
@@ -31,8 +32,11 @@ __all__ = [
     "Condition",
     "ConnectionFailed",
     "Content",
+    "Control",
     "CopyBehind",
     "NoEntry",
+    "Notice",
+    "Notices",
     "OutOfMemory",
     "Page",
     "PnutsError",
@@ -44,6 +48,7 @@ __all__ = [
     "Refused",
     "Regions",
     "Request",
+    "Tablet",
     "Tcp",
     "TimedOut",
     "Unix",
