@@ -5,8 +5,8 @@ ghost use Rattle.std.specs.declared.net.ip_addr.IpAddr.{IpAddr};
 ghost use Rattle.clap.specs.Words.{found_of, kind_of, rows_of, subcommand_rows_of};
 ghost use Rattle.pn_json.specs.Prelude.{IsUnless, ShowsUnless};
 ghost use Rattle.pn_serve.specs.Arguments.Plans.{Answers, Gives, HasSessions, Plans, Tells};
-ghost use Rattle.pn_serve.specs.Arguments.Commands.{idle_in, listens_at, address_in, replay_in, serve_in, service_in, settings_in, stay_in, Spells};
-ghost use Rattle.pn_serve.specs.Arguments.PlanValues.{address_value, plan_value, service_value};
+ghost use Rattle.pn_serve.specs.Arguments.Commands.{control_in, idle_in, listens_at, address_in, replay_in, serve_in, service_in, settings_in, stay_in, Spells};
+ghost use Rattle.pn_serve.specs.Arguments.PlanValues.{address_value, path_value, plan_value, service_value};
 
 mod bounds;
 pub(crate) mod faults;
@@ -124,7 +124,7 @@ fn service_of(alloc: Global, host: IpAddr, options: &ArgMatches<'_>) -> Result<S
         sessions: option_number(options, "sessions", MAX_SESSIONS as u32) as usize,
         address: address_of(alloc, host, options)?,
         stay: stay_of(options),
-        control: control_of(alloc, options)?,
+        control: control_path(alloc, options)?,
         idle: idle_of(options),
         is_progress_told: is_given(options, "progress"),
     })
@@ -145,7 +145,7 @@ fn address_of(alloc: Global, host: IpAddr, options: &ArgMatches<'_>) -> Result<A
 }
 
 // With `--stay`, the Unix socket of control sessions.
-fn control_of(alloc: Global, options: &ArgMatches<'_>) -> Result<Option<String>, OptionFault>
+fn control_path(alloc: Global, options: &ArgMatches<'_>) -> Result<Option<String>, OptionFault>
     ensures { ShowsUnless OptionFault.Memory path_value result (control_in (rows_of (found_of options.now))) }
 {
     let path = option_text(options, "control");

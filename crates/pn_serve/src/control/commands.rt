@@ -79,7 +79,7 @@ pub(crate) fn obey<R: Wait>(
         }
         WriterCommand::Notices { since } => look_up_notices(live, since),
         WriterCommand::Tablets => {
-            WriterAnswer::Reply(answer_text(tablets_reply(alloc, &LiveTablets(live))))
+            WriterAnswer::Reply(answer_text(tablets_reply(alloc, &LiveTablets(&*live))))
         }
     }
 }

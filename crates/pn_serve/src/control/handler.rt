@@ -68,7 +68,7 @@ impl<'a, R: Wait + Clock, C: StatsSource> ControlHandler<'a, R, C> {
             Command::Lose { tablet } => self.ask(alloc, WriterCommand::Lose { tablet }),
             Command::Marks => self.ask(alloc, WriterCommand::Marks),
             Command::Tablets => self.ask(alloc, WriterCommand::Tablets),
-            command => look_up(alloc, self.reader, command),
+            command => look_up(alloc, &mut *self.reader, command),
         }
     }
 
