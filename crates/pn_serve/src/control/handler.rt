@@ -29,6 +29,8 @@ pub(crate) struct ControlHandler<'a, R, C> {
     pub(crate) announced: Option<Announced>,
     /// After how many seconds at most the server is to end, once that was asked for.
     pub(crate) stop: Option<u64>,
+    /// Whether the writer takes no command any more: the session ends, and the last line has no reply.
+    pub(crate) is_over: bool,
 }
 
 impl<'a, R: Wait + Clock, C: StatsSource> ControlHandler<'a, R, C> {
@@ -79,17 +81,20 @@ impl<'a, R: Wait + Clock, C: StatsSource> ControlHandler<'a, R, C> {
         }
     }
 
-    // The writer's reply. Where it takes no command any more, it has no memory for one.
-    fn ask(&self, alloc: Global, command: WriterCommand) -> Reply {
+    // The writer's reply, if it still takes commands.
+    fn ask(&mut self, alloc: Global, command: WriterCommand) -> Reply {
         match self.mailboxes.ask(self.rt, self.number, command) {
             Some(WriterAnswer::Reply(reply)) => reply,
             Some(WriterAnswer::Found(since)) => answer_text(notices_reply(alloc, &since)),
-            None => Reply::Refused(Refusal::Memory),
+            None => {
+                self.is_over = true;
+                Reply::Silent
+            }
         }
     }
 
     // Has the copy of a text adopted. None: memory ran out before.
-    fn adopt(&self, alloc: Global, text: Option<Vec<u8>>) -> Reply {
+    fn adopt(&mut self, alloc: Global, text: Option<Vec<u8>>) -> Reply {
         let Some(text) = text else {
             return Reply::Refused(Refusal::Memory);
         };
@@ -129,10 +134,13 @@ impl<'a, R: Wait + Clock, C: StatsSource> LineHandler for ControlHandler<'a, R, 
         match self.announced.take() {
             Some(announced) => self.adopt(alloc, announced.end(part.bytes())),
             None if part.is_empty() => Reply::Silent,
-            None => match self.answer_command(alloc, part.bytes()) {
-                Reply::Silent => self.adopt(alloc, Some(Vec::new(alloc))),
-                reply => reply,
-            },
+            None => {
+                let reply = self.answer_command(alloc, part.bytes());
+                match self.announced.take() {
+                    Some(announced) => self.adopt(alloc, announced.end(b"")),
+                    None => reply,
+                }
+            }
         }
     }
 }

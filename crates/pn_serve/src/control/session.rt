@@ -50,6 +50,7 @@ impl<C: StatsSource + Drop> ControlSession<C> {
             stats: &self.stats,
             announced: None,
             stop: None,
+            is_over: false,
         };
         'turns: for _turn in 0..MAX_LINES {
             let next = lines.turn(&mut handler, input, output)?;
@@ -57,6 +58,10 @@ impl<C: StatsSource + Drop> ControlSession<C> {
                 let flushed = lines.flush(output);
                 self.mailboxes.stop(rt, seconds);
                 flushed?;
+                return Ok(lines.counts());
+            }
+            if handler.is_over {
+                lines.flush(output)?;
                 return Ok(lines.counts());
             }
             if let Next::End(counts) = next {
