@@ -3,7 +3,7 @@
 from .addresses import Address, Tcp, Unix, address_of
 from .aio import AsyncClient
 from .client import Client
-from .control import Control, Notice, Notices, Tablet
+from .control import AsyncControl, Control, Notice, Notices, Tablet
 from .errors import (
     BadLine,
     ConnectionFailed,
@@ -25,6 +25,7 @@ from .requests import Page, Request
 __all__ = [
     "Address",
     "AsyncClient",
+    "AsyncControl",
     "AsyncRegions",
     "BadLine",
     "Bounds",

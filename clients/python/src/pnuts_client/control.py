@@ -2,14 +2,16 @@
 
 from __future__ import annotations
 
+import asyncio
 import os
-from collections.abc import Iterator
+from collections.abc import AsyncIterator, Iterator
 from dataclasses import dataclass
 from pathlib import Path
 from typing import Any
 
 from . import requests
 from .addresses import Address
+from .aio import AsyncClient
 from .client import Client
 from .errors import ConnectionFailed
 from .records import Version
@@ -166,3 +168,61 @@ class Control(Client):
         """Ends its sessions."""
         self._waiting.close()
         super().close()
+
+
+class AsyncControl(AsyncClient):
+    """As `Control`, for the tasks of one event loop."""
+
+    def __init__(self, address: Address | str, *, timeout: float | None = 10.0, retries: int = 3) -> None:
+        super().__init__(address, connections=1, timeout=timeout, retries=retries)
+        self._waiting = AsyncClient(address, connections=1, timeout=LONGEST_WAIT + MARGIN, retries=retries)
+
+    async def marks(self) -> Marks:
+        """As `Control.marks`."""
+        return await self.ask(marks())
+
+    async def tablets(self) -> list[Tablet]:
+        """As `Control.tablets`."""
+        return await self.ask(tablets())
+
+    async def stats(self) -> dict[str, Any]:
+        """As `Control.stats`."""
+        return await self.ask(stats())
+
+    async def notices(self, since: int, wait: int = 0) -> Notices:
+        """As `Control.notices`."""
+        return await self._waiting.ask(notices(since, wait))
+
+    async def watch(self, since: int | None = None, wait: int = LONGEST_WAIT) -> AsyncIterator[Notices]:
+        """As `Control.watch`."""
+        number = (await self.notices(0)).next if since is None else since
+        while True:
+            try:
+                found = await self.notices(number, wait)
+            except ConnectionFailed:
+                return
+            number = found.next
+            if found.missed or found.changes:
+                yield found
+
+    async def advance(self) -> Marks:
+        """As `Control.advance`."""
+        return await self.ask(advance())
+
+    async def lose(self, tablet: int) -> int:
+        """As `Control.lose`."""
+        return await self.ask(lose(tablet))
+
+    async def adopt(self, copy: bytes | os.PathLike[str]) -> int:
+        """As `Control.adopt`."""
+        text = copy if isinstance(copy, bytes) else await asyncio.to_thread(Path(copy).read_bytes)
+        return await self.ask(adopt(text))
+
+    async def stop(self, seconds: int = 10) -> int:
+        """As `Control.stop`."""
+        return await self.ask(stop(seconds))
+
+    async def close(self) -> None:
+        """Ends its sessions. Calls that wait fail."""
+        await self._waiting.close()
+        await super().close()
