@@ -42,6 +42,7 @@ pub(crate) enum WriterAnswer {
 }
 
 /// The tablets of a live region.
+#[derive(Drop)]
 struct LiveTablets<'a>(&'a LiveRegion);
 
 impl ShownTablets for LiveTablets<'_> {
