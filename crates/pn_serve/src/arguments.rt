@@ -18,7 +18,8 @@ mod streams;
 use crate::arguments::bounds::layout_of;
 use crate::arguments::faults::{OptionFault, Why};
 use crate::arguments::options::{
-    MAX_CONNECTIONS, MAX_IDLE, MAX_PORT, MAX_SESSIONS, command, is_given, option_number, option_text,
+    MAX_CONNECTIONS, MAX_IDLE, MAX_PORT, MAX_SESSIONS, command, is_given, option_number,
+    option_text,
 };
 use crate::arguments::refusing::told_fault;
 use crate::arguments::streams::{MAX_SOCKET_BYTES, named_streams};

@@ -17,8 +17,8 @@ use crate::server::threads::{Answering, start_answering};
 use pn_line::Source;
 use pn_live::{LiveReader, LiveRegion};
 use pn_serve::{
-    Acceptor, ControlMailboxes, MAX_CONTROLS, Origin, ServeFault, SessionThread, Settings,
-    Stream, Watchers, close_region, join_sessions, open_region, read_streams, take_commands,
+    Acceptor, ControlMailboxes, MAX_CONTROLS, Origin, ServeFault, SessionThread, Settings, Stream,
+    Watchers, close_region, join_sessions, open_region, read_streams, take_commands,
 };
 use std::alloc::Global;
 use std::fs::{File, Files};
@@ -129,7 +129,14 @@ impl StayingServer {
         ensures reads { ReadsStreams (map (λ stream. stream.name) streams.items) self.old.live self.new.live result }
         ensures threads { self.new.threads ≡ self.old.threads }
     {
-        read_streams(rt, alloc, &mut self.live, self.workers, streams, &self.watchers)
+        read_streams(
+            rt,
+            alloc,
+            &mut self.live,
+            self.workers,
+            streams,
+            &self.watchers,
+        )
     }
 
     /// With control sessions, does what they ask for until one asks the server to stop, and stops it. Without, it waits for
@@ -217,8 +224,14 @@ where
         }
         None => (None, None, Vec::new(alloc)),
     };
-    let Answering { running, mailboxes } =
-        start_answering(rt, alloc, acceptor, connections, live, readers)?;
+    let Answering { running, mailboxes } = start_answering(
+        rt,
+        alloc,
+        acceptor,
+        connections,
+        live,
+        readers,
+    )?;
     Ok(Started {
         running,
         controllers,

@@ -5,8 +5,8 @@ use crate::failures::{fail_serving, is_explained, refuse_streams};
 use pn_join::Name;
 use pn_serve::{FaultLog, ServeFault, Service, Stream, StreamPath};
 use pn_stay::{
-    Counters, FileSource, Messages, OpenFault, SocketAcceptor, StreamCounters,
-    StreamOrigin, StreamSetting, open_files, open_origins, remove_sockets, share,
+    Counters, FileSource, Messages, OpenFault, SocketAcceptor, StreamCounters, StreamOrigin,
+    StreamSetting, open_files, open_origins, remove_sockets, share,
 };
 use pn_stream::StreamReader;
 use std::alloc::{AllocError, Global};

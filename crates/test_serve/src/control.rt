@@ -7,12 +7,11 @@ use pn_serve::{
     ControlMailboxes, ControlSession, Stats, StatsSource, close_region, open_region, take_commands,
 };
 use std::alloc::Global;
-use std::str;
 use std::sync::{Arc, Wait};
 use std::test::Fail;
-use std::thread;
 use std::thread::Threads;
 use std::time::Clock;
+use std::{str, thread};
 use test_kit::layout;
 
 /// Says that nothing was done.

@@ -7,7 +7,8 @@ use pn_join::{Name, NoMemory};
 use pn_line::InMemory;
 use pn_region::Region;
 use pn_serve::{
-    Counter, Origin, ServeFault, Stream, Watchers, WriterEnd, close_region, open_region, read_streams,
+    Counter, Origin, ServeFault, Stream, Watchers, WriterEnd, close_region, open_region,
+    read_streams,
 };
 use std::alloc::{AllocError, Global};
 use std::sync::{Arc, Mutex, Wait};

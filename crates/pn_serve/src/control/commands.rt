@@ -90,7 +90,10 @@ fn adopt<R: Wait>(rt: &R, alloc: Global, live: &mut LiveRegion, copy: TabletCopy
     ensures same { tablets_in live.new ≡ tablets_in live.old }
 {
     let Some(tablet) = number_of(live, &copy) else {
-        return refuse(alloc, CommandFault::Adoption(pn_region::AdoptFault::WrongRange));
+        return refuse(
+            alloc,
+            CommandFault::Adoption(pn_region::AdoptFault::WrongRange),
+        );
     };
     match live.adopt(rt, copy) {
         Ok(_) => Reply::Adopted(tablet as u64),
