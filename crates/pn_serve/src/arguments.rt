@@ -150,7 +150,7 @@ fn control_path(alloc: Global, options: &ArgMatches<'_>) -> Result<Option<String
     ensures { ShowsUnless OptionFault.Memory path_value result (control_in (rows_of (found_of options.now))) }
 {
     let path = option_text(options, "control");
-    if path.is_empty() {
+    if path == "" {
         return Ok(None);
     }
     if !is_given(options, "stay") {

@@ -47,15 +47,21 @@ impl MailboxState {
         ensures { self.new.is_closed ≡ true }
     {
         self.is_stopping = true;
-        self.is_closed = true;
+        let _ = self.close();
     }
 
     // The thread has ended, and it takes no socket.
     fn end(&mut self) -> Closed
         ensures { self.new.is_closed ≡ true }
     {
-        self.is_closed = true;
         self.has_ended = true;
+        self.close()
+    }
+
+    fn close(&mut self) -> Closed
+        ensures { self.new.is_closed ≡ true }
+    {
+        self.is_closed = true;
         Closed(())
     }
 }

@@ -143,10 +143,10 @@ pub(crate) fn check_seconds(seconds: u64, part: Part) -> Result<(), Refusal>
     ensures exact { result ≡ fits part (are_seconds seconds) }
     ensures memory { IsErrOf result Refusal.Memory → ⊥ }
 {
-    if seconds > MAX_SECONDS {
-        return Err(Refusal::OutOfRange(part));
+    if seconds <= MAX_SECONDS {
+        return Ok(());
     }
-    Ok(())
+    Err(Refusal::OutOfRange(part))
 }
 
 /// The version of these numbers, if there are some.

@@ -112,21 +112,9 @@ fn serve<'w>(alloc: Global) -> Result<Command<'w>, AllocError>
         ))?
         .arg(option(alloc, "listen", "ADDRESS", "127.0.0.1", LISTEN_HELP))?
         .arg(number(alloc, "port", "P", "7070", MAX_PORT, PORT_HELP))?
-        .arg(plain(
-            alloc,
-            "socket",
-            ValueParser::NonEmptyString,
-            "PATH",
-            SOCKET_HELP,
-        ))?
+        .arg(path(alloc, "socket", SOCKET_HELP))?
         .arg(flag(alloc, "stay", STAY_HELP))?
-        .arg(plain(
-            alloc,
-            "control",
-            ValueParser::NonEmptyString,
-            "PATH",
-            CONTROL_HELP,
-        ))?
+        .arg(path(alloc, "control", CONTROL_HELP))?
         .arg(number(
             alloc,
             "connections",
@@ -223,6 +211,14 @@ fn plain<'w>(
         .value_name(value)
         .value_parser(parser)
         .help(help)
+}
+
+// An option whose value is a path, which has no default.
+fn path<'w>(alloc: Global, name: &'w str, help: &'w str) -> Arg<'w>
+    ensures rule { rule_of result ≡ plain_option name.now values.NonEmptyString }
+    ensures local { result.global ≡ false }
+{
+    plain(alloc, name, ValueParser::NonEmptyString, "PATH", help)
 }
 
 // An option that is given or not, without a value.
