@@ -1,8 +1,10 @@
 //! A server that stays: threads answer its connections while its live region reads streams.
 
-ghost use Rattle.std.specs.Prelude.{◌≡◌, ◌+◌, ◌≤◌, map, vec_len, vec_capacity, All, IfOk};
+ghost use Rattle.std.specs.Prelude.{◌≡◌, ◌+◌, ◌≤◌, false, map, vec_len, vec_capacity, All, IfOk};
 ghost use Rattle.pn_live.specs.Prelude.{tablets_in, tablets_of, IsNewLive};
 ghost use Rattle.pn_serve.specs.declared.arguments.options.TheConstants.{MAX_SESSIONS};
+ghost use Rattle.pn_live.specs.declared.region.opening.TheConstants.{MAX_READERS};
+ghost use Rattle.pn_serve.specs.Server.Events.{ReadsBesides};
 ghost use Rattle.pn_serve.specs.Server.Reading.{ReadsStreams};
 ghost use Rattle.pn_serve.specs.Server.Sessions.{AllRead};
 
@@ -20,6 +22,7 @@ use pn_serve::{
     Acceptor, ControlMailboxes, MAX_CONTROLS, Origin, ServeFault, SessionThread, Settings, Stream,
     Watchers, close_region, join_sessions, open_region, read_streams, take_commands,
 };
+use pn_tablet::Layout;
 use std::alloc::Global;
 use std::fs::{File, Files};
 use std::io;
@@ -44,7 +47,7 @@ pub struct StayingServer {
 }
 
 impl Model for StayingServer {
-    ghost use Rattle.std.specs.Prelude.{◌≡◌, ◌+◌, ◌≤◌, vec_len, vec_capacity, All};
+    ghost use Rattle.std.specs.Prelude.{◌≡◌, ◌+◌, ◌≤◌, is_some, vec_len, vec_capacity, All};
     ghost use Rattle.pn_apply.specs.declared.reducing.TheConstants.{MAX_WORKERS};
     ghost use Rattle.pn_live.specs.Prelude.{tablets_in, tablets_of};
     ghost use Rattle.pn_serve.specs.Server.Sessions.{AllRead};
@@ -54,7 +57,7 @@ impl Model for StayingServer {
 
     ghost coded = { server_code };
 
-    ghost view = { λ server. record { live = server.live; threads = vec_len server.running } };
+    ghost view = { λ server. record { live = server.live; threads = vec_len server.running; controlled = is_some server.watchers.controls } };
 
     ghost invariant = { λ server. (1 ≤ server.workers) × (server.workers ≤ MAX_WORKERS)
         × All (λ session. tablets_of session.promise.0.value ≡ tablets_in server.live) server.running.items
@@ -85,9 +88,7 @@ impl StayingServer {
         } else {
             0
         };
-        let Ok((live, readers)) = open_region(rt, alloc, layout, threads + controls) else {
-            return Err(io::Error::from(ErrorKind::OutOfMemory));
-        };
+        let (live, readers) = open_for(rt, alloc, layout, threads + controls)?;
         let mut readers = readers;
         match start_threads(rt, alloc, acceptor, connections, &live, &mut readers) {
             Ok(started) => {
@@ -126,32 +127,32 @@ impl StayingServer {
         R: Threads + Wait + Sync + Copy + Send + 'static,
         S: Source + Drop + Send + 'static,
         O: Origin<S> + Drop + Send + 'static,
-        ensures reads { ReadsStreams (map (λ stream. stream.name) streams.items) self.old.live self.new.live result }
+        ensures alone { self.old.controlled ≡ false → ReadsStreams (map (λ stream. stream.name) streams.items) self.old.live self.new.live result }
+        ensures reads { ReadsBesides (map (λ stream. stream.name) streams.items) self.old.live self.new.live result }
         ensures threads { self.new.threads ≡ self.old.threads }
     {
-        read_streams(
-            rt,
-            alloc,
-            &mut self.live,
-            self.workers,
-            streams,
-            &self.watchers,
-        )
+        let watchers = &self.watchers;
+        let read = read_streams(rt, alloc, &mut self.live, self.workers, streams, watchers);
+        read
     }
 
     /// With control sessions, does what they ask for until one asks the server to stop, and stops it. Without, it waits for
     /// the threads that answer connections. Whether it was stopped.
     pub fn wait<R: Threads + Wait + Clock>(self, rt: &R, alloc: Global) -> bool {
         let mut server = self;
-        let Some(controls) = &server.watchers.controls else {
-            server.join(rt);
-            return false;
-        };
-        let seconds = take_commands(rt, alloc, &mut server.live, controls);
-        controls.close(rt);
-        server.stopping.run(rt, seconds);
-        server.leave(rt);
-        true
+        match &server.watchers.controls {
+            Some(controls) => {
+                let seconds = take_commands(rt, alloc, &mut server.live, controls);
+                controls.close(rt);
+                server.stopping.run(rt, seconds);
+                server.leave(rt);
+                true
+            }
+            None => {
+                server.join(rt);
+                false
+            }
+        }
     }
 
     /// Closes the region, and leaves the threads to the end of the program.
@@ -242,4 +243,22 @@ where
             mailboxes,
         },
     })
+}
+
+// Opens a live region with a reader for each thread.
+fn open_for<R: Wait>(
+    rt: &R,
+    alloc: Global,
+    layout: Layout,
+    threads: usize,
+) -> io::Result<(LiveRegion, Vec<LiveReader>)>
+    requires { (1 ≤ threads) × (threads ≤ MAX_READERS) }
+    ensures is_new { IfOk result (λ opened. IsNewLive layout opened.0) }
+    ensures own { IfOk result (λ opened. AllRead (tablets_in opened.0) opened.1.items) }
+    ensures count { IfOk result (λ opened. vec_len opened.1 ≡ threads) }
+{
+    match open_region(rt, alloc, layout, threads) {
+        Ok(opened) => Ok(opened),
+        Err(_) => Err(io::Error::from(ErrorKind::OutOfMemory)),
+    }
 }

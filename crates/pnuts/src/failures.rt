@@ -9,7 +9,7 @@ use std::process::ExitCode;
 use std::sync::{Arc, Wait};
 
 /// Why no reading begins, where that is explained.
-const NO_THREAD: &str = "out of memory, or of threads";
+const NO_THREAD: &str = "out of memory, of threads or of descriptors";
 
 /// Whether faults are explained.
 pub(crate) fn is_explained(service: &Service) -> bool {

@@ -3,12 +3,13 @@
 use crate::scripts::settings;
 use pn_join::Name;
 use pn_line::InMemory;
-use pn_serve::{ServeFault, serve};
+use pn_live::LiveReader;
+use pn_serve::{Acceptor, Counter, FaultLog, ServeFault, WriterEnd, serve};
 use pn_stream::StreamReader;
 use std::alloc::Global;
 use std::io::BufReader;
 use std::net::{Net, SocketAddr, TcpListener, TcpStream};
-use std::sync::Wait;
+use std::sync::{Arc, Wait};
 use std::test::Fail;
 use std::thread::Threads;
 use std::{io, str, thread};
@@ -35,6 +36,34 @@ enum Told {
     NoRow,
     /// Anything else.
     Other,
+}
+
+/// A listener, and the faults of streams.
+#[derive(Drop)]
+struct Logged {
+    listener: TcpListener,
+    faults: Arc<FaultLog>,
+}
+
+impl Acceptor for Logged {
+    fn try_clone(&self) -> io::Result<Logged> {
+        Ok(Logged {
+            listener: TcpListener::try_clone(&self.listener)?,
+            faults: Arc::try_clone(&self.faults)?,
+        })
+    }
+
+    fn answer_client(&self, alloc: Global, reader: &mut LiveReader) -> io::Result<()> {
+        self.listener.answer_client(alloc, reader)
+    }
+
+    fn round_counter(&self) -> Option<Arc<Counter>> {
+        None
+    }
+
+    fn fault_log(&self) -> Option<Arc<FaultLog>> {
+        Arc::try_clone(&self.faults).ok()
+    }
 }
 
 // Asks for the record until it is there, at most this often, and then some times more.
@@ -85,15 +114,34 @@ where
     let is_first = position == "1";
     let most = if is_first { MAX_TURNS } else { TURNS_AFTER };
     let theirs = *rt;
-    let listener = TcpListener::bind(rt, "127.0.0.1:0")?;
-    let at = listener.local_addr()?;
+    let listener = Logged {
+        listener: TcpListener::bind(rt, "127.0.0.1:0")?,
+        faults: Arc::new(alloc, FaultLog::new(alloc, 1)?)?,
+    };
+    let at = listener.listener.local_addr()?;
     let settings = settings(alloc)?;
     let streams = streams(alloc, if is_first { FIRST } else { SECOND })?;
     let client = thread::spawn(rt, move || talk(&theirs, alloc, at, most))?;
     let mut written = Vec::new(alloc);
     let ended = serve(rt, alloc, &listener, settings, 1, streams, &mut written);
     let told = client.join(rt)?;
-    outcome(alloc, ended, &written, told)
+    let faults = faults_text(rt, alloc, &listener.faults)?;
+    outcome(alloc, ended, &written, told, faults)
+}
+
+fn faults_text<R: Wait>(rt: &R, alloc: Global, faults: &FaultLog) -> Result<String, Fail> {
+    let mut text = String::new(alloc);
+    for failure in faults.take(rt) {
+        if let WriterEnd::Fault {
+            fault,
+            position,
+            line,
+        } = failure.end
+        {
+            write!(text, ": {fault} (at {position}, line {line})")?;
+        }
+    }
+    Ok(text)
 }
 
 fn streams(
@@ -111,10 +159,11 @@ fn outcome(
     ended: Result<(), ServeFault>,
     written: &[u8],
     told: Told,
+    faults: String,
 ) -> Result<String, Fail> {
     let written = str::from_utf8(written)?.replace(alloc, '\n', "|")?;
     match ended {
-        Ok(()) => Ok(format!(in alloc; "{told:?}, {written}")?),
-        Err(fault) => Ok(format!(in alloc; "{told:?}, {written}{fault}")?),
+        Ok(()) => Ok(format!(in alloc; "{told:?}, {written}{faults}")?),
+        Err(fault) => Ok(format!(in alloc; "{told:?}, {written}{fault}{faults}")?),
     }
 }

@@ -5,7 +5,9 @@ use Rattle.pn_serve.specs.Control.Commands.{Asked, ObeysLive, Said}
 use Rattle.pn_serve.specs.Server.Reading.{RunsRound, StopsAt}
 use Rattle.pn_serve.specs.Server.Rounds.{RoundInputValue}
 use Rattle.pn_serve.specs.declared.server.fault.ServeFault.{ServeFault}
+use Rattle.pn_serve.specs.declared.server.fault.ServeFault.TheVariants.{Start}
 use Rattle.pn_serve.specs.declared.server.mailboxes.AtFault.{AtFault}
+use Rattle.pn_serve.specs.declared.server.mailboxes.AtFault.TheVariants.{GoOn}
 
 -- a round of what streams gave, or a command and its answer
 pub data WriterEvent : Type 0 where
@@ -42,3 +44,8 @@ RunsEvents at_fault names old new (Err fault) = RunsUpTo at_fault names old new 
 -- commands alone came
 abbrev pub RunsCommands : AtFault → LiveRegionValue → LiveRegionValue → Type 0
 RunsCommands at_fault old new = RunsOn at_fault [] old new
+
+-- streams were read beside the commands of control sessions; none was read if their threads were refused
+abbrev pub ReadsBesides : List (List ℕ) → LiveRegionValue → LiveRegionValue → Result (Unit {0}) ServeFault → Type 0
+ReadsBesides names old new (Err Start) = new ≡ old
+ReadsBesides names old new read = RunsEvents GoOn names old new read

@@ -1,8 +1,9 @@
 //! Streams that are read from one writer after another into a live region, each in its own thread.
 
-ghost use Rattle.std.specs.Prelude.{◌≡◌, [], ◌∷◌, ◌++◌, ◌≤◌, map, IfErr, IfOk, OnOk};
+ghost use Rattle.std.specs.Prelude.{◌≡◌, [], ◌∷◌, ◌++◌, ◌≤◌, map, None, IfErr, IfOk, OnOk};
 ghost use Rattle.pn_apply.specs.declared.reducing.TheConstants.{MAX_WORKERS};
 ghost use Rattle.pn_live.specs.Prelude.{tablets_in};
+ghost use Rattle.pn_serve.specs.Server.Events.{ReadsBesides, RunsCommands};
 ghost use Rattle.pn_serve.specs.Server.Reading.{ReadsStreams};
 ghost use Rattle.pn_serve.specs.declared.server.mailboxes.AtFault.TheVariants.{GoOn};
 
@@ -38,7 +39,8 @@ pub fn take_commands<R: Wait>(
     live: &mut LiveRegion,
     controls: &ControlMailboxes,
 ) -> u64
-    ensures { tablets_in live.new ≡ tablets_in live.old }
+    ensures runs { RunsCommands GoOn live.old live.new }
+    ensures same { tablets_in live.new ≡ tablets_in live.old }
 {
     run_commands(rt, alloc, live, controls)
 }
@@ -59,7 +61,8 @@ where
     S: Source + Drop + Send + 'static,
     O: Origin<S> + Drop + Send + 'static,
     requires workers { (1 ≤ workers) × (workers ≤ MAX_WORKERS) }
-    ensures reads { ReadsStreams (map (λ stream. stream.name) streams.items) live.old live.new result }
+    ensures alone { watchers.now.controls ≡ None → ReadsStreams (map (λ stream. stream.name) streams.items) live.old live.new result }
+    ensures reads { ReadsBesides (map (λ stream. stream.name) streams.items) live.old live.new result }
     ensures same { tablets_in live.new ≡ tablets_in live.old }
 {
     let mut mailboxes = start_threads::<R, S, O>(rt, alloc, streams, watchers)?;
