@@ -81,20 +81,19 @@ where
     };
     let (ended, region) = read_stream(rt, alloc, stream)?;
     let found = found(alloc, &region)?;
-    let told = told.lock(rt);
+    let end = format!(in alloc; "{}, taken {}, {found}", ended_text(ended), taken.get())?;
     // How long a stream is read that begins past what was taken is a matter of time.
-    let told = if after == 0 { told.as_str() } else { "a gap" };
-    Ok(format!(in alloc;
-        "{told}, {}taken {}, {found}",
-        ended_text(ended),
-        taken.get()
-    )?)
+    if after > 0 {
+        return Ok(format!(in alloc; "a gap, {end}")?);
+    }
+    let told = told.lock(rt);
+    Ok(format!(in alloc; "{}, {end}", told.as_str())?)
 }
 
 fn ended_text(ended: Result<(), ServeFault>) -> &'static str {
     match ended {
-        Ok(()) => "ended, ",
-        Err(_) => "failed, ",
+        Ok(()) => "ended",
+        Err(_) => "failed",
     }
 }
 
@@ -135,7 +134,7 @@ fn inputs(alloc: Global, writers: &str) -> Result<Vec<InMemory<'static>>, Fail> 
     for writer in writers.split('/') {
         let mut text = String::new(alloc);
         for word in writer.split_whitespace() {
-            push_line(alloc, &mut text, word)?;
+            push_line(&mut text, word)?;
         }
         inputs.push(InMemory::new(text.into_bytes().leak()))?;
     }
@@ -143,16 +142,16 @@ fn inputs(alloc: Global, writers: &str) -> Result<Vec<InMemory<'static>>, Fail> 
     Ok(inputs)
 }
 
-fn push_line(alloc: Global, text: &mut String, word: &str) -> Result<(), Fail> {
+fn push_line(text: &mut String, word: &str) -> Result<(), Fail> {
     let digits = word.trim_end_matches('-');
     let Ok(at) = digits.parse::<u64>() else {
         return Ok(writeln!(text, "{word}")?);
     };
-    let line = format!(in alloc;
-        "{{\"at\":{at},\"image\":{{\"fields\":{{\"v\":\"x\"}},\"key\":\"k\",\"master\":\"w\",\"version\":[1,{at}]}}}}"
-    )?;
     if digits.len() < word.len() {
-        return Ok(text.push_str(&line.as_str()[..20])?);
+        return Ok(write!(text, "{{\"at\":{at},\"image\":{{\"fie")?);
     }
-    Ok(writeln!(text, "{line}")?)
+    Ok(writeln!(
+        text,
+        "{{\"at\":{at},\"image\":{{\"fields\":{{\"v\":\"x\"}},\"key\":\"k\",\"master\":\"w\",\"version\":[1,{at}]}}}}"
+    )?)
 }
