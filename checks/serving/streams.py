@@ -2,15 +2,15 @@
 
   checks/run streams PROGRAM [CHECK ..]
 
-All take some four minutes. Exit status 0 where each holds.
+All take some five minutes. Exit status 0 where each holds.
 """
 from common.tried import checks_in, checks_parser, try_checks
-from serving import stream_faults, stream_fifos, stream_lives, stream_places
+from serving import stream_faults, stream_fifos, stream_limits, stream_lives, stream_places, stream_random
 from serving.staying import raise_descriptors
 
 
 def main(words: list[str]) -> int:
-    checks = checks_in(stream_lives, stream_faults, stream_places, stream_fifos)
+    checks = checks_in(stream_lives, stream_faults, stream_places, stream_fifos, stream_limits, stream_random)
     given = checks_parser(__doc__, checks).parse_args(words)
     raise_descriptors()
     return try_checks(given.program, checks, given.names or checks)

@@ -24,10 +24,9 @@ fn copy_of<R: Threads + Sync>(
     times: u64,
 ) -> Option<TabletCopy> {
     let mut source = Region::new(alloc, layout(alloc, BOUNDS)?).ok()?;
-    let mut position = 1;
-    for key in KEYS {
+    for (at, key) in KEYS.iter().enumerate() {
+        let position = (at as u64).checked_add(1)?;
         take(rt, alloc, &mut source, (position, position), key)?;
-        position += 1;
     }
     for number in 0..times {
         let position = number.checked_add(4)?;

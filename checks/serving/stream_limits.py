@@ -1,0 +1,150 @@
+"""What streams do where words, memory and time are short: checks of `checks/run streams`."""
+import contextlib
+import os
+import re
+import resource
+import socket
+import time
+from collections.abc import Iterator
+
+from common.served import SECONDS, Client, row_of, same
+from serving.staying import Staying, key_of, messages, until
+from serving.writers import Writer, made, said_of_faults, socket_in
+
+# How many writers at fault, of which each is told in two lines but the first: more than wait for standard error, and fit into a pipe.
+AT_FAULT = 3_000
+DROPPED = re.compile(rb"pnuts: (\d+) lines were dropped")
+MEGABYTE = 1_000_000
+# How much memory a region is left with, and a message that takes some of it.
+LITTLE, TEXT = 20 * MEGABYTE, b"y" * 4_000
+BIG = b'{"at":%d,"image":{"fields":{"a":"%b","b":"%b"},"key":"big%d","master":"w","version":[1,0]}}\n'
+# How long a region is looked at, and how often a second it may wake up while nothing comes.
+LOOKED, WAKE_UPS = 3.0, 30
+
+
+def read_all(handle: int, wanted: int) -> list[bytes]:
+    """Reads lines until there are so many with those that were dropped."""
+    os.set_blocking(handle, False)
+    text = b""
+
+    def counted() -> int:
+        nonlocal text
+        with contextlib.suppress(BlockingIOError):
+            text += os.read(handle, 1 << 20)
+        return sum(int(found[1]) if (found := DROPPED.fullmatch(line)) else 1 for line in text.splitlines())
+
+    until(f"{wanted} lines are said or counted", lambda: counted() >= wanted and text.endswith(b"\n"))
+    return text.splitlines()
+
+
+def check_many_words(program: str, folder: str) -> None:
+    """Where standard error takes no more for long, a bounded number of lines waits, and what is dropped is counted, to the line."""
+    path, east = socket_in(folder)
+    ours, theirs = os.pipe()
+    with open(ours, "rb"), Staying(program, folder, [east], errors=theirs) as region:
+        os.close(theirs)
+        for _ in range(AT_FAULT):
+            with Writer(path) as writer:
+                writer.send(b"x\n")
+                same("what a writer is told", writer.last_lines(), [b'{"after":0}\n', b'{"at":1,"error":"not-json"}\n'])
+        wanted = 2 * AT_FAULT - 1
+        lines = read_all(ours, wanted)
+        dropped = sum(int(found[1]) for line in lines if (found := DROPPED.fullmatch(line)))
+        said = sum(not DROPPED.fullmatch(line) for line in lines)
+        same("how many lines are said or counted", said + dropped, wanted)
+        same("whether some were dropped", dropped > 0, True)
+        same("it is running", region.is_running(), True)
+        print(f"  of {wanted:,} lines {dropped:,} were dropped, and counted")
+
+
+@contextlib.contextmanager
+def little_memory(region: Staying) -> Iterator[None]:
+    """A region has little more memory than it has now, until the block ends."""
+    process = region.process.pid
+    with open(f"/proc/{process}/statm") as file:
+        now = int(file.read().split()[0]) * resource.getpagesize()
+    before = resource.prlimit(process, resource.RLIMIT_AS)
+    resource.prlimit(process, resource.RLIMIT_AS, (now + LITTLE, before[1]))
+    try:
+        yield
+    finally:
+        resource.prlimit(process, resource.RLIMIT_AS, before)
+
+
+def fill(path: str) -> None:
+    """A writer that sends more than there is memory for, and is cut off."""
+    with Writer(path) as writer, contextlib.suppress(ConnectionError):
+        after = writer.begin()
+        for at in range(after + 1, after + 2 * LITTLE // len(TEXT)):
+            writer.send(BIG % (at, TEXT, TEXT, at))
+        raise AssertionError(f"{path}: all was taken")
+
+
+def check_little_memory(program: str, folder: str) -> None:
+    """Where no memory is left writers are refused, what was taken is shown, and once there is some the next writers are taken from there."""
+    (path, west), (at, east) = made(folder, "west"), socket_in(folder)
+    with Staying(program, folder, [east, west], threads=2) as region, Client(region.port) as client:
+        with open(path, "wb", buffering=0) as pipe:
+            pipe.write(messages(1, 1))
+        client.wait_for(key_of(1), row_of(key_of(1), 0, "x"))
+        with little_memory(region):
+            fill(at)
+            region.wait_for_words(b": memory\n")
+            same("a record that is there", client.read(key_of(1)), {"row": row_of(key_of(1), 0, "x")})
+        with Writer(at) as writer:
+            after = writer.begin()
+            same("whether some was taken", after > 0, True)
+            writer.send(BIG % (after + 1, TEXT, TEXT, after + 1))
+            same("what is taken next", writer.taken(), after + 1)
+        with open(path, "wb", buffering=0) as pipe:
+            pipe.write(messages(2, 1))
+        client.wait_for(key_of(2), row_of(key_of(2), 0, "x"))
+        same("why streams failed", {line.rpartition(b": ")[2] for line in said_of_faults(region)}, {b"memory"})
+        print(f"  {after:,} messages were taken before")
+
+
+def wake_ups(region: Staying) -> int:
+    """How often its threads went to sleep so far."""
+    count, tasks = 0, f"/proc/{region.process.pid}/task"
+    for task in os.listdir(tasks):
+        with open(f"{tasks}/{task}/status") as file:
+            count += sum(int(line.split()[1]) for line in file if line.startswith("voluntary_ctxt"))
+    return count
+
+
+def rests(region: Staying, when: str) -> None:
+    before = wake_ups(region)
+    time.sleep(LOOKED)
+    found = (wake_ups(region) - before) / LOOKED
+    same(f"whether {found:.0f} wake-ups a second {when} are at most {WAKE_UPS}", found <= WAKE_UPS, True)
+
+
+def check_streams_at_rest(program: str, folder: str) -> None:
+    """Sixteen streams that wait, that have silent writers, half a line each, and whose writers went: a region hardly ever wakes up."""
+    sockets = [socket_in(folder, f"s{at}") for at in range(8)]
+    fifos = [made(folder, f"f{at}") for at in range(8)]
+    streams = [stream for _, stream in sockets + fifos]
+    with Staying(program, folder, streams) as region, contextlib.ExitStack() as stay:
+        time.sleep(1)
+        rests(region, "without a writer")
+        writers = [stay.enter_context(Writer(path)) for path, _ in sockets]
+        pipes = [stay.enter_context(open(path, "wb", buffering=0)) for path, _ in fifos]
+        for writer, pipe in zip(writers, pipes):
+            writer.send(messages(1, 100) + messages(101, 1)[:30])
+            pipe.write(messages(1, 100) + messages(101, 1)[:30])
+        for writer in writers:
+            same("what a writer is told first", writer.begin(), 0)
+            while writer.taken() < 100:
+                pass
+        time.sleep(1)
+        rests(region, "with silent writers")
+        # Others wait behind the silent ones.
+        for path, _ in sockets:
+            stay.enter_context(socket.socket(socket.AF_UNIX)).connect(path)
+        rests(region, "with writers that wait")
+        for one in [*pipes, *(writer.socket for writer in writers)]:
+            one.close()
+        until("it says of all FIFOs that they ended", lambda: region.said().count(b" ended\n") >= len(pipes), SECONDS)
+        time.sleep(1)
+        rests(region, "whose writers went")
+        same("what is said of faults", said_of_faults(region), [])
