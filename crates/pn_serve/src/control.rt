@@ -2,6 +2,7 @@
 
 pub(crate) mod commands;
 pub(crate) mod handler;
+pub(crate) mod laws;
 pub(crate) mod log_watch;
 pub(crate) mod mailboxes;
 pub(crate) mod session;

@@ -17,6 +17,7 @@ pub use arguments::faults::{PlanFault, Refused, Why};
 pub use arguments::options::{MAX_SESSIONS, numbers_are_as_written};
 pub use arguments::plan;
 pub use arguments::plans::{Address, Plan, Service, StreamPath};
+pub use control::laws::commands_are_events;
 pub use control::mailboxes::{ControlMailboxes, MAX_CONTROLS};
 pub use control::session::{ControlSession, StatsSource};
 pub use laws::regions_converge;

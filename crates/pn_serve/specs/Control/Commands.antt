@@ -1,7 +1,7 @@
 -- What the writer of a live region does for control sessions.
 use Rattle.std.specs.Prelude.{◌≡◌, ◌⊎◌, ℕ, true, false, List, [], ◌∷◌, Result, Ok, Err}
 use Rattle.pn_json.specs.Lines.{line_of}
-use Rattle.pn_tablet.specs.Copies.{TabletCopyValue}
+use Rattle.pn_tablet.specs.Copies.{TabletCopyValue, IsCopy}
 use Rattle.pn_tablet.specs.declared.state.TabletOp.TheVariants.{Lose}
 use Rattle.pn_region.specs.Advancing.{after_advance}
 use Rattle.pn_region.specs.Events as events
@@ -107,3 +107,13 @@ events_of (adopt copy) = events.adoption copy ∷ []
 events_of advance = events.advance ∷ []
 events_of (lose tablet) = events.loss tablet ∷ []
 events_of asked = []
+
+-- the command was done
+abbrev pub IsDone : Said → Type 0
+IsDone (reply said) = is_refusal said ≡ false
+IsDone (text said) = Unit {0}
+
+-- what the command brings is lawful: a copy is one
+abbrev pub IsLawful : Asked → Type 0
+IsLawful (adopt copy) = IsCopy copy.range copy.marks copy.cells
+IsLawful asked = Unit {0}
