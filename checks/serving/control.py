@@ -118,10 +118,12 @@ def check_beside_scripts(program: str, folder: str) -> None:
 
         for turn in range(300):
             if turn % 20 == 0:
-                written(path, taken + 1, 50)
-                script.append(delivery(taken + 1, 50))
+                # (keys rise, so that notices are the same however many rounds take them)
+                count = 50 if taken else 49
+                written(path, taken + 1, count)
+                script.append(delivery(taken + 1, count))
                 replies.append(b"")
-                taken += 50
+                taken += count
             elif turn % 7 == 0:
                 tablet = chance.randrange(TABLETS)
                 if turn % 2 and tablet in copies:
