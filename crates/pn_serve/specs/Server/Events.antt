@@ -22,6 +22,11 @@ AllDone at_fault names old (taken input ∷ later) left new = (between : LiveReg
 AllDone at_fault names old (told asked said ∷ later) left new = (between : LiveRegionValue)
     × ObeysLive old asked between said × AllDone at_fault names between later left new
 
+-- commands were done one after another, while these streams went on
+pub record ToldAll (at_fault : AtFault) (names : List (List ℕ)) (old new : LiveRegionValue) : Type 0 where
+  pub events : List WriterEvent
+  pub done : AllDone at_fault names old events names new
+
 -- events came until all streams had ended, or a stop was asked for
 pub record RunsOn (at_fault : AtFault) (names : List (List ℕ)) (old new : LiveRegionValue) : Type 0 where
   pub events : List WriterEvent
