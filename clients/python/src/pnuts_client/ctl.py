@@ -5,6 +5,7 @@
   pnuts-ctl --control PATH save FOLDER         copies of all tablets, a file each
   pnuts-ctl --control PATH recover T --from ADDRESS
   pnuts-ctl --control PATH ready | stop
+  pnuts-ctl --control PATH exporter --listen 127.0.0.1:9107
 """
 
 from __future__ import annotations
@@ -46,9 +47,19 @@ def words() -> argparse.ArgumentParser:
     recover.add_argument("--timeout", type=float, default=60.0, metavar="SECONDS", help="for how long the peer is asked (%(default)s)")
     ready = commands.add_parser("ready", help="waits until the region answers")
     ready.add_argument("--timeout", type=float, default=60.0, metavar="SECONDS", help="for how long (%(default)s)")
+    exporter = commands.add_parser("exporter", help="shows the region to Prometheus (needs python3-prometheus-client)")
+    exporter.add_argument("--listen", type=_place, default=("127.0.0.1", 9107), metavar="ADDRESS:PORT", help="where it listens (127.0.0.1:9107)")
     stop = commands.add_parser("stop", help="ends the region once the lines that have come are answered")
     stop.add_argument("--seconds", type=int, default=10, metavar="N", help="or after so many seconds, 0 to 60 (%(default)s)")
     return made
+
+
+def _place(text: str) -> tuple[str, int]:
+    """A host and a port."""
+    host, _, port = text.rpartition(":")
+    if not host or not port.isdecimal():
+        raise argparse.ArgumentTypeError(f"no ADDRESS:PORT: {text!r}")
+    return host.strip("[]"), int(port)
 
 
 def main(given: Sequence[str] | None = None) -> int:
@@ -166,7 +177,18 @@ def stop(region: Control, asked: argparse.Namespace) -> int:
     return 0
 
 
-COMMANDS = {"status": status, "watch": watch, "save": save, "recover": recover, "ready": ready, "stop": stop}
+def exporter(region: Control, asked: argparse.Namespace) -> int:
+    """Shows the region to Prometheus, until it is interrupted."""
+    try:
+        from .exporter import serve
+
+        serve(region, *asked.listen)
+    except ModuleNotFoundError as fault:
+        raise PnutsError(f"{fault.name} is not installed: it is in Debian's python3-prometheus-client") from fault
+    return 0
+
+
+COMMANDS = {"exporter": exporter, "status": status, "watch": watch, "save": save, "recover": recover, "ready": ready, "stop": stop}
 
 if __name__ == "__main__":
     sys.exit(main())
