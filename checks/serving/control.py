@@ -52,8 +52,8 @@ class Session:
         """The reply to a line, or to a line and those that it announces; a copy with its text."""
         self.socket.sendall(text)
         first = self.line()
-        told = json.loads(first)
-        return first + b"".join(self.line() for _ in range(told.get("lines", 0)))
+        lines = json.loads(first).get("lines")
+        return first + b"".join(self.line() for _ in range(lines if isinstance(lines, int) else 0))
 
     def told(self, **command: Json) -> dict[str, Json]:
         return json.loads(self.ask(json.dumps(command).encode() + b"\n"))
