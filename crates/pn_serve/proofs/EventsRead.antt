@@ -35,8 +35,11 @@ rounds_done at_fault names old (input ∷ later) left new all = (all.0, all.1, a
 pub runs_beside : {T : Type 0} (at_fault : AtFault) (names : List (List ℕ)) (old new : LiveRegionValue) (read : Result T ServeFault) → RunsRounds at_fault names old new read → RunsEvents at_fault names old new read
 runs_beside at_fault names old new (Ok done) read = record { events = as_events read.rounds; left = []; done = rounds_done at_fault names old read.rounds [] new read.taken }
 runs_beside at_fault names old new (Err fault) read = record {
-  events = as_events read.rounds; last = read.last; still = read.still;
-  done = rounds_done at_fault names old read.rounds read.still read.last read.taken; stops = read.stops;
+  events = as_events read.rounds;
+  last = read.last;
+  still = read.still;
+  done = rounds_done at_fault names old read.rounds read.still read.last read.taken;
+  stops = read.stops;
 }
 
 -- the events so far, and the streams that are still read
