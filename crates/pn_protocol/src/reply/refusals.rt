@@ -66,6 +66,7 @@ fn refuse_with(error: Option<Result<Vec<u8>, NoMemory>>) -> Reply
 }
 
 // The line of the error for a lookup. None: memory ran out. So the functions for the other commands too.
+#[tactic(auto, unfolding(crate::specs::Reply::Faults::lookup_fault_data))]
 fn lookup_error(alloc: Global, fault: ScanFault) -> Option<Result<Vec<u8>, NoMemory>>
     ensures { SaysWhy no_memory_to_look fault (lookup_fault_data fault) result }
 {
@@ -77,7 +78,7 @@ fn lookup_error(alloc: Global, fault: ScanFault) -> Option<Result<Vec<u8>, NoMem
             &[("has", Detail::Version(has))],
         )),
         ScanFault::Memory => None,
-        ScanFault::NoEntry => Some(error_reply(alloc, "no-entry", &[])),
+        ScanFault::NoEntry => Some(named_error(alloc, "no-entry")),
     }
 }
 
@@ -92,7 +93,7 @@ fn copy_error(alloc: Global, tablet: usize, fault: CopyFault) -> Option<Result<V
             wanted,
         } => Some(short_error(alloc, "behind", "has", has, stream, wanted)),
         CopyFault::Memory => None,
-        CopyFault::NoEntry => Some(error_reply(alloc, "no-entry", &[])),
+        CopyFault::NoEntry => Some(named_error(alloc, "no-entry")),
     }
 }
 
@@ -100,11 +101,11 @@ fn copy_text_error(alloc: Global, fault: CopyTextFault) -> Option<Result<Vec<u8>
     ensures { SaysWhy no_memory_to_read fault (copy_text_fault_data fault) result }
 {
     match fault {
-        CopyTextFault::Truncated => Some(error_reply(alloc, "truncated", &[])),
+        CopyTextFault::Truncated => Some(named_error(alloc, "truncated")),
         CopyTextFault::BadLine(line) => Some(line_error(alloc, "bad-line", line)),
         CopyTextFault::OutsideRange(line) => Some(line_error(alloc, "outside-range", line)),
         CopyTextFault::NotRising(line) => Some(line_error(alloc, "not-rising", line)),
-        CopyTextFault::BadEnd => Some(error_reply(alloc, "bad-end", &[])),
+        CopyTextFault::BadEnd => Some(named_error(alloc, "bad-end")),
         CopyTextFault::Memory => None,
     }
 }
@@ -113,7 +114,7 @@ fn adoption_error(alloc: Global, fault: AdoptFault) -> Option<Result<Vec<u8>, No
     ensures { SaysWhy no_memory_to_adopt fault (adopt_fault_data fault) result }
 {
     match fault {
-        AdoptFault::WrongRange => Some(error_reply(alloc, "wrong-range", &[])),
+        AdoptFault::WrongRange => Some(named_error(alloc, "wrong-range")),
         AdoptFault::TooOld { stream, has, needs } => Some(too_old_error(alloc, has, needs, stream)),
         AdoptFault::Memory => None,
     }
@@ -130,6 +131,7 @@ fn relayout_error(alloc: Global, fault: RelayoutFault) -> Option<Result<Vec<u8>,
     }
 }
 
+#[tactic(auto, unfolding(crate::specs::Reply::Faults::round_fault_data))]
 fn round_error(alloc: Global, fault: RoundFault) -> Option<Result<Vec<u8>, NoMemory>>
     ensures { SaysWhy no_memory_for_a_round fault (round_fault_data fault) result }
 {
@@ -139,9 +141,16 @@ fn round_error(alloc: Global, fault: RoundFault) -> Option<Result<Vec<u8>, NoMem
             wanted,
             got,
         } => Some(short_error(alloc, "gap", "got", got, stream, wanted)),
-        RoundFault::TooManyStreams => Some(error_reply(alloc, "too-many-streams", &[])),
+        RoundFault::TooManyStreams => Some(named_error(alloc, "too-many-streams")),
         RoundFault::Memory => None,
     }
+}
+
+// The error that is its name alone.
+fn named_error(alloc: Global, error: &str) -> Result<Vec<u8>, NoMemory>
+    ensures { IfOk result (λ text. text.items ≡ line_of (error_data error.now no_members)) }
+{
+    error_reply(alloc, error, &[])
 }
 
 // The error for a tablet.

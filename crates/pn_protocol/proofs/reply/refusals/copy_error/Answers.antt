@@ -8,4 +8,4 @@ pub returns-in-Behind : goal.returns-in-Behind
 returns-in-Behind c = rw c.in-Behind.is ((λ is. cc), c.short_error.ensures)
 
 pub returns-in-NoEntry : goal.returns-in-NoEntry
-returns-in-NoEntry c = rw c.in-NoEntry.is ((λ is. cc), c.error_reply.ensures)
+returns-in-NoEntry c = rw c.in-NoEntry.is ((λ is. cc), c.named_error.ensures)

@@ -12,4 +12,4 @@ returns-in-Behind c = rw c.in-Behind.is ((λ is. cc), c.error_reply.ensures)
 
 pub returns-in-NoEntry : goal.returns-in-NoEntry
 unfolding lookup_fault_data
-returns-in-NoEntry c = rw c.in-NoEntry.is ((λ is. cc), c.error_reply-in-NoEntry.ensures)
+returns-in-NoEntry c = rw c.in-NoEntry.is ((λ is. cc), c.named_error.ensures)

@@ -8,4 +8,4 @@ returns-in-Gap c = rw c.in-Gap.is ((λ is. cc), c.short_error.ensures)
 
 pub returns-in-TooManyStreams : goal.returns-in-TooManyStreams
 unfolding round_fault_data
-returns-in-TooManyStreams c = rw c.in-TooManyStreams.is ((λ is. cc), c.error_reply.ensures)
+returns-in-TooManyStreams c = rw c.in-TooManyStreams.is ((λ is. cc), c.named_error.ensures)
