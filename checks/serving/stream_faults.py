@@ -12,7 +12,7 @@ from serving.staying import KEYS, Staying, key_of, messages, until
 from serving.writers import Writer, failed, made, said_of_faults, socket_in, written_by
 
 LONG, MUCH = 70_000, 5_000_000
-# A message's faults, and what is told of each.
+# The faults of a message, and the reason that the writer gets for each.
 Change = dict[str, object]
 BAD_SHAPES: dict[str, Change] = {"key": {"key": 1}, "master": {"master": 5}, "version": {"version": "x"}, "other": {"more": 1},
                                  "fields": {"fields": []}, "deleted": {"deleted": False}}

@@ -11,7 +11,7 @@ from common.served import SECONDS, Client, row_of, same
 from serving.staying import Staying, key_of, messages, until
 from serving.writers import Writer, made, said_of_faults, socket_in
 
-# How many writers at fault, of which each is told in two lines but the first: more than wait for standard error, and fit into a pipe.
+# How many writers are at fault. Each but the first gives two lines: more than the mailbox and a pipe hold.
 AT_FAULT = 3_000
 DROPPED = re.compile(rb"pnuts: (\d+) lines were dropped")
 MEGABYTE = 1_000_000
@@ -138,7 +138,7 @@ def check_streams_at_rest(program: str, folder: str) -> None:
                 pass
         time.sleep(1)
         rests(region, "with silent writers")
-        # Others wait behind the silent ones.
+        # Others wait until the silent ones have gone.
         for path, _ in sockets:
             stay.enter_context(socket.socket(socket.AF_UNIX)).connect(path)
         rests(region, "with writers that wait")

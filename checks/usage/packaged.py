@@ -22,7 +22,7 @@ SOCKET = "/run/pnuts/east"
 # How a program writes into the socket. It waits until the region has closed it.
 WRITE = f"socat -t 10 - UNIX-CONNECT:{SOCKET}"
 
-# A feed of Redis, and what it is told.
+# A feed of Redis, and its words.
 FEED = "pnuts-feed@east"
 FEED_ENVIRONMENT = "etc/default/pnuts-feed-east"
 FEED_WORDS = 'FEED=redis-stream\nFEED_WORDS="--url redis://127.0.0.1:6379/0 east"\n'

@@ -14,7 +14,7 @@ from collections.abc import Callable
 from typing import Any
 
 FIRST_PAUSE, LONGEST_PAUSE = 0.05, 2.0
-# How long the region may leave a new connection without a word before that is told, and how long its last words are waited for.
+# How long the region may leave a new connection without a word before the feed says so, and how long its last words are waited for.
 SOON, LAST_WORDS = 2.0, 5.0
 MAX_WORDS = 65_536
 _NOT_THERE = (FileNotFoundError, ConnectionError, BlockingIOError)
