@@ -17,6 +17,8 @@ from pathlib import Path
 from common.crates import TOP
 
 COMMAND = re.compile(r'"(\w+)" => Some\(CommandWord::')
+# What control sessions have besides.
+CONTROL = re.compile(r'"(\w+)" => Some\(ControlWord::')
 MEMBER = re.compile(r'(?:Part|Member)::\w+ => "(\w+)"')
 ERROR = r'\\?"error\\?":\\?"([a-z-]+)'
 REFUSAL = re.compile(rf'\b\w+_(?:error|reply)\(\s*alloc,\s*"([a-z-]+)"|{ERROR}')
@@ -86,7 +88,7 @@ def all_faults() -> Iterator[str]:
         yield from missing("command", LOOKUPS, where, text_of(paths))
         yield from missing("refusal", refusals - OF_SCRIPTS, where, text_of(paths))
     told = readme + text_of(sorted((TOP / "docs").glob("*.md")))
-    yield from unknown("command", TOLD_COMMAND.findall(told), commands, "README.md or docs/")
+    yield from unknown("command", TOLD_COMMAND.findall(told), commands | set(found(CONTROL, protocol)), "README.md or docs/")
     yield from unknown("option", TOLD_OPTION.findall(told + text_of(below("packaging"))), options | BY_CLAP, "README.md, docs/ or packaging/")
 
 

@@ -45,6 +45,11 @@ def metadata(told: dict[str, Any]) -> bytes:
     return ("\n".join(metadata_lines(told)) + "\n").encode() + (HERE / told["readme"]).read_bytes()
 
 
+def scripts(told: dict[str, Any]) -> bytes:
+    """The programs, each with its function."""
+    return ("[console_scripts]\n" + "".join(f"{name} = {function}\n" for name, function in told["scripts"].items())).encode()
+
+
 def package() -> Files:
     """The modules, and what says that they have types."""
     found = (path for path in sorted(SOURCES.rglob("*")) if path.suffix == ".py" or path.name == "py.typed")
@@ -62,7 +67,7 @@ def written(folder: str, files: Files) -> str:
     """Writes a wheel, the same each time. Its name."""
     told = project()
     info, name = f"{name_of(told)}.dist-info", f"{name_of(told)}-py3-none-any.whl"
-    whole = {**files, f"{info}/METADATA": metadata(told), f"{info}/WHEEL": WHEEL.encode()}
+    whole = {**files, f"{info}/METADATA": metadata(told), f"{info}/WHEEL": WHEEL.encode(), f"{info}/entry_points.txt": scripts(told)}
     whole[f"{info}/RECORD"] = record_of(whole, f"{info}/RECORD")
     with zipfile.ZipFile(Path(folder) / name, "w", zipfile.ZIP_DEFLATED) as wheel:
         for path, text in whole.items():

@@ -86,6 +86,13 @@ impl PublishedTablet {
         order.add(&self.live.position());
     }
 
+    /// The state of what is published.
+    pub fn state(&self) -> &TabletState
+        ensures { result.now ≡ state_at self.now }
+    {
+        self.live.state()
+    }
+
     /// A note of what is published.
     pub fn note(&self) -> TabletNote
         ensures { result ≡ note_of self.now }

@@ -1,7 +1,9 @@
 //! Live regions.
 
-ghost use Rattle.std.specs.Prelude.{◌≡◌, ◌≤◌, length, IsTrue};
+ghost use Rattle.std.specs.Prelude.{◌≡◌, ◌≤◌, length, min, slice_get, IsSomeAnd, IsTrue};
 ghost use Rattle.pn_join.specs.Prelude.{are_positions};
+ghost use Rattle.pn_live.specs.PublishedTablets.{state_at};
+ghost use Rattle.pn_region.specs.declared.notices.TheConstants.{LAST_NUMBER};
 ghost use Rattle.pn_region.specs.declared.marking.TheConstants.{MAX_STREAMS};
 
 mod advance;
@@ -16,7 +18,7 @@ use crate::published_tablet::PublishedTablet;
 pub use opening::MAX_READERS;
 use pn_join::Marks;
 use pn_region::Log;
-use pn_tablet::Layout;
+use pn_tablet::{Layout, TabletState};
 use std::alloc::Global;
 use std::marker::Model;
 
@@ -54,6 +56,21 @@ impl LiveRegion {
         ensures positions { IsTrue (are_positions self.now.marks) }
     {
         &self.marks
+    }
+
+    /// The tablet of this number, which is below the layout's count.
+    pub fn tablet(&self, number: usize) -> &TabletState
+        requires { number ≤ length self.now.layout }
+        ensures { IsSomeAnd (slice_get self.now.tablets number) (λ tablet. result.now ≡ state_at tablet) }
+    {
+        self.tablets[number].state()
+    }
+
+    /// The number of the last entry of the log, at most the greatest that an entry has.
+    pub fn last_number(&self) -> u64
+        ensures { result ≡ min (length self.now.log) LAST_NUMBER }
+    {
+        self.log.last_number()
     }
 
     /// How the keys are divided into tablets.

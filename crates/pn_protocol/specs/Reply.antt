@@ -9,5 +9,6 @@ pub mod Refusals
 pub mod Rows
 pub mod Scan
 pub mod Short
+pub mod Stats
 pub mod Tablets
 pub mod Texts

@@ -1,6 +1,7 @@
 //! The commands that lines say.
 
 mod build;
+pub(crate) mod control;
 mod lookups;
 mod members;
 pub(crate) mod parse;

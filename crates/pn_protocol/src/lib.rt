@@ -6,6 +6,7 @@ mod refusal;
 mod reply;
 
 pub use command::Command;
+pub use command::control::{ControlCommand, control_of};
 pub use command::parse::{a_line_is_one_command, command_of, lookup_of};
 pub use refusal::{Part, Refusal};
 pub use reply::Reply;
@@ -14,4 +15,5 @@ pub use reply::notices::notices_reply;
 pub use reply::refusals::{CommandFault, refuse};
 pub use reply::scan::scan_reply;
 pub use reply::short::{NumberName, ShortReply, number_reply, refusal_reply, served_reply};
-pub use reply::tablets::{marks_reply, tablets_reply};
+pub use reply::stats::{Stats, StreamState, StreamStats, stats_reply};
+pub use reply::tablets::{ShownTablets, marks_reply, tablets_reply};

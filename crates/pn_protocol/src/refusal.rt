@@ -23,9 +23,11 @@ pub enum Part {
     Need,
     Stream,
     Query,
+    Seconds,
     Since,
     Tablet,
     Version,
+    Wait,
     /// A member whose name is unknown there.
     Other,
     /// A part of an image.
@@ -50,9 +52,11 @@ impl Part {
             Part::Need => "need",
             Part::Stream => "stream",
             Part::Query => "query",
+            Part::Seconds => "seconds",
             Part::Since => "since",
             Part::Tablet => "tablet",
             Part::Version => "version",
+            Part::Wait => "wait",
             Part::Other => "other",
             Part::Image(member) => member.word(),
         }

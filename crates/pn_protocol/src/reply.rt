@@ -9,6 +9,7 @@ pub(crate) mod refusals;
 mod rows;
 pub(crate) mod scan;
 pub(crate) mod short;
+pub(crate) mod stats;
 pub(crate) mod tablets;
 
 use crate::Refusal;
@@ -26,6 +27,8 @@ pub enum Reply {
     Lost(u64),
     /// The number of tablets in a new layout.
     Relaid(u64),
+    /// After how many seconds at most the server ends.
+    Stopping(u64),
     /// No reply: announced lines are still to come, or the input is at its end.
     Silent,
     /// A reply's text.

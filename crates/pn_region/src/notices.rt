@@ -1,6 +1,6 @@
 //! The log of a region: its notices, each with a number.
 
-ghost use Rattle.std.specs.Prelude.{◌≡◌, ◌≤◌, ◌<◌, ◌+◌, ◌^◌, [], ◌∷◌, ◌++◌, length, drop, IfOk, IfSome, None, ◌⊎◌};
+ghost use Rattle.std.specs.Prelude.{◌≡◌, ◌≤◌, ◌<◌, ◌+◌, ◌^◌, [], ◌∷◌, ◌++◌, length, min, drop, IfOk, IfSome, None, ◌⊎◌};
 ghost use Rattle.pn_region.specs.declared.notices.TheConstants.{LAST_NUMBER};
 ghost use Rattle.pn_region.specs.Log.{entries_of, notices_from};
 ghost use Rattle.pn_region.specs.Since.{IsSince};
@@ -115,6 +115,13 @@ impl Log {
         if self.last > LAST_NUMBER {
             self.kept.clear();
         }
+    }
+
+    /// The number of the last entry, at most the greatest that an entry has.
+    pub fn last_number(&self) -> u64
+        ensures { result ≡ min (length self.now) LAST_NUMBER }
+    {
+        self.last.min(LAST_NUMBER)
     }
 
     /// The notices after the number, or `Missed` where not all of them are kept.

@@ -11,7 +11,6 @@ use Rattle.clap.specs.declared.error.kind.ErrorKind.TheVariants as error
 use Rattle.clap.specs.declared.parser.matches.ArgMatches.{ArgMatches}
 use Rattle.clap.specs.Walk.{Row, Text, Walk, finished, nothing_held, settled, walk, walk_from}
 use Rattle.pn_json.proofs.Inverses.{bind_ok}
-use Rattle.pn_live.specs.declared.region.opening.TheConstants.{MAX_READERS}
 use Rattle.pn_serve.specs.Arguments.Options.{program}
 use Rattle.pn_serve.specs.Arguments.Plans.{Answers, HasSessions, IsTold, Plans, Says, Tells}
 use Rattle.pn_serve.specs.Arguments.Commands.{address_in, number_at, plan_in, replay_in, serve_in, service_in, settings_in}
@@ -19,6 +18,7 @@ use Rattle.pn_serve.specs.Arguments.Faults.{FaultValue, told_fault}
 use Rattle.pn_serve.specs.Arguments.Faults as faults
 use Rattle.pn_serve.specs.Arguments.PlanValues.{PlanValue, ServiceValue, help, plan_value, replay, serve, version}
 use Rattle.pn_serve.specs.Arguments.Streams.{streams_in}
+use Rattle.pn_serve.specs.declared.arguments.options.TheConstants.{MAX_SESSIONS}
 use Rattle.pn_serve.specs.declared.arguments.plans.Plan.{Plan}
 use Rattle.pn_serve.specs.declared.arguments.plans.Plan.TheVariants as plan
 use Rattle.pn_serve.specs.declared.arguments.faults.OptionFault.{OptionFault}
@@ -92,20 +92,20 @@ answered words kind has (Err fault.Memory) is = tt
 -- a plan of a script, or to serve with a few sessions
 abbrev IsPlanned : PlanValue → Type 0
 IsPlanned (replay settings) = Unit {0}
-IsPlanned (serve settings service streams) = (1 ≤ service.sessions) × (service.sessions ≤ MAX_READERS)
+IsPlanned (serve settings service streams) = (1 ≤ service.sessions) × (service.sessions ≤ MAX_SESSIONS)
 IsPlanned help = ⊥
 IsPlanned version = ⊥
 
-in_range : (n : ℕ) → (1 ≤ max 1 (min n MAX_READERS)) × (max 1 (min n MAX_READERS) ≤ MAX_READERS)
+in_range : (n : ℕ) → (1 ≤ max 1 (min n MAX_SESSIONS)) × (max 1 (min n MAX_SESSIONS) ≤ MAX_SESSIONS)
 in_range n = (omega arith, omega arith)
 
 service_plans : (host : IpAddr) (options : List Row) (service : ServiceValue) → service_in host options ≡ Ok service
-    → (1 ≤ service.sessions) × (service.sessions ≤ MAX_READERS)
+    → (1 ≤ service.sessions) × (service.sessions ≤ MAX_SESSIONS)
 service_plans host options service e =
     let placed = bind_ok (address_in host options) _ service e in
     let last = placed.2 in
-    let same : number_at (codes "sessions") MAX_READERS options ≡ service.sessions = cc in
-    subst (λ n. (1 ≤ n) × (n ≤ MAX_READERS)) same (in_range _)
+    let same : number_at (codes "sessions") MAX_SESSIONS options ≡ service.sessions = cc in
+    subst (λ n. (1 ≤ n) × (n ≤ MAX_SESSIONS)) same (in_range _)
 
 serve_plans : (written : Option IpAddr) (options : List Row) (value : PlanValue) → serve_in written options ≡ Ok value → IsPlanned value
 serve_plans written options value e =

@@ -1,3 +1,4 @@
+pub mod Control
 pub mod Lines
 pub mod Machine
 pub mod Runs

@@ -1,4 +1,5 @@
 -- Served streams: the reports of their threads, the rounds, and which fault is answered.
+pub mod Events
 pub mod Faults
 pub mod Gathering
 pub mod Honest

@@ -5,8 +5,8 @@ ghost use Rattle.std.specs.declared.net.ip_addr.IpAddr.{IpAddr};
 ghost use Rattle.clap.specs.Words.{found_of, kind_of, rows_of, subcommand_rows_of};
 ghost use Rattle.pn_json.specs.Prelude.{IsUnless, ShowsUnless};
 ghost use Rattle.pn_serve.specs.Arguments.Plans.{Answers, Gives, HasSessions, Plans, Tells};
-ghost use Rattle.pn_serve.specs.Arguments.Commands.{idle_in, listens_at, address_in, replay_in, serve_in, service_in, settings_in, stay_in, Spells};
-ghost use Rattle.pn_serve.specs.Arguments.PlanValues.{address_value, plan_value, service_value};
+ghost use Rattle.pn_serve.specs.Arguments.Commands.{control_in, idle_in, listens_at, address_in, replay_in, serve_in, service_in, settings_in, stay_in, Spells};
+ghost use Rattle.pn_serve.specs.Arguments.PlanValues.{address_value, path_value, plan_value, service_value};
 
 mod bounds;
 pub(crate) mod faults;
@@ -16,9 +16,10 @@ mod refusing;
 mod streams;
 
 use crate::arguments::bounds::layout_of;
-use crate::arguments::faults::OptionFault;
+use crate::arguments::faults::{OptionFault, Why};
 use crate::arguments::options::{
-    MAX_CONNECTIONS, MAX_IDLE, MAX_PORT, command, is_given, option_number, option_text,
+    MAX_CONNECTIONS, MAX_IDLE, MAX_PORT, MAX_SESSIONS, command, is_given, option_number,
+    option_text,
 };
 use crate::arguments::refusing::told_fault;
 use crate::arguments::streams::{MAX_SOCKET_BYTES, named_streams};
@@ -26,7 +27,6 @@ use crate::{Address, Plan, PlanFault, Service, Settings};
 use clap::error::ErrorKind;
 use clap::{ArgMatches, Error};
 use pn_apply::MAX_WORKERS;
-use pn_live::MAX_READERS;
 use std::alloc::Global;
 use std::net::IpAddr;
 
@@ -122,9 +122,10 @@ fn service_of(alloc: Global, host: IpAddr, options: &ArgMatches<'_>) -> Result<S
     ensures { ShowsUnless OptionFault.Memory service_value result (service_in host (rows_of (found_of options.now))) }
 {
     Ok(Service {
-        sessions: option_number(options, "sessions", MAX_READERS as u32) as usize,
+        sessions: option_number(options, "sessions", MAX_SESSIONS as u32) as usize,
         address: address_of(alloc, host, options)?,
         stay: stay_of(options),
+        control: control_path(alloc, options)?,
         idle: idle_of(options),
         is_progress_told: is_given(options, "progress"),
     })
@@ -142,6 +143,23 @@ fn address_of(alloc: Global, host: IpAddr, options: &ArgMatches<'_>) -> Result<A
         return Err(OptionFault::Socket);
     }
     Ok(Address::Path(String::from_str(alloc, path)?))
+}
+
+// With `--stay`, the Unix socket of control sessions.
+fn control_path(alloc: Global, options: &ArgMatches<'_>) -> Result<Option<String>, OptionFault>
+    ensures { ShowsUnless OptionFault.Memory path_value result (control_in (rows_of (found_of options.now))) }
+{
+    let path = option_text(options, "control");
+    if path == "" {
+        return Ok(None);
+    }
+    if !is_given(options, "stay") {
+        return Err(OptionFault::Control(Why::NoStay));
+    }
+    if path.len() > MAX_SOCKET_BYTES {
+        return Err(OptionFault::Control(Why::LongPath));
+    }
+    Ok(Some(String::from_str(alloc, path)?))
 }
 
 // With `--stay`, how many connections are served at once.

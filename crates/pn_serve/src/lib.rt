@@ -2,6 +2,7 @@
 #![tactic(auto)]
 
 mod arguments;
+mod control;
 mod laws;
 mod machine;
 mod page_laws;
@@ -13,9 +14,12 @@ mod settings;
 mod stream_laws;
 
 pub use arguments::faults::{PlanFault, Refused, Why};
-pub use arguments::options::numbers_are_as_written;
+pub use arguments::options::{MAX_SESSIONS, numbers_are_as_written};
 pub use arguments::plan;
 pub use arguments::plans::{Address, Plan, Service, StreamPath};
+pub use control::laws::commands_are_events;
+pub use control::mailboxes::{ControlMailboxes, MAX_CONTROLS};
+pub use control::session::{ControlSession, StatsSource};
 pub use laws::regions_converge;
 pub use machine::line_handler::LineHandler;
 pub use page_laws::{
@@ -23,8 +27,9 @@ pub use page_laws::{
     pages_of_a_script_are_together_its_rows,
 };
 pub use pn_protocol::{
-    Command, CommandFault, NumberName, Part, Refusal, Reply, ShortReply, a_line_is_one_command,
-    command_of, number_reply, refusal_reply, refuse, scan_reply,
+    Command, CommandFault, ControlCommand, NumberName, Part, Refusal, Reply, ShortReply, Stats,
+    StreamState, StreamStats, a_line_is_one_command, command_of, control_of, number_reply,
+    refusal_reply, refuse, scan_reply,
 };
 pub use repeat_laws::{
     a_repeated_deliver_leaves_no_trace_of_a_refused_one, repeated_delivers_leave_the_same_region,
@@ -33,7 +38,8 @@ pub use script::line_loop::LineLoop;
 pub use script::{Counts, MAX_LINES, RunFault, run, run_to_exit};
 pub use server::{
     Acceptor, ComesBack, Counter, FaultLog, Origin, ServeFault, SessionThread, Stream,
-    StreamFailure, WriterEnd, close_region, join_sessions, open_region, read_streams, serve,
+    StreamFailure, Watchers, WriterEnd, close_region, join_sessions, open_region, read_streams,
+    serve, take_commands,
 };
 pub use sessions::session;
 pub use settings::Settings;

@@ -14,9 +14,10 @@ ghost use Rattle.pn_serve.specs.Server.Whole.{IsTakenWhole};
 ghost use Rattle.pn_protocol.specs.Prelude.{served_line};
 
 mod counter;
+mod events;
 mod fault;
 mod fault_log;
-mod mailboxes;
+pub(crate) mod mailboxes;
 mod messages;
 mod reporting;
 mod reports;
@@ -46,7 +47,7 @@ pub use session_threads::{Acceptor, ComesBack, SessionThread, join_sessions};
 use std::alloc::Global;
 use std::sync::Wait;
 use std::thread::Threads;
-pub use streams::read_streams;
+pub use streams::{Watchers, read_streams, take_commands};
 pub use writers::{Origin, Stream, WriterEnd};
 
 /// A live region and its readers.

@@ -6,7 +6,7 @@ ghost use Rattle.pn_serve.specs.Lines.Waiting.{HandsOn, looks_of_input};
 ghost use Rattle.pn_serve.specs.Session.Knowing.{KnowsNoLess};
 ghost use Rattle.pn_serve.specs.Session.Lines.{AnswersLine, EndsLines, session_start};
 
-mod lookups;
+pub(crate) mod lookups;
 
 use crate::machine::line_handler::LineHandler;
 use crate::script::line_loop::LineLoop;

@@ -36,6 +36,8 @@ const LIMIT_TEXT: &str = "cannot accept: all connections are open";
 #[derive(Drop)]
 pub struct SocketAcceptor {
     pub listener: Listener,
+    /// The socket of control sessions, if there is one.
+    pub control: Option<Listener>,
     pub idle: Option<u32>,
     pub counters: Arc<Counters>,
     /// Where faults of streams are noted, if somebody looks at them.
@@ -69,6 +71,7 @@ impl Acceptor for SocketAcceptor {
     fn try_clone(&self) -> io::Result<SocketAcceptor> {
         Ok(SocketAcceptor {
             listener: self.listener.try_clone()?,
+            control: None,
             idle: self.idle,
             counters: Arc::try_clone(&self.counters)?,
             faults: share(&self.faults)?,
@@ -79,6 +82,7 @@ impl Acceptor for SocketAcceptor {
     fn answer_client(&self, alloc: Global, reader: &mut LiveReader) -> io::Result<()> {
         let socket = self.accept()?;
         self.counters.connections.add(1);
+        self.counters.accepted.add(1);
         let answered = self.answer(alloc, reader, &socket);
         self.counters.connections.subtract(1);
         answered
@@ -157,6 +161,9 @@ pub(crate) fn accept_all<R: Wait + Clock>(
             limit.acquire(rt);
             if let Err(error) = accept_into(rt, listener, mailbox) {
                 limit.release(rt);
+                if mailbox.is_stopping(rt) {
+                    return;
+                }
                 notes.tell_refusal(rt, &error);
                 thread::sleep(rt, Duration::from_millis(RETRY));
             }

@@ -36,6 +36,11 @@ impl Connection {
         }
     }
 
+    /// Its client's input ends after what has come of it.
+    pub(crate) fn end_input(&mut self) {
+        self.socket.end_input();
+    }
+
     /// One turn, after which it is not ready. None where the connection has ended.
     pub(crate) fn turn<M: LineHandler>(
         &mut self,

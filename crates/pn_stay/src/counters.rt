@@ -4,31 +4,47 @@ ghost use Rattle.std.specs.Prelude.{◌≡◌};
 
 use pn_join::Name;
 use pn_line::{LineBuffer, Piece, Source};
-use pn_serve::Counter;
+use pn_serve::{Counter, StreamState};
 use std::alloc::{AllocError, Global};
 use std::io;
 use std::sync::Arc;
 
-/// How many lines were read, and how many bytes.
+/// How many lines were read, how many bytes, and for a stream how it goes.
 #[derive(Drop)]
 pub struct InputCounters {
     pub lines: Counter,
     pub bytes: Counter,
+    state: Counter,
 }
 
 impl InputCounters {
-    /// Both are zero.
+    /// All are zero: no writer has come.
     pub fn new() -> InputCounters {
         InputCounters {
             lines: Counter::new(),
             bytes: Counter::new(),
+            state: Counter::new(),
         }
     }
 
-    /// Begins to count from zero again.
-    pub fn clear(&self) {
-        self.lines.set(0);
-        self.bytes.set(0);
+    /// Notes how the stream goes.
+    pub fn set_state(&self, state: StreamState) {
+        self.state.set(match state {
+            StreamState::Waiting => 0,
+            StreamState::Open => 1,
+            StreamState::Ended => 2,
+            StreamState::Failed => 3,
+        });
+    }
+
+    /// How the stream goes.
+    pub fn state(&self) -> StreamState {
+        match self.state.get() {
+            0 => StreamState::Waiting,
+            1 => StreamState::Open,
+            2 => StreamState::Ended,
+            _ => StreamState::Failed,
+        }
     }
 
     // Counts a piece, which made a line longer from `before` to `after` bytes.
@@ -58,8 +74,9 @@ pub struct Counters {
     pub rounds: Arc<Counter>,
     /// What was read from all clients.
     pub clients: Arc<InputCounters>,
-    /// How many connections are open.
+    /// How many connections are open, and how many were accepted so far.
     pub connections: Counter,
+    pub accepted: Counter,
     pub streams: Vec<StreamCounters>,
 }
 
@@ -70,6 +87,7 @@ impl Counters {
             rounds: Arc::new(alloc, Counter::new())?,
             clients: Arc::new(alloc, InputCounters::new())?,
             connections: Counter::new(),
+            accepted: Counter::new(),
             streams,
         })
     }

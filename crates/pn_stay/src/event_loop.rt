@@ -86,6 +86,7 @@ impl EventLoop {
             if self.wait()? {
                 self.add_accepted(rt, mailbox);
                 self.end_idle(rt, mailbox);
+                self.end_inputs(rt, mailbox);
             }
             self.take_turns(rt, mailbox, machine);
             if self.is_over(rt, mailbox) {
@@ -157,6 +158,7 @@ impl EventLoop {
         connection.is_ready = self.ready.push(key).is_ok();
         let _ = self.connections.insert_reserved(connection);
         self.counters.connections.add(1);
+        self.counters.accepted.add(1);
         Ok(())
     }
 
@@ -167,6 +169,19 @@ impl EventLoop {
         if self.connections.try_remove(key).is_some() {
             self.counters.connections.subtract(1);
             mailbox.release(rt);
+        }
+    }
+
+    // Once the thread is to end, the input of each client ends after what has come of it.
+    fn end_inputs<R: Wait>(&mut self, rt: &R, mailbox: &SocketMailbox) {
+        if !mailbox.is_stopping(rt) {
+            return;
+        }
+        'inputs: for key in 0..self.connections.capacity() {
+            if let Some(connection) = self.connections.get_mut(key) {
+                connection.end_input();
+            }
+            make_ready(&mut self.connections, &mut self.ready, key);
         }
     }
 

@@ -6,6 +6,7 @@ mod connection;
 mod connection_limit;
 mod connection_state;
 mod counters;
+mod current_stats;
 mod event_loop;
 mod input_buffer;
 mod laws;

@@ -4,7 +4,7 @@ ghost use Rattle.std.specs.Prelude.{◌≡◌, ◌≢◌, false, IfErr, MatchBoo
 ghost use Rattle.std.specs.IoError.{error_kind};
 
 use crate::socket::Socket;
-use libc::net::listen;
+use libc::net::{SHUT_RD, listen, shutdown};
 use mio::net::UnixStream as Caller;
 use std::fs::{Files, Permissions};
 use std::io::ErrorKind;
@@ -49,6 +49,17 @@ impl Listener {
             Listener::Tcp(listener) => Ok(Listener::Tcp(listener.try_clone()?)),
             Listener::Unix(listener) => Ok(Listener::Unix(listener.try_clone()?)),
         }
+    }
+
+    /// From now on nobody is accepted, and who waits for a client is told so.
+    pub(crate) fn stop(&self) {
+        let _ = shutdown(
+            match self {
+                Listener::Tcp(listener) => listener.as_raw_fd(),
+                Listener::Unix(listener) => listener.as_raw_fd(),
+            },
+            SHUT_RD,
+        );
     }
 
     /// Waits for a client.

@@ -129,7 +129,7 @@ fn print_totals<R: Files<File = File> + Eprint>(
 ) -> io::Result<()> {
     let (before, now) = totals;
     let mut text = format_streams(alloc, counters, before, now, is_terminal)?;
-    let bytes = count_pages(rt).unwrap_or(0).saturating_mul(PAGE);
+    let bytes = memory_bytes(rt);
     text.push_str(format!(in alloc;
         "{} rounds, {} connections, {} lines, {bytes} bytes",
         now.rounds, now.connections, now.lines
@@ -182,6 +182,11 @@ fn scale(whole: u64, done: u64, all: u64) -> u64 {
         Some(part) => part,
         None => whole,
     }
+}
+
+/// How many bytes of memory this process has, or 0 where the system does not say.
+pub(crate) fn memory_bytes<R: Files<File = File>>(rt: &R) -> u64 {
+    count_pages(rt).unwrap_or(0).saturating_mul(PAGE)
 }
 
 fn count_pages<R: Files<File = File>>(rt: &R) -> io::Result<u64> {

@@ -8,7 +8,7 @@ use mio::unix::SourceFd;
 use mio::{Interest, Registry, Token};
 use std::io;
 use std::io::{ErrorKind, Read, Write};
-use std::net::TcpStream;
+use std::net::{Shutdown, TcpStream};
 use std::os::fd::AsRawFd;
 use std::os::unix::net::UnixStream;
 use std::time::Duration;
@@ -40,6 +40,22 @@ impl Socket {
                 stream.set_read_timeout(Some(most))?;
                 stream.set_write_timeout(Some(most))
             }
+        }
+    }
+
+    /// The client's input ends after what has come of it.
+    pub(crate) fn end_input(&self) {
+        let _ = match self {
+            Socket::Tcp(stream) => stream.shutdown(Shutdown::Read),
+            Socket::Unix(stream) => stream.shutdown(Shutdown::Read),
+        };
+    }
+
+    /// From now on reads wait for the client without end, and writes no longer than this.
+    pub(crate) fn set_write_timeout(&self, most: Duration) -> io::Result<()> {
+        match self {
+            Socket::Tcp(stream) => stream.set_write_timeout(Some(most)),
+            Socket::Unix(stream) => stream.set_write_timeout(Some(most)),
         }
     }
 

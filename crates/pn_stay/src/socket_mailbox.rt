@@ -22,7 +22,11 @@ pub(crate) struct SocketMailbox {
 struct MailboxState {
     sockets: Vec<Socket>,
     is_quarter_over: bool,
+    // Whether the thread is to end once the lines that have come are answered.
+    is_stopping: bool,
     is_closed: bool,
+    // Whether the thread has ended.
+    has_ended: bool,
 }
 
 /// Shows that a mailbox was closed.
@@ -36,6 +40,22 @@ impl MailboxState {
         }
         self.sockets.push(socket)?;
         Ok(())
+    }
+
+    // From now on it takes no socket.
+    fn stop(&mut self)
+        ensures { self.new.is_closed ≡ true }
+    {
+        self.is_stopping = true;
+        let _ = self.close();
+    }
+
+    // The thread has ended, and it takes no socket.
+    fn end(&mut self) -> Closed
+        ensures { self.new.is_closed ≡ true }
+    {
+        self.has_ended = true;
+        self.close()
     }
 
     fn close(&mut self) -> Closed
@@ -54,7 +74,9 @@ impl SocketMailbox {
             state: Mutex::new(MailboxState {
                 sockets: Vec::new(alloc),
                 is_quarter_over: false,
+                is_stopping: false,
                 is_closed: false,
+                has_ended: false,
             }),
             waker,
             limit,
@@ -78,14 +100,30 @@ impl SocketMailbox {
         self.waker.wake()
     }
 
+    /// Says that the thread is to end once the lines that have come are answered, and wakes it.
+    pub(crate) fn tell_stop<R: Wait>(&self, rt: &R) -> io::Result<()> {
+        self.state.lock(rt).stop();
+        self.waker.wake()
+    }
+
+    /// Whether the thread is to end.
+    pub(crate) fn is_stopping<R: Wait>(&self, rt: &R) -> bool {
+        self.state.lock(rt).is_stopping
+    }
+
+    /// Whether the thread has ended.
+    pub(crate) fn has_ended<R: Wait>(&self, rt: &R) -> bool {
+        self.state.lock(rt).has_ended
+    }
+
     /// Whether a quarter of a second is over since this was asked last.
     pub(crate) fn take_quarter<R: Wait>(&self, rt: &R) -> bool {
         mem::replace(&mut self.state.lock(rt).is_quarter_over, false)
     }
 
-    /// From now on it takes no socket.
+    /// The thread has ended: from now on it takes no socket.
     pub(crate) fn close<R: Wait>(&self, rt: &R) -> Closed {
-        self.state.lock(rt).close()
+        self.state.lock(rt).end()
     }
 
     /// Whether it takes no socket any more, and all were taken from it.

@@ -9,8 +9,48 @@ use std::process::ExitCode;
 use std::rt::Files;
 use std::{fs, io};
 
-/// Listens, and prints where. Else it prints why not.
-pub(crate) fn listen<R>(rt: &R, service: &Service) -> Result<Listener, ExitCode>
+/// What is listened on.
+#[derive(Drop)]
+pub(crate) struct Listeners {
+    pub(crate) clients: Listener,
+    /// The socket of control sessions, if there is one.
+    pub(crate) control: Option<Listener>,
+}
+
+/// Listens, and prints where clients are. Else it prints why not.
+pub(crate) fn listen<R>(rt: &R, service: &Service) -> Result<Listeners, ExitCode>
+where
+    R: AllocGlobal
+        + Files<File = File>
+        + Net<Listener = TcpListener, Stream = TcpStream>
+        + Print
+        + Eprint,
+{
+    let control = listen_for_control(rt, service)?;
+    match listen_for_clients(rt, service) {
+        Ok(clients) => Ok(Listeners { clients, control }),
+        Err(status) => {
+            remove_control(rt, service);
+            Err(status)
+        }
+    }
+}
+
+// Listens for control sessions, where there may be some.
+fn listen_for_control<R>(rt: &R, service: &Service) -> Result<Option<Listener>, ExitCode>
+where
+    R: AllocGlobal + Files<File = File> + Net + Eprint,
+{
+    let Some(path) = &service.control else {
+        return Ok(None);
+    };
+    match Listener::bind_path(rt, path.as_str()) {
+        Ok(listener) => Ok(Some(listener)),
+        Err(error) => Err(fail_at(rt, "cannot listen", path.as_str(), &error, true)),
+    }
+}
+
+fn listen_for_clients<R>(rt: &R, service: &Service) -> Result<Listener, ExitCode>
 where
     R: AllocGlobal
         + Files<File = File>
@@ -69,7 +109,14 @@ fn print_address(rt: &impl Print, address: &Address) -> io::Result<()> {
 /// Removes the files of the Unix sockets that it listens on, once the program ends by itself.
 pub(crate) fn remove_places(rt: &impl Files, service: &Service, sockets: &[String]) {
     remove_socket(rt, &service.address);
+    remove_control(rt, service);
     remove_sockets(rt, sockets);
+}
+
+fn remove_control(rt: &impl Files, service: &Service) {
+    if let Some(path) = &service.control {
+        let _ = fs::remove_file(rt, path.as_str());
+    }
 }
 
 fn remove_socket(rt: &impl Files, address: &Address) {

@@ -1,12 +1,12 @@
 //! What a server reads, and where it listens.
 
-use crate::addresses::{listen, remove_places};
+use crate::addresses::{Listeners, listen, remove_places};
 use crate::failures::{fail_serving, is_explained, refuse_streams};
 use pn_join::Name;
 use pn_serve::{FaultLog, ServeFault, Service, Stream, StreamPath};
 use pn_stay::{
-    Counters, FileSource, Listener, Messages, OpenFault, SocketAcceptor, StreamCounters,
-    StreamOrigin, StreamSetting, open_files, open_origins, remove_sockets, share,
+    Counters, FileSource, Messages, OpenFault, SocketAcceptor, StreamCounters, StreamOrigin,
+    StreamSetting, open_files, open_origins, remove_sockets, share,
 };
 use pn_stream::StreamReader;
 use std::alloc::{AllocError, Global};
@@ -91,7 +91,7 @@ where
         rt: *rt,
         alloc,
         messages: Arc::try_clone(&messages)?,
-        is_counted: service.is_progress_told,
+        is_counted: service.is_progress_told || service.control.is_some(),
     };
     let opened = open_origins(&setting, streams)?;
     let counters = match new_counters(alloc, opened.counters) {
@@ -143,26 +143,28 @@ where
         + Print
         + Eprint,
 {
-    let listener = match listen(rt, service) {
-        Ok(listener) => listener,
+    let listeners = match listen(rt, service) {
+        Ok(listeners) => listeners,
         Err(status) => {
             remove_sockets(rt, &notes.sockets);
             return Err(status);
         }
     };
-    match new_acceptor(listener, service, notes) {
+    match new_acceptor(listeners, service, notes) {
         Ok(acceptor) => Ok(acceptor),
         Err(_) => Err(refuse_start(rt, service, &notes.sockets)),
     }
 }
 
 fn new_acceptor(
-    listener: Listener,
+    listeners: Listeners,
     service: &Service,
     notes: &Notes,
 ) -> Result<SocketAcceptor, AllocError> {
+    let Listeners { clients, control } = listeners;
     Ok(SocketAcceptor {
-        listener,
+        listener: clients,
+        control,
         idle: service.idle,
         counters: Arc::try_clone(&notes.counters)?,
         faults: share(&notes.faults)?,

@@ -2,7 +2,7 @@
 #![tactic(auto)]
 
 ghost use Rattle.std.specs.Prelude.{◌≤◌, IfOk};
-ghost use Rattle.pn_live.specs.declared.region.opening.TheConstants.{MAX_READERS};
+ghost use Rattle.pn_serve.specs.declared.arguments.options.TheConstants.{MAX_SESSIONS};
 
 mod addresses;
 mod failures;
@@ -116,7 +116,7 @@ where
         + Sync
         + Copy
         + Drop,
-    ensures { IfOk result (λ prepared. (1 ≤ prepared.service.sessions) × (prepared.service.sessions ≤ MAX_READERS)) }
+    ensures { IfOk result (λ prepared. (1 ≤ prepared.service.sessions) × (prepared.service.sessions ≤ MAX_SESSIONS)) }
 {
     let Ok(words) = collect_words(rt) else {
         return Err(fail(rt, "memory"));

@@ -1,7 +1,7 @@
 //! A server that ends with its sessions.
 
 ghost use Rattle.std.specs.Prelude.{◌≤◌};
-ghost use Rattle.pn_live.specs.declared.region.opening.TheConstants.{MAX_READERS};
+ghost use Rattle.pn_serve.specs.declared.arguments.options.TheConstants.{MAX_SESSIONS};
 
 use crate::addresses::remove_places;
 use crate::failures::fail_noted;
@@ -34,7 +34,7 @@ where
         + Copy
         + Send
         + 'static,
-    requires { (1 ≤ service.now.sessions) × (service.now.sessions ≤ MAX_READERS) }
+    requires { (1 ≤ service.now.sessions) × (service.now.sessions ≤ MAX_SESSIONS) }
 {
     let mut out = io::writer(rt);
     let served = serve(

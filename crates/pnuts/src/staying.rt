@@ -1,4 +1,4 @@
-//! A server that stays: it ends only by a signal.
+//! A server that stays: it ends only by a signal, or where a control session stops it.
 
 use crate::addresses::remove_places;
 use crate::failures::{fail, fail_serving, fail_with};
@@ -10,6 +10,7 @@ use std::process::ExitCode;
 use std::rt::Files;
 use std::sync::Wait;
 use std::thread::Threads;
+use std::time::Clock;
 
 /// Prints why it does not stay, and ends what it listened on.
 pub(crate) fn fail_to_stay(
@@ -25,8 +26,8 @@ pub(crate) fn fail_to_stay(
     }
 }
 
-/// Prints a fault of the reading. Where a stream's thread was refused the program ends; otherwise it answers until a signal ends it.
-pub(crate) fn answer_on<R: Threads + Wait + Eprint + Files>(
+/// Prints a fault of the reading. Where a stream's thread was refused the program ends; otherwise it answers until it is stopped or a signal ends it.
+pub(crate) fn answer_on<R: AllocGlobal + Threads + Wait + Clock + Eprint + Files>(
     rt: &R,
     service: &Service,
     sockets: &[String],
@@ -41,7 +42,10 @@ pub(crate) fn answer_on<R: Threads + Wait + Eprint + Files>(
     if let Err(fault) = read {
         let _ = fail_serving(rt, fault, true);
     }
-    server.wait(rt);
+    let is_stopped = server.wait(rt, rt.alloc());
     remove_places(rt, service, sockets);
+    if is_stopped {
+        return ExitCode::SUCCESS;
+    }
     fail(rt, "cannot serve")
 }

@@ -1,9 +1,10 @@
 //! Cases of `pn_serve`, a line each, of what the stored scripts of `test_rows` cannot say; `stdout` has what must be answered.
 //!
 //! `plan` and `says` read words; `run`, `blocks`, `writes` and `sessions` meet slow and failing readers and writers; `session` and
-//! `serve` answer sessions; `read` reads streams, and `writers` one whose writers come one after another. A bar is a newline.
+//! `serve` answer sessions, and `control` a control session; `read` reads streams, and `writers` one whose writers come one after another. A bar is a newline.
 #![tactic(auto)]
 
+mod control;
 mod loopback;
 mod plans;
 mod rounds;
@@ -12,6 +13,7 @@ mod sessions;
 mod talk;
 mod writers;
 
+use control::answer_control;
 use loopback::serve_stream;
 use plans::{plan_reply, says};
 use rounds::few_rounds;
@@ -30,6 +32,7 @@ fn main(rt: HostRuntime) -> Result<(), Fail> {
         Some(("blocks", lines)) => blocks(&rt, alloc, lines),
         Some(("session", lines)) => answer_session(&rt, alloc, lines),
         Some(("sessions", how)) => fail_sessions(&rt, alloc, how),
+        Some(("control", lines)) => answer_control(&rt, alloc, lines),
         Some(("serve", position)) => serve_stream(&rt, alloc, position),
         Some(("read", _)) => few_rounds(&rt, alloc),
         Some(("writers", line)) => read_writers(&rt, alloc, line),

@@ -2,7 +2,9 @@
 
 use pn_join::{Name, NoMemory};
 use pn_line::InMemory;
-use pn_serve::{Counter, Origin, Stream, WriterEnd, close_region, open_region, read_streams};
+use pn_serve::{
+    Counter, Origin, Stream, Watchers, WriterEnd, close_region, open_region, read_streams,
+};
 use std::alloc::Global;
 use std::sync::{Arc, Wait};
 use std::test::Fail;
@@ -74,7 +76,11 @@ where
     let layout = layout(alloc, "").ok_or(NoMemory)?;
     let (live, readers) = open_region(rt, alloc, layout, 1)?;
     let mut live = live;
-    let read = read_streams(rt, alloc, &mut live, 1, streams, Some(counter));
+    let watchers = Watchers {
+        rounds: Some(counter),
+        controls: None,
+    };
+    let read = read_streams(rt, alloc, &mut live, 1, streams, &watchers);
     close_region(rt, live, readers)?;
     read?;
     let is_few = rounds.get() <= MAX_ROUNDS;

@@ -7,7 +7,8 @@ use pn_join::{Name, NoMemory};
 use pn_line::InMemory;
 use pn_region::Region;
 use pn_serve::{
-    Counter, Origin, ServeFault, Stream, WriterEnd, close_region, open_region, read_streams,
+    Counter, Origin, ServeFault, Stream, Watchers, WriterEnd, close_region, open_region,
+    read_streams,
 };
 use std::alloc::{AllocError, Global};
 use std::sync::{Arc, Mutex, Wait};
@@ -109,7 +110,11 @@ where
     let layout = layout(alloc, "").ok_or(NoMemory)?;
     let (live, readers) = open_region(rt, alloc, layout, 1)?;
     let mut live = live;
-    let ended = read_streams(rt, alloc, &mut live, 1, streams, None);
+    let watchers = Watchers {
+        rounds: None,
+        controls: None,
+    };
+    let ended = read_streams(rt, alloc, &mut live, 1, streams, &watchers);
     Ok((ended, close_region(rt, live, readers)?))
 }
 

@@ -82,6 +82,7 @@ fn new_acceptor(
     idle: u32,
 ) -> Result<SocketAcceptor, AllocError> {
     Ok(SocketAcceptor {
+        control: None,
         listener,
         idle: Some(idle),
         counters: Arc::new(alloc, Counters::new(alloc, Vec::new(alloc))?)?,
@@ -206,7 +207,7 @@ where
     let mut server = StayingServer::start(rt, alloc, acceptor, settings, 2, 16).ok()?;
     let read = server.read_streams(rt, alloc, streams).ok();
     ended.add(1);
-    server.wait(rt);
+    let _ = server.wait(rt, alloc);
     read
 }
 

@@ -3,6 +3,7 @@
 from .addresses import Address, Tcp, Unix, address_of
 from .aio import AsyncClient
 from .client import Client
+from .control import AsyncControl, Control, Notice, Notices, Tablet
 from .errors import (
     BadLine,
     ConnectionFailed,
@@ -24,6 +25,7 @@ from .requests import Page, Request
 __all__ = [
     "Address",
     "AsyncClient",
+    "AsyncControl",
     "AsyncRegions",
     "BadLine",
     "Bounds",
@@ -31,8 +33,11 @@ __all__ = [
     "Condition",
     "ConnectionFailed",
     "Content",
+    "Control",
     "CopyBehind",
     "NoEntry",
+    "Notice",
+    "Notices",
     "OutOfMemory",
     "Page",
     "PnutsError",
@@ -44,6 +49,7 @@ __all__ = [
     "Refused",
     "Regions",
     "Request",
+    "Tablet",
     "Tcp",
     "TimedOut",
     "Unix",

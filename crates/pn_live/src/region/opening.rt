@@ -23,10 +23,10 @@ use std::alloc::Global;
 use std::sync::Wait;
 
 /// The most readers of a live region.
-pub const MAX_READERS: usize = 16;
+pub const MAX_READERS: usize = 32;
 
 impl LiveRegion {
-    /// Opens a live region of empty tablets that serve, with 1 to 16 readers. It has the right to wait, and no
+    /// Opens a live region of empty tablets that serve, with 1 to 32 readers. It has the right to wait, and no
     /// reader to wait for.
     ///
     /// `NoReader`: a tablet gave fewer readers than were asked for.

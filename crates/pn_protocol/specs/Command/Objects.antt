@@ -10,7 +10,7 @@ use Rattle.pn_protocol.specs.Command.Words.{word_in}
 use Rattle.pn_protocol.specs.Command.ShapeChecks.{named_alone}
 use Rattle.pn_protocol.specs.Command.Tablets.{adopt_in, copy_in, lose_in, relayout_in}
 use Rattle.pn_protocol.specs.declared.command.parse.Allowed.{Allowed}
-use Rattle.pn_protocol.specs.declared.command.parse.Allowed.TheVariants.{All, Lookups}
+use Rattle.pn_protocol.specs.declared.command.parse.Allowed.TheVariants.{All, Controls, Lookups}
 use Rattle.pn_protocol.specs.declared.command.word.CommandWord.{CommandWord}
 use Rattle.pn_protocol.specs.declared.command.word.CommandWord.TheVariants.{Adopt, Copy, Deliver, Get, Lose, Marks, Notices, Read, Relayout, Scan, Tablets}
 use Rattle.pn_protocol.specs.declared.refusal.Part.TheVariants.{Whole, Do}
@@ -47,10 +47,17 @@ lookup_word Read = Ok tt
 lookup_word Scan = Ok tt
 lookup_word word = Err ReadOnly
 
+-- the word of a command that control sessions have
+abbrev pub control_word : CommandWord → Result (Unit {0}) Refusal
+control_word Deliver = Err ReadOnly
+control_word Relayout = Err ReadOnly
+control_word word = Ok tt
+
 -- the word is allowed, whatever the other members are
 abbrev pub allowed_word : Allowed → CommandWord → Result (Unit {0}) Refusal
 allowed_word All word = Ok tt
 allowed_word Lookups word = lookup_word word
+allowed_word Controls word = control_word word
 
 -- the command that a value says, if it is allowed
 unfoldable pub allowed_in : Allowed → Data → Result CommandValue Refusal

@@ -1,6 +1,8 @@
 -- What the reply to a command that was not run says, by its fault.
 use Rattle.std.specs.Prelude.{ℕ, List, codes}
 use Rattle.serde_json.specs.Data.{Data, no_members}
+use Rattle.pn_region.specs.declared.fault.AdvanceFault.{AdvanceFault}
+use Rattle.pn_region.specs.declared.fault.AdvanceFault.TheVariants as advance
 use Rattle.pn_region.specs.declared.fault.RelayoutFault.{RelayoutFault}
 use Rattle.pn_region.specs.declared.fault.RelayoutFault.TheVariants as relayout
 use Rattle.pn_region.specs.declared.fault.RoundFault.{RoundFault}
@@ -66,3 +68,8 @@ adopt_fault_data adoption.Memory = error_data (codes "memory") no_members
 abbrev pub relayout_fault_data : RelayoutFault → Data
 relayout_fault_data (relayout.StillRecovering tablet) = error_data (codes "still-recovering") (with_number (codes "tablet") tablet no_members)
 relayout_fault_data relayout.Memory = error_data (codes "memory") no_members
+
+-- the reply where the marks stay
+unfoldable pub advance_fault_data : AdvanceFault → Data
+advance_fault_data advance.TooManyStreams = error_data (codes "too-many-streams") no_members
+advance_fault_data advance.Memory = error_data (codes "memory") no_members

@@ -3,7 +3,7 @@ use Rattle.std.specs.Prelude.{ℕ, List, ◌++◌, codes, decimal}
 use Rattle.serde_json.specs.Data.{Data, number, string, object, unsigned, Members, no_members, member}
 use Rattle.pn_record.specs.Words.{word_of}
 use Rattle.pn_protocol.specs.declared.refusal.Part.{Part}
-use Rattle.pn_protocol.specs.declared.refusal.Part.TheVariants.{Whole, Do, Batches, Bounds, First, Images, Key, Keys, Lines, Need, Stream, Query, Since, Tablet, Version, Other, Image}
+use Rattle.pn_protocol.specs.declared.refusal.Part.TheVariants.{Whole, Do, Batches, Bounds, First, Images, Key, Keys, Lines, Need, Stream, Query, Seconds, Since, Tablet, Version, Wait, Other, Image}
 use Rattle.pn_protocol.specs.declared.refusal.Refusal.{Refusal}
 use Rattle.pn_protocol.specs.declared.refusal.Refusal.TheVariants.{TooLong, NotJson, BadShape, ReadOnly, OutOfRange, Memory}
 use Rattle.pn_protocol.specs.declared.reply.short.NumberName.{NumberName}
@@ -24,9 +24,11 @@ part_word Lines = codes "lines"
 part_word Need = codes "need"
 part_word Stream = codes "stream"
 part_word Query = codes "query"
+part_word Seconds = codes "seconds"
 part_word Since = codes "since"
 part_word Tablet = codes "tablet"
 part_word Version = codes "version"
+part_word Wait = codes "wait"
 part_word Other = codes "other"
 part_word (Image part) = word_of part
 
@@ -67,12 +69,17 @@ lines_data count = number_data (codes "lines") count
 unfoldable pub relaid_data : ℕ → Data
 relaid_data count = number_data (codes "tablets") count
 
+-- the reply to a stop: after how many seconds at most the server ends
+unfoldable pub stopping_data : ℕ → Data
+stopping_data seconds = number_data (codes "stopping") seconds
+
 -- the reply of one number
 abbrev pub number_reply_data : NumberName → ℕ → Data
 number_reply_data name.Adopted tablet = adopted_data tablet
 number_reply_data name.Changed count = changed_data count
 number_reply_data name.Lines count = lines_data count
 number_reply_data name.Lost tablet = lost_data tablet
+number_reply_data name.Stopping seconds = stopping_data seconds
 number_reply_data name.Tablets count = relaid_data count
 
 -- the last line of a server: `served` and the number of sessions

@@ -1,9 +1,9 @@
 -- The bytes of replies.
 use Rattle.std.specs.Prelude.{ℕ, Bool, true, false, List, [], ◌++◌, string_bytes}
 use Rattle.pn_protocol.specs.declared.reply.Reply.{Reply}
-use Rattle.pn_protocol.specs.declared.reply.Reply.TheVariants.{Adopted, Changed, Copied, Lost, Relaid, Silent, Text, Refused, NotTaken}
+use Rattle.pn_protocol.specs.declared.reply.Reply.TheVariants.{Adopted, Changed, Copied, Lost, Relaid, Silent, Stopping, Text, Refused, NotTaken}
 use Rattle.pn_json.specs.Lines.{line_of}
-use Rattle.pn_protocol.specs.Reply.Short.{refusal_data, adopted_data, changed_data, lines_data, lost_data, relaid_data}
+use Rattle.pn_protocol.specs.Reply.Short.{refusal_data, adopted_data, changed_data, lines_data, lost_data, relaid_data, stopping_data}
 
 -- the bytes of a reply
 abbrev pub reply_text : Reply → List ℕ
@@ -13,6 +13,7 @@ reply_text (Copied lines text) = line_of (lines_data lines) ++ string_bytes text
 reply_text (Lost tablet) = line_of (lost_data tablet)
 reply_text (Relaid count) = line_of (relaid_data count)
 reply_text Silent = []
+reply_text (Stopping seconds) = line_of (stopping_data seconds)
 reply_text (Text text) = text.items
 reply_text (Refused refusal) = line_of (refusal_data refusal)
 reply_text (NotTaken text) = text.items

@@ -8,7 +8,7 @@ ghost use Rattle.pn_protocol.specs.Command.Deliveries.{deliver_at, deliver_in};
 ghost use Rattle.pn_protocol.specs.Command.Grammar.{IsCommandLine};
 ghost use Rattle.pn_protocol.specs.Command.Meaning.{CommandValue, deliver, command_value};
 ghost use Rattle.pn_protocol.specs.Command.Lines.{refusal_of, allowed_at, command_at, lookup_at, is_too_long};
-ghost use Rattle.pn_protocol.specs.Command.Objects.{alone_in, allowed_in, allowed_word, lookup_word, TakesMemory};
+ghost use Rattle.pn_protocol.specs.Command.Objects.{alone_in, allowed_in, allowed_word, control_word, lookup_word, TakesMemory};
 
 use crate::command::build::{build_deliveries, items_at};
 use crate::command::lookups::{parse_get, parse_notices, parse_read, parse_scan};
@@ -71,6 +71,8 @@ pub(crate) enum Allowed {
     All,
     /// `copy`, `get`, `read` and `scan`.
     Lookups,
+    /// All but `deliver` and `relayout`.
+    Controls,
 }
 
 #[tactic(auto, unfolding(crate::specs::Command::Lines::allowed_at))]
@@ -84,7 +86,7 @@ fn parse_allowed(alloc: Global, line: &[u8], allowed: Allowed) -> Result<Command
 
 // Reads a value as a command. Memory runs out only for a command, or while batches, keys or bounds are collected.
 #[tactic(auto, unfolding(crate::specs::Command::Objects::allowed_in, crate::specs::Command::Deliveries::deliver_at))]
-fn parse_value(alloc: Global, value: Value, allowed: Allowed) -> Result<Command, Refusal>
+pub(crate) fn parse_value(alloc: Global, value: Value, allowed: Allowed) -> Result<Command, Refusal>
     ensures exact { ShowsUnless Refusal.Memory command_value result (allowed_in allowed (view value)) }
     ensures memory { IsErrOf result Refusal.Memory → TakesMemory allowed (view value) }
 {
@@ -113,6 +115,7 @@ fn check_allowed(allowed: Allowed, word: CommandWord) -> Result<(), Refusal>
     match allowed {
         Allowed::All => Ok(()),
         Allowed::Lookups => check_lookup(word),
+        Allowed::Controls => check_control(word),
     }
 }
 
@@ -123,6 +126,16 @@ fn check_lookup(word: CommandWord) -> Result<(), Refusal>
     match word {
         CommandWord::Copy | CommandWord::Get | CommandWord::Read | CommandWord::Scan => Ok(()),
         _ => Err(Refusal::ReadOnly),
+    }
+}
+
+fn check_control(word: CommandWord) -> Result<(), Refusal>
+    ensures exact { result ≡ control_word word }
+    ensures memory { IsErrOf result Refusal.Memory → ⊥ }
+{
+    match word {
+        CommandWord::Deliver | CommandWord::Relayout => Err(Refusal::ReadOnly),
+        _ => Ok(()),
     }
 }
 

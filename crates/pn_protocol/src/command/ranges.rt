@@ -3,6 +3,7 @@
 ghost use Rattle.std.specs.Prelude.{◌≡◌, IsErrOf};
 ghost use Rattle.pn_json.specs.Prelude.{texts};
 ghost use Rattle.pn_record.specs.Prelude.{is_key};
+ghost use Rattle.pn_protocol.specs.Command.Controls.{are_seconds};
 ghost use Rattle.pn_protocol.specs.Command.Limits.{may_announce, may_be_asked};
 ghost use Rattle.pn_protocol.specs.Command.RangeChecks.{fits, each_fits, image_fits, batch_fits, batches_fit, bounds_fit, fitting_version, key_fits, keys_fit};
 ghost use Rattle.pn_protocol.specs.declared.refusal.Part.TheVariants as part;
@@ -23,6 +24,9 @@ const MAX_BATCHES: usize = 64;
 
 /// The most keys of a command.
 const MAX_KEYS: usize = 100;
+
+/// The most seconds that a command waits.
+const MAX_SECONDS: u64 = 60;
 
 /// Checks that there are 1 to 64 batches, each within its limits.
 #[tactic(auto, unfolding(crate::specs::Command::RangeChecks::batches_fit))]
@@ -132,6 +136,17 @@ pub(crate) fn check_since(since: u64) -> Result<(), Refusal>
         return Err(Refusal::OutOfRange(Part::Since));
     }
     Ok(())
+}
+
+/// Checks a number of seconds that a command waits. The part names the fault.
+pub(crate) fn check_seconds(seconds: u64, part: Part) -> Result<(), Refusal>
+    ensures exact { result ≡ fits part (are_seconds seconds) }
+    ensures memory { IsErrOf result Refusal.Memory → ⊥ }
+{
+    if seconds <= MAX_SECONDS {
+        return Ok(());
+    }
+    Err(Refusal::OutOfRange(part))
 }
 
 /// The version of these numbers, if there are some.

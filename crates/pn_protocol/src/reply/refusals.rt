@@ -3,6 +3,7 @@
 ghost use Rattle.std.specs.Prelude.{◌≡◌, codes, IfOk};
 ghost use Rattle.serde_json.specs.Data.{no_members};
 ghost use Rattle.pn_json.specs.Prelude.{line_of};
+ghost use Rattle.pn_region.specs.declared.fault.AdvanceFault.TheVariants.{Memory as no_memory_to_advance};
 ghost use Rattle.pn_region.specs.declared.fault.RelayoutFault.TheVariants.{Memory as no_memory_to_relay};
 ghost use Rattle.pn_region.specs.declared.fault.RoundFault.TheVariants.{Memory as no_memory_for_a_round};
 ghost use Rattle.pn_scan.specs.declared.fault.ScanFault.TheVariants.{Memory as no_memory_to_look};
@@ -10,13 +11,13 @@ ghost use Rattle.pn_tablet.specs.declared.fault.CopyFault.TheVariants.{Memory as
 ghost use Rattle.pn_tablet.specs.declared.fault.CopyTextFault.TheVariants.{Memory as no_memory_to_read};
 ghost use Rattle.pn_tablet.specs.declared.fault.OpFault.TheVariants.{Memory as no_memory_to_adopt};
 ghost use Rattle.pn_protocol.specs.Reply.Errors.{error_data, with_number};
-ghost use Rattle.pn_protocol.specs.Reply.Faults.{at_line, short_data, too_old_data, round_fault_data, lookup_fault_data, copy_fault_data, copy_text_fault_data, adopt_fault_data, relayout_fault_data};
+ghost use Rattle.pn_protocol.specs.Reply.Faults.{at_line, short_data, too_old_data, round_fault_data, lookup_fault_data, copy_fault_data, copy_text_fault_data, adopt_fault_data, relayout_fault_data, advance_fault_data};
 ghost use Rattle.pn_protocol.specs.Reply.Refusals.{Refuses, RefusesWith, SaysWhy};
 
 use crate::reply::errors::{Detail, error_reply};
 use crate::{Refusal, Reply};
 use pn_join::{NoMemory, StreamName};
-use pn_region::{AdoptFault, RelayoutFault, RoundFault};
+use pn_region::{AdoptFault, AdvanceFault, RelayoutFault, RoundFault};
 use pn_scan::ScanFault;
 use pn_tablet::{CopyFault, CopyTextFault};
 use std::alloc::Global;
@@ -36,6 +37,8 @@ pub enum CommandFault {
     Round(RoundFault),
     /// A change of the layout.
     Relayout(RelayoutFault),
+    /// Marks that advance.
+    Advance(AdvanceFault),
 }
 
 /// Refuses a command, as with `{"error":"gap","got":7,"stream":"east","wanted":4}`.
@@ -49,6 +52,7 @@ pub fn refuse(alloc: Global, fault: CommandFault) -> Reply
         CommandFault::Adoption(fault) => refuse_with(adoption_error(alloc, fault)),
         CommandFault::Round(fault) => refuse_with(round_error(alloc, fault)),
         CommandFault::Relayout(fault) => refuse_with(relayout_error(alloc, fault)),
+        CommandFault::Advance(fault) => refuse_with(advance_error(alloc, fault)),
     }
 }
 
@@ -141,6 +145,15 @@ fn round_error(alloc: Global, fault: RoundFault) -> Option<Result<Vec<u8>, NoMem
         } => Some(short_error(alloc, "gap", "got", got, stream, wanted)),
         RoundFault::TooManyStreams => Some(error_reply(alloc, "too-many-streams", &[])),
         RoundFault::Memory => None,
+    }
+}
+
+fn advance_error(alloc: Global, fault: AdvanceFault) -> Option<Result<Vec<u8>, NoMemory>>
+    ensures { SaysWhy no_memory_to_advance fault (advance_fault_data fault) result }
+{
+    match fault {
+        AdvanceFault::TooManyStreams => Some(error_reply(alloc, "too-many-streams", &[])),
+        AdvanceFault::Memory => None,
     }
 }
 

@@ -91,12 +91,14 @@ pub enum NumberName {
     Lines,
     /// The tablet that was lost.
     Lost,
+    /// After how many seconds at most the server ends.
+    Stopping,
     /// How many tablets a new layout has.
     Tablets,
 }
 
 /// The reply of one number, as `{"changed":3}`.
-#[tactic(auto, unfolding(pn_json::specs::Lines::line_of, crate::specs::Reply::Short::adopted_data, crate::specs::Reply::Short::changed_data, crate::specs::Reply::Short::lines_data, crate::specs::Reply::Short::lost_data, crate::specs::Reply::Short::relaid_data, serde_json::proofs::OnLiterals::serde_json_on_literals))]
+#[tactic(auto, unfolding(pn_json::specs::Lines::line_of, crate::specs::Reply::Short::adopted_data, crate::specs::Reply::Short::changed_data, crate::specs::Reply::Short::lines_data, crate::specs::Reply::Short::lost_data, crate::specs::Reply::Short::relaid_data, crate::specs::Reply::Short::stopping_data, serde_json::proofs::OnLiterals::serde_json_on_literals))]
 pub fn number_reply(name: NumberName, number: u64) -> ShortReply
     ensures { result ≡ line_of (number_reply_data name number) }
 {
@@ -105,6 +107,7 @@ pub fn number_reply(name: NumberName, number: u64) -> ShortReply
         NumberName::Changed => number_line("{\"changed\":", number),
         NumberName::Lines => number_line("{\"lines\":", number),
         NumberName::Lost => number_line("{\"lost\":", number),
+        NumberName::Stopping => number_line("{\"stopping\":", number),
         NumberName::Tablets => number_line("{\"tablets\":", number),
     }
 }

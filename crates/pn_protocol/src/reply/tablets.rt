@@ -1,11 +1,10 @@
 //! The replies that show the tablets, and how far streams were taken.
 
-ghost use Rattle.std.specs.Prelude.{◌≡◌, ◌≤◌, length, map, Some, IfOk, OnOk, slice_get};
+ghost use Rattle.std.specs.Prelude.{◌≡◌, map, IfOk, OnOk};
 ghost use Rattle.std.specs.Option.{option_copied};
 ghost use Rattle.serde_json.specs.Data.{array};
 ghost use Rattle.serde_json.specs.View.{items_of};
 ghost use Rattle.pn_json.specs.Prelude.{line_of, Appends, value_tokens};
-ghost use Rattle.pn_tablet.specs.Prelude.{TabletStateValue};
 ghost use Rattle.pn_protocol.specs.Reply.Tablets.{end_data, marks_reply_data, need_data, tablet_data, tablets_data};
 
 use json::Writer;
@@ -13,12 +12,42 @@ use pn_join::{Marks, NoMemory};
 use pn_json::{begin_line, finish_line};
 use pn_record::{Key, write_marks};
 use pn_region::Region;
-use pn_tablet::Status;
+use pn_tablet::{Status, TabletState};
 use std::alloc::Global;
 
+/// A region whose tablets are shown.
+pub trait ShownTablets {
+    ghost use Rattle.std.specs.Prelude.{◌≡◌, ◌<◌, List, length, slice_get, Some};
+    ghost use Rattle.pn_tablet.specs.Prelude.{TabletStateValue};
+
+    /// The tablets, in their order.
+    ghost tablets: { Self → List TabletStateValue };
+
+    /// How many tablets there are.
+    fn count(&self) -> usize
+        ensures { result ≡ length (tablets self.now) };
+
+    /// The tablet of this number.
+    fn tablet(&self, number: usize) -> &TabletState
+        requires { number < length (tablets self.now) }
+        ensures { slice_get (tablets self.now) number ≡ Some result.now };
+}
+
+impl ShownTablets for Region {
+    ghost tablets = { λ region. region.state.tablets };
+
+    fn count(&self) -> usize {
+        self.layout().count()
+    }
+
+    fn tablet(&self, number: usize) -> &TabletState {
+        Region::tablet(self, number)
+    }
+}
+
 /// The tablets in their order: `{"tablets":[{"cover":{..},"from":F,"need":M,"to":T},..]}`.
-pub fn tablets_reply(alloc: Global, region: &Region) -> Result<Vec<u8>, NoMemory>
-    ensures { IfOk result (λ text. text.items ≡ line_of (tablets_data region.now.state.tablets)) }
+pub fn tablets_reply<T: ShownTablets>(alloc: Global, region: &T) -> Result<Vec<u8>, NoMemory>
+    ensures { IfOk result (λ text. text.items ≡ line_of (tablets_data (T.tablets region.now))) }
 {
     let mut writer = begin_line(alloc)?;
     write_tablets_object(&mut writer, region)?;
@@ -26,8 +55,8 @@ pub fn tablets_reply(alloc: Global, region: &Region) -> Result<Vec<u8>, NoMemory
 }
 
 #[tactic(auto, unfolding(crate::specs::Reply::Tablets::tablets_data))]
-fn write_tablets_object(writer: &mut Writer, region: &Region) -> Result<(), NoMemory>
-    ensures { OnOk result (Appends writer.old writer.new (value_tokens (tablets_data region.now.state.tablets))) }
+fn write_tablets_object<T: ShownTablets>(writer: &mut Writer, region: &T) -> Result<(), NoMemory>
+    ensures { OnOk result (Appends writer.old writer.new (value_tokens (tablets_data (T.tablets region.now)))) }
 {
     writer.begin_object()?;
     writer.key("tablets")?;
@@ -36,24 +65,21 @@ fn write_tablets_object(writer: &mut Writer, region: &Region) -> Result<(), NoMe
     Ok(())
 }
 
-fn write_tablets(writer: &mut Writer, region: &Region) -> Result<(), NoMemory>
+fn write_tablets<T: ShownTablets>(writer: &mut Writer, region: &T) -> Result<(), NoMemory>
     ensures { OnOk result (Appends writer.old writer.new
-        (value_tokens (array (items_of (map tablet_data region.now.state.tablets))))) }
+        (value_tokens (array (items_of (map tablet_data (T.tablets region.now)))))) }
 {
     writer.begin_array()?;
-    for tablet in 0..region.layout().count() {
-        write_tablet(writer, region, tablet)?;
+    for number in 0..region.count() {
+        write_tablet(writer, region.tablet(number))?;
     }
     writer.end_array()?;
     Ok(())
 }
 
-fn write_tablet(writer: &mut Writer, region: &Region, tablet: usize) -> Result<(), NoMemory>
-    requires { tablet ≤ length region.now.state.layout }
-    ensures { OnOk result ((shown : TabletStateValue) → slice_get region.now.state.tablets tablet ≡ Some shown
-        → Appends writer.old writer.new (value_tokens (tablet_data shown))) }
+fn write_tablet(writer: &mut Writer, state: &TabletState) -> Result<(), NoMemory>
+    ensures { OnOk result (Appends writer.old writer.new (value_tokens (tablet_data state.now))) }
 {
-    let state = region.tablet(tablet);
     writer.begin_object()?;
     writer.key("cover")?;
     write_marks(writer, state.cover())?;

@@ -1,5 +1,5 @@
 -- What `serve` and `replay` say with their options.
-use Rattle.std.specs.Prelude.{ℕ, Bool, ◌==◌, ◌&&◌, nat_lt, if◌then◌else◌, List, [], length, codes, Option, Some, None, unwrap_or, option_and_then, min, max, Result, Ok, Err}
+use Rattle.std.specs.Prelude.{ℕ, Bool, ◌==◌, ◌&&◌, not, nat_lt, if◌then◌else◌, List, [], length, codes, Option, Some, None, unwrap_or, option_and_then, min, max, Result, Ok, Err}
 use Rattle.std.specs.Net.Grammar.{IsIpText}
 use Rattle.std.specs.Option.{ok_or}
 use Rattle.std.specs.Str.{bytes_eq}
@@ -9,13 +9,13 @@ use Rattle.clap.specs.ValueTests.{is_unsigned_in}
 use Rattle.clap.specs.Words.{Row, Text, all_of, first_of, one_of}
 use Rattle.pn_json.specs.Answers.{◌>>=◌}
 use Rattle.pn_apply.specs.declared.reducing.TheConstants.{MAX_WORKERS}
-use Rattle.pn_live.specs.declared.region.opening.TheConstants.{MAX_READERS}
-use Rattle.pn_serve.specs.declared.arguments.options.TheConstants.{MAX_CONNECTIONS, MAX_IDLE, MAX_PORT}
+use Rattle.pn_serve.specs.declared.arguments.options.TheConstants.{MAX_CONNECTIONS, MAX_IDLE, MAX_PORT, MAX_SESSIONS}
 use Rattle.pn_serve.specs.Settings.{SettingsValue}
 use Rattle.pn_serve.specs.Arguments.Bounds.{bounds_in}
 use Rattle.pn_serve.specs.Arguments.Streams.{streams_in}
 use Rattle.pn_serve.specs.declared.arguments.faults.OptionFault.{OptionFault}
 use Rattle.pn_serve.specs.declared.arguments.faults.OptionFault.TheVariants as fault
+use Rattle.pn_serve.specs.declared.arguments.faults.Why.TheVariants as why
 use Rattle.pn_serve.specs.declared.arguments.streams.TheConstants.{MAX_SOCKET_BYTES}
 use Rattle.pn_serve.specs.Arguments.PlanValues.{AddressValue, PlanValue, ServiceValue, path, port, replay, serve}
 
@@ -59,14 +59,24 @@ address_in host options =
     else if is_long options then Err fault.Socket
     else Ok (path (text_at (codes "socket") options))
 
+-- the Unix socket of control sessions, which are only with `--stay`
+abbrev pub control_in : List Row → Result (Option Text) OptionFault
+control_in options =
+    if is_absent (codes "control") options then Ok None
+    else if not (is_set (codes "stay") options) then Err (fault.Control why.NoStay)
+    else if nat_lt MAX_SOCKET_BYTES (length (text_at (codes "control") options)) then Err (fault.Control why.LongPath)
+    else Ok (Some (text_at (codes "control") options))
+
 -- how sessions are served
 abbrev pub service_in : IpAddr → List Row → Result ServiceValue OptionFault
 service_in host options = do
   address ← address_in host options
+  control ← control_in options
   Ok (record {
-    sessions = number_at (codes "sessions") MAX_READERS options;
+    sessions = number_at (codes "sessions") MAX_SESSIONS options;
     address = address;
     stay = stay_in options;
+    control = control;
     idle = idle_in options;
     is_progress_told = is_set (codes "progress") options;
   })

@@ -5,8 +5,7 @@ use Rattle.clap.specs.declared.builder.action.ArgAction.TheVariants.{Append, Set
 use Rattle.clap.specs.declared.builder.value_parser.ValueParser.{ValueParser}
 use Rattle.clap.specs.declared.builder.value_parser.ValueParser.TheVariants as values
 use Rattle.pn_apply.specs.declared.reducing.TheConstants.{MAX_WORKERS}
-use Rattle.pn_live.specs.declared.region.opening.TheConstants.{MAX_READERS}
-use Rattle.pn_serve.specs.declared.arguments.options.TheConstants.{MAX_CONNECTIONS, MAX_IDLE, MAX_PORT}
+use Rattle.pn_serve.specs.declared.arguments.options.TheConstants.{MAX_CONNECTIONS, MAX_IDLE, MAX_PORT, MAX_SESSIONS}
 
 -- an option with one value, and its default
 abbrev pub option_of : Text → Text → Rule
@@ -26,7 +25,7 @@ workers_option = number_option (codes "workers") (codes "1") MAX_WORKERS
 
 -- how many sessions are served
 abbrev pub sessions_option : Rule
-sessions_option = number_option (codes "sessions") (codes "4") MAX_READERS
+sessions_option = number_option (codes "sessions") (codes "4") MAX_SESSIONS
 
 -- the port that is listened on
 abbrev pub port_option : Rule
@@ -40,13 +39,17 @@ flag_option name = record (new_rule name) { long = Some name; action = Some SetT
 abbrev pub stay_flag : Rule
 stay_flag = flag_option (codes "stay")
 
--- the address that is listened at
-abbrev pub listen_option : Rule
-listen_option = option_of (codes "listen") (codes "127.0.0.1")
-
 -- an option with one value, and none where it is absent
 abbrev pub plain_option : Text → ValueParser → Rule
 plain_option name parser = record (new_rule name) { long = Some name; value_names = 1; parser = Some parser }
+
+-- the Unix socket of control sessions
+abbrev pub control_option : Rule
+control_option = plain_option (codes "control") values.NonEmptyString
+
+-- the address that is listened at
+abbrev pub listen_option : Rule
+listen_option = option_of (codes "listen") (codes "127.0.0.1")
 
 -- the Unix socket that is listened on
 abbrev pub socket_option : Rule
@@ -75,7 +78,7 @@ replay = with_rule (with_rule (new_app (codes "replay")) bounds_option) workers_
 -- where and how long sessions are served
 abbrev pub with_service : App → App
 with_service app =
-    with_rule (with_rule (with_rule (with_rule (with_rule (with_rule (with_rule (with_rule app sessions_option) listen_option) port_option) socket_option) stay_flag) connections_option) idle_option) progress_flag
+    with_rule (with_rule (with_rule (with_rule (with_rule (with_rule (with_rule (with_rule (with_rule app sessions_option) listen_option) port_option) socket_option) stay_flag) control_option) connections_option) idle_option) progress_flag
 
 -- streams are read while sessions are served
 abbrev pub serve : App

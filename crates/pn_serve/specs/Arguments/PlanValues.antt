@@ -1,5 +1,6 @@
 -- Plans of the program.
-use Rattle.std.specs.Prelude.{ℕ, Bool, List, map, string_bytes, Option}
+use Rattle.std.specs.Prelude.{ℕ, Bool, List, String, map, string_bytes, Option, option_map}
+use Rattle.std.specs.declared.alloc.Global.{Global}
 use Rattle.std.specs.declared.net.ip_addr.IpAddr.{IpAddr}
 use Rattle.pn_serve.specs.Settings.{SettingsValue}
 use Rattle.pn_serve.specs.Arguments.Streams.{StreamValue, stream_value}
@@ -14,12 +15,13 @@ pub data AddressValue : Type 0 where
   port : IpAddr → ℕ → AddressValue
   path : List ℕ → AddressValue
 
--- the sessions, where the server listens, the connections of a server that stays, the seconds of a client that is idle, and
+-- the sessions, where the server listens, the connections of a server that stays, the socket of its control sessions, the seconds of a client that is idle, and
 -- whether progress is told
 pub record ServiceValue : Type 0 where
   pub sessions : ℕ
   pub address : AddressValue
   pub stay : Option ℕ
+  pub control : Option (List ℕ)
   pub idle : Option ℕ
   pub is_progress_told : Bool
 
@@ -35,12 +37,17 @@ abbrev pub address_value : Address → AddressValue
 address_value (address.Port host number) = port host number
 address_value (address.Path text) = path (string_bytes text)
 
+-- the path of a plan, if there is one
+abbrev pub path_value : Option (String Global) → Option (List ℕ)
+path_value path = option_map string_bytes path
+
 -- how a plan serves
 abbrev pub service_value : Service → ServiceValue
 service_value service = record {
   sessions = service.sessions;
   address = address_value service.address;
   stay = service.stay;
+  control = path_value service.control;
   idle = service.idle;
   is_progress_told = service.is_progress_told;
 }

@@ -4,7 +4,6 @@ use Rattle.std.specs.declared.net.ip_addr.IpAddr.{IpAddr}
 use Rattle.clap.specs.Words.{IsAmong, Row, Text, fault_of, subcommand_of}
 use Rattle.clap.specs.declared.error.kind.ErrorKind.{ErrorKind}
 use Rattle.clap.specs.declared.error.kind.ErrorKind.TheVariants.{DisplayHelp, DisplayVersion, OutOfMemory}
-use Rattle.pn_live.specs.declared.region.opening.TheConstants.{MAX_READERS}
 use Rattle.pn_serve.specs.Arguments.Options.{program}
 use Rattle.pn_serve.specs.declared.arguments.plans.Plan.{Plan}
 use Rattle.pn_serve.specs.declared.arguments.plans.Plan.TheVariants as plan
@@ -16,6 +15,7 @@ use Rattle.pn_serve.specs.Arguments.PlanValues.{PlanValue, plan_value}
 use Rattle.pn_serve.specs.Arguments.Commands.{Spells, is_serve, listens_at, plan_in}
 use Rattle.pn_serve.specs.Arguments.Faults.{FaultValue, fault_value, told_fault}
 use Rattle.pn_json.specs.Answers.{ShowsUnless}
+use Rattle.pn_serve.specs.declared.arguments.options.TheConstants.{MAX_SESSIONS}
 
 -- what the text of the host writes, of a command that listens
 abbrev pub Reads : Text × List Row → Option IpAddr → Type 0
@@ -81,5 +81,5 @@ Answers kind (Err found) = ⊥
 
 -- a plan to serve has 1 to 16 sessions
 abbrev pub HasSessions : Plan → Type 0
-HasSessions (plan.Serve settings service streams) = (1 ≤ service.sessions) × (service.sessions ≤ MAX_READERS)
+HasSessions (plan.Serve settings service streams) = (1 ≤ service.sessions) × (service.sessions ≤ MAX_SESSIONS)
 HasSessions planned = ⊤

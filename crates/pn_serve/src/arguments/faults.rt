@@ -18,6 +18,8 @@ pub enum PlanFault<'w> {
     Bounds(Option<Refused<'w>>),
     /// The address is none of IPv4 or IPv6; or, with `--stay`, the path of the socket is too long.
     Address(Option<Refused<'w>>),
+    /// Control sessions are only with `--stay`, and at a path of at most 107 bytes.
+    Control(Option<Refused<'w>>),
     /// A stream has no `=`, no name, no path, a socket's path that is too long, or another's name, or there are more than 16.
     Stream(Option<Refused<'w>>),
     Memory,
@@ -43,6 +45,8 @@ pub enum Why {
     NoLayout(LayoutFault),
     #[error("no address of IPv4 or IPv6")]
     NoAddress,
+    #[error("only with --stay")]
+    NoStay,
     #[error("no =")]
     NoEquals,
     #[error("no name")]
@@ -65,6 +69,8 @@ pub(crate) enum OptionFault {
     Listen,
     /// With `--stay`, the path of `--socket` is too long.
     Socket,
+    /// The path of `--control` is too long, or it is without `--stay`.
+    Control(Why),
     /// The stream of this index, from 0, is refused.
     Stream(usize, Why),
     Memory,
@@ -76,6 +82,7 @@ impl fmt::Display for PlanFault<'_> {
             PlanFault::Words(text) => f.write_str(text.as_str()),
             PlanFault::Bounds(refused) => write_refused(f, "bounds", refused),
             PlanFault::Address(refused) => write_refused(f, "address", refused),
+            PlanFault::Control(refused) => write_refused(f, "control", refused),
             PlanFault::Stream(refused) => write_refused(f, "stream", refused),
             PlanFault::Memory => f.write_str("memory"),
         }

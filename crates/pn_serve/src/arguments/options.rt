@@ -10,8 +10,10 @@ ghost use Rattle.pn_serve.specs.Arguments.Commands.{is_set, number_at, number_in
 use clap::builder::ValueParser;
 use clap::{Arg, ArgAction, ArgMatches, Command};
 use pn_apply::MAX_WORKERS;
-use pn_live::MAX_READERS;
 use std::alloc::{AllocError, Global};
+
+/// The most sessions that are served.
+pub const MAX_SESSIONS: usize = 16;
 
 /// The greatest port that can be listened on.
 pub(crate) const MAX_PORT: u32 = 65_535;
@@ -64,6 +66,9 @@ const PORT_HELP: &str = "The port that is listened on";
 const SOCKET_HELP: &str =
     "A Unix socket that is listened on in place of a port; only its owner may connect";
 
+const CONTROL_HELP: &str =
+    "With --stay: a Unix socket for those who run the region; only its owner may connect";
+
 const STAY_HELP: &str =
     "Goes on until a signal ends it, and reads one writer of a FIFO or socket after another";
 
@@ -102,19 +107,14 @@ fn serve<'w>(alloc: Global) -> Result<Command<'w>, AllocError>
             "sessions",
             "N",
             "4",
-            MAX_READERS as u32,
+            MAX_SESSIONS as u32,
             SESSIONS_HELP,
         ))?
         .arg(option(alloc, "listen", "ADDRESS", "127.0.0.1", LISTEN_HELP))?
         .arg(number(alloc, "port", "P", "7070", MAX_PORT, PORT_HELP))?
-        .arg(plain(
-            alloc,
-            "socket",
-            ValueParser::NonEmptyString,
-            "PATH",
-            SOCKET_HELP,
-        ))?
+        .arg(path(alloc, "socket", SOCKET_HELP))?
         .arg(flag(alloc, "stay", STAY_HELP))?
+        .arg(path(alloc, "control", CONTROL_HELP))?
         .arg(number(
             alloc,
             "connections",
@@ -211,6 +211,14 @@ fn plain<'w>(
         .value_name(value)
         .value_parser(parser)
         .help(help)
+}
+
+// An option whose value is a path, which has no default.
+fn path<'w>(alloc: Global, name: &'w str, help: &'w str) -> Arg<'w>
+    ensures rule { rule_of result ≡ plain_option name.now values.NonEmptyString }
+    ensures local { result.global ≡ false }
+{
+    plain(alloc, name, ValueParser::NonEmptyString, "PATH", help)
 }
 
 // An option that is given or not, without a value.

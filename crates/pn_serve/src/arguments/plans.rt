@@ -30,6 +30,8 @@ pub struct Service {
     pub address: Address,
     /// With `--stay`, how many connections are served at once: 1 to 65,536.
     pub stay: Option<u32>,
+    /// With `--stay`, the path of the Unix socket of control sessions, of 1 to 107 bytes.
+    pub control: Option<String>,
     /// After how many seconds a client that sends nothing and takes nothing is ended: 1 to 86,400.
     pub idle: Option<u32>,
     /// Whether progress is written to standard error each second.

@@ -24,6 +24,10 @@ pub(crate) fn told_fault<'w>(options: &ArgMatches<'w>, fault: OptionFault) -> Pl
         OptionFault::Socket => {
             PlanFault::Address(reason_of(options, option_text(options, "socket"), Why::LongPath))
         }
+        OptionFault::Control(why) => PlanFault::Control(Some(Refused {
+            text: option_text(options, "control"),
+            why,
+        })),
         OptionFault::Stream(index, why) => {
             PlanFault::Stream(reason_of(options, stream_word(options, index), why))
         }

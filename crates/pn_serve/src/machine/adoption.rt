@@ -40,6 +40,35 @@ impl Announced {
     }
 }
 
+/// What an announced line came to.
+#[derive(Drop)]
+pub(crate) enum Gathered {
+    /// Further lines are to come.
+    More(Announced),
+    /// It was the last one: the text of all. None once memory ran out.
+    Text(Option<Vec<u8>>),
+}
+
+impl Announced {
+    /// Takes a line with its newline.
+    pub(crate) fn gather(self, line: &[u8]) -> Gathered {
+        let Announced { left, text } = self;
+        let text = append_line(text, line, b"\n");
+        if left > 1 {
+            let left = left - 1;
+            return Gathered::More(Announced { left, text });
+        }
+        Gathered::Text(text)
+    }
+
+    /// The text of all, after a last part of a line. None once memory ran out.
+    pub(crate) fn end(self, part: &[u8]) -> Option<Vec<u8>>
+        ensures { IsJoined (bytes_of self.text) part.now [] (bytes_of result) }
+    {
+        append_line(self.text, part, b"")
+    }
+}
+
 /// Takes an announced line. The last one adopts the copy.
 pub(crate) fn take_line(
     alloc: Global,
@@ -49,13 +78,10 @@ pub(crate) fn take_line(
 ) -> Answer
     ensures { AnswersBy ⊥ (with_mode (Some announced) region.old) line.now (with_mode result.1 region.new) result.0 }
 {
-    let Announced { left, text } = announced;
-    let text = append_line(text, line, b"\n");
-    if left > 1 {
-        let left = left - 1;
-        return (Reply::Silent, Some(Announced { left, text }));
+    match announced.gather(line) {
+        Gathered::More(announced) => (Reply::Silent, Some(announced)),
+        Gathered::Text(text) => (adopt(alloc, region, text), None),
     }
-    (adopt(alloc, region, text), None)
 }
 
 /// Adopts the text so far, after a last part of a line.
@@ -67,7 +93,7 @@ pub(crate) fn take_last_part(
 ) -> Reply
     ensures { ConcludesBy ⊥ (with_mode (Some announced) region.old) part.now (machine_over region.new) result }
 {
-    adopt(alloc, region, append_line(announced.text, part, b""))
+    adopt(alloc, region, announced.end(part))
 }
 
 // Adds a line to the text. None once memory ran out.
@@ -102,7 +128,7 @@ pub(crate) fn adopt(alloc: Global, region: &mut Region, text: Option<Vec<u8>>) -
 }
 
 // Parses the copy and frees its text.
-fn read_text(alloc: Global, text: Vec<u8>) -> Result<TabletCopy, CopyTextFault>
+pub(crate) fn read_text(alloc: Global, text: Vec<u8>) -> Result<TabletCopy, CopyTextFault>
     ensures { IsUnless CopyTextFault.Memory result (copy_at text.items) }
 {
     read_copy(alloc, &text)

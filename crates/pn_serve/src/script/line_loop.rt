@@ -255,6 +255,7 @@ fn push_reply<W: Sink>(reply: &Reply, blocks: &mut Blocks, output: &mut W) -> Re
         Reply::Lost(tablet) => push_number(NumberName::Lost, *tablet, blocks, output),
         Reply::Relaid(count) => push_number(NumberName::Tablets, *count, blocks, output),
         Reply::Silent => Ok(()),
+        Reply::Stopping(seconds) => push_number(NumberName::Stopping, *seconds, blocks, output),
         Reply::Text(text) | Reply::NotTaken(text) => blocks.push(output, text),
         Reply::Refused(refusal) => blocks.push(output, refusal_reply(refusal).as_bytes()),
     }

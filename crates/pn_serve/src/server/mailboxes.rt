@@ -85,6 +85,7 @@ impl StreamMailboxes {
         streams: usize,
         at_fault: AtFault,
         rounds: Option<Arc<Counter>>,
+        wakeup: Arc<Wakeup>,
     ) -> Result<StreamMailboxes, AllocError>
         ensures at_fault { IfOk result (λ mailboxes. mailboxes.at_fault ≡ at_fault) }
         ensures none { IfOk result (λ mailboxes. mailboxes.streams.items ≡ []) }
@@ -93,7 +94,7 @@ impl StreamMailboxes {
         Ok(StreamMailboxes {
             streams: Vec::with_capacity(alloc, streams)?,
             at_fault,
-            wakeup: Arc::new(alloc, Wakeup::new())?,
+            wakeup,
             rounds,
         })
     }
@@ -121,6 +122,16 @@ impl StreamMailboxes {
             taken,
         })?;
         Ok(reporter)
+    }
+
+    /// Whether the thread of some stream has left a report.
+    pub(crate) fn has_report<R: Wait>(&self, rt: &R) -> bool {
+        for stream in self.streams.iter() {
+            if stream.mailbox.has_report(rt) {
+                return true;
+            }
+        }
+        false
     }
 
     /// Waits until a report is left, or was left since the last call.
@@ -186,6 +197,11 @@ impl Mailbox {
         let guard = self.held.lock(rt);
         let mut held = self.emptied.wait_while(rt, guard, |held| held.is_left());
         held.put(report)
+    }
+
+    /// Whether there is a report.
+    pub(crate) fn has_report<R: Wait>(&self, rt: &R) -> bool {
+        self.held.lock(rt).is_left()
     }
 
     /// Takes the report, if there is one.

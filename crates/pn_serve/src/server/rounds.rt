@@ -25,11 +25,11 @@ use std::thread::Threads;
 
 // What the mailboxes gave for one round.
 #[derive(Drop)]
-struct RoundInput {
+pub(crate) struct RoundInput {
     /// The messages of the streams that have some.
-    deliveries: Vec<Delivery>,
+    pub(crate) deliveries: Vec<Delivery>,
     /// The first stream with a fault.
-    fault: Option<StreamName>,
+    pub(crate) fault: Option<StreamName>,
 }
 
 /// Runs rounds until all streams end, or to the first fault.
@@ -58,7 +58,7 @@ pub(crate) fn run_rounds<R: Threads + Wait + Sync>(
 
 // Takes one report of each stream that has one. The streams that ended are read no more. The fault is out of memory, before a
 // report is taken.
-fn gather<R: Wait>(
+pub(crate) fn gather<R: Wait>(
     rt: &R,
     alloc: Global,
     mailboxes: &mut StreamMailboxes,
@@ -145,7 +145,7 @@ fn is_gap(marks: &Marks, delivery: &Delivery) -> bool
 }
 
 // Runs one round of what the mailboxes gave, also if a stream has a fault.
-fn run_round<R: Threads + Wait + Sync>(
+pub(crate) fn run_round<R: Threads + Wait + Sync>(
     rt: &R,
     live: &mut LiveRegion,
     workers: usize,

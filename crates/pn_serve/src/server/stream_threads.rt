@@ -9,7 +9,7 @@ ghost use Rattle.pn_serve.specs.declared.server.mailboxes.AtFault.TheVariants.{S
 use crate::ServeFault;
 use crate::server::counter::Counter;
 use crate::server::fault_log::{FaultLog, OneWriter};
-use crate::server::mailboxes::{AtFault, Reporter, StreamMailboxes};
+use crate::server::mailboxes::{AtFault, Reporter, StreamMailboxes, Wakeup};
 use crate::server::reporting::{StreamEnd, report_stream};
 use crate::server::writer_input::WriterInput;
 use pn_join::{Marks, StreamName};
@@ -56,7 +56,13 @@ impl<S: Source + Drop> StartedStreams<S> {
         ensures at_fault { IfOk result (λ started. started.mailboxes.at_fault ≡ Stop) }
     {
         Ok(StartedStreams {
-            mailboxes: StreamMailboxes::new(alloc, streams, AtFault::Stop, rounds)?,
+            mailboxes: StreamMailboxes::new(
+                alloc,
+                streams,
+                AtFault::Stop,
+                rounds,
+                Arc::new(alloc, Wakeup::new())?,
+            )?,
             threads: Vec::with_capacity(alloc, streams)?,
         })
     }

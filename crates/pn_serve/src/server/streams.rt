@@ -1,14 +1,17 @@
 //! Streams that are read from one writer after another into a live region, each in its own thread.
 
-ghost use Rattle.std.specs.Prelude.{◌≡◌, [], ◌∷◌, ◌++◌, ◌≤◌, map, IfErr, IfOk, OnOk};
+ghost use Rattle.std.specs.Prelude.{◌≡◌, [], ◌∷◌, ◌++◌, ◌≤◌, map, None, IfErr, IfOk, OnOk};
 ghost use Rattle.pn_apply.specs.declared.reducing.TheConstants.{MAX_WORKERS};
 ghost use Rattle.pn_live.specs.Prelude.{tablets_in};
+ghost use Rattle.pn_serve.specs.Server.Events.{ReadsBesides, RunsCommands};
 ghost use Rattle.pn_serve.specs.Server.Reading.{ReadsStreams};
 ghost use Rattle.pn_serve.specs.declared.server.mailboxes.AtFault.TheVariants.{GoOn};
 
 use crate::ServeFault;
+use crate::control::mailboxes::ControlMailboxes;
 use crate::server::counter::Counter;
-use crate::server::mailboxes::{AtFault, Reporter, StreamMailboxes};
+use crate::server::events::{run_commands, run_events};
+use crate::server::mailboxes::{AtFault, Reporter, StreamMailboxes, Wakeup};
 use crate::server::reporting::{next_input, report_stream};
 use crate::server::reports::Report;
 use crate::server::rounds::run_rounds;
@@ -20,6 +23,28 @@ use std::sync::{Arc, Wait};
 use std::thread;
 use std::thread::Threads;
 
+/// Who looks at the rounds, and who asks for something between them.
+#[derive(Drop)]
+pub struct Watchers {
+    /// Counts the rounds, where somebody looks at them.
+    pub rounds: Option<Arc<Counter>>,
+    /// The mailboxes of control sessions, where there may be some.
+    pub controls: Option<Arc<ControlMailboxes>>,
+}
+
+/// Does what control sessions ask for, until one asks the server to stop. Answers in how many seconds at most it is to end.
+pub fn take_commands<R: Wait>(
+    rt: &R,
+    alloc: Global,
+    live: &mut LiveRegion,
+    controls: &ControlMailboxes,
+) -> u64
+    ensures runs { RunsCommands GoOn live.old live.new }
+    ensures same { tablets_in live.new ≡ tablets_in live.old }
+{
+    run_commands(rt, alloc, live, controls)
+}
+
 /// Reads streams into a live region until all have ended, at most 1,000 messages of each a round. A stream's fault
 /// ends that stream alone. The fault is `Start`, or `Round`, after which no stream is read. Rounds are counted where
 /// somebody looks at it.
@@ -29,18 +54,22 @@ pub fn read_streams<R, S, O>(
     live: &mut LiveRegion,
     workers: usize,
     streams: Vec<Stream<O>>,
-    rounds: Option<Arc<Counter>>,
+    watchers: &Watchers,
 ) -> Result<(), ServeFault>
 where
     R: Threads + Wait + Sync + Copy + Send + 'static,
     S: Source + Drop + Send + 'static,
     O: Origin<S> + Drop + Send + 'static,
     requires workers { (1 ≤ workers) × (workers ≤ MAX_WORKERS) }
-    ensures reads { ReadsStreams (map (λ stream. stream.name) streams.items) live.old live.new result }
+    ensures alone { watchers.now.controls ≡ None → ReadsStreams (map (λ stream. stream.name) streams.items) live.old live.new result }
+    ensures reads { ReadsBesides (map (λ stream. stream.name) streams.items) live.old live.new result }
     ensures same { tablets_in live.new ≡ tablets_in live.old }
 {
-    let mut mailboxes = start_threads::<R, S, O>(rt, alloc, streams, rounds)?;
-    let read = run_rounds(rt, alloc, live, workers, &mut mailboxes);
+    let mut mailboxes = start_threads::<R, S, O>(rt, alloc, streams, watchers)?;
+    let read = match &watchers.controls {
+        Some(controls) => run_events(rt, alloc, live, workers, &mut mailboxes, controls),
+        None => run_rounds(rt, alloc, live, workers, &mut mailboxes),
+    };
     mailboxes.close(rt);
     read
 }
@@ -50,7 +79,7 @@ fn start_threads<R, S, O>(
     rt: &R,
     alloc: Global,
     streams: Vec<Stream<O>>,
-    rounds: Option<Arc<Counter>>,
+    watchers: &Watchers,
 ) -> Result<StreamMailboxes, ServeFault>
 where
     R: Threads + Wait + Copy + Send + 'static,
@@ -60,8 +89,7 @@ where
     ensures at_fault { IfOk result (λ mailboxes. mailboxes.at_fault ≡ GoOn) }
     ensures fault { IfErr result (λ fault. fault ≡ ServeFault.Start) }
 {
-    let made = StreamMailboxes::new(alloc, streams.len(), AtFault::GoOn, rounds);
-    let Ok(mut mailboxes) = made else {
+    let Ok(mut mailboxes) = new_mailboxes(alloc, streams.len(), watchers) else {
         return Err(ServeFault::Start);
     };
     for stream in streams {
@@ -71,6 +99,26 @@ where
         }
     }
     Ok(mailboxes)
+}
+
+// No mailbox, with capacity for those of this many streams. A report wakes whom a command wakes.
+fn new_mailboxes(
+    alloc: Global,
+    streams: usize,
+    watchers: &Watchers,
+) -> Result<StreamMailboxes, AllocError>
+    ensures at_fault { IfOk result (λ mailboxes. mailboxes.at_fault ≡ GoOn) }
+    ensures none { IfOk result (λ mailboxes. mailboxes.streams.items ≡ []) }
+{
+    let wakeup = match &watchers.controls {
+        Some(controls) => Arc::try_clone(&controls.wakeup)?,
+        None => Arc::new(alloc, Wakeup::new())?,
+    };
+    let rounds = match &watchers.rounds {
+        Some(rounds) => Some(Arc::try_clone(rounds)?),
+        None => None,
+    };
+    StreamMailboxes::new(alloc, streams, AtFault::GoOn, rounds, wakeup)
 }
 
 fn start_thread<R, S, O>(

@@ -26,7 +26,7 @@ pub(super) fn answer_line(alloc: Global, reader: &mut LiveReader, line: &[u8]) -
     }
 }
 
-fn look_up(alloc: Global, reader: &mut LiveReader, command: Command) -> Reply
+pub(crate) fn look_up(alloc: Global, reader: &mut LiveReader, command: Command) -> Reply
     ensures looks_up { LooksUp reader.old (command_value command) reader.new result }
     ensures same { tablets_of reader.new ≡ tablets_of reader.old }
 {

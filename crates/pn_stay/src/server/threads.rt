@@ -22,6 +22,13 @@ use std::thread::Threads;
 use std::time::Clock;
 use std::{io, thread};
 
+/// The threads that answer connections, and their mailboxes.
+#[derive(Drop)]
+pub(super) struct Answering {
+    pub(super) running: Vec<SessionThread>,
+    pub(super) mailboxes: Arc<Vec<Arc<SocketMailbox>>>,
+}
+
 /// Starts a thread for each reader, and one that accepts connections, at most this many at once.
 pub(super) fn start_answering<R>(
     rt: &R,
@@ -30,14 +37,14 @@ pub(super) fn start_answering<R>(
     connections: usize,
     live: &LiveRegion,
     readers: &mut Vec<LiveReader>,
-) -> io::Result<Vec<SessionThread>>
+) -> io::Result<Answering>
 where
     R: Threads + Wait + Net + Clock + Copy + Send + 'static,
     requires { AllRead (tablets_in live.now) readers.old.items }
-    ensures running { IfOk result (λ running. All (λ session. tablets_of session.promise.0.value ≡ tablets_in live.now) running.items) }
+    ensures running { IfOk result (λ answering. All (λ session. tablets_of session.promise.0.value ≡ tablets_in live.now) answering.running.items) }
     ensures readers { AllRead (tablets_in live.now) readers.new.items }
-    ensures capacity { IfOk result (λ running. vec_len running + vec_len readers.new ≤ vec_capacity readers.new) }
-    ensures all { IfOk result (λ running. vec_len running ≡ vec_len readers.old) }
+    ensures capacity { IfOk result (λ answering. vec_len answering.running + vec_len readers.new ≤ vec_capacity readers.new) }
+    ensures all { IfOk result (λ answering. vec_len answering.running ≡ vec_len readers.old) }
 {
     let SocketAcceptor {
         listener,
@@ -55,8 +62,9 @@ where
     let mut mailboxes = Vec::new(alloc);
     let running = start_threads(rt, &shared, &mut mailboxes, live, readers)?;
     let notes = AcceptNotes::new(alloc, messages);
-    start_accepting(rt, shared, listener, mailboxes, notes)?;
-    Ok(running)
+    let mailboxes = Arc::new(alloc, mailboxes)?;
+    start_accepting(rt, shared, listener, Arc::try_clone(&mailboxes)?, notes)?;
+    Ok(Answering { running, mailboxes })
 }
 
 // What the threads share.
@@ -73,13 +81,12 @@ fn start_accepting<R>(
     rt: &R,
     shared: Shared,
     listener: Listener,
-    mailboxes: Vec<Arc<SocketMailbox>>,
+    mailboxes: Arc<Vec<Arc<SocketMailbox>>>,
     notes: AcceptNotes,
 ) -> io::Result<()>
 where
     R: Threads + Wait + Clock + Copy + Send + 'static,
 {
-    let mailboxes = Arc::new(shared.alloc, mailboxes)?;
     if shared.idle.is_some() {
         let told = Arc::try_clone(&mailboxes)?;
         let host = *rt;

@@ -5,7 +5,7 @@ use crate::messages::Messages;
 use crate::reasons::{describe_error, format_failure};
 use crate::streams::writer::Progress;
 use pn_join::Name;
-use pn_serve::{Counter, WriterEnd};
+use pn_serve::{Counter, StreamState, WriterEnd};
 use std::alloc::{AllocError, Global};
 use std::io;
 use std::sync::{Arc, Wait};
@@ -23,8 +23,19 @@ pub(crate) struct StreamNotes<R> {
 }
 
 impl<R: Wait + Drop> StreamNotes<R> {
+    /// Notes how the stream goes, where somebody looks at that.
+    pub(crate) fn set_state(&self, state: StreamState) {
+        if let Some(counters) = &self.counters {
+            counters.set_state(state);
+        }
+    }
+
     /// Tells how a writer's input ended.
     pub(crate) fn tell_end(&self, end: &WriterEnd) {
+        self.set_state(match end {
+            WriterEnd::End => StreamState::Ended,
+            WriterEnd::Fault { .. } => StreamState::Failed,
+        });
         match end {
             WriterEnd::End => self.tell("ended"),
             WriterEnd::Fault {
@@ -38,11 +49,8 @@ impl<R: Wait + Drop> StreamNotes<R> {
         }
     }
 
-    /// Tells that another writer has begun, and counts what is read from it.
+    /// Tells that another writer has begun.
     pub(crate) fn begin_again(&self) {
-        if let Some(counters) = &self.counters {
-            counters.clear();
-        }
         self.tell("begins again");
     }
 

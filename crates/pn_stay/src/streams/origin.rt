@@ -4,7 +4,7 @@ use crate::streams::fifo::FifoWriters;
 use crate::streams::input::StreamSource;
 use crate::streams::notes::StreamNotes;
 use crate::streams::sockets::{SocketWriters, end_socket};
-use pn_serve::{Origin, WriterEnd};
+use pn_serve::{Origin, StreamState, WriterEnd};
 use std::fs::{File, Files};
 use std::net::Net;
 use std::sync::Wait;
@@ -33,11 +33,15 @@ where
     ghost may_go_on = { Unit {0} };
 
     fn next_writer(&mut self, last: u64) -> Option<StreamSource<R>> {
-        match &mut self.writers {
+        let source = match &mut self.writers {
             Writers::File(source) => source.take(),
             Writers::Fifo(writers) => Some(writers.next_writer(&self.notes)),
             Writers::Socket(writers) => Some(writers.next_writer(&self.notes, last)),
+        };
+        if source.is_some() {
+            self.notes.set_state(StreamState::Open);
         }
+        source
     }
 
     fn hand_on(&mut self, last: u64) {

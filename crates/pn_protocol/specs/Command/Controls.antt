@@ -1,0 +1,113 @@
+-- What control sessions ask for, and the lines that say it.
+use Rattle.std.specs.Prelude.{ℕ, Bool, nat_le, List, [], ◌∷◌, codes, if◌then◌else◌, Option, Some, None, option_and_then, Result, Ok}
+use Rattle.std.specs.Option.{ok_or}
+use Rattle.std.specs.Str.{bytes_eq}
+use Rattle.serde_json.specs.Data.{Data, null, Members}
+use Rattle.serde_json.specs.Find.{as_object, as_str, get_member}
+use Rattle.pn_json.specs.Answers.{◌>>=◌, fault_as}
+use Rattle.pn_json.specs.Members.{whole_number, member_as}
+use Rattle.pn_record.specs.Reading.{value_at}
+use Rattle.pn_protocol.specs.Command.Limits.{may_be_asked}
+use Rattle.pn_protocol.specs.Command.Lines.{refusal_of}
+use Rattle.pn_protocol.specs.Command.Meaning.{CommandValue, command_value}
+use Rattle.pn_protocol.specs.Command.Objects.{allowed_in}
+use Rattle.pn_protocol.specs.Command.RangeChecks.{fits}
+use Rattle.pn_protocol.specs.Command.ShapeChecks.{named_alone}
+use Rattle.pn_protocol.specs.declared.command.control.ControlCommand.{ControlCommand}
+use Rattle.pn_protocol.specs.declared.command.control.ControlCommand.TheVariants.{Script, Notices, Advance, Stats, Stop}
+use Rattle.pn_protocol.specs.declared.command.control.ControlWord.{ControlWord}
+use Rattle.pn_protocol.specs.declared.command.control.ControlWord.TheVariants as word
+use Rattle.pn_protocol.specs.declared.command.control.TheConstants.{STOP_SECONDS}
+use Rattle.pn_protocol.specs.declared.command.parse.Allowed.TheVariants.{Controls}
+use Rattle.pn_protocol.specs.declared.command.ranges.TheConstants.{MAX_SECONDS}
+use Rattle.pn_protocol.specs.declared.refusal.Part.{Part}
+use Rattle.pn_protocol.specs.declared.refusal.Part.TheVariants.{Seconds, Since, Wait, Whole}
+use Rattle.pn_protocol.specs.declared.refusal.Refusal.{Refusal}
+use Rattle.pn_protocol.specs.declared.refusal.Refusal.TheVariants.{BadShape}
+
+-- a command of scripts; notices, with the number after which they are wanted and the seconds that are waited for them; marks
+-- that advance; what the server has done; or its end, after so many seconds at most
+pub data ControlValue : Type 0 where
+  script : CommandValue → ControlValue
+  notices : ℕ → ℕ → ControlValue
+  advance : ControlValue
+  stats : ControlValue
+  stop : ℕ → ControlValue
+
+-- what a command of the program asks for
+abbrev pub control_value : ControlCommand → ControlValue
+control_value (Script command) = script (command_value command)
+control_value (Notices since wait) = notices since wait
+control_value Advance = advance
+control_value Stats = stats
+control_value (Stop seconds) = stop seconds
+
+-- the word that a text is, if control sessions alone have it or read it in another way
+abbrev pub control_word_of : List ℕ → Option ControlWord
+control_word_of text =
+    if bytes_eq text (codes "advance") then Some word.Advance else
+    (if bytes_eq text (codes "notices") then Some word.Notices else
+    (if bytes_eq text (codes "stats") then Some word.Stats else
+    (if bytes_eq text (codes "stop") then Some word.Stop else None)))
+
+-- the word that a member is
+abbrev pub control_word_in : Option Data → Option ControlWord
+control_word_in d = option_and_then control_word_of (option_and_then as_str d)
+
+-- so many seconds may be asked for
+abbrev pub are_seconds : ℕ → Bool
+are_seconds seconds = nat_le seconds MAX_SECONDS
+
+-- the seconds that a member says, or the usual ones where it is missing or null
+abbrev pub seconds_at : ℕ → Part → Option Data → Result ℕ Refusal
+seconds_at usual part None = Ok usual
+seconds_at usual part (Some null) = Ok usual
+seconds_at usual part (Some d) = member_as whole_number (BadShape part) (Some d)
+
+-- a command whose one member is its word
+unfoldable pub alone_as : ControlValue → Members → Result ControlValue Refusal
+alone_as command members = do
+  named ← named_alone (codes "do" ∷ []) members
+  Ok command
+
+-- notices, and for how long they are waited for
+unfoldable pub waiting_in : Members → Result ControlValue Refusal
+waiting_in members = do
+  since ← member_as whole_number (BadShape Since) (get_member (codes "since") members)
+  wait ← seconds_at 0 Wait (get_member (codes "wait") members)
+  named ← named_alone (codes "do" ∷ codes "since" ∷ codes "wait" ∷ []) members
+  asked ← fits Since (may_be_asked since)
+  fit ← fits Wait (are_seconds wait)
+  Ok (notices since wait)
+
+-- the end of the server
+unfoldable pub stop_in : Members → Result ControlValue Refusal
+stop_in members = do
+  seconds ← seconds_at STOP_SECONDS Seconds (get_member (codes "seconds") members)
+  named ← named_alone (codes "do" ∷ codes "seconds" ∷ []) members
+  fit ← fits Seconds (are_seconds seconds)
+  Ok (stop seconds)
+
+-- a command of scripts that control sessions have
+abbrev pub script_as : Data → Result ControlValue Refusal
+script_as d = do
+  command ← allowed_in Controls d
+  Ok (script command)
+
+-- the command of a word, or else one of scripts
+abbrev pub control_as : Option ControlWord → Data → Members → Result ControlValue Refusal
+control_as (Some word.Advance) d members = alone_as advance members
+control_as (Some word.Notices) d members = waiting_in members
+control_as (Some word.Stats) d members = alone_as stats members
+control_as (Some word.Stop) d members = stop_in members
+control_as None d members = script_as d
+
+-- the command that a value says
+unfoldable pub control_in : Data → Result ControlValue Refusal
+control_in d = do
+  members ← ok_or (as_object d) (BadShape Whole)
+  control_as (control_word_in (get_member (codes "do") members)) d members
+
+-- the command that a line of a control session says
+abbrev pub control_at : List ℕ → Result ControlValue Refusal
+control_at line = fault_as refusal_of (value_at line) >>= control_in

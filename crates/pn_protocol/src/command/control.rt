@@ -1,0 +1,137 @@
+//! Reads a line of a control session.
+
+ghost use Rattle.std.specs.Prelude.{◌≡◌, false, IsErrOf};
+ghost use Rattle.serde_json.specs.View.{view, members_view};
+ghost use Rattle.pn_json.specs.Prelude.{Shows, ShowsUnless, seen};
+ghost use Rattle.pn_protocol.specs.Command.Controls.{advance, alone_as, control_at, control_in, control_value, control_word_in, control_word_of as word_named, seconds_at, stats, stop_in, waiting_in};
+ghost use Rattle.pn_protocol.specs.Command.Lines.{is_too_long};
+
+use crate::command::members::{check_members, find_member};
+use crate::command::parse::{Allowed, parse_value};
+use crate::command::ranges::{check_seconds, check_since};
+use crate::{Command, Part, Refusal};
+use pn_json::whole_number_of;
+use pn_record::read_value;
+use serde_json::{Map, Value};
+use std::alloc::Global;
+
+/// For how many seconds a `stop` that says none waits for the rest.
+const STOP_SECONDS: u64 = 10;
+
+/// What a line of a control session asks for.
+#[derive(Drop)]
+pub enum ControlCommand {
+    /// A command of scripts: `adopt`, `copy`, `get`, `lose`, `marks`, `read`, `scan` or `tablets`.
+    Script(Command),
+    /// Show what changed after this number, and wait for it so many seconds at most.
+    Notices { since: u64, wait: u64 },
+    /// Take as marks what all tablets have taken.
+    Advance,
+    /// Show what the server has done so far.
+    Stats,
+    /// End the server after so many seconds at most.
+    Stop { seconds: u64 },
+}
+
+// The word of a command that only control sessions have, or that they read in another way.
+#[derive(Clone, Copy)]
+pub(crate) enum ControlWord {
+    Advance,
+    Notices,
+    Stats,
+    Stop,
+}
+
+impl ControlWord {
+    fn read(text: &str) -> Option<ControlWord>
+        ensures { result ≡ word_named text.now }
+    {
+        match text {
+            "advance" => Some(ControlWord::Advance),
+            "notices" => Some(ControlWord::Notices),
+            "stats" => Some(ControlWord::Stats),
+            "stop" => Some(ControlWord::Stop),
+            _ => None,
+        }
+    }
+}
+
+/// Reads a line of a control session as a command, or answers its first fault. `ReadOnly` names `deliver` and `relayout`,
+/// whatever their other members are.
+pub fn control_of(alloc: Global, line: &[u8]) -> Result<ControlCommand, Refusal>
+    ensures exact { ShowsUnless Refusal.Memory control_value result (control_at line.now) }
+    ensures memory { IsErrOf result Refusal.Memory → is_too_long line.now ≡ false }
+{
+    let value = read_value(alloc, line)?;
+    parse_control(alloc, value)
+}
+
+#[tactic(auto, unfolding(crate::specs::Command::Controls::control_in))]
+fn parse_control(alloc: Global, value: Value) -> Result<ControlCommand, Refusal>
+    ensures { ShowsUnless Refusal.Memory control_value result (control_in (view value)) }
+{
+    let members = value.as_object().ok_or(Refusal::BadShape(Part::Whole))?;
+    match control_word(find_member(members, "do")) {
+        Some(ControlWord::Advance) => parse_alone(members, ControlCommand::Advance),
+        Some(ControlWord::Notices) => parse_waiting(members),
+        Some(ControlWord::Stats) => parse_alone(members, ControlCommand::Stats),
+        Some(ControlWord::Stop) => parse_stop(members),
+        None => Ok(ControlCommand::Script(parse_value(alloc, value, Allowed::Controls)?)),
+    }
+}
+
+fn control_word(value: Option<&Value>) -> Option<ControlWord>
+    ensures { result ≡ control_word_in (seen value.entry) }
+{
+    match value.and_then(Value::as_str) {
+        Some(text) => ControlWord::read(text),
+        None => None,
+    }
+}
+
+// A command whose one member is its word.
+#[tactic(auto, unfolding(crate::specs::Command::Controls::alone_as))]
+fn parse_alone(
+    members: &Map<String, Value>,
+    command: ControlCommand,
+) -> Result<ControlCommand, Refusal>
+    ensures { Shows control_value result (alone_as (control_value command) (members_view members.now.entries)) }
+{
+    check_members(members, &["do"])?;
+    Ok(command)
+}
+
+#[tactic(auto, unfolding(crate::specs::Command::Controls::waiting_in))]
+fn parse_waiting(members: &Map<String, Value>) -> Result<ControlCommand, Refusal>
+    ensures { Shows control_value result (waiting_in (members_view members.now.entries)) }
+{
+    let since = whole_number_of(
+        find_member(members, "since"),
+        Refusal::BadShape(Part::Since),
+    )?;
+    let wait = seconds_of(find_member(members, "wait"), 0, Part::Wait)?;
+    check_members(members, &["do", "since", "wait"])?;
+    check_since(since)?;
+    check_seconds(wait, Part::Wait)?;
+    Ok(ControlCommand::Notices { since, wait })
+}
+
+#[tactic(auto, unfolding(crate::specs::Command::Controls::stop_in))]
+fn parse_stop(members: &Map<String, Value>) -> Result<ControlCommand, Refusal>
+    ensures { Shows control_value result (stop_in (members_view members.now.entries)) }
+{
+    let seconds = seconds_of(find_member(members, "seconds"), STOP_SECONDS, Part::Seconds)?;
+    check_members(members, &["do", "seconds"])?;
+    check_seconds(seconds, Part::Seconds)?;
+    Ok(ControlCommand::Stop { seconds })
+}
+
+// The number of seconds that a member says, or this one where it is missing or null.
+fn seconds_of(value: Option<&Value>, usual: u64, part: Part) -> Result<u64, Refusal>
+    ensures { result ≡ seconds_at usual part (seen value.entry) }
+{
+    match value {
+        None | Some(Value::Null) => Ok(usual),
+        Some(value) => whole_number_of(Some(value), Refusal::BadShape(part)),
+    }
+}

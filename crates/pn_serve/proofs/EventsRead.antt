@@ -1,0 +1,94 @@
+-- Rounds of what streams gave, and commands of control sessions, one after another.
+use Rattle.std.proofs.Common.{◌≡◌, ◌≢◌, ℕ, List, [], ◌∷◌, ◌++◌, inl, inr, refl, sym, subst}
+use Rattle.std.specs.Prelude.{Result, Ok, Err, IsErrAnd}
+use Rattle.std.proofs.lemmas.Result.{err_from_is_err_and}
+use Rattle.pn_live.specs.LiveRegions.{LiveRegionValue}
+use Rattle.pn_serve.specs.Control.Commands.{Asked, ObeysLive, Said}
+use Rattle.pn_serve.specs.Server.Events.{AllDone, RunsEvents, RunsOn, RunsUpTo, ToldAll, WriterEvent, taken, told}
+use Rattle.pn_serve.specs.Server.Reading.{AllTaken, ReadToEnds, ReadUpTo, RunsRound, RunsRounds}
+use Rattle.pn_serve.specs.Server.Rounds.{RoundInputValue}
+use Rattle.pn_serve.specs.declared.server.fault.ServeFault.{ServeFault}
+use Rattle.pn_serve.specs.declared.server.fault.ServeFault.TheVariants.{Round}
+use Rattle.pn_serve.specs.declared.server.mailboxes.AtFault.{AtFault}
+
+-- events and those after them
+pub done_after : (at_fault : AtFault) (names : List (List ℕ)) (old : LiveRegionValue) (events : List WriterEvent) (still : List (List ℕ)) (between : LiveRegionValue) (later : List WriterEvent) (left : List (List ℕ)) (new : LiveRegionValue)
+    → AllDone at_fault names old events still between → AllDone at_fault still between later left new → AllDone at_fault names old (events ++ later) left new
+done_after at_fault names old [] still between later left new all then =
+    subst (λ (ns : List (List ℕ)). AllDone at_fault ns old later left new) all.0 (subst (λ (was : LiveRegionValue). AllDone at_fault still was later left new) all.1 then)
+done_after at_fault names old (taken input ∷ events) still between later left new all then =
+    (all.0, all.1, all.2, all.3, done_after at_fault all.1 all.0 events still between later left new all.4 then)
+done_after at_fault names old (told asked said ∷ events) still between later left new all then =
+    (all.0, all.1, done_after at_fault names all.0 events still between later left new all.2 then)
+
+-- the rounds that a reading ran, as events
+pub as_events : List RoundInputValue → List WriterEvent
+as_events [] = []
+as_events (input ∷ later) = taken input ∷ as_events later
+
+pub rounds_done : (at_fault : AtFault) (names : List (List ℕ)) (old : LiveRegionValue) (rounds : List RoundInputValue) (left : List (List ℕ)) (new : LiveRegionValue)
+    → AllTaken at_fault names old rounds left new → AllDone at_fault names old (as_events rounds) left new
+rounds_done at_fault names old [] left new all = all
+rounds_done at_fault names old (input ∷ later) left new all = (all.0, all.1, all.2, all.3, rounds_done at_fault all.1 all.0 later left new all.4)
+
+-- a reading without commands is one beside none
+pub runs_beside : {T : Type 0} (at_fault : AtFault) (names : List (List ℕ)) (old new : LiveRegionValue) (read : Result T ServeFault) → RunsRounds at_fault names old new read → RunsEvents at_fault names old new read
+runs_beside at_fault names old new (Ok done) read = record { events = as_events read.rounds; left = []; done = rounds_done at_fault names old read.rounds [] new read.taken }
+runs_beside at_fault names old new (Err fault) read = record {
+  events = as_events read.rounds;
+  last = read.last;
+  still = read.still;
+  done = rounds_done at_fault names old read.rounds read.still read.last read.taken;
+  stops = read.stops;
+}
+
+-- the events so far, and the streams that are still read
+pub record DoneSoFar (at_fault : AtFault) (names : List (List ℕ)) (old : LiveRegionValue) (still : List (List ℕ)) (new : LiveRegionValue) : Type 0 where
+  pub events : List WriterEvent
+  pub done : AllDone at_fault names old events still new
+
+module _ (at_fault : AtFault) (names : List (List ℕ)) (old : LiveRegionValue) where
+  pub nothing_yet : DoneSoFar at_fault names old names old
+  nothing_yet = record { events = []; done = (refl, refl) }
+
+  -- one more round went well
+  pub one_round : (still : List (List ℕ)) (between : LiveRegionValue) (input : RoundInputValue) (left : List (List ℕ)) (new : LiveRegionValue) → DoneSoFar at_fault names old still between → still ≢ []
+      → RunsRound at_fault still between input left new (Ok tt) → DoneSoFar at_fault names old left new
+  one_round still between input left new so some run = record {
+    events = so.events ++ taken input ∷ [];
+    done = done_after at_fault names old so.events still between (taken input ∷ []) left new so.done (new, left, some, run, (refl, refl));
+  }
+
+  -- more commands were done
+  pub more_told : (still : List (List ℕ)) (between new : LiveRegionValue) → DoneSoFar at_fault names old still between → ToldAll at_fault still between new → DoneSoFar at_fault names old still new
+  more_told still between new so more = record {
+    events = so.events ++ more.events;
+    done = done_after at_fault names old so.events still between more.events still new so.done more.done;
+  }
+
+  pub ran_on : (still : List (List ℕ)) (new : LiveRegionValue) → DoneSoFar at_fault names old still new → RunsOn at_fault names old new
+  ran_on still new so = record { events = so.events; left = still; done = so.done }
+
+  pub round_stopped : (still : List (List ℕ)) (between : LiveRegionValue) (input : RoundInputValue) (left : List (List ℕ)) (new : LiveRegionValue) (fault : ServeFault) → DoneSoFar at_fault names old still between
+      → RunsRound at_fault still between input left new (Err fault) → RunsUpTo at_fault names old new fault
+  round_stopped still between input left new fault so run =
+      record { events = so.events; last = between; still = still; done = so.done; stops = inl (input, left, run) }
+
+  pub not_begun : (still : List (List ℕ)) (new : LiveRegionValue) (fault : ServeFault) → DoneSoFar at_fault names old still new → fault ≡ Round → RunsUpTo at_fault names old new fault
+  not_begun still new fault so is = record { events = so.events; last = new; still = still; done = so.done; stops = inr (is, refl) }
+
+  -- a fault as an answer
+  pub as_fault : {T : Type 0} (new : LiveRegionValue) (fault : ServeFault) (result : Result T ServeFault) → IsErrAnd result (λ other. other ≡ fault) → RunsUpTo at_fault names old new fault → RunsEvents at_fault names old new result
+  as_fault new fault result answered ran =
+      let (other, is, same) = err_from_is_err_and result answered in
+      subst (RunsEvents at_fault names old new) (sym is) (subst (RunsUpTo at_fault names old new) (sym same) ran)
+
+-- one more command was done
+pub one_told : (at_fault : AtFault) (names : List (List ℕ)) (old between new : LiveRegionValue) (asked : Asked) (said : Said) → ToldAll at_fault names old between → ObeysLive between asked new said → ToldAll at_fault names old new
+one_told at_fault names old between new asked said so obeys = record {
+  events = so.events ++ told asked said ∷ [];
+  done = done_after at_fault names old so.events names between (told asked said ∷ []) names new so.done (new, obeys, (refl, refl));
+}
+
+pub none_told : (at_fault : AtFault) (names : List (List ℕ)) (old : LiveRegionValue) → ToldAll at_fault names old old
+none_told at_fault names old = record { events = []; done = (refl, refl) }

@@ -1,0 +1,3 @@
+-- Control sessions.
+pub mod Commands
+pub mod Lines

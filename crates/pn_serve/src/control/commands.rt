@@ -1,0 +1,144 @@
+//! What the writer of a live region does for control sessions.
+
+ghost use Rattle.std.specs.Prelude.{◌≡◌};
+ghost use Rattle.pn_live.specs.Prelude.{tablets_in};
+ghost use Rattle.pn_serve.specs.Control.Commands.{ObeysLive, answer_of, asked};
+ghost use Rattle.pn_serve.specs.Control.Commands as control;
+ghost use Rattle.pn_tablet.specs.Prelude.{TabletCopyValue};
+
+use pn_live::LiveRegion;
+use pn_protocol::{
+    CommandFault, Part, Refusal, Reply, ShownTablets, answer_text, marks_reply, refuse,
+    tablets_reply,
+};
+use pn_region::Since;
+use pn_tablet::{TabletCopy, TabletState};
+use std::alloc::Global;
+use std::sync::Wait;
+
+/// What the writer is asked for.
+#[derive(Drop)]
+pub(crate) enum WriterCommand {
+    /// Adopt a copy of a tablet.
+    Adopt(TabletCopy),
+    /// Take as marks what all tablets have taken.
+    Advance,
+    /// Lose what the tablet of this number holds.
+    Lose { tablet: u64 },
+    /// Show how far streams were taken.
+    Marks,
+    /// Show what changed after this number.
+    Notices { since: u64 },
+    /// Show the tablets.
+    Tablets,
+}
+
+/// What the writer answers.
+#[derive(Drop)]
+pub(crate) enum WriterAnswer {
+    Reply(Reply),
+    /// What changed, of which the session writes the reply.
+    Found(Since),
+}
+
+/// The tablets of a live region.
+#[derive(Drop)]
+struct LiveTablets<'a>(&'a LiveRegion);
+
+impl ShownTablets for LiveTablets<'_> {
+    ghost use Rattle.std.specs.Prelude.{map};
+    ghost use Rattle.pn_live.specs.PublishedTablets.{state_at};
+
+    ghost tablets = { λ shown. map state_at shown.0.now.tablets };
+
+    fn count(&self) -> usize {
+        self.0.layout().count()
+    }
+
+    fn tablet(&self, number: usize) -> &TabletState {
+        self.0.tablet(number)
+    }
+}
+
+/// Does what a control session asks for. Its reply is that of a script over the same region, or out of memory, and a
+/// refusal changes nothing.
+pub(crate) fn obey<R: Wait>(
+    rt: &R,
+    alloc: Global,
+    live: &mut LiveRegion,
+    command: WriterCommand,
+) -> WriterAnswer
+    ensures obeys { ObeysLive live.old (asked command) live.new (answer_of result) }
+    ensures same { tablets_in live.new ≡ tablets_in live.old }
+{
+    match command {
+        WriterCommand::Adopt(copy) => WriterAnswer::Reply(adopt(rt, alloc, live, copy)),
+        WriterCommand::Advance => WriterAnswer::Reply(advance(alloc, live)),
+        WriterCommand::Lose { tablet } => WriterAnswer::Reply(lose(rt, live, tablet)),
+        WriterCommand::Marks => {
+            WriterAnswer::Reply(answer_text(marks_reply(alloc, live.marks())))
+        }
+        WriterCommand::Notices { since } => look_up_notices(live, since),
+        WriterCommand::Tablets => {
+            WriterAnswer::Reply(answer_text(tablets_reply(alloc, &LiveTablets(&*live))))
+        }
+    }
+}
+
+fn adopt<R: Wait>(rt: &R, alloc: Global, live: &mut LiveRegion, copy: TabletCopy) -> Reply
+    ensures obeys { ObeysLive live.old (control.adopt copy) live.new result }
+    ensures same { tablets_in live.new ≡ tablets_in live.old }
+{
+    let Some(tablet) = number_of(live, &copy) else {
+        return refuse(
+            alloc,
+            CommandFault::Adoption(pn_region::AdoptFault::WrongRange),
+        );
+    };
+    match live.adopt(rt, copy) {
+        Ok(_) => Reply::Adopted(tablet as u64),
+        Err(fault) => refuse(alloc, CommandFault::Adoption(fault)),
+    }
+}
+
+// The number of the tablet that has the copy's range.
+fn number_of(live: &LiveRegion, copy: &TabletCopy) -> Option<usize> {
+    for number in 0..live.layout().count() {
+        if live.tablet(number).range() == &copy.range {
+            return Some(number);
+        }
+    }
+    None
+}
+
+fn advance(alloc: Global, live: &mut LiveRegion) -> Reply
+    ensures obeys { ObeysLive live.old control.advance live.new result }
+    ensures same { tablets_in live.new ≡ tablets_in live.old }
+{
+    match live.advance() {
+        Ok(()) => answer_text(marks_reply(alloc, live.marks())),
+        Err(fault) => refuse(alloc, CommandFault::Advance(fault)),
+    }
+}
+
+fn lose<R: Wait>(rt: &R, live: &mut LiveRegion, tablet: u64) -> Reply
+    ensures obeys { ObeysLive live.old (control.lose tablet) live.new result }
+    ensures same { tablets_in live.new ≡ tablets_in live.old }
+{
+    if tablet >= live.layout().count() as u64 {
+        return Reply::Refused(Refusal::OutOfRange(Part::Tablet));
+    }
+    match live.lose(rt, tablet as usize) {
+        Ok(_) => Reply::Lost(tablet),
+        Err(_) => Reply::Refused(Refusal::Memory),
+    }
+}
+
+fn look_up_notices(live: &LiveRegion, since: u64) -> WriterAnswer
+    ensures { ObeysLive live.now (control.notices since) live.now (answer_of result) }
+{
+    match live.notices_since(since) {
+        Ok(found) => WriterAnswer::Found(found),
+        Err(_) => WriterAnswer::Reply(Reply::Refused(Refusal::Memory)),
+    }
+}

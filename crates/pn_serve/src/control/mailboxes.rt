@@ -1,0 +1,221 @@
+//! The mailboxes in which control sessions leave commands, and in which the writer leaves its answers.
+
+ghost use Rattle.std.specs.Prelude.{◌≡◌, ◌≢◌, ℕ, List, None, MatchBool, MatchOption};
+ghost use Rattle.pn_live.specs.Prelude.{tablets_in};
+ghost use Rattle.pn_serve.specs.Server.Events.{ToldAll};
+ghost use Rattle.pn_serve.specs.declared.control.mailboxes.HeldCommand.TheVariants.{Nothing, Asked, Taken, Answered, Closed};
+ghost use Rattle.pn_serve.specs.declared.server.mailboxes.AtFault.{AtFault};
+
+use crate::control::commands::{WriterAnswer, WriterCommand, obey};
+use crate::control::log_watch::LogWatch;
+use crate::control::stop::StopRequest;
+use crate::server::mailboxes::Wakeup;
+use pn_live::LiveRegion;
+use std::alloc::{AllocError, Global};
+use std::mem;
+use std::sync::{Arc, Condvar, Mutex, Wait};
+use std::time::Clock;
+
+/// The most control sessions at once.
+pub const MAX_CONTROLS: usize = 16;
+
+/// What control sessions and the writer share: a mailbox for each session, and what wakes the writer.
+#[derive(Drop)]
+pub struct ControlMailboxes {
+    mailboxes: Vec<ControlMailbox>,
+    pub(crate) wakeup: Arc<Wakeup>,
+    log: LogWatch,
+    stop: StopRequest,
+}
+
+/// Where a control session leaves its command, and where the writer leaves the answer.
+#[derive(Drop)]
+struct ControlMailbox {
+    held: Mutex<HeldCommand>,
+    answered: Condvar,
+}
+
+// What the mailbox of a control session holds.
+#[derive(Drop)]
+enum HeldCommand {
+    Nothing,
+    /// A command, until the writer takes it.
+    Asked(WriterCommand),
+    /// Nothing: the writer does the command.
+    Taken,
+    /// The answer, until the session takes it.
+    Answered(WriterAnswer),
+    /// Nothing, and no command is taken.
+    Closed,
+}
+
+impl ControlMailboxes {
+    /// Empty mailboxes of this many sessions.
+    pub fn new(alloc: Global, sessions: usize) -> Result<ControlMailboxes, AllocError> {
+        let mut mailboxes = Vec::with_capacity(alloc, sessions)?;
+        for _ in 0..sessions {
+            mailboxes.push(ControlMailbox::new())?;
+        }
+        Ok(ControlMailboxes {
+            mailboxes,
+            wakeup: Arc::new(alloc, Wakeup::new())?,
+            log: LogWatch::new(),
+            stop: StopRequest::new(),
+        })
+    }
+
+    /// Asks the writer, and waits for its answer. None where it takes no command any more.
+    pub(crate) fn ask<R: Wait>(
+        &self,
+        rt: &R,
+        session: usize,
+        command: WriterCommand,
+    ) -> Option<WriterAnswer> {
+        let mailbox = self.mailboxes.get(session)?;
+        if !mailbox.put(rt, command) {
+            return None;
+        }
+        self.wakeup.notify(rt);
+        mailbox.wait(rt)
+    }
+
+    /// Waits for so many seconds at most while the last number of the log is this one.
+    pub(crate) fn wait_past<R: Wait + Clock>(&self, rt: &R, number: u64, seconds: u64) {
+        self.log.wait_past(rt, number, seconds);
+    }
+
+    /// Asks the server to end after so many seconds at most.
+    pub fn stop<R: Wait>(&self, rt: &R, seconds: u64) {
+        self.stop.ask(rt, seconds);
+        self.log.close(rt);
+        self.wakeup.notify(rt);
+    }
+
+    /// After how many seconds at most the server is to end, once that is asked for.
+    pub fn stop_asked<R: Wait>(&self, rt: &R) -> Option<u64> {
+        self.stop.asked(rt)
+    }
+
+    /// Does one command of each session that asks, and notes the log.
+    pub(crate) fn obey_all<R: Wait>(&self, rt: &R, alloc: Global, live: &mut LiveRegion)
+        ensures told { (at_fault : AtFault) (names : List (List ℕ)) → ToldAll at_fault names live.old live.new }
+        ensures same { tablets_in live.new ≡ tablets_in live.old }
+    {
+        for mailbox in self.mailboxes.iter() {
+            if let Some(command) = mailbox.take(rt) {
+                mailbox.answer(rt, obey(rt, alloc, live, command));
+                self.note_log(rt, live);
+            }
+        }
+    }
+
+    /// Notes the last number of the log.
+    pub(crate) fn note_log<R: Wait>(&self, rt: &R, live: &LiveRegion) {
+        self.log.note(rt, live.last_number());
+    }
+
+    /// From now on no command is taken.
+    pub fn close<R: Wait>(&self, rt: &R) {
+        for mailbox in self.mailboxes.iter() {
+            mailbox.close(rt);
+        }
+    }
+}
+
+impl ControlMailbox {
+    fn new() -> ControlMailbox {
+        ControlMailbox {
+            held: Mutex::new(HeldCommand::Nothing),
+            answered: Condvar::new(),
+        }
+    }
+
+    // Puts a command into the empty mailbox. False if it is not empty, or closed.
+    fn put<R: Wait>(&self, rt: &R, command: WriterCommand) -> bool {
+        self.held.lock(rt).put(command)
+    }
+
+    // Waits for the answer.
+    fn wait<R: Wait>(&self, rt: &R) -> Option<WriterAnswer> {
+        let guard = self.held.lock(rt);
+        let mut held = self
+            .answered
+            .wait_while(rt, guard, |held| held.is_unanswered());
+        held.take_answer()
+    }
+
+    // Takes the command, if there is one.
+    fn take<R: Wait>(&self, rt: &R) -> Option<WriterCommand> {
+        self.held.lock(rt).take()
+    }
+
+    // Leaves the answer to the command that was taken.
+    fn answer<R: Wait>(&self, rt: &R, answer: WriterAnswer) {
+        self.held.lock(rt).answer(answer);
+        self.answered.notify_one();
+    }
+
+    fn close<R: Wait>(&self, rt: &R) {
+        self.held.lock(rt).close();
+        self.answered.notify_one();
+    }
+}
+
+impl HeldCommand {
+    fn is_unanswered(&self) -> bool {
+        matches!(self, HeldCommand::Asked(_) | HeldCommand::Taken)
+    }
+
+    // Puts a command into an empty mailbox. False if it is not empty.
+    fn put(&mut self, command: WriterCommand) -> bool
+        ensures { MatchBool result ((self.old ≡ Nothing) × (self.new ≡ Asked command)) ((self.old ≢ Nothing) × (self.new ≡ self.old)) }
+    {
+        if !matches!(self, HeldCommand::Nothing) {
+            return false;
+        }
+        *self = HeldCommand::Asked(command);
+        true
+    }
+
+    // Takes the command, if there is one.
+    fn take(&mut self) -> Option<WriterCommand>
+        ensures { MatchOption result (self.new ≡ self.old) (λ command. (self.old ≡ Asked command) × (self.new ≡ Taken)) }
+    {
+        match mem::replace(self, HeldCommand::Taken) {
+            HeldCommand::Asked(command) => Some(command),
+            other => {
+                *self = other;
+                None
+            }
+        }
+    }
+
+    // Leaves the answer to the command that was taken. Elsewhere it is dropped.
+    fn answer(&mut self, answer: WriterAnswer)
+        ensures answered { self.old ≡ Taken → self.new ≡ Answered answer }
+        ensures dropped { self.old ≢ Taken → self.new ≡ self.old }
+    {
+        if let HeldCommand::Taken = self {
+            *self = HeldCommand::Answered(answer);
+        }
+    }
+
+    // Takes the answer, if there is one.
+    fn take_answer(&mut self) -> Option<WriterAnswer>
+        ensures { MatchOption result (self.new ≡ self.old) (λ answer. (self.old ≡ Answered answer) × (self.new ≡ Nothing)) }
+    {
+        match mem::replace(self, HeldCommand::Nothing) {
+            HeldCommand::Answered(answer) => Some(answer),
+            other => {
+                *self = other;
+                None
+            }
+        }
+    }
+
+    fn close(&mut self)
+        ensures { self.new ≡ Closed }
+    {
+        *self = HeldCommand::Closed;
+    }
+}

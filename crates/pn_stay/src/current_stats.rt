@@ -1,0 +1,63 @@
+//! What a server has done so far, as control sessions are told.
+
+use crate::counters::{Counters, StreamCounters};
+use crate::progress::memory_bytes;
+use pn_join::NoMemory;
+use pn_serve::{Stats, StatsSource, StreamStats};
+use std::alloc::Global;
+use std::fs::{File, Files};
+use std::sync::Arc;
+use std::time::{Clock, Instant};
+
+/// The version that is told.
+const VERSION: &str = "0.1.0";
+
+/// The counters of a server, and when it began.
+#[derive(Drop)]
+pub(crate) struct CurrentStats<R> {
+    pub(crate) rt: R,
+    pub(crate) counters: Arc<Counters>,
+    pub(crate) started: Option<Instant>,
+}
+
+impl<R: Clock + Files<File = File>> StatsSource for CurrentStats<R> {
+    fn stats(&self, alloc: Global) -> Result<Stats, NoMemory> {
+        let counters = &self.counters;
+        let mut streams = Vec::with_capacity(alloc, counters.streams.len())?;
+        for stream in counters.streams.iter() {
+            streams.push(stats_of(stream))?;
+        }
+        Ok(Stats {
+            bytes: memory_bytes(&self.rt),
+            open: counters.connections.get(),
+            accepted: counters.accepted.get(),
+            lines: counters.clients.lines.get(),
+            rounds: counters.rounds.get(),
+            streams,
+            uptime: seconds_since(&self.rt, &self.started),
+            version: VERSION,
+        })
+    }
+}
+
+fn stats_of(stream: &StreamCounters) -> StreamStats {
+    StreamStats {
+        name: stream.name,
+        position: match &stream.taken {
+            Some(taken) => taken.get(),
+            None => 0,
+        },
+        messages: stream.input.lines.get(),
+        bytes: stream.input.bytes.get(),
+        state: stream.input.state(),
+    }
+}
+
+// How many whole seconds have passed since then, or 0 where the clock does not say.
+fn seconds_since<R: Clock>(rt: &R, then: &Option<Instant>) -> u64 {
+    let Some(then) = then else { return 0 };
+    match then.elapsed(rt) {
+        Ok(elapsed) => elapsed.as_secs(),
+        Err(_) => 0,
+    }
+}
