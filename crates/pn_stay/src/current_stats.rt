@@ -3,7 +3,7 @@
 use crate::counters::{Counters, StreamCounters};
 use crate::progress::memory_bytes;
 use pn_join::NoMemory;
-use pn_serve::{Stats, StatsSource, StreamStats};
+use pn_serve::{ConnectionStats, LineStats, Stats, StatsSource, StreamStats};
 use std::alloc::Global;
 use std::fs::{File, Files};
 use std::sync::Arc;
@@ -25,13 +25,20 @@ impl<R: Clock + Files<File = File>> StatsSource for CurrentStats<R> {
         let counters = &self.counters;
         let mut streams = Vec::with_capacity(alloc, counters.streams.len())?;
         for stream in counters.streams.iter() {
-            streams.push(stats_of(stream))?;
+            streams.push(stats_of(alloc, stream))?;
         }
         Ok(Stats {
             bytes: memory_bytes(&self.rt),
-            open: counters.connections.get(),
-            accepted: counters.accepted.get(),
-            lines: counters.clients.lines.get(),
+            connections: ConnectionStats {
+                accepted: counters.accepted.get(),
+                open: counters.connections.get(),
+                idle: 0,
+                refused: 0,
+            },
+            lines: LineStats {
+                answered: counters.clients.lines.get(),
+                refused: 0,
+            },
             rounds: counters.rounds.get(),
             streams,
             uptime: seconds_since(&self.rt, &self.started),
@@ -40,9 +47,10 @@ impl<R: Clock + Files<File = File>> StatsSource for CurrentStats<R> {
     }
 }
 
-fn stats_of(stream: &StreamCounters) -> StreamStats {
+fn stats_of(alloc: Global, stream: &StreamCounters) -> StreamStats {
     StreamStats {
         name: stream.name,
+        path: String::new(alloc),
         position: match &stream.taken {
             Some(taken) => taken.get(),
             None => 0,
@@ -50,6 +58,8 @@ fn stats_of(stream: &StreamCounters) -> StreamStats {
         messages: stream.input.lines.get(),
         bytes: stream.input.bytes.get(),
         state: stream.input.state(),
+        since: None,
+        fault: None,
     }
 }
 
