@@ -14,7 +14,7 @@ mod settings;
 mod stream_laws;
 
 pub use arguments::faults::{PlanFault, Refused, Why};
-pub use arguments::options::{MAX_SESSIONS, numbers_are_as_written};
+pub use arguments::options::{MAX_SESSIONS, VERSION, numbers_are_as_written};
 pub use arguments::plan;
 pub use arguments::plans::{Address, Plan, Service, StreamPath};
 pub use control::laws::commands_are_events;

@@ -3,14 +3,11 @@
 use crate::counters::{Counters, StreamCounters};
 use crate::progress::memory_bytes;
 use pn_join::NoMemory;
-use pn_serve::{ConnectionStats, LineStats, Stats, StatsSource, StreamStats};
+use pn_serve::{ConnectionStats, LineStats, Stats, StatsSource, StreamStats, VERSION};
 use std::alloc::Global;
 use std::fs::{File, Files};
 use std::sync::Arc;
 use std::time::{Clock, Instant};
-
-/// The version that is told.
-const VERSION: &str = "0.1.0";
 
 /// The counters of a server, and when it began.
 #[derive(Drop)]
@@ -44,6 +41,10 @@ impl<R: Clock + Files<File = File>> StatsSource for CurrentStats<R> {
             uptime: seconds_since(&self.rt, &self.started),
             version: VERSION,
         })
+    }
+
+    fn has_client_gone(&self) -> bool {
+        false
     }
 }
 

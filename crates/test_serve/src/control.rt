@@ -39,6 +39,10 @@ impl StatsSource for Nothing {
             version: "0",
         })
     }
+
+    fn has_client_gone(&self) -> bool {
+        false
+    }
 }
 
 /// The replies of a control session over a region of two tablets that has taken nothing. A bar is a newline.
