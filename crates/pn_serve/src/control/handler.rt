@@ -146,7 +146,7 @@ impl<'a, R: Wait + Clock, C: StatsSource + Drop> LineHandler for ControlHandler<
         let bytes = part.bytes();
         let step = match self.announced.take() {
             Some(announced) => self.session.adopt(self.rt, alloc, announced.end(bytes)),
-            None if bytes.is_empty() => return Reply::Silent,
+            None if part.is_empty() => return Reply::Silent,
             None => self
                 .session
                 .last_step(self.rt, alloc, &mut self.reader, bytes),
