@@ -12,7 +12,7 @@ use Rattle.pn_tablet.specs.CopyReading.{copy_at}
 use Rattle.pn_tablet.specs.declared.fault.CopyTextFault.{CopyTextFault}
 use Rattle.pn_tablet.specs.declared.fault.CopyTextFault.TheVariants as fault
 use Rattle.pn_live.specs.Readers.{LiveReaderValue}
-use Rattle.pn_protocol.proofs.CommandLines.{too_long}
+use Rattle.pn_protocol.proofs.ControlLines.{too_long}
 use Rattle.pn_protocol.specs.Command.Controls.{ControlValue, control_at, script, notices, advance, stats, stop}
 use Rattle.pn_protocol.specs.Command.Lines.{is_too_long}
 use Rattle.pn_protocol.specs.Command.Meaning.{command_value}
@@ -103,7 +103,7 @@ said_kept line = elim (cases_lt 65536 (length line)) [
       let long_too : 65536 < length (kept_bytes line) = omega (arith, length-kept_bytes_long line long) in
       let here : is_too_long (kept_bytes line) ≡ true = grind (arith, nat_tests) in
       let there : is_too_long line ≡ true = grind (arith, nat_tests) in
-      (too_long _ (kept_bytes line) long_too ∙ sym (too_long _ line long), here ∙ sym there)
+      (too_long (kept_bytes line) long_too ∙ sym (too_long line long), here ∙ sym there)
       )
   | inr short ↦ (ap control_at (kept_bytes-short line short), ap is_too_long (kept_bytes-short line short))
 ]
