@@ -1,30 +1,27 @@
 -- Rounds of streams and commands of control sessions are events of the region.
-use Rattle.std.proofs.Common.{◌≡◌, ℕ, ◌<◌, Bool, true, false, List, [], ◌∷◌, ◌++◌, length, refl, sym, ap, ◌∙◌, subst, arith}
+use Rattle.std.proofs.Common.{◌≡◌, ℕ, Bool, true, false, List, [], ◌∷◌, refl, sym, ap, subst, arith}
 use Rattle.std.specs.Prelude.{Contains}
 use Rattle.std.specs.FinMap.{find}
-use Rattle.std.proofs.lemmas.Grind.{flat_map-append}
 use Rattle.pn_record.specs.Prelude.{bytes_cmp}
 use Rattle.pn_record.specs.CellMap.{table_of}
 use Rattle.pn_record.specs.declared.image.Image.{Image}
 use Rattle.pn_stream.specs.Brokers.{BrokerRecord}
-use Rattle.pn_region.specs.Events.{RegionEvent, round, AllLeadTo, AreHonestEvents}
+use Rattle.pn_region.specs.Events.{RegionEvent, AllLeadTo, AreHonestEvents}
 use Rattle.pn_region.specs.Faith.{AreFaithful}
 use Rattle.pn_region.specs.Held.{HoldsStill}
 use Rattle.pn_region.specs.Laws.{AreIn}
 use Rattle.pn_region.specs.Regions.{RegionValue, IsRegion, all_cells, new_region}
 use Rattle.pn_region.specs.Serving.{AllServe, ServesAt}
-use Rattle.pn_region.specs.Taken.{all_left, all_taken, left_by}
+use Rattle.pn_region.specs.Taken.{all_left, all_taken}
 use Rattle.pn_region.proofs.EventImages.{taken_together}
 use Rattle.pn_region.proofs.ServedRecords.{events_record}
 use Rattle.pn_live.specs.LiveRegions.{LiveRegionValue, core}
 use Rattle.pn_live.proofs.Events.{new_core}
-use Rattle.pn_serve.specs.Control.Commands.{Asked, Said, adopt, advance, lose, marks, notices, tablets}
-use Rattle.pn_serve.specs.Control.Events.{events_by}
+use Rattle.pn_serve.specs.Control.Commands.{Asked, adopt, advance, lose, marks, notices, tablets, event_by, with_event}
 use Rattle.pn_serve.specs.Server.Events.{AllDone, WriterEvent, taken, told}
 use Rattle.pn_serve.specs.Server.HonestEvents.{DidHonestly, region_events}
 use Rattle.pn_serve.specs.declared.server.mailboxes.AtFault.{AtFault}
-use Rattle.pn_serve.proofs.ControlEvents.{command_leads}
-use Rattle.pn_serve.proofs.Happened.{lead_on}
+use Rattle.pn_serve.proofs.Obeying.{leads_first}
 
 -- what was done leads where its events lead
 pub done_leads : (at_fault : AtFault) (names : List (List ℕ)) (old : LiveRegionValue) (events : List WriterEvent) (left : List (List ℕ)) (new : LiveRegionValue)
@@ -32,25 +29,22 @@ pub done_leads : (at_fault : AtFault) (names : List (List ℕ)) (old : LiveRegio
 done_leads at_fault names old [] left new all = ap core all.1
 done_leads at_fault names old (taken input ∷ later) left new all = (core all.0, all.3.takes.1.taken, done_leads at_fault all.1 all.0 later left new all.4)
 done_leads at_fault names old (told asked said ∷ later) left new all =
-    lead_on (events_by asked said) (region_events later) (core old) (core all.0) (core new) (command_leads old all.0 asked said all.1) (done_leads at_fault names all.0 later left new all.2)
+    leads_first (event_by asked said) old all.0 (region_events later) (core new) all.1.left (done_leads at_fault names all.0 later left new all.2)
 
 -- none of them left images in some tablets
-none_left_by : (asked : Asked) (text : List ℕ) (refused : Bool) → all_left (events_by asked (record { text = text; refused = refused })) ≡ []
-none_left_by asked text true = refl
-none_left_by (adopt copy) text false = refl
-none_left_by advance text false = refl
-none_left_by (lose tablet) text false = refl
-none_left_by marks text false = refl
-none_left_by (notices since) text false = refl
-none_left_by tablets text false = refl
+none_left_by : (asked : Asked) (text : List ℕ) (refused : Bool) (later : List RegionEvent) → all_left later ≡ [] → all_left (with_event (event_by asked (record { text = text; refused = refused })) later) ≡ []
+none_left_by asked text true later none = none
+none_left_by (adopt copy) text false later none = none
+none_left_by advance text false later none = none
+none_left_by (lose tablet) text false later none = none
+none_left_by marks text false later none = none
+none_left_by (notices since) text false later none = none
+none_left_by tablets text false later none = none
 
 none_left : (events : List WriterEvent) → all_left (region_events events) ≡ []
 none_left [] = refl
 none_left (taken input ∷ later) = none_left later
-none_left (told asked said ∷ later) =
-    flat_map-append left_by (events_by asked said) (region_events later)
-    ∙ ap (λ (images : List Image). images ++ all_left (region_events later)) (none_left_by asked said.text said.refused)
-    ∙ none_left later
+none_left (told asked said ∷ later) = none_left_by asked said.text said.refused (region_events later) (none_left later)
 
 none_in : (image : Image) → Contains [] image → ⊥
 none_in image there = omega (arith, there.1)

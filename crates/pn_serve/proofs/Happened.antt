@@ -235,7 +235,7 @@ ended_lead m None is = refl
 ended_lead m (Some end) is = all_lead (events_of_end m.mode m end.outcome end.part) m.region (end_turn m end.outcome end.part).machine.region (end_leads m end.outcome end.part is)
 
 -- some events lead on from where others lead
-pub lead_on : (first later : List RegionEvent) (old next new : RegionValue) → AllLeadTo first old next → AllLeadTo later next new → AllLeadTo (first ++ later) old new
+lead_on : (first later : List RegionEvent) (old next new : RegionValue) → AllLeadTo first old next → AllLeadTo later next new → AllLeadTo (first ++ later) old new
 lead_on [] later old next new lead more = subst (λ (r : RegionValue). AllLeadTo later r new) lead more
 lead_on (event ∷ first) later old next new lead more = (lead.0, lead.1, lead_on first later lead.0 next new lead.2 more)
 

@@ -1,10 +1,10 @@
 -- Rounds of streams and commands of control sessions, one after another, as events of the region.
-use Rattle.std.specs.Prelude.{ℕ, List, [], ◌∷◌, ◌++◌}
+use Rattle.std.specs.Prelude.{ℕ, List, [], ◌∷◌}
 use Rattle.pn_stream.specs.Brokers.{BrokerRecord}
 use Rattle.pn_tablet.specs.Layouts.{Bounds, IsLayout}
 use Rattle.pn_region.specs.Events.{RegionEvent, round, AreHonestEvents}
 use Rattle.pn_live.specs.LiveRegions.{LiveRegionValue, IsNewLive}
-use Rattle.pn_serve.specs.Control.Events.{events_by}
+use Rattle.pn_serve.specs.Control.Commands.{event_by, with_event}
 use Rattle.pn_serve.specs.Server.Events.{AllDone, WriterEvent, taken, told}
 use Rattle.pn_serve.specs.declared.server.mailboxes.AtFault.{AtFault}
 
@@ -12,7 +12,7 @@ use Rattle.pn_serve.specs.declared.server.mailboxes.AtFault.{AtFault}
 abbrev pub region_events : List WriterEvent → List RegionEvent
 region_events [] = []
 region_events (taken input ∷ later) = round input.deliveries ∷ region_events later
-region_events (told asked said ∷ later) = events_by asked said ++ region_events later
+region_events (told asked said ∷ later) = with_event (event_by asked said) (region_events later)
 
 -- a live region that took rounds and did commands since it was new, of which each brought what is honest
 pub record DidHonestly (broker : BrokerRecord) (live : LiveRegionValue) : Type 0 where
