@@ -52,14 +52,7 @@ where
     ensures same { tablets_in live.new ≡ tablets_in live.old }
 {
     let mut mailboxes = start_threads::<R, S, O>(rt, alloc, streams, watchers)?;
-    let read = run_beside(
-        rt,
-        alloc,
-        live,
-        workers,
-        &mut mailboxes,
-        &watchers.controls,
-    );
+    let read = run_beside(rt, alloc, live, workers, &mut mailboxes, &watchers.controls);
     mailboxes.close(rt);
     read
 }
