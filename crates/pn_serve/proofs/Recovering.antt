@@ -42,7 +42,7 @@ use Rattle.pn_protocol.specs.Reply.Short.{lost_data}
 use Rattle.pn_serve.proofs.Turns.{told_or_out, turned_call}
 
 -- a refusal that changes nothing
-abbrev telling : LoggedRegion → Data → Turn
+abbrev pub telling : LoggedRegion → Data → Turn
 telling region said = record { machine = machine_over region; reply = line_of said; refused = true }
 
 -- a refusal was answered, or memory ran out
@@ -61,7 +61,7 @@ came_as one other old new reply same comes = subst (λ (t : Turn). ComesTo t old
 pub adopts : (old new : LoggedRegion) (given : TabletCopyValue) (tablet : ℕ) → after_adoption old.state given ≡ Ok (tablet, new.state) → new.log ≡ with_break old.log → ComesTo (adoption_turn old (after_adoption old.state given)) old new (Adopted tablet)
 adopts old new given tablet is noted = came_as _ _ old new (Adopted tablet) (ap (adoption_turn old) is) (inl (λ i. record { mode = awaits_command; region = new.state; log = sym noted i }, refl, refl))
 
-not_memory : (fault : AdoptFault) (right : Result (ℕ × RegionValue) AdoptFault) → Refuses steps.is_memory fault right → fault ≢ adoption.Memory → right ≡ Err fault
+pub not_memory : (fault : AdoptFault) (right : Result (ℕ × RegionValue) AdoptFault) → Refuses steps.is_memory fault right → fault ≢ adoption.Memory → right ≡ Err fault
 not_memory adoption.WrongRange right is other = is
 not_memory (adoption.TooOld stream has needs) right is other = is
 not_memory adoption.Memory right is other = absurd (other refl)

@@ -108,10 +108,11 @@ impl ControlMailboxes {
         ensures same { tablets_in live.new ≡ tablets_in live.old }
     {
         for mailbox in self.mailboxes.iter() {
-            if let Some(command) = mailbox.take(rt) {
-                mailbox.answer(rt, give_answer(rt, alloc, live, command));
-                self.note_log(rt, live);
-            }
+            let Some(command) = mailbox.take(rt) else {
+                continue;
+            };
+            mailbox.answer(rt, give_answer(rt, alloc, live, command));
+            self.note_log(rt, live);
         }
     }
 
