@@ -23,7 +23,7 @@ MEMBER = re.compile(r'(?:Part|Member)::\w+ => "(\w+)"')
 ERROR = r'\\?"error\\?":\\?"([a-z-]+)'
 REFUSAL = re.compile(rf'\b\w+_(?:error|reply)\(\s*alloc,\s*"([a-z-]+)"|{ERROR}')
 REASON = re.compile(rf'\b(?:Stream|Image)Fault::\w+[^\n]* => "([a-z-]+)"|{ERROR}')
-OPTION = re.compile(r'\b(?:option|number|plain|flag)\(\s*alloc,\s*"([a-z-]+)"')
+OPTION = re.compile(r'\b(?:option|number|plain|path|flag)\(\s*alloc,\s*"([a-z-]+)"')
 TOLD_COMMAND = re.compile(r'"do":"(\w+)"')
 TOLD_OPTION = re.compile(r"pnuts (?:serve|replay)[^\n|]*?(--[a-z-]+)")
 
