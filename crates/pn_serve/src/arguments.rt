@@ -149,17 +149,17 @@ fn address_of(alloc: Global, host: IpAddr, options: &ArgMatches<'_>) -> Result<A
 fn control_path(alloc: Global, options: &ArgMatches<'_>) -> Result<Option<String>, OptionFault>
     ensures { ShowsUnless OptionFault.Memory optional_bytes result (control_in (rows_of (found_of options.now))) }
 {
-    let path = option_text(options, "control");
-    if path.is_empty() {
+    let control = option_text(options, "control");
+    if control.is_empty() {
         return Ok(None);
     }
     if !is_given(options, "stay") {
         return Err(OptionFault::Control(Why::NoStay));
     }
-    if path.len() > MAX_SOCKET_BYTES {
+    if control.len() > MAX_SOCKET_BYTES {
         return Err(OptionFault::Control(Why::LongPath));
     }
-    Ok(Some(String::from_str(alloc, path)?))
+    Ok(Some(String::from_str(alloc, control)?))
 }
 
 // With `--stay`, how many connections are served at once.
