@@ -1,6 +1,6 @@
 -- The members of a stream follow one another.
-use Rattle.std.proofs.Common.{ℕ, List, Option, codes, ◌∙◌, ap}
-use Rattle.serde_json.specs.Data.{Data, number, object, string, unsigned, member, no_members}
+use Rattle.std.proofs.Common.{ℕ, List, Option, codes}
+use Rattle.serde_json.specs.Data.{Data, object, string, member, no_members}
 use Rattle.pn_protocol.specs.declared.reply.stats.StreamFaultStats.{StreamFaultStats}
 use Rattle.pn_protocol.specs.Reply.Stats.{count, fault_line, fault_reason, number_or_null, stream_data}
 use Rattle.pn_json.specs.Tokens.{value_tokens}
