@@ -76,7 +76,9 @@ module _ (old : LiveRegionValue) (tablet : ℕ) where
 
   -- there is no such tablet
   pub lost_none : length old.layout < tablet → IsRegion (core old) → ObeysLive old (lose tablet) old (said_by (Refused (OutOfRange Tablet)))
-  lost_none past is = record { replied = inr (ap at (no_tablet (core old) tablet is (omega (arith, past)))); left = refl }
+  lost_none past is =
+      let beyond : length old.layout + 1 ≤ tablet = omega (arith, past) in
+      record { replied = inr (ap at (no_tablet (core old) tablet is beyond)); left = refl }
 
   -- the tablet was lost
   pub lost_it : (new : LiveRegionValue) → tablet ≤ length old.layout → IsRegion (core old) → new ≡ after_op_at old tablet Lose → core new ≡ after_loss (core old) tablet → ObeysLive old (lose tablet) new (said_by (Lost tablet))

@@ -3,14 +3,11 @@
 use crate::counters::{Counters, StreamCounters};
 use crate::progress::memory_bytes;
 use pn_join::NoMemory;
-use pn_serve::{Stats, StatsSource, StreamStats};
+use pn_serve::{ConnectionStats, LineStats, Stats, StatsSource, StreamStats, VERSION};
 use std::alloc::Global;
 use std::fs::{File, Files};
 use std::sync::Arc;
 use std::time::{Clock, Instant};
-
-/// The version that is told.
-const VERSION: &str = "0.1.0";
 
 /// The counters of a server, and when it began.
 #[derive(Drop)]
@@ -25,24 +22,36 @@ impl<R: Clock + Files<File = File>> StatsSource for CurrentStats<R> {
         let counters = &self.counters;
         let mut streams = Vec::with_capacity(alloc, counters.streams.len())?;
         for stream in counters.streams.iter() {
-            streams.push(stats_of(stream))?;
+            streams.push(stats_of(alloc, stream))?;
         }
         Ok(Stats {
             bytes: memory_bytes(&self.rt),
-            open: counters.connections.get(),
-            accepted: counters.accepted.get(),
-            lines: counters.clients.lines.get(),
+            connections: ConnectionStats {
+                accepted: counters.accepted.get(),
+                open: counters.connections.get(),
+                idle: 0,
+                refused: 0,
+            },
+            lines: LineStats {
+                answered: counters.clients.lines.get(),
+                refused: 0,
+            },
             rounds: counters.rounds.get(),
             streams,
             uptime: seconds_since(&self.rt, &self.started),
             version: VERSION,
         })
     }
+
+    fn has_client_gone(&self) -> bool {
+        false
+    }
 }
 
-fn stats_of(stream: &StreamCounters) -> StreamStats {
+fn stats_of(alloc: Global, stream: &StreamCounters) -> StreamStats {
     StreamStats {
         name: stream.name,
+        path: String::new(alloc),
         position: match &stream.taken {
             Some(taken) => taken.get(),
             None => 0,
@@ -50,6 +59,8 @@ fn stats_of(stream: &StreamCounters) -> StreamStats {
         messages: stream.input.lines.get(),
         bytes: stream.input.bytes.get(),
         state: stream.input.state(),
+        since: None,
+        fault: None,
     }
 }
 

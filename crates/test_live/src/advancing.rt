@@ -72,7 +72,8 @@ fn mark(live: &LiveRegion) -> Option<u64> {
     position(live.marks())
 }
 
-// The mark before it advanced, what all tablets have taken, the mark after it advanced, whether a round past it is a gap, and the mark after the next message.
+// The mark before it advanced, what all tablets have taken, the mark after it advanced, whether a round past it is a gap,
+// and the mark after the next message.
 fn run<R: Threads + Wait + Sync>(
     rt: &R,
     alloc: Global,

@@ -41,6 +41,8 @@ impl Origin<InMemory<'static>> for Once {
     fn hand_on(&mut self, _last: u64) {}
 
     fn end_writer(&mut self, _source: InMemory<'static>, _end: &WriterEnd, _last: u64) {}
+
+    fn stop_writer(&mut self, _source: InMemory<'static>) {}
 }
 
 fn new_settings(alloc: Global) -> Result<Settings, NoMemory> {

@@ -56,4 +56,8 @@ where
             Writers::Socket(_) => end_socket(source, end),
         }
     }
+
+    fn stop_writer(&mut self, source: StreamSource<R>) {
+        end_socket(source, &WriterEnd::End);
+    }
 }
