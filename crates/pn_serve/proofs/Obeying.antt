@@ -114,7 +114,7 @@ module _ (old : LiveRegionValue) (copy : TabletCopyValue) where
       let noted : new.log ≡ with_break old.log = ap (λ (l : LiveRegionValue). l.log) did.published in
       record {
         replied = inr (ap (adoption_turn (logged old)) did.adopted
-        ∙ (λ i. record { machine = record { mode = awaits_command; region = core new; log = sym noted i }; reply = line_of (adopted_data (same i)); refused = false }));
+            ∙ (λ i. record { machine = record { mode = awaits_command; region = core new; log = sym noted i }; reply = line_of (adopted_data (same i)); refused = false }));
         left = (lawful, did);
       }
 
@@ -149,7 +149,7 @@ module _ (old : LiveRegionValue) where
       let says : text.items ≡ line_of (marks_reply_data new.marks) = shown ∙ ap (λ (ms : Positions). line_of (marks_reply_data ms)) same in
       record {
         replied = inr (ap (advance_turn (logged old)) did.advanced
-        ∙ (λ i. record { machine = record { mode = awaits_command; region = core new; log = sym kept i }; reply = sym says i; refused = false }));
+            ∙ (λ i. record { machine = record { mode = awaits_command; region = core new; log = sym kept i }; reply = sym says i; refused = false }));
         left = did;
       }
 
