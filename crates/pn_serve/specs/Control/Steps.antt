@@ -13,12 +13,12 @@ use Rattle.pn_protocol.specs.Reply.Stats.{stats_data}
 use Rattle.pn_protocol.specs.declared.refusal.Refusal.{Refusal}
 use Rattle.pn_protocol.specs.declared.refusal.Refusal.TheVariants.{Memory}
 use Rattle.pn_protocol.specs.declared.reply.Reply.{Reply}
-use Rattle.pn_protocol.specs.declared.reply.Reply.TheVariants.{Refused, Text}
+use Rattle.pn_protocol.specs.declared.reply.Reply.TheVariants.{Refused}
 use Rattle.pn_protocol.specs.declared.reply.refusals.CommandFault.TheVariants.{CopyText}
 use Rattle.pn_protocol.specs.declared.reply.stats.Stats.{Stats}
 use Rattle.pn_serve.specs.Control.Answers.{IsGiven, question_of}
 use Rattle.pn_serve.specs.Control.Commands as control
-use Rattle.pn_serve.specs.Control.Commands.{Asked, Said, reply, text}
+use Rattle.pn_serve.specs.Control.Commands.{Asked, Said, said_by}
 use Rattle.pn_serve.specs.Session.Lines.{LooksUp}
 use Rattle.pn_serve.specs.declared.control.steps.Step.{Step}
 use Rattle.pn_serve.specs.declared.control.steps.Step.TheVariants.{Replies, Announces, Stops, Ends}
@@ -28,21 +28,15 @@ abbrev pub RepliesWith : (Reply → Type 0) → Step → Type 0
 RepliesWith holds (Replies shown) = holds shown
 RepliesWith holds step = ⊥
 
--- the reply is this line, or memory ran out
-abbrev pub ShowsLine : List ℕ → Reply → Type 0
-ShowsLine line (Text bytes) = bytes.items ≡ line
-ShowsLine line shown = shown ≡ Refused Memory
-
--- the reply shows what was said
-abbrev pub ShowsSaid : Said → Reply → Type 0
-ShowsSaid (reply said) shown = shown ≡ said
-ShowsSaid (text said) shown = ShowsLine said shown
+-- the reply says so, or that memory ran out
+abbrev pub Says : Said → Reply → Type 0
+Says said shown = (said_by shown ≡ said) ⊎ (shown ≡ Refused Memory)
 
 -- the writer answered so
 pub record IsShown (asked : Asked) (shown : Reply) : Type 0 where
   pub said : Said
   pub given : IsGiven (question_of asked) said
-  pub shows : ShowsSaid said shown
+  pub says : Says said shown
 
 -- the writer answered, or takes no command any more
 abbrev pub Asks : Asked → Step → Type 0
@@ -70,7 +64,7 @@ ObeysScript old asked new step = RepliesWith (λ shown. LooksUp old asked new sh
 
 -- the reply shows what some server has done so far
 abbrev pub ShowsStats : Reply → Type 0
-ShowsStats shown = (done : Stats) × ShowsLine (line_of (stats_data done)) shown
+ShowsStats shown = (done : Stats) × Says (record { text = line_of (stats_data done); refused = false }) shown
 
 -- a command was done
 abbrev pub ObeysControl : LiveReaderValue → ControlValue → LiveReaderValue → Step → Type 0

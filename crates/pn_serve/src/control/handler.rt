@@ -70,8 +70,8 @@ impl<'a, R, C: Drop> ControlHandler<'a, R, C> {
 
     /// Gives the reader back, and after how many seconds at most the server is to end, once that was asked for.
     pub(crate) fn end(self) -> (LiveReader, Option<u64>)
-        ensures reader { result.0 ≡ self.reader }
-        ensures stop { result.1 ≡ self.stop }
+        ensures reader { result.0 ≡ self.entry.reader }
+        ensures stop { result.1 ≡ self.entry.stop }
     {
         let ControlHandler {
             rt: _rt,
@@ -124,33 +124,41 @@ impl<'a, R: Wait + Clock, C: StatsSource + Drop> LineHandler for ControlHandler<
         if self.is_closed() {
             return Reply::Silent;
         }
-        let step = match self.announced.take() {
-            None => self
-                .session
-                .step(self.rt, alloc, &mut self.reader, line.bytes()),
+        match self.announced.take() {
+            None => {
+                let reader = &mut self.reader;
+                let step = self.session.step(self.rt, alloc, reader, line.bytes());
+                self.note(alloc, step)
+            }
             Some(announced) => match announced.gather(line.bytes()) {
                 Gathered::More(announced) => {
                     self.announced = Some(announced);
-                    return Reply::Silent;
+                    Reply::Silent
                 }
-                Gathered::Text(text) => self.session.adopt(self.rt, alloc, text),
+                Gathered::Text(text) => {
+                    let step = self.session.adopt(self.rt, alloc, text);
+                    self.note(alloc, step)
+                }
             },
-        };
-        self.note(alloc, step)
+        }
     }
 
     fn answer_end(&mut self, alloc: Global, part: &LineBuffer) -> Reply {
         if self.is_closed() {
             return Reply::Silent;
         }
-        let bytes = part.bytes();
-        let step = match self.announced.take() {
-            Some(announced) => self.session.adopt(self.rt, alloc, announced.end(bytes)),
-            None if bytes.is_empty() => return Reply::Silent,
-            None => self
-                .session
-                .last_step(self.rt, alloc, &mut self.reader, bytes),
-        };
-        self.note(alloc, step)
+        match self.announced.take() {
+            Some(announced) => {
+                let text = announced.end(part.bytes());
+                let step = self.session.adopt(self.rt, alloc, text);
+                self.note(alloc, step)
+            }
+            None if part.is_empty() => Reply::Silent,
+            None => {
+                let reader = &mut self.reader;
+                let step = self.session.last_step(self.rt, alloc, reader, part.bytes());
+                self.note(alloc, step)
+            }
+        }
     }
 }
