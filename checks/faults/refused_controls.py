@@ -11,17 +11,19 @@ from serving.controlled import Session, adoption
 from serving.staying import Staying
 from serving.writers import Writer
 
-MEMORY = b'{"error":"memory"}\n'
+# Refusals after which a line is asked again.
+MEMORY = (b'{"error":"memory"}\n', b'{"error":"no-entry"}\n')
 FENCE, AT_FENCE = b" " * 65_537 + b"\n", b'{"error":"too-long"}\n'
 # What a program may say, and still go on; and why it may not start.
-GOES_ON = (b"pnuts: round failed", b"pnuts: stream east failed", b"pnuts: stream east ended", b"pnuts: stream east begins again",
+ROUND_FAILED = b"pnuts: round failed"
+GOES_ON = (ROUND_FAILED, b"pnuts: stream east failed", b"pnuts: stream east ended", b"pnuts: stream east begins again",
            b"pnuts: cannot accept")
 STARTS_NOT = (b"pnuts: memory", b"pnuts: cannot start", b"pnuts: cannot listen", b"pnuts: cannot open east")
 KEYS = ("a", "b", "x", "y")
 MESSAGES = b"".join(b'{"at":%d,"image":{"fields":{"v":"1"},"key":"%b","master":"w","version":[1,0]}}\n' % (at, key.encode())
                     for at, key in enumerate(KEYS, 1))
-# For how long, and how often, something is asked again.
-PATIENCE, TIMES = 10.0, 20
+# How often something is asked again.
+TIMES = 20
 
 
 class Ended(Exception):
@@ -57,7 +59,7 @@ class Asking:
                 self.session.socket.close()
                 self.session = Session(self.control)
                 continue
-            if reply != MEMORY:
+            if reply not in MEMORY:
                 return reply
         raise AssertionError(f"no reply to {text[:60]!r}")
 
@@ -67,7 +69,7 @@ class Asking:
             with contextlib.suppress(ConnectionError):
                 self.session.send(b'{"do":"stop"}\n')
                 reply = self.session.line()
-                if reply not in (MEMORY, b""):
+                if reply not in (*MEMORY, b""):
                     same("the reply to a stop", reply, b'{"stopping":10}\n')
                     return
                 if reply == b"":
@@ -77,32 +79,34 @@ class Asking:
         return json.loads(self.ask(json.dumps(command).encode() + b"\n"))
 
 
-def give(path: str, mark: str, asking: Asking) -> bool:
-    """Has the region take the messages. Whether it has; else memory was refused."""
-    last = time.monotonic() + PATIENCE
+def give(region: Staying, path: str, mark: str, asking: Asking) -> bool:
+    """Has the region take the messages, by writer after writer. Whether it has them; else memory was refused, and it reads no stream."""
+    last = time.monotonic() + SECONDS
     while time.monotonic() < last:
         with contextlib.suppress(OSError, ValueError), Writer(path) as writer:
-            writer.socket.settimeout(0.5 if os.path.exists(mark) else SECONDS)
+            while not writer.is_taken(0.2):
+                if os.path.exists(mark) and ROUND_FAILED in region.said():
+                    return False
             writer.begin()
             writer.send(MESSAGES)
-            while True:
-                if asking.told(do="marks")["marks"].get("east") == len(KEYS):
+            while line := writer.line():
+                if json.loads(line) == {"taken": len(KEYS)}:
+                    same("marks", asking.told(do="marks"), {"marks": {"east": len(KEYS)}})
                     return True
-                if os.path.exists(mark) and (writer.is_taken(0.05) and b"error" in writer.line() or time.monotonic() > last - PATIENCE + 1):
-                    break
-        if os.path.exists(mark):
-            return False
     raise AssertionError("the messages are not taken")
 
 
 def rows(asking: Asking) -> Json:
-    return asking.told(do="scan", query={})
+    reply = asking.told(do="scan", query={})
+    same("the members of a page", list(reply), ["next", "rows"])
+    return reply
 
 
 def recover(asking: Asking, is_whole: bool) -> None:
     """A loss and a recovery, and what the region says of them."""
     before = rows(asking)
-    same("its records", [it["key"] for it in before["rows"]], [*KEYS] if is_whole else [it["key"] for it in before["rows"]])
+    keys = [it["key"] for it in before["rows"]]
+    same("its records", keys, [*KEYS] if is_whole else [key for key in KEYS if key in keys])
     text = asking.ask(b'{"do":"copy","tablet":1}\n').partition(b"\n")[2]
     same("the loss", asking.told(do="lose", tablet=1), {"lost": 1})
     same("a read meanwhile", asking.told(do="read", key="x"), {"error": "recovering", "tablet": 1})
@@ -133,7 +137,7 @@ def run_fault(program: str, folder: str, given: dict[str, str]) -> str | None:
                 with contextlib.suppress(subprocess.TimeoutExpired):
                     region.process.wait(1)
             return said_fault(region.said(), GOES_ON)
-    except (AssertionError, OSError, ValueError) as fault:
+    except (AssertionError, KeyError, OSError, ValueError) as fault:
         has_started = region.process.poll() != 1 or said_fault(region.said(), STARTS_NOT) is not None
         is_refusal = not has_started and os.path.exists(mark)
         return None if is_refusal else f"{fault!r}, status {region.process.poll()}, {region.said()!r}"
@@ -144,7 +148,7 @@ def run_fault(program: str, folder: str, given: dict[str, str]) -> str | None:
 def talk(region: Staying, control: str, path: str, mark: str) -> None:
     """What is asked of a region, up to its end."""
     asking = Asking(control)
-    recover(asking, give(path, mark, asking))
+    recover(asking, give(region, path, mark, asking))
     asking.stop()
     same("its status", region.process.wait(timeout=SECONDS), 0)
     same("its sockets", [os.path.exists(it) for it in (control, path)], [False, False])

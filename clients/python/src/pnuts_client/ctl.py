@@ -16,7 +16,7 @@ from .addresses import Address, Unix, address_of
 from .client import Client
 from .control import Control
 from .control_requests import Notice, Notices, Tablet
-from .errors import ConnectionFailed, PnutsError
+from .errors import ConnectionFailed, PnutsError, TimedOut
 from .pauses import pause
 from .recovery import recover, save
 from .status import shown_status
@@ -62,6 +62,7 @@ def parser() -> argparse.ArgumentParser:
     lost.add_argument("--timeout", type=float, default=60.0, metavar="SECONDS", help="for how long (default: %(default)s)")
     ready = command(wait_for_region, "ready", "wait until the region answers")
     ready.add_argument("--timeout", type=float, default=60.0, metavar="SECONDS", help="for how long (default: %(default)s)")
+    ready.add_argument("--process", type=int, metavar="PID", help="give up once this process, which is the region's, has ended")
     stopped = command(stop_region, "stop", "end the region once all lines that have come are answered, and wait for that")
     stopped.add_argument("--seconds", type=int, default=10, metavar="N", help="end it after so many at most, 0 to 60 (default: %(default)s)")
     shown = command(export, "exporter", "show the region to Prometheus: /metrics, and /healthz (needs python3-prometheus-client)")
@@ -151,11 +152,24 @@ def wait_for_region(region: Control, words: Words) -> int:
         try:
             region.marks()
             return 0
-        except ConnectionFailed:
+        except (ConnectionFailed, TimedOut) as fault:
+            if words.process is not None and not _is_there(words.process):
+                raise PnutsError(f"process {words.process} has ended: {fault}") from fault
             if time.monotonic() >= deadline:
                 raise
             tries += 1
             time.sleep(pause(tries))
+
+
+def _is_there(process: int) -> bool:
+    """Whether a process has not ended."""
+    try:
+        os.kill(process, 0)
+    except ProcessLookupError:
+        return False
+    except PermissionError:
+        pass
+    return True
 
 
 def stop_region(region: Control, words: Words) -> int:
