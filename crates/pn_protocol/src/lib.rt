@@ -15,5 +15,7 @@ pub use reply::notices::notices_reply;
 pub use reply::refusals::{CommandFault, refuse};
 pub use reply::scan::scan_reply;
 pub use reply::short::{NumberName, ShortReply, number_reply, refusal_reply, served_reply};
-pub use reply::stats::{Stats, StreamState, StreamStats, stats_reply};
+pub use reply::stats::{
+    ConnectionStats, LineStats, Stats, StreamFaultStats, StreamState, StreamStats, stats_reply,
+};
 pub use reply::tablets::{ShownTablets, marks_reply, tablets_reply};

@@ -14,7 +14,7 @@ mod settings;
 mod stream_laws;
 
 pub use arguments::faults::{PlanFault, Refused, Why};
-pub use arguments::options::{MAX_SESSIONS, numbers_are_as_written};
+pub use arguments::options::{MAX_SESSIONS, VERSION, numbers_are_as_written};
 pub use arguments::plan;
 pub use arguments::plans::{Address, Plan, Service, StreamPath};
 pub use control::laws::commands_are_events;
@@ -27,9 +27,9 @@ pub use page_laws::{
     pages_of_a_script_are_together_its_rows,
 };
 pub use pn_protocol::{
-    Command, CommandFault, ControlCommand, NumberName, Part, Refusal, Reply, ShortReply, Stats,
-    StreamState, StreamStats, a_line_is_one_command, command_of, control_of, number_reply,
-    refusal_reply, refuse, scan_reply,
+    Command, CommandFault, ConnectionStats, ControlCommand, LineStats, NumberName, Part, Refusal,
+    Reply, ShortReply, Stats, StreamFaultStats, StreamState, StreamStats, a_line_is_one_command,
+    command_of, control_of, number_reply, refusal_reply, refuse, scan_reply,
 };
 pub use repeat_laws::{
     a_repeated_deliver_leaves_no_trace_of_a_refused_one, repeated_delivers_leave_the_same_region,

@@ -4,7 +4,8 @@ use pn_join::NoMemory;
 use pn_line::InMemory;
 use pn_live::LiveReader;
 use pn_serve::{
-    ControlMailboxes, ControlSession, Stats, StatsSource, close_region, open_region, take_commands,
+    ConnectionStats, ControlMailboxes, ControlSession, LineStats, Stats, StatsSource, close_region,
+    open_region, take_commands,
 };
 use std::alloc::Global;
 use std::sync::{Arc, Wait};
@@ -22,14 +23,25 @@ impl StatsSource for Nothing {
     fn stats(&self, alloc: Global) -> Result<Stats, NoMemory> {
         Ok(Stats {
             bytes: 0,
-            open: 0,
-            accepted: 0,
-            lines: 0,
+            connections: ConnectionStats {
+                accepted: 0,
+                open: 0,
+                idle: 0,
+                refused: 0,
+            },
+            lines: LineStats {
+                answered: 0,
+                refused: 0,
+            },
             rounds: 0,
             streams: Vec::new(alloc),
             uptime: 0,
             version: "0",
         })
+    }
+
+    fn has_client_gone(&self) -> bool {
+        false
     }
 }
 

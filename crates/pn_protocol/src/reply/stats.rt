@@ -1,14 +1,14 @@
 //! The reply to `stats`: what a server has done so far.
 
-ghost use Rattle.std.specs.Prelude.{◌≡◌, map, IfOk, OnOk};
+ghost use Rattle.std.specs.Prelude.{◌≡◌, codes, map, IfOk, OnOk};
 ghost use Rattle.serde_json.specs.Data.{array};
 ghost use Rattle.serde_json.specs.View.{items_of};
-ghost use Rattle.pn_json.specs.Prelude.{line_of, Appends, value_tokens};
-ghost use Rattle.pn_protocol.specs.Reply.Stats.{connections_data, lines_data, state_word as word_of_state, stats_data, stream_data};
+ghost use Rattle.pn_json.specs.Prelude.{line_of, member_tokens, Appends, value_tokens};
+ghost use Rattle.pn_protocol.specs.Reply.Stats.{connections_data, fault_line, fault_reason, lines_data, number_or_null, state_word as word_of_state, stats_data, stream_data};
 
 use json::Writer;
 use pn_join::{NoMemory, StreamName};
-use pn_json::{begin_line, finish_line, write_number_member, write_text_member};
+use pn_json::{begin_line, finish_line, write_null_member, write_number_member, write_text_member};
 use std::alloc::Global;
 
 /// What a server has done so far.
@@ -16,11 +16,8 @@ use std::alloc::Global;
 pub struct Stats {
     /// How many bytes of memory the process has.
     pub bytes: u64,
-    /// How many connections are open, and how many were accepted.
-    pub open: u64,
-    pub accepted: u64,
-    /// How many lines of clients were answered.
-    pub lines: u64,
+    pub connections: ConnectionStats,
+    pub lines: LineStats,
     pub rounds: u64,
     pub streams: Vec<StreamStats>,
     /// For how many seconds the server runs.
@@ -28,16 +25,49 @@ pub struct Stats {
     pub version: &'static str,
 }
 
+/// The connections of clients.
+#[derive(Clone, Copy, Debug)]
+pub struct ConnectionStats {
+    /// How many were accepted, and how many are open.
+    pub accepted: u64,
+    pub open: u64,
+    /// How many were ended since nothing came for too long.
+    pub idle: u64,
+    /// How many were refused since there was no room.
+    pub refused: u64,
+}
+
+/// The lines of clients.
+#[derive(Clone, Copy, Debug)]
+pub struct LineStats {
+    /// How many were answered, and how many of these answers are refusals.
+    pub answered: u64,
+    pub refused: u64,
+}
+
 /// What was read of a stream.
 #[derive(Drop)]
 pub struct StreamStats {
     pub name: StreamName,
+    /// Where its writers come.
+    pub path: String,
     /// Up to which position rounds have taken it.
     pub position: u64,
     /// How many lines and bytes were read.
     pub messages: u64,
     pub bytes: u64,
     pub state: StreamState,
+    /// How many seconds ago the last message came, if one came.
+    pub since: Option<u64>,
+    /// The last fault of a writer, if there was one.
+    pub fault: Option<StreamFaultStats>,
+}
+
+/// The fault of a writer: in which of its lines, from 1, and what it is.
+#[derive(Drop)]
+pub struct StreamFaultStats {
+    pub line: u64,
+    pub reason: String,
 }
 
 /// How a stream goes.
@@ -69,9 +99,9 @@ fn write_stats(writer: &mut Writer, stats: &Stats) -> Result<(), NoMemory>
     writer.begin_object()?;
     write_number_member(writer, "bytes", stats.bytes)?;
     writer.key("connections")?;
-    write_connections(writer, stats)?;
+    write_connections(writer, &stats.connections)?;
     writer.key("lines")?;
-    write_lines(writer, stats)?;
+    write_lines(writer, &stats.lines)?;
     write_number_member(writer, "rounds", stats.rounds)?;
     writer.key("streams")?;
     write_streams(writer, &stats.streams)?;
@@ -82,22 +112,25 @@ fn write_stats(writer: &mut Writer, stats: &Stats) -> Result<(), NoMemory>
 }
 
 #[tactic(auto, unfolding(crate::specs::Reply::Stats::connections_data))]
-fn write_connections(writer: &mut Writer, stats: &Stats) -> Result<(), NoMemory>
-    ensures { OnOk result (Appends writer.old writer.new (value_tokens (connections_data stats.now))) }
+fn write_connections(writer: &mut Writer, connections: &ConnectionStats) -> Result<(), NoMemory>
+    ensures { OnOk result (Appends writer.old writer.new (value_tokens (connections_data connections.now))) }
 {
     writer.begin_object()?;
-    write_number_member(writer, "accepted", stats.accepted)?;
-    write_number_member(writer, "open", stats.open)?;
+    write_number_member(writer, "accepted", connections.accepted)?;
+    write_number_member(writer, "idle", connections.idle)?;
+    write_number_member(writer, "open", connections.open)?;
+    write_number_member(writer, "refused", connections.refused)?;
     writer.end_object()?;
     Ok(())
 }
 
 #[tactic(auto, unfolding(crate::specs::Reply::Stats::lines_data))]
-fn write_lines(writer: &mut Writer, stats: &Stats) -> Result<(), NoMemory>
-    ensures { OnOk result (Appends writer.old writer.new (value_tokens (lines_data stats.now))) }
+fn write_lines(writer: &mut Writer, lines: &LineStats) -> Result<(), NoMemory>
+    ensures { OnOk result (Appends writer.old writer.new (value_tokens (lines_data lines.now))) }
 {
     writer.begin_object()?;
-    write_number_member(writer, "answered", stats.lines)?;
+    write_number_member(writer, "answered", lines.answered)?;
+    write_number_member(writer, "refused", lines.refused)?;
     writer.end_object()?;
     Ok(())
 }
@@ -119,12 +152,46 @@ fn write_stream(writer: &mut Writer, stream: &StreamStats) -> Result<(), NoMemor
 {
     writer.begin_object()?;
     write_number_member(writer, "bytes", stream.bytes)?;
+    write_fault_line(writer, &stream.fault)?;
     write_number_member(writer, "messages", stream.messages)?;
     write_text_member(writer, "name", stream.name.as_str())?;
+    write_text_member(writer, "path", stream.path.as_str())?;
     write_number_member(writer, "position", stream.position)?;
+    write_fault_reason(writer, &stream.fault)?;
+    write_since(writer, stream.since)?;
     write_text_member(writer, "state", state_word(stream.state))?;
     writer.end_object()?;
     Ok(())
+}
+
+// The line of the last fault, or null.
+fn write_fault_line(writer: &mut Writer, fault: &Option<StreamFaultStats>) -> Result<(), NoMemory>
+    ensures { OnOk result (Appends writer.old writer.new (member_tokens (codes "line") (fault_line fault.now))) }
+{
+    match fault {
+        Some(fault) => write_number_member(writer, "line", fault.line),
+        None => write_null_member(writer, "line"),
+    }
+}
+
+// What the last fault is, or null.
+fn write_fault_reason(writer: &mut Writer, fault: &Option<StreamFaultStats>) -> Result<(), NoMemory>
+    ensures { OnOk result (Appends writer.old writer.new (member_tokens (codes "reason") (fault_reason fault.now))) }
+{
+    match fault {
+        Some(fault) => write_text_member(writer, "reason", fault.reason.as_str()),
+        None => write_null_member(writer, "reason"),
+    }
+}
+
+// How long ago the last message came, or null.
+fn write_since(writer: &mut Writer, since: Option<u64>) -> Result<(), NoMemory>
+    ensures { OnOk result (Appends writer.old writer.new (member_tokens (codes "since") (number_or_null since))) }
+{
+    match since {
+        Some(seconds) => write_number_member(writer, "since", seconds),
+        None => write_null_member(writer, "since"),
+    }
 }
 
 fn state_word(state: StreamState) -> &'static str

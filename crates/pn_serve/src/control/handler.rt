@@ -50,9 +50,7 @@ impl<'a, R: Wait + Clock, C: StatsSource> ControlHandler<'a, R, C> {
         match command {
             ControlCommand::Script(command) => self.answer_script(alloc, command),
             ControlCommand::Notices { since, wait } => {
-                if wait > 0 {
-                    self.mailboxes.wait_past(self.rt, since, wait);
-                }
+                self.wait_past(since, wait);
                 self.ask(alloc, WriterCommand::Notices { since })
             }
             ControlCommand::Advance => self.ask(alloc, WriterCommand::Advance),
@@ -78,6 +76,17 @@ impl<'a, R: Wait + Clock, C: StatsSource> ControlHandler<'a, R, C> {
         match self.stats.stats(alloc) {
             Ok(stats) => answer_text(stats_reply(alloc, &stats)),
             Err(_) => Reply::Refused(Refusal::Memory),
+        }
+    }
+
+    // Waits for so many seconds at most while the last number of the log is this one and the client is there, a second at
+    // a time.
+    fn wait_past(&self, number: u64, seconds: u64) {
+        for _ in 0..seconds {
+            let is_past = self.mailboxes.wait_past(self.rt, number, 1);
+            if is_past || self.stats.has_client_gone() {
+                return;
+            }
         }
     }
 

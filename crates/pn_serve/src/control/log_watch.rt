@@ -35,13 +35,14 @@ impl LogWatch {
         }
     }
 
-    /// Waits for so many seconds at most while the last number is this one.
-    pub(crate) fn wait_past<R: Wait + Clock>(&self, rt: &R, number: u64, seconds: u64) {
+    /// Waits for so many seconds at most while the last number is this one. Whether it is another one.
+    pub(crate) fn wait_past<R: Wait + Clock>(&self, rt: &R, number: u64, seconds: u64) -> bool {
         let most = Duration::from_secs(seconds);
         let guard = self.state.lock(rt);
-        let _ = self
+        let (_state, waited) = self
             .changed
             .wait_timeout_while(rt, guard, most, |state| state.is_at(number));
+        !waited.timed_out()
     }
 
     /// From now on nobody waits.

@@ -79,9 +79,9 @@ impl ControlMailboxes {
         mailbox.wait(rt)
     }
 
-    /// Waits for so many seconds at most while the last number of the log is this one.
-    pub(crate) fn wait_past<R: Wait + Clock>(&self, rt: &R, number: u64, seconds: u64) {
-        self.log.wait_past(rt, number, seconds);
+    /// Waits for so many seconds at most while the last number of the log is this one. Whether it is another one.
+    pub(crate) fn wait_past<R: Wait + Clock>(&self, rt: &R, number: u64, seconds: u64) -> bool {
+        self.log.wait_past(rt, number, seconds)
     }
 
     /// Asks the server to end after so many seconds at most.

@@ -13,10 +13,13 @@ use std::alloc::Global;
 use std::sync::{Arc, Wait};
 use std::time::Clock;
 
-/// Says what a server has done so far.
+/// Says what a server has done so far, and whether the client of a session is still there.
 pub trait StatsSource {
     /// What it has done so far.
     fn stats(&self, alloc: Global) -> Result<Stats, NoMemory>;
+
+    /// Whether the client has gone, so that nobody takes what it waits for.
+    fn has_client_gone(&self) -> bool;
 }
 
 /// What a control session is answered by, beside its reader.
