@@ -221,7 +221,7 @@ class ProgramTest(unittest.TestCase):
             self.assertEqual(lost, {"missed": True, "next": 3})
 
     def test_words_that_are_wrong(self) -> None:
-        for text in ("", "none", "recover 1", "recover 1 --from nowhere", "exporter --listen 9107"):
+        for text in ("", "none", "recover 1", "recover --from unix:x", "exporter --listen 9107"):
             with self.subTest(text), contextlib.redirect_stderr(io.StringIO()), self.assertRaises(SystemExit) as ended:
                 main(text.split())
             self.assertEqual(ended.exception.code, 2)
@@ -230,6 +230,9 @@ class ProgramTest(unittest.TestCase):
         with contextlib.redirect_stderr(io.StringIO()) as errors:
             self.assertEqual(said("--control", "/nowhere/control", "ready", "--timeout", "0.1")[0], 1)
         self.assertIn("/nowhere/control", errors.getvalue())
+        with contextlib.redirect_stderr(io.StringIO()) as errors:
+            self.assertEqual(said("--control", "/nowhere/control", "save", "x", "--from", "nowhere")[0], 1)
+        self.assertEqual(errors.getvalue(), "pnuts-ctl: no address of a region: 'nowhere'\n")
         ended = subprocess.Popen(["true"])
         ended.wait()
         with contextlib.redirect_stderr(io.StringIO()) as errors:

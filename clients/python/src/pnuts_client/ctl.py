@@ -5,6 +5,7 @@ from __future__ import annotations
 import argparse
 import json
 import os
+import ssl
 import sys
 import time
 from collections.abc import Callable, Sequence
@@ -55,10 +56,12 @@ def parser() -> argparse.ArgumentParser:
     watch.add_argument("--since", type=int, metavar="N", help="begin after the change of this number (default: now)")
     copied = command(save_copies, "save", "write the copies of all tablets into a file, which is there whole or not at all")
     copied.add_argument("file", type=Path, metavar="FILE", help="the file")
-    copied.add_argument("--from", dest="peer", type=_address, metavar="ADDRESS", help=f"{PEER} (default: the control socket's)")
+    copied.add_argument("--from", dest="peer", metavar="ADDRESS", help=f"{PEER} (default: the control socket's)")
+    _add_certificates(copied)
     lost = command(recover_tablet, "recover", "have a lost tablet adopt the copy of a peer, which is asked until it has what is needed")
     lost.add_argument("tablet", type=int, metavar="TABLET", help="its number, from 0")
-    lost.add_argument("--from", dest="peer", type=_address, required=True, metavar="ADDRESS", help=f"the peer: {PEER}")
+    lost.add_argument("--from", dest="peer", required=True, metavar="ADDRESS", help=f"the peer: {PEER}")
+    _add_certificates(lost)
     lost.add_argument("--timeout", type=float, default=60.0, metavar="SECONDS", help="for how long (default: %(default)s)")
     ready = command(wait_for_region, "ready", "wait until the region answers")
     ready.add_argument("--timeout", type=float, default=60.0, metavar="SECONDS", help="for how long (default: %(default)s)")
@@ -71,11 +74,17 @@ def parser() -> argparse.ArgumentParser:
     return words
 
 
-def _address(text: str) -> Address:
-    try:
-        return address_of(text)
-    except ValueError as fault:
-        raise argparse.ArgumentTypeError(str(fault)) from fault
+def _add_certificates(words: argparse.ArgumentParser) -> None:
+    words.add_argument("--authority", metavar="FILE", help="certificates that vouch for tls:// (default: the machine's own)")
+    words.add_argument("--certificate", metavar="FILE", help="the certificate, with its key, to show to tls://")
+
+
+def _peer(words: Words) -> Address:
+    """The peer that the words name, with its certificates."""
+    context = ssl.create_default_context(cafile=words.authority)
+    if words.certificate:
+        context.load_cert_chain(words.certificate)
+    return address_of(words.peer, context)
 
 
 def _place(text: str) -> tuple[str, int]:
@@ -131,7 +140,7 @@ def _shown(change: Notice) -> str:
 
 
 def save_copies(region: Control, words: Words) -> int:
-    with Client(words.peer or Unix(words.control)) as source:
+    with Client(_peer(words) if words.peer else Unix(words.control)) as source:
         count = save(source, words.file)
     size = words.file.stat().st_size
     say(words, {"bytes": size, "path": str(words.file), "tablets": count}, f"{words.file}: {count} tablets, {size} bytes")
@@ -139,7 +148,7 @@ def save_copies(region: Control, words: Words) -> int:
 
 
 def recover_tablet(region: Control, words: Words) -> int:
-    with Client(words.peer) as peer:
+    with Client(_peer(words)) as peer:
         size = recover(region, words.tablet, peer, words.timeout)
     text = f"tablet {words.tablet} serves" if size is None else f"tablet {words.tablet} adopted {size} bytes"
     say(words, {"bytes": size, "tablet": words.tablet}, text)
