@@ -57,33 +57,37 @@ type Notices struct {
 // Marks says how far streams were taken.
 func Marks(ctx context.Context, region *pnuts.Client) (map[string]int64, error) {
 	var told struct{ Marks map[string]int64 }
-	err := ask(ctx, region, map[string]any{"do": "marks"}, "marks", &told)
+	err := ask(ctx, region, map[string]any{"do": "marks"}, &told, "marks")
 	return told.Marks, err
 }
 
 // StatsOf says what a region has done so far.
 func StatsOf(ctx context.Context, region *pnuts.Client) (stats Stats, err error) {
-	return stats, ask(ctx, region, map[string]any{"do": "stats"}, "streams", &stats)
+	err = ask(ctx, region, map[string]any{"do": "stats"}, &stats, "streams")
+	return stats, err
 }
 
 // NoticesAfter gives what changed after a number. Where that is nothing, it waits for it so many seconds, at most 60. Lines on the
 // same connection wait too, and a client's timeout has to be longer.
 func NoticesAfter(ctx context.Context, region *pnuts.Client, since, wait int64) (found Notices, err error) {
 	command := map[string]any{"do": "notices", "since": since, "wait": wait}
-	return found, ask(ctx, region, command, "next", &found)
+	err = ask(ctx, region, command, &found, "missed", "notices")
+	return found, err
 }
 
-// ask reads a reply, which has to have a member.
-func ask(ctx context.Context, region *pnuts.Client, command map[string]any, member string, answer any) error {
+// ask reads a reply, which has to have one of some members.
+func ask(ctx context.Context, region *pnuts.Client, command map[string]any, answer any, members ...string) error {
 	reply, err := region.Ask(ctx, command)
 	if err != nil {
 		return err
 	}
 	text, _ := json.Marshal(reply)
-	if reply[member] == nil || json.Unmarshal(text, answer) != nil {
-		return &pnuts.ProtocolError{Text: fmt.Sprintf("no reply to %v: %.200v", command, reply)}
+	for _, member := range members {
+		if reply[member] != nil && json.Unmarshal(text, answer) == nil {
+			return nil
+		}
 	}
-	return nil
+	return &pnuts.ProtocolError{Text: fmt.Sprintf("no reply to %v: %.200v", command, reply)}
 }
 
 // A Watcher goes over the changes of a region as they come, as long as Next says that there are some. Err says why not.

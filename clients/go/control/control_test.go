@@ -3,6 +3,8 @@ package control
 import (
 	"bufio"
 	"context"
+	"encoding/json"
+	"errors"
 	"fmt"
 	"net"
 	"os"
@@ -87,6 +89,97 @@ func same(t *testing.T, what string, found, wanted any) {
 	t.Helper()
 	if one, other := fmt.Sprint(found), fmt.Sprint(wanted); one != other {
 		t.Fatalf("%s: %s, wanted %s", what, one, other)
+	}
+}
+
+// asked is what the package answers to a call, in the form of a reply.
+func asked(client *pnuts.Client, text json.RawMessage) (any, error) {
+	var call struct {
+		Do          string
+		Since, Wait int64
+	}
+	_ = json.Unmarshal(text, &call)
+	switch call.Do {
+	case "marks":
+		marks, err := Marks(background, client)
+		return map[string]any{"marks": marks}, err
+	case "stats":
+		return StatsOf(background, client)
+	}
+	return NoticesAfter(background, client, call.Since, call.Wait)
+}
+
+// lower is JSON with the names of members in small letters, without those that are null or false.
+func lower(t *testing.T, text []byte) any {
+	var value any
+	must(t, json.Unmarshal(text, &value))
+	var of func(any) any
+	of = func(value any) any {
+		switch value := value.(type) {
+		case []any:
+			for at := range value {
+				value[at] = of(value[at])
+			}
+		case map[string]any:
+			found := map[string]any{}
+			for name, member := range value {
+				if member != nil && member != false && name != "of-a-later-version" {
+					found[strings.ToLower(name)] = of(member)
+				}
+			}
+			return found
+		}
+		return value
+	}
+	return of(value)
+}
+
+// fake is a region that answers one line with a reply, and hands the line on.
+func fake(t *testing.T, reply string) (*pnuts.Client, chan string) {
+	listener, err := net.Listen("tcp", "127.0.0.1:0")
+	must(t, err)
+	lines := make(chan string, 1)
+	go func() {
+		if connection, err := listener.Accept(); err == nil {
+			line, _ := bufio.NewReader(connection).ReadString('\n')
+			fmt.Fprintln(connection, reply)
+			lines <- line
+		}
+	}()
+	client, err := pnuts.Open("tcp://"+listener.Addr().String(), pnuts.Options{Retries: -1})
+	must(t, err)
+	t.Cleanup(func() { client.Close(); listener.Close() })
+	return client, lines
+}
+
+func TestVectors(t *testing.T) {
+	var told struct {
+		Exchanges, Broken []struct {
+			Call        json.RawMessage
+			Line, Reply string
+		}
+	}
+	text, err := os.ReadFile(filepath.Join("..", "..", "vectors", "control.json"))
+	must(t, err)
+	must(t, json.Unmarshal(text, &told))
+	for _, it := range told.Exchanges {
+		client, lines := fake(t, it.Reply)
+		answer, err := asked(client, it.Call)
+		refusal := pnuts.Refusal(nil)
+		if errors.As(err, &refusal) {
+			answer, err = refusal.Members(), nil
+		}
+		must(t, err)
+		made, err := json.Marshal(answer)
+		must(t, err)
+		same(t, it.Reply, lower(t, made), lower(t, []byte(it.Reply)))
+		same(t, "line", lower(t, []byte(<-lines)), lower(t, []byte(it.Line)))
+	}
+	for _, it := range told.Broken {
+		client, _ := fake(t, it.Reply)
+		_, err := asked(client, it.Call)
+		wrong := (*pnuts.ProtocolError)(nil)
+		same(t, "whether it is no reply: "+it.Reply, errors.As(err, &wrong), true)
 	}
 }
 

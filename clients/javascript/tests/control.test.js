@@ -7,8 +7,8 @@ import net from "node:net";
 import { join } from "node:path";
 import { createInterface } from "node:readline";
 import { test } from "node:test";
-import { BadLine, ConnectionFailed, Control } from "../src/index.js";
-import { folderOf, ofTheProgram, program } from "./support.js";
+import { BadLine, ConnectionFailed, Control, ProtocolError, Refused } from "../src/index.js";
+import { fake, folderOf, ofTheProgram, program, vectors } from "./support.js";
 
 /** A region with a control socket, and a stream that comes over a socket. It is killed at the end of the test. */
 async function start(t, folder) {
@@ -74,4 +74,35 @@ test("a watch", ofTheProgram, async (t) => {
 test("a watch of no region", async () => {
   const control = new Control("unix:/nowhere/control", { retries: 1 });
   await assert.rejects(control.watch(0).next(), ConnectionFailed);
+});
+
+/** What a control answers to a call, in the form of a reply. */
+async function answer(control, { do: word, since, wait }) {
+  if (word === "notices") {
+    const { next, missed, changes } = await control.notices(since, wait);
+    return missed ? { missed, next } : { next, notices: changes };
+  }
+  return word === "marks" ? { marks: await control.marks() } : control.stats();
+}
+
+test("vectors", async (t) => {
+  const { exchanges, broken } = JSON.parse(vectors("control"));
+  for (const { call, line, reply } of exchanges) {
+    const lines = [];
+    const server = net.createServer((socket) => socket.on("data", (data) => lines.push(data.toString()) && socket.write(`${reply}\n`)));
+    const control = new Control(await fake(t, [], server));
+    const wanted = JSON.parse(reply);
+    if (wanted.error === undefined) {
+      assert.deepEqual(await answer(control, call), wanted);
+    } else {
+      await assert.rejects(answer(control, call), (fault) => fault instanceof Refused && fault.reply.error === wanted.error);
+    }
+    assert.deepEqual(lines.map((each) => JSON.parse(each)), [JSON.parse(line)]);
+    await control.close();
+  }
+  for (const { call, reply } of broken) {
+    const control = new Control(await fake(t, [[`${reply}\n`]]));
+    await assert.rejects(answer(control, call), ProtocolError);
+    await control.close();
+  }
 });
