@@ -14,6 +14,7 @@ from serving.writers import Writer
 
 CLIENTS, LINES, PAGES = 256, 100, 60
 READ = b'{"do":"read","key":"k%03d"}\n'
+HALF = b'{"error":"not-json"}\n'
 SCAN = b'{"do":"scan","query":{"limit":1000}}\n'
 
 
@@ -30,10 +31,10 @@ class Pipelining:
     def turn(self) -> None:
         """Sends what is taken, and takes what came."""
         with contextlib.suppress(BlockingIOError, BrokenPipeError, ConnectionResetError):
-            while not self.unsent or self.socket.send(self.unsent[:1000]) == 0:
+            if not self.unsent:
                 self.unsent = b"".join(READ % (number % KEYS) for number in range(self.sent, self.sent + LINES))
                 self.sent += LINES
-            self.unsent = self.unsent[1000:]
+            self.unsent = self.unsent[self.socket.send(self.unsent) :]
         try:
             while not self.is_over and (part := self.socket.recv(CHUNK)):
                 self.came += part
@@ -44,9 +45,10 @@ class Pipelining:
             self.is_over = True
 
     def look(self) -> int:
-        """Looks whether the replies are whole, in the order of the lines. How many there are."""
+        """Looks whether the replies are whole, in the order of the lines; half a line has one, too. How many there are."""
         same("what comes last is whole", self.came[-1:] in (b"", b"\n"), True)
-        keys = [json.loads(line)["row"]["key"] for line in self.came.splitlines()]
+        lines = self.came.removesuffix(HALF).splitlines()
+        keys = [json.loads(line)["row"]["key"] for line in lines]
         same("the replies are those of the first lines", keys == [f"k{number % KEYS:03}" for number in range(len(keys))], True)
         return len(keys)
 
@@ -95,7 +97,7 @@ def check_stop_beside_lines(program: str, folder: str) -> None:
         with region_in(folder, program, *words) as (region, control, path), Session(control) as session:
             written(path, 1, 1000)
             clients = [Pipelining(words[1] if words else region.port) for _ in range(CLIENTS)]
-            last = time.monotonic() + 1
+            last = time.monotonic() + 0.3
             while time.monotonic() < last:
                 for client in clients:
                     client.turn()

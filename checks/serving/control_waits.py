@@ -55,11 +55,12 @@ def check_stats(program: str, folder: str) -> None:
         until("its stream has ended", lambda: other.told(do="stats")["streams"][0]["state"] == "ended")
         with Writer(path) as writer:
             writer.begin()
+            writer.send(messages(251, 1))
             until("its stream is open", lambda: other.told(do="stats")["streams"][0]["state"] == "open")
             writer.send(b"no message\n")
             writer.last_lines()
         (stream,) = other.told(do="stats")["streams"]
-        same("its fault", [stream["line"], stream["reason"]], [1, "not-json"])
+        same("its fault", [stream["line"], stream["reason"]], [2, "not-json"])
         same("what counts only clients", other.told(do="stats")["lines"], {"answered": 0, "refused": 0})
 
 
