@@ -121,6 +121,10 @@ def check_sessions_that_do_not_read(program: str, folder: str) -> None:
             flood(deaf, json.dumps([*WORDS, {"do": "notices", "since": 0}][at % 9]).encode() + b"\n")
         same("the slowest of 500 replies is within a second", asks_on(control, 500) < 1, True)
         written(path, 1001, 1000)
+        with Session(control) as session:
+            copy = session.copy(1)
+            same("a loss meanwhile", session.told(do="lose", tablet=1), {"lost": 1})
+            same("and the adoption", session.ask(adoption(copy)), b'{"adopted":1}\n')
         with socket.create_connection(("127.0.0.1", region.port), timeout=SECONDS) as client, client.makefile("rb") as replies:
             client.sendall(b'{"do":"read","key":"k001"}\n')
             same("a reader's version", json.loads(replies.readline())["row"]["version"], [1, 19])

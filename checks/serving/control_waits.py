@@ -1,6 +1,7 @@
 """Checks of `checks/run control`: the words that only control sessions have, and `notices` that waits."""
 import json
 import os
+import socket
 import stat
 import subprocess
 import time
@@ -62,6 +63,20 @@ def check_stats(program: str, folder: str) -> None:
         (stream,) = other.told(do="stats")["streams"]
         same("its fault", [stream["line"], stream["reason"]], [2, "not-json"])
         same("what counts only clients", other.told(do="stats")["lines"], {"answered": 0, "refused": 0})
+
+
+def check_stats_of_connections(program: str, folder: str) -> None:
+    """`stats` counts the connections of clients, those that were idle for too long, and the lines that were refused."""
+    with region_in(folder, program, "--idle", "1") as (region, control, _), Session(control) as session:
+        for _ in range(3):
+            with socket.create_connection(("127.0.0.1", region.port), timeout=SECONDS) as client, client.makefile("rb") as replies:
+                client.sendall(b'{"do":"read","key":"k001"}\nx\n')
+                same("the replies", [replies.readline(), replies.readline()], [b'{"row":null}\n', b'{"error":"not-json"}\n'])
+                same("the end of its session", replies.readline(), b"")
+        until("none is open", lambda: session.told(do="stats")["connections"]["open"] == 0)
+        stats = session.told(do="stats")
+        same("connections", stats["connections"], {"accepted": 3, "idle": 3, "open": 0, "refused": 0})
+        same("lines", stats["lines"], {"answered": 6, "refused": 3})
 
 
 def check_waits(program: str, folder: str) -> None:
