@@ -16,7 +16,7 @@ from typing import Any
 from .addresses import Address, Unix, address_of
 from .client import Client
 from .control import Control
-from .control_requests import Notice, Notices, Tablet
+from .control_requests import LAST_NUMBER, Notice, Tablet
 from .errors import ConnectionFailed, PnutsError, TimedOut
 from .pauses import pause
 from .recovery import recover, save
@@ -126,7 +126,7 @@ def _as_json(tablet: Tablet) -> dict[str, Any]:
 
 
 def show_changes(region: Control, words: Words) -> int:
-    since = region.notices(0).next if words.since is None else words.since
+    since = region.notices(LAST_NUMBER).next if words.since is None else words.since
     for found in region.watch(since):
         if found.missed:
             say(words, {"missed": True, "next": found.next}, f"{found.next}: some changes before this one were missed")
