@@ -120,7 +120,7 @@ where
     let written = show(alloc, &written)?;
     let counters = acceptor.counters;
     let is_counted = counters.rounds.get() > 0 && counters.clients.lines.get() > 0;
-    let open = counters.connections.get();
+    let open = counters.connections.open.get();
     match ended {
         Ok(()) => Ok(format!(in alloc; "{told:?}, {written}, {is_counted}, {open}")?),
         Err(fault) => Ok(format!(in alloc; "{told:?}, {written}{fault}")?),
