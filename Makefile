@@ -83,17 +83,20 @@ $(LIVE): $(SOURCES)
 licences:
 	@packaging/licences.py out/third-party
 
-# Installs the built program with its pages for man, completions, licences, service and feeds. After a build it needs no toolchain.
+# Installs the built program with its pages for man, completions, licences, service, feeds and tools. After a build it needs no
+# toolchain.
 install: licences
 	@packaging/install "$(PNUTS)" --prefix "$(PREFIX)" --destdir "$(DESTDIR)/"
 	@packaging/install --feeds --prefix "$(PREFIX)" --destdir "$(DESTDIR)/"
+	@packaging/install --tools --prefix "$(PREFIX)" --destdir "$(DESTDIR)/"
 
 # Removes what `make install` installed, but for an environment file that was changed.
 uninstall:
 	@packaging/install --remove --feeds --prefix "$(PREFIX)" --destdir "$(DESTDIR)/"
+	@packaging/install --remove --tools --prefix "$(PREFIX)" --destdir "$(DESTDIR)/"
 	@packaging/install --remove --prefix "$(PREFIX)" --destdir "$(DESTDIR)/"
 
-# Builds the Debian packages of the program and of its feeds.
+# Builds the Debian packages of the program, of its feeds and of its tools.
 deb: $(PROVED) licences
 	@packaging/deb "$(PNUTS)" "$(DEBS)"
 

@@ -19,20 +19,24 @@ ENVIRONMENT = "etc/default/pnuts"
 FEEDS = ("postgres-outbox", "rabbitmq-stream", "redis-stream")
 FILES = {
     "bin/pnuts": 0o755,
+    "bin/pnuts-ctl": 0o755,
     ENVIRONMENT: 0o644,
     "lib/systemd/system/pnuts-feed@.service": 0o644,
     "lib/systemd/system/pnuts.service": 0o644,
     "lib/sysusers.d/pnuts.conf": 0o644,
     **{f"share/pnuts-feeds/{name}": 0o755 for name in FEEDS},
     **{f"share/pnuts-feeds/feed/{path.name}": 0o644 for path in (TOP / "feeds/feed").glob("*.py")},
+    **{f"share/pnuts-tools/pnuts_client/{path.name}": 0o644 for path in (TOP / "clients/python/src/pnuts_client").glob("*.py")},
     "share/bash-completion/completions/pnuts": 0o644,
     "share/doc/pnuts-feeds/README.md": 0o644,
     "share/doc/pnuts/third-party": 0o644,
     "share/fish/vendor_completions.d/pnuts.fish": 0o644,
     "share/man/man1/pnuts.1": 0o644,
     "share/man/man5/pnuts-formats.5": 0o644,
+    "share/man/man8/pnuts-ctl.8": 0o644,
     "share/man/man8/pnuts.8": 0o644,
     "share/pnuts-feeds/postgres-outbox.sql": 0o644,
+    "share/pnuts-tools/pnuts.rules.yml": 0o644,
     "share/zsh/site-functions/_pnuts": 0o644,
 }
 SHELLS = {
@@ -47,6 +51,8 @@ COMPLETIONS = {
     "pnuts r": {"replay"},
     "pnuts s": {"serve"},
     "pnuts serve --b": {"--bounds"},
+    "pnuts serve --co": {"--connections", "--control"},
+    "pnuts serve --stay --control m": {"messages"},
     "pnuts serve --s": {"--sessions", "--socket", "--stay"},
     "pnuts serve --socket m": {"messages"},
     "pnuts serve --stay --idle ": set(),
@@ -90,7 +96,8 @@ def check_unit(installed: Path) -> None:
 
 def check_pages(share: Path) -> None:
     """The pages can be read, and `man` has nothing to say against them."""
-    for page, words in (("man1/pnuts.1", "EXIT STATUS"), ("man5/pnuts-formats.5", "REFUSALS"), ("man8/pnuts.8", "SIGNALS")):
+    pages = {"man1/pnuts.1": "EXIT STATUS", "man5/pnuts-formats.5": "REFUSALS", "man8/pnuts.8": "SIGNALS", "man8/pnuts-ctl.8": "COMMANDS"}
+    for page, words in pages.items():
         shown = run(["man", "--warnings", "--encoding=UTF-8", "--local-file", share / "man" / page])
         same(f"the page {page}", [it for it in shown.splitlines() if "warning:" in it or it == words], [words])
 
@@ -171,7 +178,8 @@ def check_make_install(program: Path, folder: Path) -> Iterator[str]:
     environment.write_bytes(as_it_was)
     make("uninstall", root, program)
     same("files left", files_in(root), {})
-    left = [name for name in ("share/doc/pnuts", "share/doc/pnuts-feeds", "share/pnuts-feeds") if (installed / name).exists()]
+    own = ("share/doc/pnuts", "share/doc/pnuts-feeds", "share/pnuts-feeds", "share/pnuts-tools")
+    left = [name for name in own if (installed / name).exists()]
     same("which folders of its own are left", left, [])
     yield "make uninstall: a changed environment file is kept, and all else removed"
 

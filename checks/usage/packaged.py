@@ -144,6 +144,18 @@ def check_refused(system: System) -> None:
     environment.write_bytes(as_it_was)
 
 
+def check_control(system: System) -> None:
+    """It is ready once `systemctl start` returns, and ends with 0 at a stop: by systemd, or by its control socket, after which it stays ended."""
+    same("the socket", system.run("stat", "--format=%F %U:%G %a", "/run/pnuts/control").strip(), "socket pnuts:pnuts 600")
+    for line in (["systemctl", "stop", "pnuts"], ["pnuts-ctl", "stop"]):
+        system.run("systemctl", "start", "pnuts")
+        same("what it has done so far", json.loads(system.run("pnuts-ctl", "--json", "status"))["stats"]["rounds"], 0)
+        system.run(*line)
+        system.wait_for("inactive", "systemctl", "is-active", "pnuts")
+        same("how it ended, and starts", shown(system, "Result", "ExecMainStatus", "NRestarts"), ["success", "0", "0"])
+    system.run("systemctl", "start", "pnuts")
+
+
 def check_operation(system: System) -> int:
     """Does what the page pnuts(8) shows under its examples. How many lines."""
     text = (TOP / "packaging/man/operation.md").read_text(encoding="utf-8").partition("## Examples\n")[2]
@@ -201,11 +213,13 @@ def check_packages(system: System, packages: Sequence[Path]) -> Iterator[str]:
     check_refused(system)
     yield "started with words that it refuses: it failed, and was left alone"
     system.run("systemctl", "restart", "pnuts")
+    check_control(system)
+    yield "stopped, by systemd and by its control socket: it ended with 0, and was not started anew"
     check_serving(system)
     yield f"did the {check_operation(system)} lines that pnuts(8) shows as examples"
     check_feed(system)
     yield "a feed of Redis, enabled: it gives what is added, also once it and the region were killed"
-    system.run("dpkg", "--purge", "pnuts-feeds", "pnuts")
+    system.run("dpkg", "--purge", "pnuts-tools", "pnuts-feeds", "pnuts")
     same("the service", system.status("systemctl", "is-active", "pnuts")[1], "inactive")
     same("whether its runtime directory is there", system.status("test", "-e", "/run/pnuts")[0], 1)
     same("whether its user is there", system.status("id", "pnuts")[0], 0)

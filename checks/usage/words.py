@@ -4,7 +4,7 @@
 
 Commands, members, refusals, options and the reasons that writers of streams are told are read off the sources. Each has to stand
 in docs/formats.md; commands also in README.md, the slow program and the fuzzer's words; what sessions have in clients/README.md
-and in each client.
+and in each client; what control sessions have besides in the client for Python.
 Commands and options that README.md, docs/ or the packages name have to be those of the program.
 
 Exit status: 0 where nothing is missing, 1 where something is, 2 for a wrong argument.
@@ -23,7 +23,7 @@ MEMBER = re.compile(r'(?:Part|Member)::\w+ => "(\w+)"')
 ERROR = r'\\?"error\\?":\\?"([a-z-]+)'
 REFUSAL = re.compile(rf'\b\w+_(?:error|reply)\(\s*alloc,\s*"([a-z-]+)"|{ERROR}')
 REASON = re.compile(rf'\b(?:Stream|Image)Fault::\w+[^\n]* => "([a-z-]+)"|{ERROR}')
-OPTION = re.compile(r'\b(?:option|number|plain|flag)\(\s*alloc,\s*"([a-z-]+)"')
+OPTION = re.compile(r'\b(?:option|number|plain|path|flag)\(\s*alloc,\s*"([a-z-]+)"')
 TOLD_COMMAND = re.compile(r'"do":"(\w+)"')
 TOLD_OPTION = re.compile(r"pnuts (?:serve|replay)[^\n|]*?(--[a-z-]+)")
 
@@ -73,13 +73,13 @@ def all_faults() -> Iterator[str]:
     protocol = sources("pn_protocol")
     commands = found(COMMAND, protocol)
     members = found(MEMBER, protocol + sources("pn_record")) - {"whole", "other"}
-    refusals = found(REFUSAL, protocol)
+    controls, refusals = found(CONTROL, protocol), found(REFUSAL, protocol)
     options = {f"--{it}" for it in found(OPTION, sources("pn_serve"))}
     reasons = found(REASON, sources("pn_stay"))
     formats, readme = (TOP / "docs/formats.md").read_text(), (TOP / "README.md").read_text()
     if min(map(len, (commands, members, refusals, options, reasons))) < 5:
         yield "the sources do not say their words in the way that this script reads them"
-    for kind, words in (("command", commands), ("member", members), ("refusal", refusals), ("option", options), ("reason", reasons)):
+    for kind, words in (("command", commands | controls), ("member", members), ("refusal", refusals), ("option", options), ("reason", reasons)):
         yield from missing(kind, words, "docs/formats.md", formats)
     yield from missing("command", commands, "README.md", readme)
     yield from missing("command", commands, "the slow program (checks)", text_of(below("checks")))
@@ -87,8 +87,9 @@ def all_faults() -> Iterator[str]:
     for where, paths in clients().items():
         yield from missing("command", LOOKUPS, where, text_of(paths))
         yield from missing("refusal", refusals - OF_SCRIPTS, where, text_of(paths))
+    yield from missing("command", controls, "the client for Python", text_of(clients()["the client for Python"]))
     told = readme + text_of(sorted((TOP / "docs").glob("*.md")))
-    yield from unknown("command", TOLD_COMMAND.findall(told), commands | set(found(CONTROL, protocol)), "README.md or docs/")
+    yield from unknown("command", TOLD_COMMAND.findall(told), commands | controls, "README.md or docs/")
     yield from unknown("option", TOLD_OPTION.findall(told + text_of(below("packaging"))), options | BY_CLAP, "README.md, docs/ or packaging/")
 
 

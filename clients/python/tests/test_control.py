@@ -72,7 +72,7 @@ class ControlTest(unittest.TestCase):
             self.assertEqual([it.start for it in control.tablets()], [None, "g", "p"])
             found = control.notices(0)
             self.assertEqual([(it.key, it.before, it.after) for it in found.changes], [(it, None, Version(1, 0)) for it in "ahq"])
-            self.assertEqual(control.stats()["streams"][0]["messages"], 3)
+            self.assertEqual(control.stats().streams[0].messages, 3)
             record = control.read("h")
             assert record is not None
             with self.assertRaises(Refused):

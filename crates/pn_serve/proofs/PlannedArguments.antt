@@ -13,7 +13,7 @@ use Rattle.clap.specs.Walk.{Row, Text, Walk, finished, nothing_held, settled, wa
 use Rattle.pn_json.proofs.Inverses.{bind_ok}
 use Rattle.pn_serve.specs.Arguments.Options.{program}
 use Rattle.pn_serve.specs.Arguments.Plans.{Answers, HasSessions, IsTold, Plans, Says, Tells}
-use Rattle.pn_serve.specs.Arguments.Commands.{address_in, number_at, plan_in, replay_in, serve_in, service_in, settings_in}
+use Rattle.pn_serve.specs.Arguments.Commands.{address_in, control_in, number_at, plan_in, replay_in, serve_in, service_in, settings_in}
 use Rattle.pn_serve.specs.Arguments.Faults.{FaultValue, told_fault}
 use Rattle.pn_serve.specs.Arguments.Faults as faults
 use Rattle.pn_serve.specs.Arguments.PlanValues.{PlanValue, ServiceValue, help, plan_value, replay, serve, version}
@@ -84,6 +84,7 @@ answered words kind (inl memory) (Err (fault.Words text)) is = absurd (is.2 memo
 answered words kind (inr among) (Err (fault.Words text)) is = record { kind = kind; among = among; no_help = is.0; no_version = is.1 }
 answered words kind has (Err (fault.Bounds refused)) is = absurd is
 answered words kind has (Err (fault.Address refused)) is = absurd is
+answered words kind has (Err (fault.Control refused)) is = absurd is
 answered words kind has (Err (fault.Stream refused)) is = absurd is
 answered words kind has (Err fault.Memory) is = tt
 
@@ -103,7 +104,8 @@ service_plans : (host : IpAddr) (options : List Row) (service : ServiceValue) �
     → (1 ≤ service.sessions) × (service.sessions ≤ MAX_SESSIONS)
 service_plans host options service e =
     let placed = bind_ok (address_in host options) _ service e in
-    let last = placed.2 in
+    let controlled = bind_ok (control_in options) _ service placed.2 in
+    let last = controlled.2 in
     let same : number_at (codes "sessions") MAX_SESSIONS options ≡ service.sessions = cc in
     subst (λ n. (1 ≤ n) × (n ≤ MAX_SESSIONS)) same (in_range _)
 
@@ -145,6 +147,7 @@ no_words : (options : List Row) (first : OptionFault) → told_fault options fir
 no_words options (option.Bounds why) e = absurd (cc)
 no_words options option.Listen e = absurd (cc)
 no_words options option.Socket e = absurd (cc)
+no_words options (option.Control why) e = absurd (cc)
 no_words options (option.Stream index why) e = absurd (cc)
 no_words options option.Memory e = absurd (cc)
 
@@ -157,6 +160,7 @@ planned words taken command found (Ok (plan.Version text)) tells = absurd (plans
 planned words taken command found (Err (fault.Words text)) tells = absurd (no_words command.1 tells.shows.0 tells.shows.2)
 planned words taken command found (Err (fault.Bounds refused)) tells = told words taken command found _ tells _ tells.shows
 planned words taken command found (Err (fault.Address refused)) tells = told words taken command found _ tells _ tells.shows
+planned words taken command found (Err (fault.Control refused)) tells = told words taken command found _ tells _ tells.shows
 planned words taken command found (Err (fault.Stream refused)) tells = told words taken command found _ tells _ tells.shows
 planned words taken command found (Err fault.Memory) tells = tt
 

@@ -6,7 +6,7 @@ ghost use Rattle.clap.specs.Words.{found_of, kind_of, rows_of, subcommand_rows_o
 ghost use Rattle.pn_json.specs.Prelude.{IsUnless, ShowsUnless};
 ghost use Rattle.pn_serve.specs.Arguments.Plans.{Answers, Gives, HasSessions, Plans, Tells};
 ghost use Rattle.pn_serve.specs.Arguments.Commands.{control_in, idle_in, listens_at, address_in, replay_in, serve_in, service_in, settings_in, stay_in, Spells};
-ghost use Rattle.pn_serve.specs.Arguments.PlanValues.{address_value, path_value, plan_value, service_value};
+ghost use Rattle.pn_serve.specs.Arguments.PlanValues.{address_value, optional_bytes, plan_value, service_value};
 
 mod bounds;
 pub(crate) mod faults;
@@ -145,21 +145,21 @@ fn address_of(alloc: Global, host: IpAddr, options: &ArgMatches<'_>) -> Result<A
     Ok(Address::Path(String::from_str(alloc, path)?))
 }
 
-// With `--stay`, the Unix socket of control sessions.
+// The Unix socket of control sessions, if one is named. It is refused without `--stay`, or where its path is too long.
 fn control_path(alloc: Global, options: &ArgMatches<'_>) -> Result<Option<String>, OptionFault>
-    ensures { ShowsUnless OptionFault.Memory path_value result (control_in (rows_of (found_of options.now))) }
+    ensures { ShowsUnless OptionFault.Memory optional_bytes result (control_in (rows_of (found_of options.now))) }
 {
-    let path = option_text(options, "control");
-    if path == "" {
+    let control = option_text(options, "control");
+    if control.is_empty() {
         return Ok(None);
     }
     if !is_given(options, "stay") {
         return Err(OptionFault::Control(Why::NoStay));
     }
-    if path.len() > MAX_SOCKET_BYTES {
+    if control.len() > MAX_SOCKET_BYTES {
         return Err(OptionFault::Control(Why::LongPath));
     }
-    Ok(Some(String::from_str(alloc, path)?))
+    Ok(Some(String::from_str(alloc, control)?))
 }
 
 // With `--stay`, how many connections are served at once.

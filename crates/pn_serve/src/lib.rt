@@ -43,4 +43,6 @@ pub use server::{
 };
 pub use sessions::session;
 pub use settings::Settings;
-pub use stream_laws::streams_that_resume_leave_what_was_published;
+pub use stream_laws::{
+    streams_beside_commands_leave_what_was_taken, streams_that_resume_leave_what_was_published,
+};

@@ -17,7 +17,7 @@ pub(crate) struct Listeners {
     pub(crate) control: Option<Listener>,
 }
 
-/// Listens, and prints where clients are. Else it prints why not.
+/// Listens for control sessions, then for clients, and prints where clients are. Else it prints why not.
 pub(crate) fn listen<R>(rt: &R, service: &Service) -> Result<Listeners, ExitCode>
 where
     R: AllocGlobal
@@ -26,47 +26,36 @@ where
         + Print
         + Eprint,
 {
-    let control = listen_for_control(rt, service)?;
-    match listen_for_clients(rt, service) {
-        Ok(clients) => Ok(Listeners { clients, control }),
-        Err(status) => {
+    let control = match bind_control(rt, &service.control) {
+        Ok(control) => control,
+        Err((path, error)) => return Err(fail_at(rt, "cannot listen", path, &error, true)),
+    };
+    let clients = match bind(rt, &service.address) {
+        Ok(clients) => clients,
+        Err(error) => {
             remove_control(rt, service);
-            Err(status)
+            return Err(refuse_address(rt, service, &error));
         }
+    };
+    if print_address(rt, &service.address).is_err() {
+        remove_places(rt, service, &[]);
+        return Err(fail(rt, "write"));
     }
+    Ok(Listeners { clients, control })
 }
 
-// Listens for control sessions, where there may be some.
-fn listen_for_control<R>(rt: &R, service: &Service) -> Result<Option<Listener>, ExitCode>
-where
-    R: AllocGlobal + Files<File = File> + Net + Eprint,
-{
-    let Some(path) = &service.control else {
+// Listens at the path of control sessions, if there is one. Else it gives back the path, and why it is refused.
+fn bind_control<'p>(
+    rt: &(impl Files<File = File> + Net),
+    path: &'p Option<String>,
+) -> Result<Option<Listener>, (&'p str, io::Error)> {
+    let Some(path) = path else {
         return Ok(None);
     };
     match Listener::bind_path(rt, path.as_str()) {
         Ok(listener) => Ok(Some(listener)),
-        Err(error) => Err(fail_at(rt, "cannot listen", path.as_str(), &error, true)),
+        Err(error) => Err((path.as_str(), error)),
     }
-}
-
-fn listen_for_clients<R>(rt: &R, service: &Service) -> Result<Listener, ExitCode>
-where
-    R: AllocGlobal
-        + Files<File = File>
-        + Net<Listener = TcpListener, Stream = TcpStream>
-        + Print
-        + Eprint,
-{
-    let listener = match bind(rt, &service.address) {
-        Ok(listener) => listener,
-        Err(error) => return Err(refuse_address(rt, service, &error)),
-    };
-    if print_address(rt, &service.address).is_err() {
-        remove_socket(rt, &service.address);
-        return Err(fail(rt, "write"));
-    }
-    Ok(listener)
 }
 
 fn bind<R>(rt: &R, address: &Address) -> io::Result<Listener>

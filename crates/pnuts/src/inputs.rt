@@ -1,6 +1,6 @@
 //! What a server reads, and where it listens.
 
-use crate::addresses::{Listeners, listen, remove_places};
+use crate::addresses::{Listeners, remove_places};
 use crate::failures::{fail_serving, is_explained, refuse_streams};
 use pn_join::Name;
 use pn_serve::{FaultLog, ServeFault, Service, Stream, StreamPath};
@@ -11,7 +11,7 @@ use pn_stay::{
 use pn_stream::StreamReader;
 use std::alloc::{AllocError, Global};
 use std::fs::File;
-use std::net::{Net, TcpListener, TcpStream};
+use std::net::Net;
 use std::process::ExitCode;
 use std::rt::Files;
 use std::sync::{Arc, Wait};
@@ -130,20 +130,14 @@ fn new_fault_log(
     }
 }
 
-/// Listens, and prints where. Else it prints why not.
-pub(crate) fn open_acceptor<R>(
-    rt: &R,
+/// What accepts clients where they are listened for. Else the streams' sockets are removed.
+pub(crate) fn open_acceptor(
+    rt: &(impl Files + Eprint),
     service: &Service,
     notes: &Notes,
-) -> Result<SocketAcceptor, ExitCode>
-where
-    R: AllocGlobal
-        + Files<File = File>
-        + Net<Listener = TcpListener, Stream = TcpStream>
-        + Print
-        + Eprint,
-{
-    let listeners = match listen(rt, service) {
+    listened: Result<Listeners, ExitCode>,
+) -> Result<SocketAcceptor, ExitCode> {
+    let listeners = match listened {
         Ok(listeners) => listeners,
         Err(status) => {
             remove_sockets(rt, &notes.sockets);

@@ -10,6 +10,7 @@ mod inputs;
 mod sessions;
 mod staying;
 
+use crate::addresses::listen;
 use crate::failures::fail;
 use crate::inputs::{Notes, Streams, open_acceptor, open_streams, refuse_start};
 use crate::sessions::serve_streams;
@@ -130,7 +131,7 @@ where
             },
         ) => {
             let (streams, notes) = open_streams(rt, &service, streams)?;
-            let acceptor = open_acceptor(rt, &service, &notes)?;
+            let acceptor = open_acceptor(rt, &service, &notes, listen(rt, &service))?;
             Ok(Prepared {
                 settings,
                 service,

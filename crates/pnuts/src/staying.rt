@@ -3,7 +3,7 @@
 use crate::addresses::remove_places;
 use crate::failures::{fail, fail_serving, fail_with};
 use pn_serve::{ServeFault, Service};
-use pn_stay::StayingServer;
+use pn_stay::{StayingServer, message_prefix};
 use std::io;
 use std::io::ErrorKind;
 use std::process::ExitCode;
@@ -44,8 +44,9 @@ pub(crate) fn answer_on<R: AllocGlobal + Threads + Wait + Clock + Eprint + Files
     }
     let is_stopped = server.wait(rt, rt.alloc());
     remove_places(rt, service, sockets);
-    if is_stopped {
-        return ExitCode::SUCCESS;
+    if !is_stopped {
+        return fail(rt, "cannot serve");
     }
-    fail(rt, "cannot serve")
+    let _ = eprint!(rt; "{}", message_prefix(service.is_progress_told));
+    ExitCode::SUCCESS
 }

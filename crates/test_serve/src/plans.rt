@@ -50,6 +50,9 @@ fn write_service(text: &mut String, service: &Service) -> Result<(), AllocError>
     if let Some(connections) = service.stay {
         write!(text, " for {connections} connections")?;
     }
+    if let Some(path) = &service.control {
+        write!(text, ", run from {path}")?;
+    }
     if let Some(seconds) = service.idle {
         write!(text, ", idle for {seconds} seconds")?;
     }

@@ -3,7 +3,8 @@
 from .addresses import Address, Tcp, Unix, address_of
 from .aio import AsyncClient
 from .client import Client
-from .control import AsyncControl, Control, Notice, Notices, Tablet
+from .control import AsyncControl, Control
+from .control_requests import Connections, Lines, Notice, Notices, Stats, StreamStats, Tablet
 from .errors import (
     BadLine,
     ConnectionFailed,
@@ -32,9 +33,11 @@ __all__ = [
     "Client",
     "Condition",
     "ConnectionFailed",
+    "Connections",
     "Content",
     "Control",
     "CopyBehind",
+    "Lines",
     "NoEntry",
     "Notice",
     "Notices",
@@ -49,6 +52,8 @@ __all__ = [
     "Refused",
     "Regions",
     "Request",
+    "Stats",
+    "StreamStats",
     "Tablet",
     "Tcp",
     "TimedOut",

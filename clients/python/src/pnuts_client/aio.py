@@ -89,6 +89,11 @@ class AsyncClient:
                     raise
                 await asyncio.sleep(pause(tries))
 
+    @property
+    def sessions(self) -> int:
+        """How many sessions it has begun."""
+        return sum(connection.sessions for connection in self._connections)
+
     async def close(self) -> None:
         """Ends all sessions. Calls that wait fail."""
         for connection in self._connections:
@@ -115,6 +120,8 @@ class _Connection:
         self._writer: asyncio.StreamWriter | None = None
         self._taking: asyncio.Task[None] | None = None
         self._opening = asyncio.Lock()
+        # How many it has begun.
+        self.sessions = 0
 
     def __len__(self) -> int:
         return len(self._pipeline)
@@ -138,6 +145,7 @@ class _Connection:
                 except OSError as fault:
                     raise ConnectionFailed(f"no connection to {self._address}: {fault}") from fault
                 self._pipeline = Pipeline()
+                self.sessions += 1
                 self._taking = asyncio.create_task(self._take(reader, self._pipeline))
             return self._writer
 

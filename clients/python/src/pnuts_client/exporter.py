@@ -2,15 +2,28 @@
 
 from __future__ import annotations
 
+import socket
+import threading
 from collections.abc import Callable, Iterable, Iterator
-from typing import Any
-from wsgiref.simple_server import WSGIRequestHandler, make_server
+from socketserver import ThreadingMixIn
+from typing import Any, cast
+from wsgiref.simple_server import WSGIRequestHandler, WSGIServer, make_server
+
+from prometheus_client import CollectorRegistry, Metric, make_wsgi_app
+from prometheus_client.core import CounterMetricFamily as Counter
+from prometheus_client.core import GaugeMetricFamily as Gauge
 
 from .control import Control
+from .control_requests import Stats, StreamStats, Tablet
 from .errors import PnutsError
 
-App = Callable[[dict[str, Any], Callable[..., Any]], Iterable[bytes]]
+PATIENCE = 10.0
+"""For how many seconds a client is waited for that sends or takes nothing."""
+CLIENTS = 16
+"""How many clients are answered at once. More of them wait."""
+STATES = ("waiting", "open", "ended", "failed")
 TEXT = [("Content-Type", "text/plain; charset=utf-8")]
+App = Callable[[dict[str, Any], Callable[..., Any]], Iterable[bytes]]
 
 
 class Collector:
@@ -19,73 +32,134 @@ class Collector:
     def __init__(self, region: Control) -> None:
         self._region = region
 
-    def collect(self) -> Iterator[Any]:
+    def collect(self) -> Iterator[Metric]:
         """The metrics of one moment; only `pnuts_up` where the region does not answer."""
-        from prometheus_client.core import CounterMetricFamily as Counter
-        from prometheus_client.core import GaugeMetricFamily as Gauge
-
         try:
             stats, tablets = self._region.stats(), self._region.tablets()
         except PnutsError:
             yield Gauge("pnuts_up", "Whether the region answers", value=0)
             return
         yield Gauge("pnuts_up", "Whether the region answers", value=1)
-        yield Gauge("pnuts_uptime_seconds", "For how long it runs", value=stats["uptime"])
-        yield Gauge("pnuts_memory_bytes", "Its memory", value=stats["bytes"])
-        yield Gauge("pnuts_connections", "Connections that are open", value=stats["connections"]["open"])
-        yield Counter("pnuts_accepted", "Connections that were accepted", value=stats["connections"]["accepted"])
-        yield Counter("pnuts_lines", "Lines of clients that were answered", value=stats["lines"]["answered"])
-        yield Counter("pnuts_rounds", "Rounds", value=stats["rounds"])
-        position = Gauge("pnuts_stream_position", "Up to which position a stream is taken", labels=["stream"])
-        messages = Counter("pnuts_stream_messages", "Messages that were read of a stream", labels=["stream"])
-        state = Gauge("pnuts_stream_state", "How a stream goes: 1 for its state", labels=["stream", "state"])
-        for stream in stats["streams"]:
-            position.add_metric([stream["name"]], stream["position"])
-            messages.add_metric([stream["name"]], stream["messages"])
-            state.add_metric([stream["name"], stream["state"]], 1)
-        recovering = Gauge("pnuts_tablet_recovering", "Whether a tablet was lost and has adopted no copy", labels=["tablet"])
-        for number, tablet in enumerate(tablets):
-            recovering.add_metric([str(number)], tablet.need is not None)
-        yield from (position, messages, state, recovering)
+        yield from of_region(stats)
+        yield from of_streams(stats.streams)
+        yield from of_tablets(tablets)
 
 
-def is_well(region: Control) -> tuple[bool, str]:
-    """Whether each tablet serves and no stream has failed, and else what is wrong."""
+def of_region(stats: Stats) -> Iterator[Metric]:
+    """The metrics of a region as a whole."""
+    version = Gauge("pnuts_info", "The region's version, with the value 1", labels=["version"])
+    version.add_metric([stats.version], 1)
+    yield version
+    yield Gauge("pnuts_uptime_seconds", "For how long it runs", value=stats.uptime)
+    yield Gauge("pnuts_memory_bytes", "Its memory", value=stats.bytes)
+    yield Counter("pnuts_rounds", "Rounds in which messages were taken", value=stats.rounds)
+    connections, lines = stats.connections, stats.lines
+    yield Gauge("pnuts_connections_open", "Connections of clients that are open", value=connections.open)
+    yield Counter("pnuts_connections_accepted", "Connections that were accepted", value=connections.accepted)
+    yield Counter("pnuts_connections_refused", "Connections that were refused", value=connections.refused)
+    yield Counter("pnuts_connections_idle", "Connections that were ended since they were idle", value=connections.idle)
+    yield Counter("pnuts_lines_answered", "Lines of clients that were answered", value=lines.answered)
+    yield Counter("pnuts_lines_refused", "Lines of clients that were answered by a refusal", value=lines.refused)
+
+
+def of_streams(streams: Iterable[StreamStats]) -> Iterable[Metric]:
+    """The metrics of streams, by their names."""
+    position = Gauge("pnuts_stream_position", "Up to which position a stream is taken", labels=["stream"])
+    messages = Counter("pnuts_stream_messages", "Messages that were read of a stream", labels=["stream"])
+    size = Counter("pnuts_stream_bytes", "Bytes that were read of a stream", labels=["stream"])
+    silence = Gauge("pnuts_stream_silence_seconds", "For how long no message of a stream has come", labels=["stream"])
+    states = Gauge("pnuts_stream_state", "Whether a stream is in this state", labels=["stream", "state"])
+    for stream in streams:
+        position.add_metric([stream.name], stream.position)
+        messages.add_metric([stream.name], stream.messages)
+        size.add_metric([stream.name], stream.bytes)
+        if stream.since is not None:
+            silence.add_metric([stream.name], stream.since)
+        for state in STATES:
+            states.add_metric([stream.name, state], stream.state == state)
+    return position, messages, size, silence, states
+
+
+def of_tablets(tablets: Iterable[Tablet]) -> Iterable[Metric]:
+    """Which tablets are lost."""
+    recovering = Gauge("pnuts_tablet_recovering", "Whether a tablet was lost and has adopted no copy yet", labels=["tablet"])
+    for number, tablet in enumerate(tablets):
+        recovering.add_metric([str(number)], tablet.need is not None)
+    return (recovering,)
+
+
+def faults(region: Control, silence: int | None) -> list[str]:
+    """What is wrong with a region: it does not answer, tablets are lost, or streams have failed or are silent for too long."""
     try:
-        lost = [str(at) for at, tablet in enumerate(region.tablets()) if tablet.need is not None]
-        failed = [stream["name"] for stream in region.stats()["streams"] if stream["state"] == "failed"]
+        stats, tablets = region.stats(), region.tablets()
     except PnutsError as fault:
-        return False, str(fault)
-    wrong = [f"tablet {it} recovers" for it in lost] + [f"stream {it} failed" for it in failed]
-    return not wrong, ", ".join(wrong) or "well"
+        return [str(fault)]
+    found = [f"tablet {number} is recovering" for number, it in enumerate(tablets) if it.need is not None]
+    for stream in stats.streams:
+        since = stats.uptime if stream.since is None else stream.since
+        if stream.state == "failed":
+            found.append(f"stream {stream.name} has failed: {stream.reason}")
+        elif silence is not None and since > silence:
+            found.append(f"stream {stream.name} brought nothing for {since} seconds")
+    return found
 
 
-def app_of(region: Control) -> App:
+def app_of(region: Control, silence: int | None = None) -> App:
     """What is served."""
-    from prometheus_client import CollectorRegistry, make_wsgi_app
-
     registry = CollectorRegistry(auto_describe=False)
-    registry.register(Collector(region))  # type: ignore[arg-type]
+    registry.register(cast(Any, Collector(region)))
     metrics: App = make_wsgi_app(registry)
 
     def app(environ: dict[str, Any], start: Callable[..., Any]) -> Iterable[bytes]:
-        if environ["PATH_INFO"] != "/healthz":
+        if environ["PATH_INFO"] == "/metrics":
             return metrics(environ, start)
-        well, text = is_well(region)
-        start("200 OK" if well else "503 Service Unavailable", TEXT)
-        return [text.encode() + b"\n"]
+        if environ["PATH_INFO"] != "/healthz":
+            start("404 Not Found", TEXT)
+            return [b"there are /metrics and /healthz\n"]
+        found = faults(region, silence)
+        start("503 Service Unavailable" if found else "200 OK", TEXT)
+        return ["".join(f"{it}\n" for it in found or ["well"]).encode()]
 
     return app
 
 
-class Quiet(WSGIRequestHandler):
-    """Says nothing of requests."""
+class Handler(WSGIRequestHandler):
+    """Says nothing of requests, and waits for nobody for long."""
+
+    timeout = PATIENCE
 
     def log_message(self, *_: Any) -> None:
         pass
 
 
-def serve(region: Control, host: str, port: int) -> None:
+class Server(ThreadingMixIn, WSGIServer):
+    """Answers some clients at once, each by a thread."""
+
+    daemon_threads = True
+    _places = threading.BoundedSemaphore(CLIENTS)
+
+    def process_request(self, request: Any, address: Any) -> None:
+        self._places.acquire()
+        super().process_request(request, address)
+
+    def process_request_thread(self, request: Any, address: Any) -> None:
+        try:
+            super().process_request_thread(request, address)
+        finally:
+            self._places.release()
+
+    def handle_error(self, *_: Any) -> None:
+        """A client that goes too early is no fault."""
+
+
+class Server6(Server):
+    """The same on an address of IPv6."""
+
+    address_family = socket.AF_INET6
+
+
+def serve(region: Control, host: str, port: int, silence: int | None = None) -> None:
     """Serves until it is interrupted."""
-    with make_server(host, port, app_of(region), handler_class=Quiet) as server:
+    kind = Server6 if ":" in host else Server
+    with make_server(host, port, app_of(region, silence), server_class=kind, handler_class=Handler) as server:
         server.serve_forever()

@@ -15,12 +15,13 @@ pub record RefusedValue : Type 0 where
   pub text : Text
   pub why : Why
 
--- what `clap` refuses; or bounds, an address, the socket of control sessions or a stream, each with what is told of it; or no memory
+-- what `clap` refuses; or bounds, an address, the socket of control sessions or a stream, each with what is told of it; or no
+-- memory
 pub data FaultValue : Type 0 where
   words : FaultValue
   bounds : Option RefusedValue → FaultValue
   address : Option RefusedValue → FaultValue
-  control : Option RefusedValue → FaultValue
+  control : RefusedValue → FaultValue
   stream : Option RefusedValue → FaultValue
   memory : FaultValue
 
@@ -33,7 +34,7 @@ abbrev pub fault_value : PlanFault → FaultValue
 fault_value (plan.Words text) = words
 fault_value (plan.Bounds refused) = bounds (option_map refused_value refused)
 fault_value (plan.Address refused) = address (option_map refused_value refused)
-fault_value (plan.Control refused) = control (option_map refused_value refused)
+fault_value (plan.Control refused) = control (refused_value refused)
 fault_value (plan.Stream refused) = stream (option_map refused_value refused)
 fault_value plan.Memory = memory
 
@@ -50,6 +51,6 @@ abbrev pub told_fault : List Row → OptionFault → FaultValue
 told_fault options (fault.Bounds why) = bounds (reason_in options (text_at (codes "bounds") options) why)
 told_fault options fault.Listen = address (reason_in options (text_at (codes "listen") options) NoAddress)
 told_fault options fault.Socket = address (reason_in options (text_at (codes "socket") options) LongPath)
-told_fault options (fault.Control why) = control (Some (record { text = text_at (codes "control") options; why = why }))
+told_fault options (fault.Control why) = control (record { text = text_at (codes "control") options; why = why })
 told_fault options (fault.Stream index why) = stream (reason_in options (word_at options index) why)
 told_fault options fault.Memory = memory

@@ -35,7 +35,7 @@ port_option = number_option (codes "port") (codes "7070") MAX_PORT
 abbrev pub flag_option : Text → Rule
 flag_option name = record (new_rule name) { long = Some name; action = Some SetTrue }
 
--- whether the program goes on until a signal ends it
+-- whether the program goes on until a signal ends it, or a control session stops it
 abbrev pub stay_flag : Rule
 stay_flag = flag_option (codes "stay")
 

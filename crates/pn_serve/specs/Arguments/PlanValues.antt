@@ -15,8 +15,8 @@ pub data AddressValue : Type 0 where
   port : IpAddr → ℕ → AddressValue
   path : List ℕ → AddressValue
 
--- the sessions, where the server listens, the connections of a server that stays, the socket of its control sessions, the seconds of a client that is idle, and
--- whether progress is told
+-- the sessions, where the server listens, the connections of a server that stays, the socket of its control sessions, the seconds
+-- of a client that is idle, and whether progress is told
 pub record ServiceValue : Type 0 where
   pub sessions : ℕ
   pub address : AddressValue
@@ -37,9 +37,9 @@ abbrev pub address_value : Address → AddressValue
 address_value (address.Port host number) = port host number
 address_value (address.Path text) = path (string_bytes text)
 
--- the path of a plan, if there is one
-abbrev pub path_value : Option (String Global) → Option (List ℕ)
-path_value path = option_map string_bytes path
+-- the bytes of a text, if there is one
+abbrev pub optional_bytes : Option (String Global) → Option (List ℕ)
+optional_bytes text = option_map string_bytes text
 
 -- how a plan serves
 abbrev pub service_value : Service → ServiceValue
@@ -47,7 +47,7 @@ service_value service = record {
   sessions = service.sessions;
   address = address_value service.address;
   stay = service.stay;
-  control = path_value service.control;
+  control = optional_bytes service.control;
   idle = service.idle;
   is_progress_told = service.is_progress_told;
 }

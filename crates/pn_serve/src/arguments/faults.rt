@@ -9,7 +9,7 @@ use std::alloc::AllocError;
 use std::fmt;
 use thiserror::Error;
 
-/// Why arguments are refused. With `--stay` it is told of which text, and why.
+/// Why arguments are refused. With `--stay`, and of `--control`, it is told of which text, and why.
 #[derive(Debug, Drop)]
 pub enum PlanFault<'w> {
     /// `clap` refuses them; the text says why.
@@ -19,7 +19,7 @@ pub enum PlanFault<'w> {
     /// The address is none of IPv4 or IPv6; or, with `--stay`, the path of the socket is too long.
     Address(Option<Refused<'w>>),
     /// Control sessions are only with `--stay`, and at a path of at most 107 bytes.
-    Control(Option<Refused<'w>>),
+    Control(Refused<'w>),
     /// A stream has no `=`, no name, no path, a socket's path that is too long, or another's name, or there are more than 16.
     Stream(Option<Refused<'w>>),
     Memory,
@@ -69,7 +69,7 @@ pub(crate) enum OptionFault {
     Listen,
     /// With `--stay`, the path of `--socket` is too long.
     Socket,
-    /// The path of `--control` is too long, or it is without `--stay`.
+    /// `--control` is without `--stay`, or its path is too long.
     Control(Why),
     /// The stream of this index, from 0, is refused.
     Stream(usize, Why),
@@ -82,7 +82,7 @@ impl fmt::Display for PlanFault<'_> {
             PlanFault::Words(text) => f.write_str(text.as_str()),
             PlanFault::Bounds(refused) => write_refused(f, "bounds", refused),
             PlanFault::Address(refused) => write_refused(f, "address", refused),
-            PlanFault::Control(refused) => write_refused(f, "control", refused),
+            PlanFault::Control(refused) => write!(f, "control: {refused}"),
             PlanFault::Stream(refused) => write_refused(f, "stream", refused),
             PlanFault::Memory => f.write_str("memory"),
         }

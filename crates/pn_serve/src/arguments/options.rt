@@ -50,7 +50,7 @@ const SERVE_EXAMPLES: &str = "\
 Examples:
   pnuts serve --sessions 2 --bounds '[\"g\",\"p\"]' --workers 3 east=east.log west=west.log
   pnuts serve --stay --connections 64 --listen ::1 --port 7071 east=/run/pnuts/east
-  pnuts serve --stay --socket /run/pnuts/socket --idle 60 --progress east=listen:/run/pnuts/east";
+  pnuts serve --stay --socket /run/pnuts/socket --control /run/pnuts/control --idle 60 east=listen:/run/pnuts/east";
 
 const BOUNDS_HELP: &str =
     "The keys that divide all keys into tablets: a JSON array of up to 63, each less than the next";
@@ -70,7 +70,7 @@ const CONTROL_HELP: &str =
     "With --stay: a Unix socket for those who run the region; only its owner may connect";
 
 const STAY_HELP: &str =
-    "Goes on until a signal ends it, and reads one writer of a FIFO or socket after another";
+    "Goes on until a signal or --control ends it, and reads one writer of a FIFO or socket after another";
 
 const CONNECTIONS_HELP: &str = "With --stay: how many connections are served at once: 1 to 65536";
 

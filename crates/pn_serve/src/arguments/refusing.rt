@@ -10,7 +10,7 @@ use crate::arguments::faults::{OptionFault, Refused, Why};
 use crate::arguments::options::{is_given, option_text};
 use clap::ArgMatches;
 
-/// The fault of what a command is given; with `--stay`, with the text that is refused, and why.
+/// The fault of what a command is given; with `--stay`, and of `--control`, with the text that is refused, and why.
 pub(crate) fn told_fault<'w>(options: &ArgMatches<'w>, fault: OptionFault) -> PlanFault<'w>
     ensures { fault_value result ≡ told (rows_of (found_of options.now)) fault }
 {
@@ -24,10 +24,10 @@ pub(crate) fn told_fault<'w>(options: &ArgMatches<'w>, fault: OptionFault) -> Pl
         OptionFault::Socket => {
             PlanFault::Address(reason_of(options, option_text(options, "socket"), Why::LongPath))
         }
-        OptionFault::Control(why) => PlanFault::Control(Some(Refused {
+        OptionFault::Control(why) => PlanFault::Control(Refused {
             text: option_text(options, "control"),
             why,
-        })),
+        }),
         OptionFault::Stream(index, why) => {
             PlanFault::Stream(reason_of(options, stream_word(options, index), why))
         }

@@ -1,5 +1,7 @@
 //! Tells control sessions that the log of the live region has grown.
 
+ghost use Rattle.std.specs.Prelude.{◌≡◌, ◌==◌, ◌&&◌, not};
+
 use std::sync::{Condvar, CondvarTimeouts, Mutex, Wait};
 use std::time::{Clock, Duration};
 
@@ -54,14 +56,19 @@ impl LogWatch {
 
 impl WatchState {
     // Whether the number was another one.
-    fn note(&mut self, last: u64) -> bool {
+    fn note(&mut self, last: u64) -> bool
+        ensures noted { self.new ≡ record self.old { last = last } }
+        ensures other { result ≡ not (self.old.last == last) }
+    {
         let is_other = self.last != last;
         self.last = last;
         is_other
     }
 
     // Whether one who asks for what came after this number waits.
-    fn is_at(&self, number: u64) -> bool {
+    fn is_at(&self, number: u64) -> bool
+        ensures { result ≡ (self.now.last == number && not self.now.is_closed) }
+    {
         self.last == number && !self.is_closed
     }
 }

@@ -1,0 +1,175 @@
+"""Lines of control sessions beside those that look up, and what their replies mean."""
+
+from __future__ import annotations
+
+from dataclasses import dataclass, fields
+from typing import Any, TypeVar
+
+from . import requests
+from .records import Version
+from .requests import Request
+
+LAST_NUMBER = 10**18
+"""The greatest number of a change. What changed after it is never known, so a reply tells the last number alone."""
+Marks = dict[str, int]
+Kind = TypeVar("Kind")
+
+
+@dataclass(frozen=True, slots=True)
+class Tablet:
+    """A tablet: how far it took streams, its range, and what a copy has to reach that it adopts, None where it serves."""
+
+    cover: Marks
+    start: str | None
+    end: str | None
+    need: Marks | None
+
+
+@dataclass(frozen=True, slots=True)
+class Notice:
+    """A change: its number, the key, and the record's version before it, None where there was none, and after it."""
+
+    number: int
+    key: str
+    before: Version | None
+    after: Version
+
+
+@dataclass(frozen=True, slots=True)
+class Notices:
+    """Changes, and the number to ask with next. `missed`: some are not known, so all is to be read anew."""
+
+    next: int
+    changes: list[Notice]
+    missed: bool
+
+
+@dataclass(frozen=True, slots=True)
+class Connections:
+    """Connections of clients: how many were accepted and refused, are open, and were ended since they were idle."""
+
+    accepted: int
+    idle: int
+    open: int
+    refused: int
+
+
+@dataclass(frozen=True, slots=True)
+class Lines:
+    """Lines of clients: how many were answered, and how many refused."""
+
+    answered: int
+    refused: int
+
+
+@dataclass(frozen=True, slots=True)
+class StreamStats:
+    """A stream: its path, and its state, which is `waiting` for a writer, `open`, `ended` or `failed`.
+
+    `position` is up to which it was taken; `messages` and `bytes` were read. `since` is the seconds since the last
+    message, None before the first. `reason` and `line` are of the last fault, None where there was none: why, and in
+    which line of what the writer sent.
+    """
+
+    name: str
+    path: str
+    state: str
+    position: int
+    messages: int
+    bytes: int
+    since: int | None
+    reason: str | None
+    line: int | None
+
+
+@dataclass(frozen=True, slots=True)
+class Stats:
+    """What a region has done so far; `uptime` is in seconds, `bytes` its memory. `reply` is the whole reply."""
+
+    version: str
+    uptime: int
+    bytes: int
+    rounds: int
+    connections: Connections
+    lines: Lines
+    streams: list[StreamStats]
+    reply: dict[str, Any]
+
+
+def marks() -> Request[Marks]:
+    """How far streams were taken into all tablets."""
+    return requests.ask({"do": "marks"}, _marks)
+
+
+def tablets() -> Request[list[Tablet]]:
+    """The tablets in their order."""
+    return requests.ask({"do": "tablets"}, lambda reply: [_tablet(it) for it in reply["tablets"]])
+
+
+def notices(since: int, wait: int = 0) -> Request[Notices]:
+    """What changed after a number. Where that is nothing, the reply waits for it so many seconds at most."""
+    return requests.ask({"do": "notices", "since": since, "wait": wait}, _notices)
+
+
+def stats() -> Request[Stats]:
+    """What the region has done so far."""
+    return requests.ask({"do": "stats"}, _stats)
+
+
+def advance() -> Request[Marks]:
+    """Takes as marks what all tablets have taken. Asked twice it does the same."""
+    return requests.ask({"do": "advance"}, _marks)
+
+
+def lose(tablet: int) -> Request[int]:
+    """Loses what a tablet holds. Its number."""
+    return requests.ask({"do": "lose", "tablet": tablet}, lambda reply: int(reply["lost"]))._replace(reads=False)
+
+
+def adopt(text: bytes) -> Request[int]:
+    """Adopts the text of a copy. The number of its tablet."""
+    lines = requests.ask({"do": "adopt", "lines": text.count(b"\n")}, lambda reply: int(reply["adopted"]))
+    return lines._replace(line=lines.line + text, reads=False)
+
+
+def stop(seconds: int = 10) -> Request[int]:
+    """Ends the region, once the lines that have come are answered, or after so many seconds."""
+    return requests.ask({"do": "stop", "seconds": seconds}, lambda reply: int(reply["stopping"]))._replace(reads=False)
+
+
+def _marks(reply: Any) -> Marks:
+    return {str(name): int(at) for name, at in reply["marks"].items()}
+
+
+def _tablet(reply: Any) -> Tablet:
+    return Tablet(reply["cover"], reply["from"], reply["to"], reply["need"])
+
+
+def _notices(reply: Any) -> Notices:
+    if reply.get("missed"):
+        return Notices(reply["next"], [], True)
+    return Notices(reply["next"], [_notice(it) for it in reply["notices"]], False)
+
+
+def _notice(reply: Any) -> Notice:
+    before = reply["before"]
+    return Notice(reply["number"], reply["key"], None if before is None else Version(*before), Version(*reply["after"]))
+
+
+def _stats(reply: Any) -> Stats:
+    """A later region may have further members, which are in `reply` alone."""
+    return Stats(
+        version=reply["version"],
+        uptime=reply["uptime"],
+        bytes=reply["bytes"],
+        rounds=reply["rounds"],
+        connections=_of(Connections, reply["connections"]),
+        lines=_of(Lines, reply["lines"]),
+        streams=[_of(StreamStats, it) for it in reply["streams"]],
+        reply=reply,
+    )
+
+
+def _of(kind: type[Kind], reply: Any) -> Kind:
+    """A value of the members that it knows."""
+    return kind(**{it.name: reply.get(it.name) for it in fields(kind)})

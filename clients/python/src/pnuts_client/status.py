@@ -1,0 +1,72 @@
+"""What a region holds and does, as text for people."""
+
+from __future__ import annotations
+
+from collections.abc import Sequence
+
+from .control_requests import Marks, Stats, StreamStats, Tablet
+
+STREAMS = ("STREAM", "STATE", "POSITION", "MESSAGES", "SIZE", "LAST", "PATH")
+TABLETS = ("TABLET", "FROM", "TO", "STATE")
+
+
+def shown_status(stats: Stats, tablets: Sequence[Tablet]) -> str:
+    """Lines of what all is like, a table of streams with their last faults, and one of tablets."""
+    connections, lines = stats.connections, stats.lines
+    shown = [
+        f"pnuts {stats.version}, up {shown_seconds(stats.uptime)}, {shown_bytes(stats.bytes)} of memory, {stats.rounds} rounds",
+        f"connections: {connections.open} open, {connections.accepted} accepted, {connections.refused} refused, "
+        f"{connections.idle} ended as they were idle",
+        f"lines: {lines.answered} answered, {lines.refused} of them refused",
+        "",
+        *table([STREAMS, *(_stream(it) for it in stats.streams)]),
+        *(f"{it.name}: {it.reason}{_place(it)}" for it in stats.streams if it.reason is not None),
+        "",
+        *table([TABLETS, *(_tablet(number, it) for number, it in enumerate(tablets))]),
+    ]
+    return "\n".join(shown)
+
+
+def _stream(it: StreamStats) -> Sequence[str]:
+    last = "-" if it.since is None else f"{shown_seconds(it.since)} ago"
+    return (it.name, it.state, str(it.position), str(it.messages), shown_bytes(it.bytes), last, it.path)
+
+
+def _place(it: StreamStats) -> str:
+    return "" if it.line is None else f" (line {it.line})"
+
+
+def _tablet(number: int, it: Tablet) -> Sequence[str]:
+    state = "serves" if it.need is None else f"recovering, needs {shown_marks(it.need)}"
+    return (str(number), it.start or "-", it.end or "-", state)
+
+
+def shown_marks(marks: Marks) -> str:
+    """How far streams have to be taken, for people."""
+    return ", ".join(f"{name} {at}" for name, at in marks.items()) or "nothing"
+
+
+def shown_seconds(seconds: int) -> str:
+    """Seconds in the greatest two of days, hours, minutes and seconds."""
+    parts: list[str] = []
+    left = seconds
+    for size, unit in ((86_400, "d"), (3_600, "h"), (60, "m"), (1, "s")):
+        count, left = divmod(left, size)
+        if count or parts or size == 1:
+            parts.append(f"{count}{unit}")
+    return " ".join(parts[:2])
+
+
+def shown_bytes(count: int) -> str:
+    """Bytes in units of which there are at most 1,024."""
+    size, units = float(count), ["B", "KB", "MB", "GB"]
+    while size >= 1024 and len(units) > 1:
+        size /= 1024
+        units.pop(0)
+    return f"{count} B" if units[0] == "B" else f"{size:.1f} {units[0]}"
+
+
+def table(rows: Sequence[Sequence[str]]) -> list[str]:
+    """Rows in columns."""
+    widths = [max(len(row[at]) for row in rows) for at in range(len(rows[0]))]
+    return ["  ".join(cell.ljust(width) for cell, width in zip(row, widths, strict=True)).rstrip() for row in rows]
