@@ -1,6 +1,6 @@
 //! The client whom a control thread answers, for who stops the server.
 
-ghost use Rattle.std.specs.Prelude.{◌≡◌, ⊥, tt, Ok, Some, false, true, OnOk};
+ghost use Rattle.std.specs.Prelude.{◌≡◌, Some, false, true, IsOk};
 
 use crate::socket::Socket;
 use std::io;
@@ -61,8 +61,9 @@ impl ControlClient {
 
 impl ClientState {
     fn begin(&mut self, socket: Arc<Socket>) -> io::Result<()>
-        ensures goes_on { self.old.is_stopping ≡ false → (result ≡ Ok tt) × (self.new.socket ≡ Some socket) }
-        ensures stops { self.old.is_stopping ≡ true → OnOk result ⊥ }
+        ensures goes_on { self.old.is_stopping ≡ false → self.new.socket ≡ Some socket }
+        ensures stops { IsOk result → self.old.is_stopping ≡ false }
+        ensures begins { self.old.is_stopping ≡ false → IsOk result }
         ensures same { self.new.is_stopping ≡ self.old.is_stopping }
     {
         if self.is_stopping {
