@@ -1,11 +1,12 @@
 //! Lines of a control session, which a writer answers beside it until they are over.
 
-use pn_join::NoMemory;
+use pn_join::{Name, NoMemory};
 use pn_line::InMemory;
-use pn_live::LiveReader;
+use pn_live::{LiveReader, LiveRegion};
 use pn_serve::{
-    ConnectionStats, ControlMailboxes, ControlSession, LineStats, Stats, StatsSource, close_region,
-    open_region, take_commands,
+    ConnectionStats, ControlMailboxes, ControlSession, LineStats, Origin, ServeFault, Stats,
+    StatsSource, Stream, Watchers, WriterEnd, close_region, open_region, read_streams,
+    take_commands,
 };
 use std::alloc::Global;
 use std::sync::{Arc, Wait};
@@ -45,11 +46,31 @@ impl StatsSource for Nothing {
     }
 }
 
-/// The replies of a control session over a region of two tablets that has taken nothing. A bar is a newline.
-pub(crate) fn answer_control<R>(rt: &R, alloc: Global, bars: &str) -> Result<String, Fail>
+/// The one writer of a stream, until it is read.
+#[derive(Drop)]
+struct Once(Option<InMemory<'static>>);
+
+impl Origin<InMemory<'static>> for Once {
+    ghost may_go_on = { Unit {0} };
+
+    fn next_writer(&mut self, _last: u64) -> Option<InMemory<'static>> {
+        self.0.take()
+    }
+
+    fn hand_on(&mut self, _last: u64) {}
+
+    fn end_writer(&mut self, _source: InMemory<'static>, _end: &WriterEnd, _last: u64) {}
+
+    fn stop_writer(&mut self, _source: InMemory<'static>) {}
+}
+
+/// The replies of a control session over a region of two tablets that has taken so many messages. A bar is a newline.
+pub(crate) fn answer_control<R>(rt: &R, alloc: Global, line: &str) -> Result<String, Fail>
 where
     R: Threads + Wait + Clock + Sync + Copy + Send + Drop + 'static,
 {
+    let (count, bars) = line.split_once(' ').ok_or(NoMemory)?;
+    let streams = streams_of(alloc, count.parse::<u64>()?)?;
     let lines = bars.replace(alloc, '|', "\n")?;
     let mailboxes = Arc::new(alloc, ControlMailboxes::new(alloc, 1)?)?;
     let session = ControlSession {
@@ -60,24 +81,52 @@ where
     let layout = layout(alloc, "h").ok_or(NoMemory)?;
     let (live, readers) = open_region(rt, alloc, layout, 1)?;
     let (mut live, mut readers) = (live, readers);
-    let host = *rt;
+    let read = take_streams(rt, alloc, &mut live, streams);
     let told = match readers.pop() {
-        Some(reader) => {
-            match thread::spawn(rt, move || answer(&host, alloc, &session, reader, lines)) {
-                Ok(thread) => {
-                    let _ = take_commands(rt, alloc, &mut live, &mailboxes);
-                    mailboxes.close(rt);
-                    Some(thread.join(rt))
-                }
-                Err(_) => None,
-            }
-        }
+        Some(reader) => answer_beside(rt, alloc, &mut live, (session, reader, lines)),
         None => None,
     };
     let closed = close_region(rt, live, readers);
-    let (_reader, written) = told.ok_or(NoMemory)?;
+    read?;
     closed?;
+    let written = told.ok_or(NoMemory)?;
     Ok(str::from_utf8(&written)?.replace(alloc, '\n', "|")?)
+}
+
+// Reads streams to their ends, without control sessions.
+fn take_streams<R>(
+    rt: &R,
+    alloc: Global,
+    live: &mut LiveRegion,
+    streams: Vec<Stream<Once>>,
+) -> Result<(), ServeFault>
+where
+    R: Threads + Wait + Sync + Copy + Send + 'static,
+{
+    let watchers = Watchers {
+        rounds: None,
+        controls: None,
+    };
+    read_streams(rt, alloc, live, 1, streams, &watchers)
+}
+
+// Has the lines answered in a thread, and does what they ask for. None where there is no thread.
+fn answer_beside<R>(
+    rt: &R,
+    alloc: Global,
+    live: &mut LiveRegion,
+    asked: (ControlSession<Nothing>, LiveReader, String),
+) -> Option<Vec<u8>>
+where
+    R: Threads + Wait + Clock + Sync + Copy + Send + Drop + 'static,
+{
+    let (session, reader, lines) = asked;
+    let mailboxes = Arc::try_clone(&session.mailboxes).ok()?;
+    let host = *rt;
+    let thread = thread::spawn(rt, move || answer(&host, alloc, &session, reader, lines)).ok()?;
+    let _ = take_commands(rt, alloc, live, &mailboxes);
+    mailboxes.close(rt);
+    Some(thread.join(rt))
 }
 
 // Answers the lines, and has the writer stop.
@@ -87,11 +136,32 @@ fn answer<R: Wait + Clock>(
     session: &ControlSession<Nothing>,
     reader: LiveReader,
     lines: String,
-) -> (LiveReader, Vec<u8>) {
-    let mut reader = reader;
+) -> Vec<u8> {
     let mut written = Vec::new(alloc);
     let mut input = InMemory::new(lines.as_bytes());
-    let _ = session.answer(rt, alloc, &mut reader, &mut input, &mut written);
+    let _ = session.answer(rt, alloc, reader, &mut input, &mut written);
     session.mailboxes.stop(rt, 0);
-    (reader, written)
+    written
+}
+
+// One stream of so many messages, of a key each; none where it has no message.
+fn streams_of(alloc: Global, count: u64) -> Result<Vec<Stream<Once>>, Fail> {
+    let mut streams = Vec::with_capacity(alloc, 1)?;
+    if count == 0 {
+        return Ok(streams);
+    }
+    let mut text = String::new(alloc);
+    for at in 1..=count {
+        writeln!(
+            text,
+            "{{\"at\":{at},\"image\":{{\"fields\":{{\"v\":\"x\"}},\"key\":\"k{at}\",\"master\":\"w\",\"version\":[1,{at}]}}}}"
+        )?;
+    }
+    streams.push(Stream {
+        name: Name::read(b"east")?,
+        after: 0,
+        origin: Once(Some(InMemory::new(text.into_bytes().leak()))),
+        taken: None,
+    })?;
+    Ok(streams)
 }
