@@ -29,7 +29,10 @@ pub(crate) fn take_turns(alloc: Global, line: &str) -> Result<String, Fail> {
         }
     }
     let taken = show(alloc, output.bytes())?;
-    Ok(format!(in alloc; "{pauses} {taken} of {} lines", buffers.take_line_counts().answered)?)
+    Ok(format!(in alloc;
+        "{pauses} {taken} of {} lines",
+        buffers.take_line_counts().answered
+    )?)
 }
 
 fn sign(pause: Pause) -> char {
