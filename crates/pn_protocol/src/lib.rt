@@ -6,7 +6,7 @@ mod refusal;
 mod reply;
 
 pub use command::Command;
-pub use command::control::{ControlCommand, control_of};
+pub use command::control::{ControlCommand, a_control_line_is_one_command, control_of};
 pub use command::parse::{a_line_is_one_command, command_of, lookup_of};
 pub use refusal::{Part, Refusal};
 pub use reply::Reply;

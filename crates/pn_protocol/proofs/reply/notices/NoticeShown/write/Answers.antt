@@ -6,7 +6,7 @@ use Rattle.pn_protocol.specs.Reply.Rows.{version_or_null}
 use Rattle.pn_protocol.specs.Reply.Notices.{notice_data}
 use Rattle.pn_json.specs.Tokens.{value_tokens}
 use Rattle.pn_json.proofs.TokenLists.{appends_token, appends_both, appends_as}
-use Rattle.pn_protocol.proofs.reply.notices.write_notice.Goals as goal
+use Rattle.pn_protocol.proofs.reply.notices.NoticeShown.write.Goals as goal
 
 -- a notice of these parts
 abbrev notice_of : ℕ × ℕ → Option (ℕ × ℕ) → List ℕ → ℕ → Data
@@ -19,7 +19,7 @@ notice_of after before key n =
 pub returns : goal.returns
 unfolding notice_data
 returns c =
-    let notice = c.args.notice.now in
+    let notice = c.args.self.now in
     appends_as (λ i. value_tokens (notice_of notice.change.after notice.change.before (c.as_str.ensures.text i) notice.number))
     (appends_both (appends_token c.in_ok-begin_object.ensures)
     (appends_both (appends_token c.in_ok-key.ensures)
