@@ -19,12 +19,12 @@ use Rattle.pn_serve.proofs.Knowing.{knows_itself}
 
 -- a session that is not closed and waits for a command
 not_closed : (stop : Option ℕ) (over : Bool) → closed_by stop over ≡ false → (stop ≡ None) × (over ≡ false)
-not_closed None over open = (refl, open)
-not_closed (Some seconds) over open = absurd (cc)
+not_closed None over goes = (refl, goes)
+not_closed (Some seconds) over goes = absurd (cc)
 
 pub rests : (state : ControlState) → is_closed state ≡ false → state.mode ≡ awaits_command → state ≡ at_rest state.reader
-rests state open waits =
-    let (none, on) = not_closed state.stop state.over open in λ i. record { reader = state.reader; mode = waits i; stop = none i; over = on i }
+rests state goes waits =
+    let (none, on) = not_closed state.stop state.over goes in λ i. record { reader = state.reader; mode = waits i; stop = none i; over = on i }
 
 -- the reader after a step
 pub reader_after : (reader : LiveReaderValue) (step : Step) → (after_step reader step).reader ≡ reader
@@ -50,12 +50,12 @@ module _ (old new : ControlState) (text : List ℕ) (shown : Reply) where
   ends_closed closed stays none = subst (λ (b : Bool). EndsUnless b old text new shown) (sym closed) (stays, none)
 
   answers_open : (mode : Mode) → is_closed old ≡ false → old.mode ≡ mode → AnswersIn mode old text new shown → AnswersControl old text new shown
-  answers_open mode open is answers =
-      subst (λ (b : Bool). AnswersUnless b old text new shown) (sym open) (subst (λ (m : Mode). AnswersIn m old text new shown) (sym is) answers)
+  answers_open mode goes is answers =
+      subst (λ (b : Bool). AnswersUnless b old text new shown) (sym goes) (subst (λ (m : Mode). AnswersIn m old text new shown) (sym is) answers)
 
   ends_open : (mode : Mode) → is_closed old ≡ false → old.mode ≡ mode → EndsIn mode old text new shown → EndsControl old text new shown
-  ends_open mode open is ends =
-      subst (λ (b : Bool). EndsUnless b old text new shown) (sym open) (subst (λ (m : Mode). EndsIn m old text new shown) (sym is) ends)
+  ends_open mode goes is ends =
+      subst (λ (b : Bool). EndsUnless b old text new shown) (sym goes) (subst (λ (m : Mode). EndsIn m old text new shown) (sym is) ends)
 
   adopts_text : (came joined : Option (List ℕ)) → joined ≡ came → (step : Step) → AdoptsText joined step → new ≡ after_step old.reader step → shown ≡ reply_of step → Adopts old came new shown
   adopts_text came joined is step adopts state replied = record {
@@ -66,11 +66,11 @@ module _ (old new : ControlState) (text : List ℕ) (shown : Reply) where
     replied = replied;
   }
 
-  module _ (open : is_closed old ≡ false) (line : LineBufferValue) (here : line ≡ so_far text) where
+  module _ (goes : is_closed old ≡ false) (line : LineBufferValue) (here : line ≡ so_far text) where
     -- a command
     pub answers_command : old.mode ≡ awaits_command → (reader : LiveReaderValue) (step : Step) → StepsBy old.reader line.bytes reader step → new ≡ after_step reader step → shown ≡ reply_of step → AnswersControl old text new shown
     answers_command is reader step steps state replied =
-        answers_open awaits_command open is (record { reader = reader; step = step; stepped = steps_so_far old.reader reader line text step here steps; state = state; replied = replied })
+        answers_open awaits_command goes is (record { reader = reader; step = step; stepped = steps_so_far old.reader reader line text step here steps; state = state; replied = replied })
 
     -- a line that was announced, and not the last one
     pub answers_more : (left : ℕ) (came joined : Option (List ℕ)) → old.mode ≡ announced left came → 1 < left → IsJoined came line.bytes (10 ∷ []) joined
@@ -78,10 +78,11 @@ module _ (old new : ControlState) (text : List ℕ) (shown : Reply) where
     answers_more left came joined is more joins state none =
         let (outcome, joined_is) = joined_kept came line text (10 ∷ []) joined here joins in
         let test : nat_le left 1 ≡ false = grind (arith, nat_tests, more) in
-        answers_open (announced left came) open is
-        (outcome,
+        answers_open (announced left came) goes is (
+          outcome,
           subst (λ (b : Bool). TakesLine b old left (unless_call outcome (with_line came text (10 ∷ []))) new shown) (sym test)
-          (state ∙ ap (λ (whole : Option (List ℕ)). record old { mode = announced (left - 1) whole }) joined_is, none))
+              (state ∙ ap (λ (whole : Option (List ℕ)). record old { mode = announced (left - 1) whole }) joined_is, none),
+        )
 
     -- the last one
     pub answers_whole : (left : ℕ) (came joined : Option (List ℕ)) → old.mode ≡ announced left came → left ≤ 1 → IsJoined came line.bytes (10 ∷ []) joined
@@ -89,21 +90,22 @@ module _ (old new : ControlState) (text : List ℕ) (shown : Reply) where
     answers_whole left came joined is last joins step adopts state replied =
         let (outcome, joined_is) = joined_kept came line text (10 ∷ []) joined here joins in
         let test : nat_le left 1 ≡ true = grind (arith, nat_tests, last) in
-        answers_open (announced left came) open is
-        (outcome,
+        answers_open (announced left came) goes is (
+          outcome,
           subst (λ (b : Bool). TakesLine b old left (unless_call outcome (with_line came text (10 ∷ []))) new shown) (sym test)
-          (adopts_text (unless_call outcome (with_line came text (10 ∷ []))) joined joined_is step adopts state replied))
+              (adopts_text (unless_call outcome (with_line came text (10 ∷ []))) joined joined_is step adopts state replied),
+        )
 
     -- the input ended after a part of what was announced
     pub ends_announced : (left : ℕ) (came joined : Option (List ℕ)) → old.mode ≡ announced left came → IsJoined came line.bytes [] joined
         → (step : Step) → AdoptsText joined step → new ≡ after_step old.reader step → shown ≡ reply_of step → EndsControl old text new shown
     ends_announced left came joined is joins step adopts state replied =
         let (outcome, joined_is) = joined_kept came line text [] joined here joins in
-        ends_open (announced left came) open is (outcome, adopts_text (unless_call outcome (with_line came text [])) joined joined_is step adopts state replied)
+        ends_open (announced left came) goes is (outcome, adopts_text (unless_call outcome (with_line came text [])) joined joined_is step adopts state replied)
 
     -- or after a newline
     pub ends_nothing : old.mode ≡ awaits_command → line.count ≡ 0 → new ≡ old → shown ≡ Silent → EndsControl old text new shown
-    ends_nothing is none stays silent = ends_open awaits_command open is (nothing text here)
+    ends_nothing is none stays silent = ends_open awaits_command goes is (nothing text here)
       where
         nothing : (t : List ℕ) → line ≡ so_far t → EndsIn awaits_command old t new shown
         nothing [] read = (stays, silent)
@@ -111,7 +113,7 @@ module _ (old new : ControlState) (text : List ℕ) (shown : Reply) where
 
     -- or after a command without newline
     pub ends_command : old.mode ≡ awaits_command → 0 < line.count → (reader : LiveReaderValue) (step : Step) → StepsLast old.reader line.bytes reader step → new ≡ after_step reader step → shown ≡ reply_of step → EndsControl old text new shown
-    ends_command is some reader step steps state replied = ends_open awaits_command open is (lasts text here (lasts_so_far old.reader reader line text step here steps))
+    ends_command is some reader step steps state replied = ends_open awaits_command goes is (lasts text here (lasts_so_far old.reader reader line text step here steps))
       where
         lasts : (t : List ℕ) → line ≡ so_far t → StepsLast old.reader t reader step → EndsIn awaits_command old t new shown
         lasts [] read last = absurd (omega (arith, some, ap (λ (l : LineBufferValue). l.count) read))

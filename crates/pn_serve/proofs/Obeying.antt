@@ -1,6 +1,7 @@
 -- Commands of control sessions, by what the writer did.
 use Rattle.std.proofs.Common.{◌≡◌, ◌≢◌, ℕ, ◌+◌, ◌<◌, ◌≤◌, false, true, List, [], ◌∷◌, length, inl, inr, refl, sym, ap, ◌∙◌, subst, arith, Option, Some, None}
 use Rattle.std.specs.Prelude.{Result, Ok, Err, Vec, IfOk, MatchResult}
+use Rattle.std.specs.List.{position}
 use Rattle.std.specs.declared.alloc.Global.{Global}
 use Rattle.serde_json.specs.Data.{Data}
 use Rattle.pn_json.specs.Lines.{line_of}
@@ -9,7 +10,7 @@ use Rattle.pn_join.specs.declared.memory.NoMemory.{NoMemory}
 use Rattle.pn_tablet.specs.Copies.{TabletCopyValue, IsCopy}
 use Rattle.pn_tablet.specs.Refusals.{Refuses}
 use Rattle.pn_tablet.specs.Steps as steps
-use Rattle.pn_tablet.specs.Tablets.{TabletStateValue}
+use Rattle.pn_tablet.specs.Tablets.{TabletStateValue, same_range}
 use Rattle.pn_tablet.specs.declared.fault.OpFault.{OpFault as AdoptFault}
 use Rattle.pn_tablet.specs.declared.fault.OpFault.TheVariants as adoption
 use Rattle.pn_tablet.specs.declared.fault.Shortfall.{Shortfall}
@@ -23,6 +24,8 @@ use Rattle.pn_region.specs.declared.fault.AdvanceFault.{AdvanceFault}
 use Rattle.pn_region.specs.declared.fault.AdvanceFault.TheVariants as advancing
 use Rattle.pn_live.specs.LiveRegions.{LiveRegionValue, core}
 use Rattle.pn_live.specs.Recovery.{after_op_at, Adopts, Advances}
+use Rattle.pn_live.specs.PublishedTablets.{PublishedTabletValue}
+use Rattle.pn_live.proofs.Adopting.{found_tablet}
 use Rattle.pn_live.proofs.Events.{all_lead}
 use Rattle.pn_protocol.specs.Reply.Faults.{adopt_fault_data, advance_fault_data}
 use Rattle.pn_protocol.specs.Reply.Refusals.{Tells, Refuses as RefusesBy}
@@ -73,7 +76,9 @@ module _ (old : LiveRegionValue) (tablet : ℕ) where
 
   -- there is no such tablet
   pub lost_none : length old.layout < tablet → IsRegion (core old) → ObeysLive old (lose tablet) old (said_by (Refused (OutOfRange Tablet)))
-  lost_none past is = record { replied = inr (ap at (no_tablet (core old) tablet is (omega (arith, past)))); left = refl }
+  lost_none past is =
+      let beyond : length old.layout + 1 ≤ tablet = omega (arith, past) in
+      record { replied = inr (ap at (no_tablet (core old) tablet is beyond)); left = refl }
 
   -- the tablet was lost
   pub lost_it : (new : LiveRegionValue) → tablet ≤ length old.layout → IsRegion (core old) → new ≡ after_op_at old tablet Lose → core new ≡ after_loss (core old) tablet → ObeysLive old (lose tablet) new (said_by (Lost tablet))
@@ -95,6 +100,11 @@ number_in (Err fault) = 0
 taken_by : (region new : RegionValue) (copy : TabletCopyValue) (number tablet : ℕ) (short : Option Shortfall) → after_adoption_unless region copy number short ≡ Ok (tablet, new) → tablet ≡ number
 taken_by region new copy number tablet None is = sym (ap number_in is)
 taken_by region new copy number tablet (Some short) is = absurd (cc)
+
+-- the tablet that has the copy's range
+pub for_copy : {seen copy : TabletCopyValue} (live : LiveRegionValue) (found : Option ℕ) → seen ≡ copy → found ≡ position (λ (p : PublishedTabletValue). same_range p.range seen.range) live.tablets → tablet_for (core live) copy ≡ found
+for_copy {copy = copy} live found copied is =
+    found_tablet live.tablets copy.range ∙ sym (is ∙ ap (λ (x : TabletCopyValue). position (λ (p : PublishedTabletValue). same_range p.range x.range) live.tablets) copied)
 
 module _ (old : LiveRegionValue) (copy : TabletCopyValue) where
   -- the tablet of the copy's range took it

@@ -28,8 +28,9 @@ pub use page_laws::{
 };
 pub use pn_protocol::{
     Command, CommandFault, ConnectionStats, ControlCommand, LineStats, NumberName, Part, Refusal,
-    Reply, ShortReply, Stats, StreamFaultStats, StreamState, StreamStats, a_line_is_one_command,
-    command_of, control_of, number_reply, refusal_reply, refuse, scan_reply,
+    Reply, ShortReply, Stats, StreamFaultStats, StreamState, StreamStats,
+    a_control_line_is_one_command, a_line_is_one_command, command_of, control_of, number_reply,
+    refusal_reply, refuse, scan_reply,
 };
 pub use repeat_laws::{
     a_repeated_deliver_leaves_no_trace_of_a_refused_one, repeated_delivers_leave_the_same_region,

@@ -15,9 +15,13 @@ question_of (notices since) = question.Notices since
 question_of tablets = question.Tablets
 
 -- the writer did what this asks for, of an adoption with some copy, and said so of the live region as it was then
-pub record IsGiven (question : Question) (said : Said) : Type 0 where
+pub record Gives (question : Question) (said : Said) : Type 0 where
   pub told : Asked
   pub is : question_of told ≡ question
   pub old : LiveRegionValue
   pub new : LiveRegionValue
   pub obeyed : ObeysLive old told new said
+
+-- so it was at some time
+abbrev pub IsGiven : Question → Said → Type 0
+IsGiven question said = ∥ Gives question said ∥₁
