@@ -10,6 +10,7 @@ use Rattle.pn_serve.specs.Lines.Served.{Between, Served}
 use Rattle.pn_serve.specs.Lines.States.{LineLoopValue, Start, new_loop}
 use Rattle.pn_serve.specs.declared.script.Counts.{Counts}
 use Rattle.pn_serve.specs.declared.script.RunFault.TheVariants.{Memory}
+use Rattle.pn_serve.specs.Session.Knowing.{KnowsNoLess}
 use Rattle.pn_serve.proofs.Serving.{Begins}
 
 keeps_itself : (bytes : Option (List ℕ)) → Keeps bytes bytes
@@ -40,3 +41,8 @@ answered_some start script left b c state run counts between sent is =
       lines_are = ap (λ (n : Counts). n.lines) is ∙ all.lines_are;
       refused_are = ap (λ (n : Counts). n.refused) is ∙ all.refused_are;
     }
+
+-- what the reader knows that is given back
+pub client_knows : (reader now : LiveReaderValue) (old new : ControlState) → old ≡ at_rest reader → KnowsNoLess old.reader new.reader → now ≡ new.reader → KnowsNoLess reader now
+client_knows reader now old new is knows same =
+    subst (λ (r : LiveReaderValue). KnowsNoLess reader r) (sym same) (subst (λ (s : ControlState). KnowsNoLess s.reader new.reader) is knows)

@@ -26,6 +26,14 @@ pub rests : (state : ControlState) → is_closed state ≡ false → state.mode 
 rests state goes waits =
     let (none, on) = not_closed state.stop state.over goes in λ i. record { reader = state.reader; mode = waits i; stop = none i; over = on i }
 
+-- so its fields
+pub resting : (state : ControlState) (reader : LiveReaderValue) (mode : Mode) (stop : Option ℕ) (over : Bool) → is_closed state ≡ false → stop ≡ state.stop → over ≡ state.over → mode ≡ awaits_command
+    → record { reader = reader; mode = mode; stop = stop; over = over } ≡ at_rest reader
+resting state reader mode stop over goes stops overs waits =
+    let (none, on) = not_closed state.stop state.over goes in
+    let stopped = stops ∙ none in
+    let ended = overs ∙ on in λ i. record { reader = reader; mode = waits i; stop = stopped i; over = ended i }
+
 -- the reader after a step
 pub reader_after : (reader : LiveReaderValue) (step : Step) → (after_step reader step).reader ≡ reader
 reader_after reader (Replies shown) = refl

@@ -64,12 +64,12 @@ answer_of (answers.Found since) = record { text = line_of (found_since since); r
 abbrev pub logged : LiveRegionValue → LoggedRegion
 logged live = record { state = core live; log = live.log }
 
--- the marks advance, or stay for this fault
+-- the marks advance, or stay for this fault; scripts have no such command
 abbrev pub advance_turn : LoggedRegion → Result RegionValue AdvanceFault → Turn
 advance_turn old (Ok after) = record { machine = machine_over (record old { state = after }); reply = line_of (marks_reply_data after.marks); refused = false }
 advance_turn old (Err fault) = record { machine = machine_over old; reply = line_of (advance_fault_data fault); refused = true }
 
--- what a script over the region would do
+-- what the machine of a script would do over the region
 abbrev pub asked_turn : LoggedRegion → Asked → Turn
 asked_turn old (adopt copy) = adoption_turn old (after_adoption old.state copy)
 asked_turn old advance = advance_turn old (after_advance old.state)

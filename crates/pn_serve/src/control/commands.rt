@@ -1,6 +1,6 @@
 //! What the writer of a live region does for control sessions.
 
-ghost use Rattle.std.specs.Prelude.{◌≡◌, Ok};
+ghost use Rattle.std.specs.Prelude.{◌≡◌, ◌+◌, length, Ok};
 ghost use Rattle.pn_region.specs.Advancing.{after_advance, with_marks};
 ghost use Rattle.pn_live.specs.LiveRegions.{core};
 ghost use Rattle.pn_live.specs.Prelude.{tablets_in};
@@ -53,12 +53,21 @@ impl ShownTablets for LiveTablets<'_> {
     ghost tablets = { λ shown. (core shown.0.now).tablets };
 
     fn count(&self) -> usize {
+        recall_tablet_count(self.0);
         self.0.layout().count()
     }
 
     fn tablet(&self, number: usize) -> &TabletState {
+        recall_tablet_count(self.0);
         self.0.tablet(number)
     }
+}
+
+// There is one tablet more than bounds.
+fn recall_tablet_count(live: &LiveRegion)
+    ensures { length (core live.now).tablets ≡ length live.now.layout + 1 }
+{
+    let _layout = live.layout();
 }
 
 /// Does what a control session asks for. The reply is that of a script over the same region, or says that memory ran out.
@@ -90,7 +99,7 @@ fn adopt<R: Wait>(rt: &R, alloc: Global, live: &mut LiveRegion, copy: TabletCopy
         return refuse(alloc, CommandFault::Adoption(AdoptFault::WrongRange));
     };
     match live.adopt(rt, copy) {
-        Ok(_) => Reply::Adopted(tablet as u64),
+        Ok(_front) => Reply::Adopted(tablet as u64),
         Err(fault) => refuse(alloc, CommandFault::Adoption(fault)),
     }
 }
@@ -128,7 +137,7 @@ fn lose<R: Wait>(rt: &R, live: &mut LiveRegion, tablet: u64) -> Reply
         return Reply::Refused(Refusal::OutOfRange(Part::Tablet));
     }
     match live.lose(rt, tablet as usize) {
-        Ok(_) => Reply::Lost(tablet),
+        Ok(_front) => Reply::Lost(tablet),
         Err(_) => Reply::Refused(Refusal::Memory),
     }
 }

@@ -70,8 +70,8 @@ impl<'a, R, C: Drop> ControlHandler<'a, R, C> {
 
     /// Gives the reader back, and after how many seconds at most the server is to end, once that was asked for.
     pub(crate) fn end(self) -> (LiveReader, Option<u64>)
-        ensures reader { result.0 ≡ self.reader }
-        ensures stop { result.1 ≡ self.stop }
+        ensures reader { result.0 ≡ self.entry.reader }
+        ensures stop { result.1 ≡ self.entry.stop }
     {
         let ControlHandler {
             rt: _rt,

@@ -108,8 +108,9 @@ fn answer_lines<R: Wait + Clock, C: StatsSource + Drop, S: Source, W: Sink>(
     ensures begun { IfErr result (λ fault. fault ≢ RunFault.Memory) }
 {
     'turns: for _turn in 0..MAX_LINES {
-        if let Next::End(counts) = lines.turn(handler, input, output)? {
-            return Ok(counts);
+        match lines.turn(handler, input, output)? {
+            Next::Line => {}
+            Next::End(counts) => return Ok(counts),
         }
         if handler.is_closed() {
             lines.flush(output)?;

@@ -35,3 +35,34 @@ returns-clause-ends g c = λ start served. inl (c.finish.ensures.ends start (c.t
 
 pub returns-clause-knows : goal.returns-clause-knows
 returns-clause-knows g c = knows_on _ _ _ c.turns.invariant.knows c.finish.ensures.knows
+
+pub turns-preserved : goal.turns-preserved
+turns-preserved g c = record {
+  turns = c.in_ok-turn.ensures.counted (ap (λ (next : Next). Ok next) c.in-Line.is) ∙ ap (λ n. n + 1) c.turns.invariant.turns;
+  served = λ start served.
+      let turned = c.in_ok-turn.ensures.turns start (c.turns.invariant.served start served) in
+      rw c.in-Line.is at turned;
+  knows = knows_on _ _ _ c.turns.invariant.knows c.in_ok-turn.ensures.knows;
+  out = c.in_ok-turn.ensures.out (ap (λ (next : Next). Ok next) c.in-Line.is);
+  looks = omega (arith, c.turns.invariant.looks, c.in_ok-turn.ensures.looks);
+}
+
+pub returns-in_err-flush-clause-ends : goal.returns-in_err-flush-clause-ends
+returns-in_err-flush-clause-ends g c = λ start served.
+    let turned = rw c.in-Line.is at (c.in_ok-turn.ensures.turns start (c.turns.invariant.served start served)) in
+    inl (Run_write AnswersControl EndsControl start _ _ _ _ c.from_residual-in_err-flush.ensures.1
+    (OnTold _ _ _ (λ script between. Cut_between AnswersControl EndsControl start script _ _ _ _ _ between c.in_err-flush.ensures.err) turned))
+
+pub returns-in_err-flush-clause-knows : goal.returns-in_err-flush-clause-knows
+returns-in_err-flush-clause-knows g c = knows_on _ _ _ c.turns.invariant.knows c.in_ok-turn.ensures.knows
+
+pub returns-in_err-flush-clause-out : goal.returns-in_err-flush-clause-out
+returns-in_err-flush-clause-out g c = hands_on_unless_written _ _ c.from_residual-in_err-flush.ensures.1
+
+pub returns-then-is_closed-clause-ends : goal.returns-then-is_closed-clause-ends
+returns-then-is_closed-clause-ends g c = λ start served.
+    let turned = rw c.in-Line.is at (c.in_ok-turn.ensures.turns start (c.turns.invariant.served start served)) in
+    inr (sym c.is_closed.ensures ∙ c.if-is_closed.true, OnTold _ _ _ (λ script between. answered_some start script _ _ _ _ _ _ between c.in_ok-flush.ensures.ok (c.counts.ensures.counts ∙ c.flush.ensures.counts)) turned)
+
+pub returns-then-is_closed-clause-knows : goal.returns-then-is_closed-clause-knows
+returns-then-is_closed-clause-knows g c = knows_on _ _ _ c.turns.invariant.knows c.in_ok-turn.ensures.knows
