@@ -26,13 +26,13 @@ use pn_serve::{
 use pn_tablet::Layout;
 use std::alloc::{AllocError, Global};
 use std::fs::{File, Files};
-use std::io;
 use std::io::ErrorKind;
 use std::marker::Model;
 use std::net::Net;
 use std::sync::{Arc, Wait};
 use std::thread::Threads;
 use std::time::Clock;
+use std::{io, mem};
 
 /// A live region and the threads that answer connections from it.
 pub struct StayingServer {
@@ -131,7 +131,8 @@ impl StayingServer {
     }
 
     /// With control sessions, does what they ask for until one asks the server to stop, and stops it. Without, it waits for
-    /// the threads that answer connections. Whether it was stopped.
+    /// the threads that answer connections. Whether it was stopped: then the region's memory is left to the end of the
+    /// program.
     pub fn wait<R: Threads + Wait + Clock>(self, rt: &R, alloc: Global) -> bool {
         let mut server = self;
         match &server.watchers.controls {
@@ -139,7 +140,7 @@ impl StayingServer {
                 let seconds = take_commands(rt, alloc, &mut server.live, controls);
                 controls.close(rt);
                 server.stopping.run(rt, seconds);
-                server.leave(rt);
+                mem::forget(server);
                 true
             }
             None => {
