@@ -86,7 +86,7 @@ where
         Some(reader) => answer_beside(rt, alloc, &mut live, (session, reader, lines)),
         None => None,
     };
-    let closed = close_region(rt, live, readers);
+    let closed = close_region(rt, live, Vec::new(alloc));
     read?;
     closed?;
     let written = told.ok_or(NoMemory)?;
