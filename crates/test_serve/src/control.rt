@@ -5,8 +5,8 @@ use pn_line::InMemory;
 use pn_live::{LiveReader, LiveRegion};
 use pn_serve::{
     ConnectionStats, ControlMailboxes, ControlSession, LineStats, Origin, ServeFault, Stats,
-    StatsSource, Stream, Watchers, WriterEnd, close_region, open_region, read_streams,
-    take_commands,
+    StatsSource, Stream, StreamFaultStats, StreamState, StreamStats, Watchers, WriterEnd,
+    close_region, open_region, read_streams, take_commands,
 };
 use std::alloc::Global;
 use std::sync::{Arc, Wait};
@@ -16,27 +16,30 @@ use std::time::Clock;
 use std::{str, thread};
 use test_kit::layout;
 
-/// Says that nothing was done.
+/// Says what a server may have done.
 #[derive(Drop)]
-struct Nothing;
+struct SomeStats;
 
-impl StatsSource for Nothing {
+impl StatsSource for SomeStats {
     fn stats(&self, alloc: Global) -> Result<Stats, NoMemory> {
+        let mut streams = Vec::with_capacity(alloc, 2)?;
+        streams.push(failed_stream(alloc)?)?;
+        streams.push(new_stream(alloc)?)?;
         Ok(Stats {
-            bytes: 0,
+            bytes: 1,
             connections: ConnectionStats {
-                accepted: 0,
-                open: 0,
-                idle: 0,
-                refused: 0,
+                accepted: 2,
+                idle: 3,
+                open: 4,
+                refused: 5,
             },
             lines: LineStats {
-                answered: 0,
-                refused: 0,
+                answered: 6,
+                refused: 7,
             },
-            rounds: 0,
-            streams: Vec::new(alloc),
-            uptime: 0,
+            rounds: 8,
+            streams,
+            uptime: 9,
             version: "0",
         })
     }
@@ -44,6 +47,37 @@ impl StatsSource for Nothing {
     fn has_client_gone(&self) -> bool {
         false
     }
+}
+
+// A stream whose last writer had a fault.
+fn failed_stream(alloc: Global) -> Result<StreamStats, NoMemory> {
+    Ok(StreamStats {
+        name: Name::read(b"east").ok().ok_or(NoMemory)?,
+        path: String::from_str(alloc, "./east")?,
+        position: 10,
+        messages: 11,
+        bytes: 12,
+        state: StreamState::Failed,
+        since: Some(13),
+        fault: Some(StreamFaultStats {
+            line: 14,
+            reason: String::from_str(alloc, "not JSON")?,
+        }),
+    })
+}
+
+// A stream to which no writer has come.
+fn new_stream(alloc: Global) -> Result<StreamStats, NoMemory> {
+    Ok(StreamStats {
+        name: Name::read(b"west").ok().ok_or(NoMemory)?,
+        path: String::from_str(alloc, "./west")?,
+        position: 0,
+        messages: 0,
+        bytes: 0,
+        state: StreamState::Waiting,
+        since: None,
+        fault: None,
+    })
 }
 
 /// The one writer of a stream, until it is read.
@@ -76,7 +110,7 @@ where
     let session = ControlSession {
         mailboxes: Arc::try_clone(&mailboxes)?,
         number: 0,
-        stats: Nothing,
+        stats: SomeStats,
     };
     let layout = layout(alloc, "h").ok_or(NoMemory)?;
     let (live, readers) = open_region(rt, alloc, layout, 1)?;
@@ -115,7 +149,7 @@ fn answer_beside<R>(
     rt: &R,
     alloc: Global,
     live: &mut LiveRegion,
-    asked: (ControlSession<Nothing>, LiveReader, String),
+    asked: (ControlSession<SomeStats>, LiveReader, String),
 ) -> Option<Vec<u8>>
 where
     R: Threads + Wait + Clock + Sync + Copy + Send + Drop + 'static,
@@ -133,7 +167,7 @@ where
 fn answer<R: Wait + Clock>(
     rt: &R,
     alloc: Global,
-    session: &ControlSession<Nothing>,
+    session: &ControlSession<SomeStats>,
     reader: LiveReader,
     lines: String,
 ) -> Vec<u8> {
