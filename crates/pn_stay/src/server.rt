@@ -131,8 +131,7 @@ impl StayingServer {
     }
 
     /// With control sessions, does what they ask for until one asks the server to stop, and stops it. Without, it waits for
-    /// the threads that answer connections. Whether it was stopped: then the region's memory is left to the end of the
-    /// program.
+    /// the threads that answer connections. Whether it was stopped.
     pub fn wait<R: Threads + Wait + Clock>(self, rt: &R, alloc: Global) -> bool {
         let mut server = self;
         match &server.watchers.controls {
@@ -140,7 +139,7 @@ impl StayingServer {
                 let seconds = take_commands(rt, alloc, &mut server.live, controls);
                 controls.close(rt);
                 server.stopping.run(rt, seconds);
-                mem::forget(server);
+                server.leave(rt);
                 true
             }
             None => {
@@ -150,7 +149,7 @@ impl StayingServer {
         }
     }
 
-    /// Closes the region, and leaves the threads to the end of the program.
+    /// Closes the region, and leaves its memory and the threads to the end of the program.
     pub fn leave<R: Wait>(self, rt: &R) {
         let StayingServer {
             live,
@@ -160,7 +159,9 @@ impl StayingServer {
             watchers: _,
             stopping: _,
         } = self;
-        let _ = close_region(rt, live, readers);
+        if let Ok(region) = close_region(rt, live, readers) {
+            mem::forget(region);
+        }
     }
 
     // Waits for the threads, which end where the system tells nothing more of sockets, and closes the region.
