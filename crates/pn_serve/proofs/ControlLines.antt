@@ -34,6 +34,10 @@ resting state reader mode stop over goes stops overs waits =
     let stopped = stops ∙ none in
     let ended = overs ∙ on in λ i. record { reader = reader; mode = waits i; stop = stopped i; over = ended i }
 
+-- where another announced line is waited for
+pub more_state : (was old : ControlState) (n left : ℕ) (joined : Option (List ℕ)) → was ≡ old → n ≡ left → record was { mode = announced n joined } ≡ record old { mode = announced left joined }
+more_state was old n left joined is lefts = λ i. record { reader = (is i).reader; mode = announced (lefts i) joined; stop = (is i).stop; over = (is i).over }
+
 -- the reader after a step
 pub reader_after : (reader : LiveReaderValue) (step : Step) → (after_step reader step).reader ≡ reader
 reader_after reader (Replies shown) = refl

@@ -155,3 +155,6 @@ as_knows old new (Err refusal) step steps = knows_same old new steps.0
 pub steps_know : (old new : LiveReaderValue) (line : List ℕ) (step : Step) → StepsBy old line new step → KnowsNoLess old new
 steps_know old new line step (inl steps) = as_knows old new (control_at line) step steps
 steps_know old new line step (inr none) = knows_same old new none.1.0
+
+pub last_knows : (old new : LiveReaderValue) (part : List ℕ) (step : Step) → StepsLast old part new step → KnowsNoLess old new
+last_knows old new part step last = steps_know old new part last.first last.steps

@@ -22,7 +22,7 @@ knows_on a b c p q = record {
   known = all_know_on a.tablet_readers b.tablet_readers c.tablet_readers p.known q.known;
 }
 
-knows_same : (old new : LiveReaderValue) → new ≡ old → KnowsNoLess old new
+pub knows_same : (old new : LiveReaderValue) → new ≡ old → KnowsNoLess old new
 knows_same old new same = subst (KnowsNoLess old) (sym same) (knows_itself old)
 
 look_knows : (old new : LiveReaderValue) (look : Look) → LooksLive old look new → KnowsNoLess old new
