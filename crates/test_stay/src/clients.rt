@@ -101,6 +101,8 @@ fn new_counters(alloc: Global, input: Arc<InputCounters>) -> Result<Counters, Fa
         name: Name::read(b"east")?,
         input,
         taken: None,
+        told: None,
+        status: None,
         size: None,
     })?;
     Ok(Counters::new(alloc, streams)?)
