@@ -87,9 +87,9 @@ where
     };
     let layout = layout(alloc, "").ok_or(NoMemory)?;
     let settings = Settings::new(layout, 1).ok_or(NoMemory)?;
-    let mut server = StayingServer::start(rt, alloc, acceptor, settings, 2, 16)?;
     let host = *rt;
     let asking = thread::spawn(rt, move || ask_and_stop(&host, alloc))?;
+    let mut server = StayingServer::start(rt, alloc, acceptor, settings, 2, 16)?;
     let read = server.read_streams(rt, alloc, opened.streams).is_ok();
     let is_stopped = server.wait(rt, alloc);
     let told = asking.join(rt)?;
