@@ -46,7 +46,8 @@ impl Connection {
 
     /// Its socket.
     pub(crate) fn into_socket(self) -> Socket {
-        self.socket
+        let Connection { socket, .. } = self;
+        socket
     }
 
     /// One turn, after which it is not ready. None where the connection has ended.

@@ -1,6 +1,6 @@
 //! The state of a connection: it is answered as a session is, in turns, between which it keeps as little as it can.
 
-ghost use Rattle.std.specs.Prelude.{◌≡◌, ◌↔◌, Bool, [], IfOk, IfSome, OnErr};
+ghost use Rattle.std.specs.Prelude.{◌≡◌, ◌↔◌, ◌+◌, ◌-◌, ◌^◌, Bool, [], min, IfOk, IfSome, OnErr};
 ghost use Rattle.pn_serve.specs.Lines.States.{Start};
 ghost use Rattle.pn_line.specs.Sent.{AppendsPrefix, Sends};
 ghost use Rattle.pn_stay.specs.Connections.{new_connection};
@@ -256,7 +256,10 @@ fn counts_after(step: &Step, counts: Counts) -> Counts {
 }
 
 // Adds the lines that were answered between two counts.
-fn add_lines(lines: &mut LineStats, before: Counts, after: Counts) {
+fn add_lines(lines: &mut LineStats, before: Counts, after: Counts)
+    ensures answered { lines.new.answered ≡ min (lines.old.answered + (after.lines - before.lines)) (2 ^ 64 - 1) }
+    ensures refused { lines.new.refused ≡ min (lines.old.refused + (after.refused - before.refused)) (2 ^ 64 - 1) }
+{
     let answered = after.lines.saturating_sub(before.lines);
     let refused = after.refused.saturating_sub(before.refused);
     lines.answered = lines.answered.saturating_add(answered);

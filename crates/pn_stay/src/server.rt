@@ -26,13 +26,13 @@ use pn_serve::{
 use pn_tablet::Layout;
 use std::alloc::{AllocError, Global};
 use std::fs::{File, Files};
-use std::io;
 use std::io::ErrorKind;
 use std::marker::Model;
 use std::net::Net;
 use std::sync::{Arc, Wait};
 use std::thread::Threads;
 use std::time::Clock;
+use std::{io, mem};
 
 /// A live region and the threads that answer connections from it.
 pub struct StayingServer {
@@ -149,7 +149,7 @@ impl StayingServer {
         }
     }
 
-    /// Closes the region, and leaves the threads to the end of the program.
+    /// Closes the region, and leaves its memory and the threads to the end of the program.
     pub fn leave<R: Wait>(self, rt: &R) {
         let StayingServer {
             live,
@@ -159,7 +159,9 @@ impl StayingServer {
             watchers: _,
             stopping: _,
         } = self;
-        let _ = close_region(rt, live, readers);
+        if let Ok(region) = close_region(rt, live, readers) {
+            mem::forget(region);
+        }
     }
 
     // Waits for the threads, which end where the system tells nothing more of sockets, and closes the region.

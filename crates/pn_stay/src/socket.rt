@@ -1,6 +1,6 @@
 //! The sockets of clients, over TCP or at a path.
 
-ghost use Rattle.std.specs.Prelude.{◌≡◌, ◌≢◌, ◌||◌, true, Ok, IfErr, OnOk, MatchBool};
+ghost use Rattle.std.specs.Prelude.{◌≡◌, ◌≢◌, ◌||◌, ◌⊎◌, true, Ok, IfErr, OnOk, MatchBool};
 ghost use Rattle.std.specs.Io.{ReadsAtMost, WritesAtMost};
 ghost use Rattle.std.specs.IoError.{error_kind};
 
@@ -167,6 +167,7 @@ fn end_in_place_of_wait(read: io::Result<usize>) -> io::Result<usize>
     ensures end { IfErr read (λ error. error_kind error ≡ ErrorKind.WouldBlock → result ≡ Ok 0) }
     ensures fault { IfErr read (λ error. error_kind error ≢ ErrorKind.WouldBlock → result ≡ read) }
     ensures ok { OnOk read (result ≡ read) }
+    ensures either { (result ≡ Ok 0) ⊎ (result ≡ read) }
 {
     let waits = match &read {
         Ok(_) => false,

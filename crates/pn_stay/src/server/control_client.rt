@@ -1,8 +1,9 @@
 //! The client whom a control thread answers, for who stops the server.
 
-ghost use Rattle.std.specs.Prelude.{◌≡◌, None, true};
+ghost use Rattle.std.specs.Prelude.{◌≡◌, Some, false, true, IsOk};
 
 use crate::socket::Socket;
+use std::io;
 use std::sync::{Arc, Mutex, Wait};
 
 /// The client whom a control thread answers, and whether the thread has ended.
@@ -27,8 +28,8 @@ impl ControlClient {
         }))
     }
 
-    /// A client has come. False where the thread is to end: then it is not answered.
-    pub(super) fn begin<R: Wait>(&self, rt: &R, socket: Arc<Socket>) -> bool {
+    /// A client has come. The error says that the thread is to end: then it is not answered.
+    pub(super) fn begin<R: Wait>(&self, rt: &R, socket: Arc<Socket>) -> io::Result<()> {
         self.0.lock(rt).begin(socket)
     }
 
@@ -59,15 +60,22 @@ impl ControlClient {
 }
 
 impl ClientState {
-    fn begin(&mut self, socket: Arc<Socket>) -> bool {
+    fn begin(&mut self, socket: Arc<Socket>) -> io::Result<()>
+        ensures goes_on { self.old.is_stopping ≡ false → self.new.socket ≡ Some socket }
+        ensures stops { IsOk result → self.old.is_stopping ≡ false }
+        ensures begins { self.old.is_stopping ≡ false → IsOk result }
+        ensures same { self.new.is_stopping ≡ self.old.is_stopping }
+    {
         if self.is_stopping {
-            return false;
+            return Err(io::Error::from(io::ErrorKind::NotConnected));
         }
         self.socket = Some(socket);
-        true
+        Ok(())
     }
 
-    fn stop(&mut self) {
+    fn stop(&mut self)
+        ensures { self.new.is_stopping ≡ true }
+    {
         self.is_stopping = true;
         if let Some(socket) = &self.socket {
             socket.end_input();

@@ -131,48 +131,41 @@ where
             thread.client.note_end(rt);
             return;
         }
-        match accepted {
+        match begin(rt, thread, accepted) {
             Ok(socket) => {
-                let _ = answer_client(rt, thread, &mut reader, socket);
+                reader = answer(rt, thread, reader, &socket);
+                thread.client.end(rt);
             }
             Err(_) => thread::sleep(rt, Duration::from_millis(RETRY)),
         }
     }
 }
 
-// Answers a client to its end, unless the server is to stop.
-fn answer_client<R>(
+// The socket of a client who is to be answered. It is waited for no longer than is bearable.
+fn begin<R: Wait>(
     rt: &R,
     thread: &ControlThread,
-    reader: &mut LiveReader,
-    socket: Socket,
-) -> io::Result<()>
-where
-    R: Wait + Clock + Files<File = File> + Drop,
-{
+    accepted: io::Result<Socket>,
+) -> io::Result<Arc<Socket>> {
+    let socket = accepted?;
     socket.set_timeout(Duration::from_secs(PATIENCE))?;
     let socket = Arc::new(thread.setting.alloc, socket)?;
-    if thread.client.begin(rt, Arc::try_clone(&socket)?) {
-        let answered = answer(rt, thread, reader, &socket);
-        thread.client.end(rt);
-        answered?;
-    }
-    Ok(())
+    thread.client.begin(rt, Arc::try_clone(&socket)?)?;
+    Ok(socket)
 }
 
-fn answer<R>(
-    rt: &R,
-    thread: &ControlThread,
-    reader: &mut LiveReader,
-    socket: &Socket,
-) -> io::Result<()>
+// Answers a client to its end. Out of memory it is not answered.
+fn answer<R>(rt: &R, thread: &ControlThread, reader: LiveReader, socket: &Socket) -> LiveReader
 where
     R: Wait + Clock + Files<File = File> + Drop,
 {
     let setting = &thread.setting;
     let alloc = setting.alloc;
+    let Ok(mailboxes) = Arc::try_clone(&setting.mailboxes) else {
+        return reader;
+    };
     let session = ControlSession {
-        mailboxes: Arc::try_clone(&setting.mailboxes)?,
+        mailboxes,
         number: thread.number,
         stats: CurrentStats {
             rt,
@@ -181,8 +174,11 @@ where
             client: socket,
         },
     };
-    let mut input = BufReader::with_capacity(alloc, CONTROL_READ_SIZE, TrackedSocket::new(socket))?;
+    let input = TrackedSocket::new(socket);
+    let Ok(mut input) = BufReader::with_capacity(alloc, CONTROL_READ_SIZE, input) else {
+        return reader;
+    };
     let mut output = TrackedSocket::new(socket);
-    let _ = session.answer(rt, alloc, reader, &mut input, &mut output);
-    Ok(())
+    let (reader, _) = session.answer(rt, alloc, reader, &mut input, &mut output);
+    reader
 }

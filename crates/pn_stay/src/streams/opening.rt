@@ -34,6 +34,9 @@ pub struct OpenedStreams<R: Drop> {
     pub sockets: Vec<String>,
 }
 
+// The writers of a stream, and how many bytes its file has, where it ends.
+type OpenedWriters<R> = Result<(Writers<R>, Option<u64>), OpenFault>;
+
 /// Where it is told how streams go, and whether what is read of them is counted.
 #[derive(Drop)]
 pub struct StreamSetting<R> {
@@ -161,7 +164,7 @@ fn open_writers<R>(
     notes: &StreamNotes<R>,
     path: StreamPath,
     sockets: &mut Vec<String>,
-) -> Result<(Writers<R>, Option<u64>), OpenFault>
+) -> OpenedWriters<R>
 where
     R: Files<File = File> + Net + Wait + Clock + Copy + Drop,
 {
@@ -197,10 +200,7 @@ fn is_fifo<R: Files>(rt: &R, path: &str) -> io::Result<bool> {
     Ok(fs::metadata(rt, path)?.file_type().is_fifo())
 }
 
-fn open_fifo<R>(
-    notes: &StreamNotes<R>,
-    path: String,
-) -> Result<(Writers<R>, Option<u64>), OpenFault>
+fn open_fifo<R>(notes: &StreamNotes<R>, path: String) -> OpenedWriters<R>
 where
     R: Files<File = File> + Net + Wait + Clock + Copy + Drop,
 {
@@ -210,10 +210,7 @@ where
     }
 }
 
-fn open_file<R>(
-    notes: &StreamNotes<R>,
-    path: String,
-) -> Result<(Writers<R>, Option<u64>), OpenFault>
+fn open_file<R>(notes: &StreamNotes<R>, path: String) -> OpenedWriters<R>
 where
     R: Files<File = File> + Net + Wait + Clock + Copy + Drop,
 {

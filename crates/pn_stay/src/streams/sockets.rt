@@ -8,7 +8,7 @@ use crate::streams::listener::StreamListener;
 use crate::streams::notes::StreamNotes;
 use crate::streams::writer::WriterSocket;
 use pn_line::Source;
-use pn_serve::WriterEnd;
+use pn_serve::{StreamState, WriterEnd};
 use std::sync::Wait;
 use std::time::{Clock, Duration};
 use std::{io, thread};
@@ -45,10 +45,12 @@ impl SocketWriters {
             match self.accept(notes, last) {
                 Ok(source) => {
                     let mut source = source;
+                    notes.set_state(StreamState::Open);
                     if source.has_more().unwrap_or(false) {
                         self.note_begin(notes);
                         return source;
                     }
+                    notes.set_state(StreamState::Ended);
                 }
                 Err(error) => self.note_refusal(notes, &error),
             }
