@@ -17,4 +17,4 @@ returns-clause-ends g c = record {
 }
 
 pub returns-clause-knows : goal.returns-clause-knows
-returns-clause-knows g c = client_knows _ _ _ _ c.new-handler.ensures c.answer_lines-ended.ensures.knows c.end-reader.ensures.reader
+returns-clause-knows g c = client_knows _ _ c.new-handler.result c.answer_lines-ended.new.handler c.new-handler.ensures c.answer_lines-ended.ensures.knows c.end-reader.ensures.reader
