@@ -26,8 +26,8 @@ loop-preserved-then-not-has_report g c =
       at_fault = so_far.at_fault;
     }
 
-pub loop-preserved-in_ok-run_round : goal.loop-preserved-in_ok-run_round
-loop-preserved-in_ok-run_round g c =
+pub loop-preserved : goal.loop-preserved
+loop-preserved g c =
     let name = λ (s : StreamMailbox). s.name in
     let at_fault = c.args.mailboxes.now.at_fault in
     let names = map name c.args.mailboxes.now.streams.items in
@@ -84,5 +84,5 @@ returns-in_err-input-clause-runs g c =
     let names = map name c.args.mailboxes.now.streams.items in
     let still = map name c.loop.mailboxes.streams.items in
     let told = more_told at_fault names c.args.live.now still c.loop.live c.obey_all.new.live c.loop.invariant.so_far (c.obey_all.ensures.told at_fault still) in
-    as_fault at_fault names c.args.live.now c.obey_all.new.live c.in_err-input.field-0.0 c.from_residual-in_err-input.result c.from_residual-in_err-input.ensures.1
+    as_fault at_fault names c.args.live.now c.obey_all.new.live c.in_err-input.field-0.0 c.from_residual.result c.from_residual.ensures.1
     (not_begun at_fault names c.args.live.now still c.obey_all.new.live c.in_err-input.field-0.0 told c.in_err-input.ensures.fault)
