@@ -45,7 +45,7 @@ where
     }
 
     fn hand_on(&mut self, last: u64) {
-        self.notes.progress.handed.set(last);
+        self.notes.hand_on(last);
     }
 
     fn end_writer(&mut self, source: StreamSource<R>, end: &WriterEnd, _last: u64) {
@@ -59,5 +59,6 @@ where
 
     fn stop_writer(&mut self, source: StreamSource<R>) {
         end_socket(source, &WriterEnd::End);
+        self.notes.set_state(StreamState::Ended);
     }
 }

@@ -15,4 +15,4 @@ returns-in-Ok-clause-obeys g c =
 
 pub returns-in-Err-clause-obeys : goal.returns-in-Err-clause-obeys
 returns-in-Err-clause-obeys g c =
-    still c.args.live.now (adopt c.args.copy) c.adopt.new.self _ c.in-Err.ensures.err (adopted_not c.args.live.now c.args.copy c.in-Err.fault c.refuse.result c.in-Err.ensures.refused c.refuse.ensures)
+    still c.args.live.now (adopt c.args.copy) c.adopt.new.self _ c.in-Err.ensures.err (adopted_not c.args.live.now c.args.copy c.in-Err.fault c.refuse-in-Err.result c.in-Err.ensures.refused c.refuse-in-Err.ensures)
