@@ -68,6 +68,24 @@ WORDS: dict[str, tuple[list[str], End]] = {
         ["serve", "--stay", "--socket", LONG, "east"],
         (2, b"", f"pnuts: address: {LONG}: a path of more than 107 bytes".encode()),
     ),
+    "a control socket without a path": (
+        ["serve", "--stay", "--control=", "--listen", "x", "east"],
+        (2, b"", b"error: a value is required for '--control <PATH>' but none was supplied"),
+    ),
+    "a control socket without --stay": (["serve", "--control", "c", "east"], (2, b"", b"pnuts: control: c: only with --stay")),
+    "a control socket's path that is too long": (
+        ["serve", "--stay", "--control", LONG, "east"],
+        (2, b"", f"pnuts: control: {LONG}: a path of more than 107 bytes".encode()),
+    ),
+    "no address, and a control socket without --stay": (["serve", "--control", "c", "--listen", "x", "east"], (2, b"", b"pnuts: address")),
+    "a control socket in no folder": (
+        ["serve", "--stay", "--socket", "/none/socket", "--control", "/none/control", "east=/dev/null"],
+        (1, b"", b"pnuts: cannot listen: /none/control: No such file or directory"),
+    ),
+    "a control socket where another file is": (
+        ["serve", "--stay", "--socket", "/none/socket", "--control", "/dev/null", "east=/dev/null"],
+        (1, b"", b"pnuts: cannot listen: /dev/null: Address already in use"),
+    ),
     "a stream that does not open": (["serve", "--socket", "/none/socket", "east=/none"], (1, b"", b"pnuts: cannot open east")),
     "a socket in no folder": (["serve", "--socket", "/none/socket", "east=/dev/null"], (1, b"", b"pnuts: cannot listen")),
     "an address of no machine": (["serve", "--listen", "192.0.2.1", "east=/dev/null"], (1, b"", b"pnuts: cannot listen")),

@@ -34,7 +34,7 @@ pub found_tablet : (ps : List PublishedTabletValue) (r : Ends) → position (λ 
 found_tablet ps r = λ i. cond (nat_lt (before_found ps r i) (length-map ps state_at i)) (Some (before_found ps r i)) None
 
 -- the state of the tablet at the number
-state_there : (ps : List PublishedTabletValue) (n : ℕ) (p : PublishedTabletValue) → n < length ps → p ≡ get_or ps n p → slice_get (map state_at ps) n ≡ Some (state_at p)
+pub state_there : (ps : List PublishedTabletValue) (n : ℕ) (p : PublishedTabletValue) → n < length ps → p ≡ get_or ps n p → slice_get (map state_at ps) n ≡ Some (state_at p)
 state_there [] n p within at = absurd (omega arith)
 state_there (q ∷ ps) zero p within at = ap (λ (tablet : PublishedTabletValue). Some (state_at tablet)) (sym at)
 state_there (q ∷ ps) (suc n) p within at = state_there ps n p (omega arith) at

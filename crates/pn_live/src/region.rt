@@ -1,10 +1,11 @@
 //! Live regions.
 
-ghost use Rattle.std.specs.Prelude.{◌≡◌, ◌≤◌, length, min, slice_get, IsSomeAnd, IsTrue};
+ghost use Rattle.std.specs.Prelude.{◌≡◌, ◌≤◌, length, slice_get, Some, IsTrue};
 ghost use Rattle.pn_join.specs.Prelude.{are_positions};
-ghost use Rattle.pn_live.specs.PublishedTablets.{state_at};
-ghost use Rattle.pn_region.specs.declared.notices.TheConstants.{LAST_NUMBER};
+ghost use Rattle.pn_live.specs.LiveRegions.{core};
 ghost use Rattle.pn_region.specs.declared.marking.TheConstants.{MAX_STREAMS};
+ghost use Rattle.pn_region.specs.Log.{last_of};
+ghost use Rattle.pn_region.specs.Prelude.{IsRegion};
 
 mod advance;
 mod closing;
@@ -61,21 +62,22 @@ impl LiveRegion {
     /// The tablet of this number, which is below the layout's count.
     pub fn tablet(&self, number: usize) -> &TabletState
         requires { number ≤ length self.now.layout }
-        ensures { IsSomeAnd (slice_get self.now.tablets number) (λ tablet. result.now ≡ state_at tablet) }
+        ensures { slice_get (core self.now).tablets number ≡ Some result.now }
     {
         self.tablets[number].state()
     }
 
     /// The number of the last entry of the log, at most the greatest that an entry has.
     pub fn last_number(&self) -> u64
-        ensures { result ≡ min (length self.now.log) LAST_NUMBER }
+        ensures { result ≡ last_of self.now.log }
     {
         self.log.last_number()
     }
 
     /// How the keys are divided into tablets.
     pub fn layout(&self) -> &Layout
-        ensures { result.now ≡ self.now.layout }
+        ensures layout { result.now ≡ self.now.layout }
+        ensures region { IsRegion (core self.now) }
     {
         &self.layout
     }

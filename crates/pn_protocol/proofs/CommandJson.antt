@@ -47,7 +47,7 @@ module _ (ms : Members) (order : InOrder (object ms)) where
       (command : CommandValue) → get_member (codes "do") ms ≡ Some (string (text_of word)) → command_as word ms ≡ Ok command → IsCommand (object ms) command
 
   -- an object of these members alone
-  named_object : (names : List (List ℕ)) (ns : Members) → named_alone names ms ≡ Ok tt → Rise ns → only_named names ns ≡ true → SameAt names ms ns → object ms ≡ object ns
+  pub named_object : (names : List (List ℕ)) (ns : Members) → named_alone names ms ≡ Ok tt → Rise ns → only_named names ns ≡ true → SameAt names ms ns → object ms ≡ object ns
   named_object names ns named rise also same = ap object (same_by_name names ms ns (rises (object ms) ms refl order) rise (are_named names ms named) also same)
 
   -- the number of a command, and the names of its members

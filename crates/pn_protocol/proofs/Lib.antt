@@ -5,8 +5,11 @@ pub mod CommandLimits
 pub mod CommandLines
 pub mod CommandNeeds
 pub mod CommandParts
+pub mod ControlJson
+pub mod ControlLines
 pub mod CopyLines
 pub mod EachFits
 pub mod FoundRows
+pub mod ReadLines
 pub mod Refusals
 pub mod Walks

@@ -6,7 +6,7 @@ mod refusal;
 mod reply;
 
 pub use command::Command;
-pub use command::control::{ControlCommand, control_of};
+pub use command::control::{ControlCommand, a_control_line_is_one_command, control_of};
 pub use command::parse::{a_line_is_one_command, command_of, lookup_of};
 pub use refusal::{Part, Refusal};
 pub use reply::Reply;
@@ -15,5 +15,7 @@ pub use reply::notices::notices_reply;
 pub use reply::refusals::{CommandFault, refuse};
 pub use reply::scan::scan_reply;
 pub use reply::short::{NumberName, ShortReply, number_reply, refusal_reply, served_reply};
-pub use reply::stats::{Stats, StreamState, StreamStats, stats_reply};
+pub use reply::stats::{
+    ConnectionStats, LineStats, Stats, StreamFaultStats, StreamState, StreamStats, stats_reply,
+};
 pub use reply::tablets::{ShownTablets, marks_reply, tablets_reply};

@@ -9,6 +9,7 @@ pub(crate) mod refusals;
 mod rows;
 pub(crate) mod scan;
 pub(crate) mod short;
+mod shown;
 pub(crate) mod stats;
 pub(crate) mod tablets;
 

@@ -13,7 +13,7 @@ use Rattle.pn_region.specs.declared.notices.Entry.TheVariants.{Changed, Break}
 use Rattle.pn_region.specs.declared.notices.Notice.{Notice}
 use Rattle.pn_region.specs.declared.notices.Since.TheVariants.{Notices, Missed}
 use Rattle.pn_region.specs.declared.notices.TheConstants.{MAX_NOTICES, LAST_NUMBER}
-use Rattle.pn_region.specs.Log.{entries_of, changes_in, is_recent, changes_after, notices_from}
+use Rattle.pn_region.specs.Log.{entries_of, changes_in, is_recent, changes_after, notices_from, last_of}
 use Rattle.pn_region.specs.Kept.{AreKept, IsLog}
 use Rattle.pn_region.specs.Since.{IsSince}
 
@@ -70,6 +70,10 @@ pub unless : {A : Type 0} (b : Bool) (value : Option A) → (b ≡ true → valu
 unless true value none = none refl
 unless false value none = refl
 
+-- the number that a log has is the last that was given
+pub last_given : (entries : List Entry) (last next : ℕ) (kept : Buffer Change) → IsLog entries last kept → next ≡ min last LAST_NUMBER → next ≡ last_of entries
+last_given entries last next kept is at = omega (arith, is.number)
+
 module _ (entries : List Entry) (last n : ℕ) (kept : Buffer Change) (is : IsLog entries last kept) where
   pub known : (index : ℕ) → last ≤ LAST_NUMBER → index ≤ length kept.items → n + length kept.items ≡ last + index
       → changes_after entries n ≡ Some (drop index kept.items)
@@ -94,15 +98,15 @@ module _ (entries : List Entry) (last n : ℕ) (kept : Buffer Change) (is : IsLo
       gone (leb-true n (length entries) first.0) (leb-true (length entries) (n + MAX_NOTICES) first.1) (leb-true (length entries) LAST_NUMBER parts.1) why)
 
   -- so the answers are those of the log
-  pub tells : (next index most : ℕ) (list : Vec Notice Global) → next ≡ min last LAST_NUMBER → most ≡ length kept.items
+  pub tells : (next index most : ℕ) (list : Vec Notice Global) → next ≡ last_of entries → most ≡ length kept.items
       → (last ≤ LAST_NUMBER) × (index ≤ most) × (n + most ≡ last + index) → list.items ≡ notices_from n (drop index kept.items) → IsSince entries n (Notices next list)
   tells next index most list at all is_index told = (
-    omega (arith, is.number),
+    at,
     ap (option_map (notices_from n)) (known index is_index.0 (omega (arith, is_index.1)) (omega (arith, is_index.2))) ∙ ap Some (sym told),
   )
 
-  pub misses : (next most : ℕ) → next ≡ min last LAST_NUMBER → most ≡ length kept.items → (LAST_NUMBER < last) ⊎ ((last < n) ⊎ (n + most < last)) → IsSince entries n (Missed next)
-  misses next most at all why = (omega (arith, is.number), unknown (subst (λ k. (LAST_NUMBER < last) ⊎ ((last < n) ⊎ (n + k < last))) all why))
+  pub misses : (next most : ℕ) → next ≡ last_of entries → most ≡ length kept.items → (LAST_NUMBER < last) ⊎ ((last < n) ⊎ (n + most < last)) → IsSince entries n (Missed next)
+  misses next most at all why = (at, unknown (subst (λ k. (LAST_NUMBER < last) ⊎ ((last < n) ⊎ (n + k < last))) all why))
 
 -- one more change is numbered
 drop_got : {X : Type 0} (xs : List X) (i : ℕ) (x : X) → slice_get xs i ≡ Some x → drop i xs ≡ x ∷ drop (i + 1) xs

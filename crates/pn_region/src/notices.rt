@@ -1,8 +1,8 @@
 //! The log of a region: its notices, each with a number.
 
-ghost use Rattle.std.specs.Prelude.{◌≡◌, ◌≤◌, ◌<◌, ◌+◌, ◌^◌, [], ◌∷◌, ◌++◌, length, min, drop, IfOk, IfSome, None, ◌⊎◌};
+ghost use Rattle.std.specs.Prelude.{◌≡◌, ◌≤◌, ◌<◌, ◌+◌, ◌^◌, [], ◌∷◌, ◌++◌, length, drop, IfOk, IfSome, None, ◌⊎◌};
 ghost use Rattle.pn_region.specs.declared.notices.TheConstants.{LAST_NUMBER};
-ghost use Rattle.pn_region.specs.Log.{entries_of, notices_from};
+ghost use Rattle.pn_region.specs.Log.{entries_of, last_of, notices_from};
 ghost use Rattle.pn_region.specs.Since.{IsSince};
 ghost use Rattle.pn_region.specs.Kept.{kept_with};
 ghost use Rattle.std.specs.List.{flat_map};
@@ -119,7 +119,7 @@ impl Log {
 
     /// The number of the last entry, at most the greatest that an entry has.
     pub fn last_number(&self) -> u64
-        ensures { result ≡ min (length self.now) LAST_NUMBER }
+        ensures { result ≡ last_of self.now }
     {
         self.last.min(LAST_NUMBER)
     }
@@ -128,7 +128,7 @@ impl Log {
     pub fn since(&self, number: u64) -> Result<Since, NoMemory>
         ensures { IfOk result (λ since. IsSince self.now number since) }
     {
-        let next = self.last.min(LAST_NUMBER);
+        let next = self.last_number();
         match index_after(number, self.last, self.kept.len()) {
             Some(index) => Ok(Since::Notices {
                 next,

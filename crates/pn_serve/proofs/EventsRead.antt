@@ -1,15 +1,16 @@
 -- Rounds of what streams gave, and commands of control sessions, one after another.
-use Rattle.std.proofs.Common.{◌≡◌, ◌≢◌, ℕ, List, [], ◌∷◌, ◌++◌, inl, inr, refl, sym, subst}
-use Rattle.std.specs.Prelude.{Result, Ok, Err, IsErrAnd}
+use Rattle.std.proofs.Common.{◌≡◌, ◌≢◌, ℕ, List, [], ◌∷◌, ◌++◌, map, inl, inr, refl, sym, subst}
+use Rattle.std.specs.Prelude.{Result, Ok, Err, IsErrAnd, ◌↔◌}
 use Rattle.std.proofs.lemmas.Result.{err_from_is_err_and}
 use Rattle.pn_live.specs.LiveRegions.{LiveRegionValue}
 use Rattle.pn_serve.specs.Control.Commands.{Asked, ObeysLive, Said}
-use Rattle.pn_serve.specs.Server.Events.{AllDone, RunsEvents, RunsOn, RunsUpTo, ToldAll, WriterEvent, taken, told}
-use Rattle.pn_serve.specs.Server.Reading.{AllTaken, ReadToEnds, ReadUpTo, RunsRound, RunsRounds}
+use Rattle.pn_serve.specs.Server.Events.{AllDone, ReadsBesides, RunsEvents, RunsOn, RunsUpTo, ToldAll, WriterEvent, taken, told}
+use Rattle.pn_serve.specs.Server.Reading.{AllTaken, RunsRound, RunsRounds, StopsAt}
 use Rattle.pn_serve.specs.Server.Rounds.{RoundInputValue}
 use Rattle.pn_serve.specs.declared.server.fault.ServeFault.{ServeFault}
-use Rattle.pn_serve.specs.declared.server.fault.ServeFault.TheVariants.{Round}
+use Rattle.pn_serve.specs.declared.server.fault.ServeFault.TheVariants.{Start, Stream, Round, Close, Write}
 use Rattle.pn_serve.specs.declared.server.mailboxes.AtFault.{AtFault}
+use Rattle.pn_serve.specs.declared.server.mailboxes.AtFault.TheVariants.{GoOn}
 
 -- events and those after them
 pub done_after : (at_fault : AtFault) (names : List (List ℕ)) (old : LiveRegionValue) (events : List WriterEvent) (still : List (List ℕ)) (between : LiveRegionValue) (later : List WriterEvent) (left : List (List ℕ)) (new : LiveRegionValue)
@@ -21,21 +22,26 @@ done_after at_fault names old (taken input ∷ events) still between later left 
 done_after at_fault names old (told asked said ∷ events) still between later left new all then =
     (all.0, all.1, done_after at_fault names all.0 events still between later left new all.2 then)
 
--- the rounds that a reading ran, as events
-pub as_events : List RoundInputValue → List WriterEvent
-as_events [] = []
-as_events (input ∷ later) = taken input ∷ as_events later
-
+-- rounds alone are those of streams that are read without commands
 pub rounds_done : (at_fault : AtFault) (names : List (List ℕ)) (old : LiveRegionValue) (rounds : List RoundInputValue) (left : List (List ℕ)) (new : LiveRegionValue)
-    → AllTaken at_fault names old rounds left new → AllDone at_fault names old (as_events rounds) left new
+    → AllTaken at_fault names old rounds left new → AllDone at_fault names old (map taken rounds) left new
 rounds_done at_fault names old [] left new all = all
 rounds_done at_fault names old (input ∷ later) left new all = (all.0, all.1, all.2, all.3, rounds_done at_fault all.1 all.0 later left new all.4)
 
+done_rounds : (at_fault : AtFault) (names : List (List ℕ)) (old : LiveRegionValue) (rounds : List RoundInputValue) (left : List (List ℕ)) (new : LiveRegionValue)
+    → AllDone at_fault names old (map taken rounds) left new → AllTaken at_fault names old rounds left new
+done_rounds at_fault names old [] left new all = all
+done_rounds at_fault names old (input ∷ later) left new all = (all.0, all.1, all.2, all.3, done_rounds at_fault all.1 all.0 later left new all.4)
+
+pub rounds_alone : (at_fault : AtFault) (names : List (List ℕ)) (old : LiveRegionValue) (rounds : List RoundInputValue) (left : List (List ℕ)) (new : LiveRegionValue)
+    → AllDone at_fault names old (map taken rounds) left new ↔ AllTaken at_fault names old rounds left new
+rounds_alone at_fault names old rounds left new = (done_rounds at_fault names old rounds left new, rounds_done at_fault names old rounds left new)
+
 -- a reading without commands is one beside none
 pub runs_beside : {T : Type 0} (at_fault : AtFault) (names : List (List ℕ)) (old new : LiveRegionValue) (read : Result T ServeFault) → RunsRounds at_fault names old new read → RunsEvents at_fault names old new read
-runs_beside at_fault names old new (Ok done) read = record { events = as_events read.rounds; left = []; done = rounds_done at_fault names old read.rounds [] new read.taken }
+runs_beside at_fault names old new (Ok done) read = record { events = map taken read.rounds; left = []; done = rounds_done at_fault names old read.rounds [] new read.taken }
 runs_beside at_fault names old new (Err fault) read = record {
-  events = as_events read.rounds;
+  events = map taken read.rounds;
   last = read.last;
   still = read.still;
   done = rounds_done at_fault names old read.rounds read.still read.last read.taken;
@@ -92,3 +98,16 @@ one_told at_fault names old between new asked said so obeys = record {
 
 pub none_told : (at_fault : AtFault) (names : List (List ℕ)) (old : LiveRegionValue) → ToldAll at_fault names old old
 none_told at_fault names old = record { events = []; done = (refl, refl) }
+
+-- the fault of a round is not that its threads were refused
+begun : (at_fault : AtFault) (names : List (List ℕ)) (old new : LiveRegionValue) → StopsAt at_fault names old new Start → ⊥
+begun at_fault names old new (inl stops) = stops.2.takes
+begun at_fault names old new (inr stops) = let same = stops.0 in cc
+
+pub as_besides : (names : List (List ℕ)) (old new : LiveRegionValue) (read : Result (Unit {0}) ServeFault) → RunsEvents GoOn names old new read → ReadsBesides names old new read
+as_besides names old new (Ok done) ran = ran
+as_besides names old new (Err Start) ran = absurd (begun GoOn ran.still ran.last new ran.stops)
+as_besides names old new (Err (Stream name)) ran = ran
+as_besides names old new (Err Round) ran = ran
+as_besides names old new (Err Close) ran = ran
+as_besides names old new (Err Write) ran = ran

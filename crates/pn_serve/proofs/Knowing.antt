@@ -22,7 +22,7 @@ knows_on a b c p q = record {
   known = all_know_on a.tablet_readers b.tablet_readers c.tablet_readers p.known q.known;
 }
 
-knows_same : (old new : LiveReaderValue) → new ≡ old → KnowsNoLess old new
+pub knows_same : (old new : LiveReaderValue) → new ≡ old → KnowsNoLess old new
 knows_same old new same = subst (KnowsNoLess old) (sym same) (knows_itself old)
 
 look_knows : (old new : LiveReaderValue) (look : Look) → LooksLive old look new → KnowsNoLess old new
@@ -32,7 +32,8 @@ looks_all_know : (old new : LiveReaderValue) (seen : List Look) → Looks LooksL
 looks_all_know old new [] looked = knows_same old new looked
 looks_all_know old new (look ∷ seen) looked = knows_on old looked.0 new (look_knows old looked.0 look looked.1) (looks_all_know looked.0 new seen looked.2)
 
-command_knows : (old new : LiveReaderValue) (command : CommandValue) (reply : Reply) → LooksUp old command new reply → KnowsNoLess old new
+-- after a command
+pub command_knows : (old new : LiveReaderValue) (command : CommandValue) (reply : Reply) → LooksUp old command new reply → KnowsNoLess old new
 command_knows old new (copy need tablet) reply (inl copied) = look_knows old new (tablet, copied.found) copied.copied.looked
 command_knows old new (copy need tablet) reply (inr none) = knows_same old new none.1
 command_knows old new (get keys) reply looks = looks_all_know old new looks.seen looks.got.looked

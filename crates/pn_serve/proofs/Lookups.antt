@@ -18,7 +18,7 @@ use Rattle.pn_live.specs.Readers.{LiveReaderValue, LooksLive}
 use Rattle.pn_protocol.specs.declared.refusal.Refusal.{Refusal}
 use Rattle.pn_protocol.specs.declared.refusal.Refusal.TheVariants.{TooLong, NotJson, BadShape, ReadOnly, OutOfRange, Memory}
 use Rattle.pn_protocol.specs.declared.reply.Reply.{Reply}
-use Rattle.pn_protocol.specs.declared.reply.Reply.TheVariants.{Adopted, Changed, Copied, Lost, Relaid, Silent, Text, Refused, NotTaken}
+use Rattle.pn_protocol.specs.declared.reply.Reply.TheVariants.{Adopted, Changed, Copied, Lost, Relaid, Silent, Stopping, Text, Refused, NotTaken}
 use Rattle.pn_protocol.proofs.CommandLines.{too_long}
 use Rattle.pn_protocol.specs.Command.Lines.{is_too_long, lookup_at}
 use Rattle.pn_protocol.specs.Command.Meaning.{CommandValue}
@@ -38,6 +38,7 @@ shows_as see show (Ok found) (Copied lines text) is = is
 shows_as see show (Ok found) (Lost tablet) is = is
 shows_as see show (Ok found) (Relaid count) is = is
 shows_as see show (Ok found) Silent is = is
+shows_as see show (Ok found) (Stopping seconds) is = is
 shows_as see show (Ok found) (Refused refusal) is = is
 shows_as see show (Ok found) (NotTaken text) is = is
 shows_as see show (Err fault) reply is = is

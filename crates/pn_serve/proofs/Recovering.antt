@@ -24,7 +24,7 @@ use Rattle.pn_tablet.specs.declared.fault.OpFault.{OpFault as AdoptFault}
 use Rattle.pn_tablet.specs.declared.fault.OpFault.TheVariants as adoption
 use Rattle.pn_region.proofs.NewRegion.{tablet_count}
 use Rattle.pn_protocol.specs.declared.reply.Reply.{Reply}
-use Rattle.pn_protocol.specs.declared.reply.Reply.TheVariants.{Adopted, Changed, Copied, Lost, Relaid, Silent, Text, Refused, NotTaken}
+use Rattle.pn_protocol.specs.declared.reply.Reply.TheVariants.{Adopted, Changed, Copied, Lost, Relaid, Silent, Stopping, Text, Refused, NotTaken}
 use Rattle.pn_protocol.specs.declared.refusal.Part.TheVariants.{Tablet}
 use Rattle.pn_protocol.specs.declared.refusal.Refusal.TheVariants.{OutOfRange, Memory}
 use Rattle.pn_protocol.specs.Command.Meaning.{CommandValue, copy, lose}
@@ -37,26 +37,20 @@ use Rattle.pn_protocol.specs.Reply.Answers.{ShowsCopy, ShowsCopyOf}
 use Rattle.pn_protocol.specs.Reply.Refusals.{Tells, Refuses as RefusesBy}
 use Rattle.pn_protocol.specs.declared.reply.refusals.CommandFault.TheVariants.{Copy, CopyText, Adoption}
 use Rattle.pn_serve.specs.Machine.Ways.{ComesTo}
-use Rattle.pn_protocol.specs.Reply.Faults.{copy_text_fault_data, adopt_fault_data}
+use Rattle.pn_protocol.specs.Reply.Faults.{copy_fault_data, copy_text_fault_data, adopt_fault_data}
 use Rattle.pn_protocol.specs.Reply.Short.{lost_data}
-use Rattle.pn_serve.proofs.Turns.{turned_call}
+use Rattle.pn_serve.proofs.Turns.{told_or_out, turned_call}
 
 -- a refusal that changes nothing
-abbrev telling : LoggedRegion → Data → Turn
+abbrev pub telling : LoggedRegion → Data → Turn
 telling region said = record { machine = machine_over region; reply = line_of said; refused = true }
 
 -- a refusal was answered, or memory ran out
 pub told : (turn : Turn) (old new : LoggedRegion) (right : Type 0) (said : Data) (reply : Reply) → new ≡ old → (right → turn ≡ telling old said) → Tells right said reply → ComesTo turn old new reply
-told turn old new right said (NotTaken text) same is (knows, says) =
-    inl (ap (λ (t : Turn). t.machine) (is knows) ∙ ap machine_over (sym same), ap (λ (t : Turn). t.reply) (is knows) ∙ sym says, ap (λ (t : Turn). t.refused) (is knows))
-told turn old new right said (Adopted tablet) same is tells = inr (same, tells)
-told turn old new right said (Changed count) same is tells = inr (same, tells)
-told turn old new right said (Copied lines text) same is tells = inr (same, tells)
-told turn old new right said (Lost tablet) same is tells = inr (same, tells)
-told turn old new right said (Relaid count) same is tells = inr (same, tells)
-told turn old new right said Silent same is tells = inr (same, tells)
-told turn old new right said (Text text) same is tells = inr (same, tells)
-told turn old new right said (Refused refusal) same is tells = inr (same, tells)
+told turn old new right said reply same is tells =
+    told_or_out (ComesTo turn old new) right said reply
+    (λ text knows says. inl (ap (λ (t : Turn). t.machine) (is knows) ∙ ap machine_over (sym same), ap (λ (t : Turn). t.reply) (is knows) ∙ sym says, ap (λ (t : Turn). t.refused) (is knows)))
+    (inr (same, refl)) tells
 
 -- a turn that other turns come to
 pub came_as : (one other : Turn) (old new : LoggedRegion) (reply : Reply) → one ≡ other → ComesTo other old new reply → ComesTo one old new reply
@@ -67,7 +61,7 @@ came_as one other old new reply same comes = subst (λ (t : Turn). ComesTo t old
 pub adopts : (old new : LoggedRegion) (given : TabletCopyValue) (tablet : ℕ) → after_adoption old.state given ≡ Ok (tablet, new.state) → new.log ≡ with_break old.log → ComesTo (adoption_turn old (after_adoption old.state given)) old new (Adopted tablet)
 adopts old new given tablet is noted = came_as _ _ old new (Adopted tablet) (ap (adoption_turn old) is) (inl (λ i. record { mode = awaits_command; region = new.state; log = sym noted i }, refl, refl))
 
-not_memory : (fault : AdoptFault) (right : Result (ℕ × RegionValue) AdoptFault) → Refuses steps.is_memory fault right → fault ≢ adoption.Memory → right ≡ Err fault
+pub not_memory : (fault : AdoptFault) (right : Result (ℕ × RegionValue) AdoptFault) → Refuses steps.is_memory fault right → fault ≢ adoption.Memory → right ≡ Err fault
 not_memory adoption.WrongRange right is other = is
 not_memory (adoption.TooOld stream has needs) right is other = is
 not_memory adoption.Memory right is other = absurd (other refl)
@@ -140,6 +134,7 @@ module _ (region : LoggedRegion) (need : Positions) (tablet : ℕ) (state : Tabl
   copied_there copied (Lost tablet) is shows = out _ shows
   copied_there copied (Relaid count) is shows = out _ shows
   copied_there copied Silent is shows = out _ shows
+  copied_there copied (Stopping seconds) is shows = out _ shows
   copied_there copied (Text text) is shows = out _ shows
   copied_there copied (Refused refusal) is shows = out _ shows
   copied_there copied (NotTaken text) is shows = out _ shows
@@ -151,17 +146,11 @@ module _ (region : LoggedRegion) (need : Positions) (tablet : ℕ) (state : Tabl
   right_fault copying.Memory right is other = absurd (other refl)
 
   not_copied_there : (fault : CopyFault) (reply : Reply) → Refuses is_memory fault (copy_of state need) → RefusesBy (Copy tablet fault) reply → Obeys (machine_over region) (copy need tablet) (machine_over region) reply
-  not_copied_there fault (NotTaken text) right (other, says) =
-      let all = looked (Err fault) (right_fault fault (copy_of state need) right other) in
-      record { outcome = done; machine_is = ap (λ (t : Turn). t.machine) all; replied = ap (λ (t : Turn). t.reply) all ∙ sym says; refused = ap (λ (t : Turn). t.refused) all }
-  not_copied_there fault (Adopted tablet) right tells = out _ tells
-  not_copied_there fault (Changed count) right tells = out _ tells
-  not_copied_there fault (Copied lines text) right tells = out _ tells
-  not_copied_there fault (Lost tablet) right tells = out _ tells
-  not_copied_there fault (Relaid count) right tells = out _ tells
-  not_copied_there fault Silent right tells = out _ tells
-  not_copied_there fault (Text text) right tells = out _ tells
-  not_copied_there fault (Refused refusal) right tells = out _ tells
+  not_copied_there fault reply right tells =
+      told_or_out (λ (r : Reply). Obeys (machine_over region) (copy need tablet) (machine_over region) r) (fault ≢ copying.Memory) (copy_fault_data tablet fault) reply
+      (λ text other says. let all = looked (Err fault) (right_fault fault (copy_of state need) right other) in
+      record { outcome = done; machine_is = ap (λ (t : Turn). t.machine) all; replied = ap (λ (t : Turn). t.reply) all ∙ sym says; refused = ap (λ (t : Turn). t.refused) all })
+      (out (Refused Memory) refl) tells
 
   -- what was found of the tablet was shown
   pub answered_there : (copied : Result TabletCopyValue CopyFault) (reply : Reply) → Answers is_memory copied (copy_of state need) → ShowsCopyOf tablet copied reply → Obeys (machine_over region) (copy need tablet) (machine_over region) reply

@@ -21,7 +21,7 @@ use Rattle.pn_region.specs.declared.fault.RoundFault.{RoundFault}
 use Rattle.pn_region.specs.declared.fault.RoundFault.TheVariants as round_fault
 use Rattle.pn_tablet.specs.Refusals.{Refuses}
 use Rattle.pn_protocol.specs.declared.reply.Reply.{Reply}
-use Rattle.pn_protocol.specs.declared.reply.Reply.TheVariants.{Adopted, Changed, Copied, Lost, Relaid, Silent, Text, Refused, NotTaken}
+use Rattle.pn_protocol.specs.declared.reply.Reply.TheVariants.{Adopted, Changed, Copied, Lost, Relaid, Silent, Stopping, Text, Refused, NotTaken}
 use Rattle.pn_protocol.specs.declared.refusal.Refusal.{Refusal}
 use Rattle.pn_protocol.specs.declared.refusal.Refusal.TheVariants.{TooLong, NotJson, BadShape, ReadOnly, OutOfRange, Memory}
 use Rattle.pn_protocol.specs.Command.Meaning.{CommandValue, deliver}
@@ -34,11 +34,24 @@ use Rattle.pn_serve.specs.Machine.Turns.{command_turn, turn_of, outcome_at, turn
 use Rattle.pn_serve.specs.Machine.Answers.{IsReadUnless, Turned, TurnedBy, AnswersBy, Obeys}
 use Rattle.pn_protocol.specs.Reply.Answers.{ShowsFound}
 use Rattle.pn_protocol.specs.Reply.Refusals.{Tells, Refuses as RefusesBy}
-use Rattle.pn_protocol.specs.Reply.Faults.{round_fault_data}
+use Rattle.pn_protocol.specs.Reply.Faults.{lookup_fault_data, round_fault_data}
 use Rattle.pn_protocol.specs.declared.reply.refusals.CommandFault.TheVariants as command_fault
 use Rattle.pn_protocol.specs.Reply.Short.{changed_data}
 use Rattle.pn_json.specs.Answers.{ShowsUnless}
 use Rattle.pn_json.specs.Lines.{line_of}
+
+-- what a reply comes to that tells this, or that memory ran out
+pub told_or_out : (P : Reply → Type 0) (right : Type 0) (said : Data) (reply : Reply) → ((text : Vec ℕ Global) → right → text.items ≡ line_of said → P (NotTaken text)) → P (Refused Memory) → Tells right said reply → P reply
+told_or_out P right said (NotTaken text) tells out (knows, says) = tells text knows says
+told_or_out P right said (Adopted tablet) tells out is = subst P (sym is) out
+told_or_out P right said (Changed count) tells out is = subst P (sym is) out
+told_or_out P right said (Copied lines text) tells out is = subst P (sym is) out
+told_or_out P right said (Lost tablet) tells out is = subst P (sym is) out
+told_or_out P right said (Relaid count) tells out is = subst P (sym is) out
+told_or_out P right said (Stopping seconds) tells out is = subst P (sym is) out
+told_or_out P right said Silent tells out is = subst P (sym is) out
+told_or_out P right said (Text text) tells out is = subst P (sym is) out
+told_or_out P right said (Refused refusal) tells out is = subst P (sym is) out
 
 -- out of memory in a call, a command is refused so
 abbrev pub RunsOut : LoggedRegion → CommandValue → Type 0
@@ -165,21 +178,17 @@ module _ {A : Type 0} (region : LoggedRegion) (command : CommandValue) (show : A
 
   -- it was refused
   pub turned_why : (fault : ScanFault) (reply : Reply) → (fault ≢ scan.Memory → right ≡ Err fault) → RefusesBy (command_fault.Lookup fault) reply → Obeys (machine_over region) command (machine_over region) reply
-  turned_why fault (NotTaken text) is (other, says) =
-      let all : command_turn (machine_over region) done command ≡ lookup_turn (machine_over region) show (Err fault) = does ∙ ap (lookup_turn (machine_over region) show) (is other) in record {
-        outcome = done;
-        machine_is = ap (λ (t : Turn). t.machine) all;
-        replied = ap (λ (t : Turn). t.reply) all ∙ sym says;
-        refused = ap (λ (t : Turn). t.refused) all;
-      }
-  turned_why fault (Adopted tablet) is says = no_memory (Adopted tablet) says
-  turned_why fault (Changed count) is says = no_memory (Changed count) says
-  turned_why fault (Copied lines text) is says = no_memory (Copied lines text) says
-  turned_why fault (Lost tablet) is says = no_memory (Lost tablet) says
-  turned_why fault (Relaid count) is says = no_memory (Relaid count) says
-  turned_why fault Silent is says = no_memory Silent says
-  turned_why fault (Text text) is says = no_memory (Text text) says
-  turned_why fault (Refused refusal) is says = no_memory (Refused refusal) says
+  turned_why fault reply is says =
+      told_or_out (λ (r : Reply). Obeys (machine_over region) command (machine_over region) r) (fault ≢ scan.Memory) (lookup_fault_data fault) reply (λ text other said. tells text (is other) said) (turned_call region region command out refl) says
+    where
+      tells : (text : Vec ℕ Global) → right ≡ Err fault → text.items ≡ line_of (lookup_fault_data fault) → Obeys (machine_over region) command (machine_over region) (NotTaken text)
+      tells text is said =
+          let all : command_turn (machine_over region) done command ≡ lookup_turn (machine_over region) show (Err fault) = does ∙ ap (lookup_turn (machine_over region) show) is in record {
+            outcome = done;
+            machine_is = ap (λ (t : Turn). t.machine) all;
+            replied = ap (λ (t : Turn). t.reply) all ∙ sym said;
+            refused = ap (λ (t : Turn). t.refused) all;
+          }
 
   -- what it found was shown, or there was no memory for the text
   pub turned_shown : {B : Type 0} (seen : B → A) (found : Result B ScanFault) (reply : Reply) → ShowsUnless scan.Memory seen found right → ShowsFound (λ b. show (seen b)) found reply
@@ -191,6 +200,7 @@ module _ {A : Type 0} (region : LoggedRegion) (command : CommandValue) (show : A
   turned_shown seen (Ok found) (Lost tablet) is shows = no_memory (Lost tablet) shows
   turned_shown seen (Ok found) (Relaid count) is shows = no_memory (Relaid count) shows
   turned_shown seen (Ok found) Silent is shows = no_memory Silent shows
+  turned_shown seen (Ok found) (Stopping seconds) is shows = no_memory (Stopping seconds) shows
   turned_shown seen (Ok found) (Refused refusal) is shows = no_memory (Refused refusal) shows
   turned_shown seen (Ok found) (NotTaken text) is shows = no_memory (NotTaken text) shows
   turned_shown seen (Err fault) reply is refuses = turned_why fault reply is refuses
@@ -256,18 +266,6 @@ pub turned_half : (old new : LoggedRegion) (deliveries : List DeliveryValue) →
 turned_half old new deliveries half broken =
     let (flags, is) = half_found old.state new.state deliveries (new_marks old.state.marks deliveries) half.0 half.1 half.2 in
     record { outcome = round flags; machine_is = λ i. record { mode = awaits_command; region = is i; log = sym broken i }; replied = refl; refused = refl }
-
--- what a reply comes to that tells this, or that memory ran out
-told_or_out : (P : Reply → Type 0) (right : Type 0) (said : Data) (reply : Reply) → ((text : Vec ℕ Global) → right → text.items ≡ line_of said → P (NotTaken text)) → P (Refused Memory) → Tells right said reply → P reply
-told_or_out P right said (NotTaken text) tells out (knows, says) = tells text knows says
-told_or_out P right said (Adopted tablet) tells out is = subst P (sym is) out
-told_or_out P right said (Changed count) tells out is = subst P (sym is) out
-told_or_out P right said (Copied lines text) tells out is = subst P (sym is) out
-told_or_out P right said (Lost tablet) tells out is = subst P (sym is) out
-told_or_out P right said (Relaid count) tells out is = subst P (sym is) out
-told_or_out P right said Silent tells out is = subst P (sym is) out
-told_or_out P right said (Text text) tells out is = subst P (sym is) out
-told_or_out P right said (Refused refusal) tells out is = subst P (sym is) out
 
 -- the round has a fault, and the reply says which, or that memory ran out
 module _ (old new : LoggedRegion) (deliveries : List DeliveryValue) where

@@ -3,6 +3,7 @@ pub mod Events
 pub mod Faults
 pub mod Gathering
 pub mod Honest
+pub mod HonestEvents
 pub mod Messages
 pub mod Reading
 pub mod Reports

@@ -14,7 +14,7 @@ mod settings;
 mod stream_laws;
 
 pub use arguments::faults::{PlanFault, Refused, Why};
-pub use arguments::options::{MAX_SESSIONS, numbers_are_as_written};
+pub use arguments::options::{MAX_SESSIONS, VERSION, numbers_are_as_written};
 pub use arguments::plan;
 pub use arguments::plans::{Address, Plan, Service, StreamPath};
 pub use control::laws::commands_are_events;
@@ -27,8 +27,9 @@ pub use page_laws::{
     pages_of_a_script_are_together_its_rows,
 };
 pub use pn_protocol::{
-    Command, CommandFault, ControlCommand, NumberName, Part, Refusal, Reply, ShortReply, Stats,
-    StreamState, StreamStats, a_line_is_one_command, command_of, control_of, number_reply,
+    Command, CommandFault, ConnectionStats, ControlCommand, LineStats, NumberName, Part, Refusal,
+    Reply, ShortReply, Stats, StreamFaultStats, StreamState, StreamStats,
+    a_control_line_is_one_command, a_line_is_one_command, command_of, control_of, number_reply,
     refusal_reply, refuse, scan_reply,
 };
 pub use repeat_laws::{
@@ -43,4 +44,6 @@ pub use server::{
 };
 pub use sessions::session;
 pub use settings::Settings;
-pub use stream_laws::streams_that_resume_leave_what_was_published;
+pub use stream_laws::{
+    streams_beside_commands_leave_what_was_taken, streams_that_resume_leave_what_was_published,
+};

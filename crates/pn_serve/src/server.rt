@@ -34,6 +34,7 @@ use crate::server::rounds::run_rounds;
 use crate::server::session_threads::{StartedSessions, start_sessions};
 use crate::server::stream_threads::{StartedStreams, StreamThread, join_streams, start_streams};
 pub use counter::Counter;
+pub use events::take_commands;
 pub use fault::ServeFault;
 pub use fault_log::{FaultLog, StreamFailure};
 use pn_join::{Marks, NoMemory};
@@ -47,7 +48,7 @@ pub use session_threads::{Acceptor, ComesBack, SessionThread, join_sessions};
 use std::alloc::Global;
 use std::sync::Wait;
 use std::thread::Threads;
-pub use streams::{Watchers, read_streams, take_commands};
+pub use streams::{Watchers, read_streams};
 pub use writers::{Origin, Stream, WriterEnd};
 
 /// A live region and its readers.

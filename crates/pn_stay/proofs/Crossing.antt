@@ -3,6 +3,7 @@ use denote.Param.Send.{IsSend, IsSync, sendable}
 use Rattle.std.proofs.Crossing.{crosses}
 use Rattle.pn_join.specs.contracts.marks.name.Name as name
 use Rattle.pn_live.proofs.Crossing.Readers.{reader_send}
+use Rattle.pn_serve.proofs.Crossing.{controls_send, controls_sync}
 use Rattle.pn_serve.specs.contracts.server.counter.Counter as counter
 use Rattle.pn_serve.specs.contracts.server.fault_log.StreamFailure as failure
 use Rattle.pn_serve.specs.contracts.server.fault_log.FaultLog as faults
@@ -11,7 +12,11 @@ use Rattle.pn_stay.specs.contracts.socket_mailbox.SocketMailbox as mailbox
 use Rattle.pn_stay.specs.contracts.server.threads.LoopThread as loop
 use Rattle.pn_stay.specs.contracts.counters.StreamCounters as stream
 use Rattle.pn_stay.specs.contracts.counters.InputCounters as input
+use Rattle.pn_stay.specs.contracts.counters.ConnectionCounters as connections
 use Rattle.pn_stay.specs.contracts.counters.Counters as counters
+use Rattle.pn_stay.specs.contracts.server.control_client.ControlClient as client
+use Rattle.pn_stay.specs.contracts.server.control_threads.ControlThread as control
+use Rattle.pn_stay.specs.contracts.streams.status.StreamStatus as status
 use Rattle.pn_stay.specs.contracts.messages.Messages as messages
 use Rattle.pn_stay.specs.contracts.acceptor.AcceptNotes as notes
 
@@ -33,17 +38,29 @@ input_send = search (sendable, crosses) depth 40 fits 20000
 pub input_sync : IsSync input.the_row
 input_sync = search (sendable, crosses) depth 40 fits 20000
 
+status_send : IsSend status.the_row
+status_send = search (sendable, crosses) depth 40 fits 20000
+
+status_sync : IsSync status.the_row
+status_sync = search (sendable, crosses) depth 40 fits 20000
+
 stream_send : IsSend stream.the_row
-stream_send = search (sendable, crosses, name_send, counter_send, counter_sync, input_send, input_sync) depth 40 fits 20000
+stream_send = search (sendable, crosses, name_send, counter_send, counter_sync, input_send, input_sync, status_send, status_sync) depth 40 fits 20000
 
 stream_sync : IsSync stream.the_row
-stream_sync = search (sendable, crosses, name_sync, counter_send, counter_sync, input_send, input_sync) depth 40 fits 20000
+stream_sync = search (sendable, crosses, name_sync, counter_send, counter_sync, input_send, input_sync, status_send, status_sync) depth 40 fits 20000
+
+connections_send : IsSend connections.the_row
+connections_send = search (sendable, crosses, counter_send) depth 40 fits 20000
+
+connections_sync : IsSync connections.the_row
+connections_sync = search (sendable, crosses, counter_sync) depth 40 fits 20000
 
 pub counters_send : IsSend counters.the_row
-counters_send = search (sendable, crosses, counter_send, counter_sync, input_send, input_sync, stream_send) depth 40 fits 20000
+counters_send = search (sendable, crosses, counter_send, counter_sync, input_send, input_sync, connections_send, stream_send) depth 40 fits 20000
 
 pub counters_sync : IsSync counters.the_row
-counters_sync = search (sendable, crosses, counter_send, counter_sync, input_send, input_sync, stream_sync) depth 40 fits 20000
+counters_sync = search (sendable, crosses, counter_send, counter_sync, input_send, input_sync, connections_sync, stream_sync) depth 40 fits 20000
 
 pub messages_send : IsSend messages.the_row
 messages_send = search (sendable, crosses) depth 40 fits 20000
@@ -64,7 +81,7 @@ pub faults_sync : IsSync faults.the_row
 faults_sync = search (sendable, crosses, failure_send, failure_sync) depth 40 fits 20000
 
 pub notes_send : IsSend notes.the_row
-notes_send = search (sendable, crosses, messages_send, messages_sync) depth 40 fits 20000
+notes_send = search (sendable, crosses, counters_send, counters_sync, messages_send, messages_sync) depth 40 fits 20000
 
 pub acceptor_send : IsSend acceptor.the_row
 acceptor_send = search (sendable, crosses, counters_send, counters_sync, faults_send, faults_sync, messages_send, messages_sync) depth 40 fits 20000
@@ -77,3 +94,12 @@ mailbox_sync = search (sendable, crosses) depth 40 fits 20000
 
 pub loop_send : IsSend loop.the_row
 loop_send = search (sendable, crosses, mailbox_send, mailbox_sync, counters_send, counters_sync, reader_send) depth 40 fits 20000
+
+client_send : IsSend client.the_row
+client_send = search (sendable, crosses) depth 40 fits 20000
+
+client_sync : IsSync client.the_row
+client_sync = search (sendable, crosses) depth 40 fits 20000
+
+pub control_send : IsSend control.the_row
+control_send = search (sendable, crosses, controls_send, controls_sync, counters_send, counters_sync, client_send, client_sync) depth 40 fits 20000

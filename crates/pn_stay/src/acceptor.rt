@@ -81,10 +81,9 @@ impl Acceptor for SocketAcceptor {
 
     fn answer_client(&self, alloc: Global, reader: &mut LiveReader) -> io::Result<()> {
         let socket = self.accept()?;
-        self.counters.connections.add(1);
-        self.counters.accepted.add(1);
+        self.counters.connections.begin();
         let answered = self.answer(alloc, reader, &socket);
-        self.counters.connections.subtract(1);
+        self.counters.connections.end();
         answered
     }
 
@@ -100,10 +99,11 @@ impl Acceptor for SocketAcceptor {
     }
 }
 
-/// Tells that nobody is accepted for now, once a minute at most.
+/// Counts what the system refuses, and tells that nobody is accepted for now, once a minute at most.
 #[derive(Drop)]
 pub(crate) struct AcceptNotes {
     alloc: Global,
+    counters: Arc<Counters>,
     messages: Option<Arc<Messages>>,
     refusals: Seldom,
     limits: Seldom,
@@ -111,17 +111,23 @@ pub(crate) struct AcceptNotes {
 
 impl AcceptNotes {
     /// Nothing was told so far.
-    pub(crate) fn new(alloc: Global, messages: Option<Arc<Messages>>) -> AcceptNotes {
+    pub(crate) fn new(
+        alloc: Global,
+        counters: Arc<Counters>,
+        messages: Option<Arc<Messages>>,
+    ) -> AcceptNotes {
         AcceptNotes {
             alloc,
+            counters,
             messages,
             refusals: Seldom::new(),
             limits: Seldom::new(),
         }
     }
 
-    // Tells that the system refuses a socket.
+    // Counts that the system refuses a socket, and tells it.
     fn tell_refusal<R: Wait + Clock>(&mut self, rt: &R, error: &io::Error) {
+        self.counters.connections.refused.add(1);
         if let Some(messages) = &self.messages {
             if self.refusals.is_due(rt) {
                 messages.leave(rt, refusal_text(self.alloc, error));

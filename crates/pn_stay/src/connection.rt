@@ -21,6 +21,8 @@ pub(crate) struct Connection {
     pub(crate) is_held_up: bool,
     /// Whether it is among those that are to have a turn.
     pub(crate) is_ready: bool,
+    // Whether its input ends after what has come of it.
+    is_ending: bool,
 }
 
 impl Connection {
@@ -33,12 +35,19 @@ impl Connection {
             idle: IdleTimeout::new(),
             is_held_up: false,
             is_ready: false,
+            is_ending: false,
         }
     }
 
     /// Its client's input ends after what has come of it.
     pub(crate) fn end_input(&mut self) {
-        self.socket.end_input();
+        self.is_ending = true;
+    }
+
+    /// Its socket.
+    pub(crate) fn into_socket(self) -> Socket {
+        let Connection { socket, .. } = self;
+        socket
     }
 
     /// One turn, after which it is not ready. None where the connection has ended.
@@ -52,6 +61,7 @@ impl Connection {
     {
         self.is_ready = false;
         let mut input = TrackedSocket::new(&self.socket);
+        input.end_input_if(self.is_ending);
         let mut output = TrackedSocket::new(&self.socket);
         let pause = self
             .state

@@ -1,6 +1,6 @@
 //! The state of a connection: it is answered as a session is, in turns, between which it keeps as little as it can.
 
-ghost use Rattle.std.specs.Prelude.{◌≡◌, ◌↔◌, Bool, [], IfOk, IfSome, OnErr};
+ghost use Rattle.std.specs.Prelude.{◌≡◌, ◌↔◌, ◌+◌, ◌-◌, ◌^◌, Bool, [], min, IfOk, IfSome, OnErr};
 ghost use Rattle.pn_serve.specs.Lines.States.{Start};
 ghost use Rattle.pn_line.specs.Sent.{AppendsPrefix, Sends};
 ghost use Rattle.pn_stay.specs.Connections.{new_connection};
@@ -16,21 +16,27 @@ mod storage;
 use crate::connection_state::sending::{finish, send_rest};
 use crate::input_buffer::InputBuffer;
 use crate::output_buffer::{OutputBuffer, SendOutcome};
-use crate::steps::take_steps;
+use crate::steps::{Step, take_steps};
 use pn_join::NoMemory;
 use pn_line::{LineBuffer, Sink, WriteFault};
-use pn_serve::{Counts, LineHandler, LineLoop, RunFault};
+use pn_serve::{Counts, LineHandler, LineLoop, LineStats, RunFault};
 use std::alloc::Global;
 use std::io::Read;
 use std::marker::Model;
 use std::mem;
+
+/// No line was answered.
+const NO_LINES: LineStats = LineStats {
+    answered: 0,
+    refused: 0,
+};
 
 /// The buffers of a session thread, which its connections use one after another.
 #[derive(Drop)]
 pub struct ThreadBuffers {
     pub(crate) lines: LineLoop,
     pub(crate) input: InputBuffer,
-    pub(crate) line_count: u64,
+    pub(crate) answered: LineStats,
 }
 
 impl ThreadBuffers {
@@ -39,13 +45,13 @@ impl ThreadBuffers {
         Ok(ThreadBuffers {
             lines: LineLoop::new(alloc)?,
             input: InputBuffer::new(alloc)?,
-            line_count: 0,
+            answered: NO_LINES,
         })
     }
 
-    /// How many lines were answered since this was asked last.
-    pub fn take_line_count(&mut self) -> u64 {
-        mem::replace(&mut self.line_count, 0)
+    /// How many lines were answered since this was asked last, and how many of them were refused.
+    pub fn take_line_counts(&mut self) -> LineStats {
+        mem::replace(&mut self.answered, NO_LINES)
     }
 }
 
@@ -234,9 +240,28 @@ fn answer_some<M: LineHandler, R: Read, W: Sink>(
 {
     let alloc = kept.alloc;
     let mut replies = kept.load(buffers);
-    let before = buffers.lines.counts().lines;
+    let before = buffers.lines.counts();
     let step = take_steps(buffers, machine, &mut replies, input);
-    let more = buffers.lines.counts().lines.saturating_sub(before);
-    buffers.line_count = buffers.line_count.saturating_add(more as u64);
+    let after = counts_after(&step, buffers.lines.counts());
+    add_lines(&mut buffers.answered, before, after);
     finish::<M, W>(alloc, buffers, replies, step, output)
+}
+
+// The counts after a step. At the end of the input they count a last part of a line.
+fn counts_after(step: &Step, counts: Counts) -> Counts {
+    match step {
+        Step::Ends(Ok(counts)) => *counts,
+        _ => counts,
+    }
+}
+
+// Adds the lines that were answered between two counts.
+fn add_lines(lines: &mut LineStats, before: Counts, after: Counts)
+    ensures answered { lines.new.answered ≡ min (lines.old.answered + (after.lines - before.lines)) (2 ^ 64 - 1) }
+    ensures refused { lines.new.refused ≡ min (lines.old.refused + (after.refused - before.refused)) (2 ^ 64 - 1) }
+{
+    let answered = after.lines.saturating_sub(before.lines);
+    let refused = after.refused.saturating_sub(before.refused);
+    lines.answered = lines.answered.saturating_add(answered);
+    lines.refused = lines.refused.saturating_add(refused);
 }

@@ -2,48 +2,27 @@
 
 ghost use Rattle.std.specs.Prelude.{◌≡◌};
 
+use crate::streams::status::StreamStatus;
 use pn_join::Name;
 use pn_line::{LineBuffer, Piece, Source};
-use pn_serve::{Counter, StreamState};
+use pn_serve::Counter;
 use std::alloc::{AllocError, Global};
 use std::io;
 use std::sync::Arc;
 
-/// How many lines were read, how many bytes, and for a stream how it goes.
+/// How many lines were read, and how many bytes.
 #[derive(Drop)]
 pub struct InputCounters {
     pub lines: Counter,
     pub bytes: Counter,
-    state: Counter,
 }
 
 impl InputCounters {
-    /// All are zero: no writer has come.
+    /// All are zero.
     pub fn new() -> InputCounters {
         InputCounters {
             lines: Counter::new(),
             bytes: Counter::new(),
-            state: Counter::new(),
-        }
-    }
-
-    /// Notes how the stream goes.
-    pub fn set_state(&self, state: StreamState) {
-        self.state.set(match state {
-            StreamState::Waiting => 0,
-            StreamState::Open => 1,
-            StreamState::Ended => 2,
-            StreamState::Failed => 3,
-        });
-    }
-
-    /// How the stream goes.
-    pub fn state(&self) -> StreamState {
-        match self.state.get() {
-            0 => StreamState::Waiting,
-            1 => StreamState::Open,
-            2 => StreamState::Ended,
-            _ => StreamState::Failed,
         }
     }
 
@@ -57,26 +36,62 @@ impl InputCounters {
     }
 }
 
-/// How much of a stream was read.
+/// How much of a stream was read, and how it goes.
 #[derive(Drop)]
 pub struct StreamCounters {
     pub name: Name,
     pub input: Arc<InputCounters>,
     /// The position up to which rounds have taken it, where they note that.
     pub taken: Option<Arc<Counter>>,
+    /// The position that its writer was told last, where it is told.
+    pub told: Option<Arc<Counter>>,
+    /// How it goes, where that is noted.
+    pub status: Option<Arc<StreamStatus>>,
     /// How many bytes its file has, where it is one that ends.
     pub size: Option<u64>,
+}
+
+/// The connections of clients.
+#[derive(Drop)]
+pub struct ConnectionCounters {
+    pub open: Counter,
+    pub accepted: Counter,
+    /// Those that ended because their clients were idle.
+    pub idle: Counter,
+    /// Those for which the system had no socket or no memory, each time that it was asked.
+    pub refused: Counter,
+}
+
+impl ConnectionCounters {
+    fn new() -> ConnectionCounters {
+        ConnectionCounters {
+            open: Counter::new(),
+            accepted: Counter::new(),
+            idle: Counter::new(),
+            refused: Counter::new(),
+        }
+    }
+
+    /// Counts a connection that was accepted.
+    pub(crate) fn begin(&self) {
+        self.open.add(1);
+        self.accepted.add(1);
+    }
+
+    /// Counts the end of one.
+    pub(crate) fn end(&self) {
+        self.open.subtract(1);
+    }
 }
 
 /// What a server counts.
 #[derive(Drop)]
 pub struct Counters {
     pub rounds: Arc<Counter>,
-    /// What was read from all clients.
+    /// What was read from all clients, and how many of their lines were refused.
     pub clients: Arc<InputCounters>,
-    /// How many connections are open, and how many were accepted so far.
-    pub connections: Counter,
-    pub accepted: Counter,
+    pub refused: Counter,
+    pub connections: ConnectionCounters,
     pub streams: Vec<StreamCounters>,
 }
 
@@ -86,8 +101,8 @@ impl Counters {
         Ok(Counters {
             rounds: Arc::new(alloc, Counter::new())?,
             clients: Arc::new(alloc, InputCounters::new())?,
-            connections: Counter::new(),
-            accepted: Counter::new(),
+            refused: Counter::new(),
+            connections: ConnectionCounters::new(),
             streams,
         })
     }

@@ -2,62 +2,91 @@
 
 use crate::counters::{Counters, StreamCounters};
 use crate::progress::memory_bytes;
+use crate::socket::Socket;
+use crate::streams::status::StreamStatus;
 use pn_join::NoMemory;
-use pn_serve::{Stats, StatsSource, StreamStats};
-use std::alloc::Global;
+use pn_serve::{ConnectionStats, LineStats, Stats, StatsSource, StreamStats, VERSION};
+use std::alloc::{AllocError, Global};
 use std::fs::{File, Files};
-use std::sync::Arc;
+use std::sync::{Arc, Wait};
 use std::time::{Clock, Instant};
 
-/// The version that is told.
-const VERSION: &str = "0.1.0";
-
-/// The counters of a server, and when it began.
+/// The counters of a server, when it began, and the client who may ask for them.
 #[derive(Drop)]
-pub(crate) struct CurrentStats<R> {
-    pub(crate) rt: R,
-    pub(crate) counters: Arc<Counters>,
-    pub(crate) started: Option<Instant>,
+pub(crate) struct CurrentStats<'a, R> {
+    pub(crate) rt: &'a R,
+    pub(crate) counters: &'a Counters,
+    pub(crate) started: &'a Option<Instant>,
+    pub(crate) client: &'a Socket,
 }
 
-impl<R: Clock + Files<File = File>> StatsSource for CurrentStats<R> {
+impl<R: Wait + Clock + Files<File = File>> StatsSource for CurrentStats<'_, R> {
     fn stats(&self, alloc: Global) -> Result<Stats, NoMemory> {
-        let counters = &self.counters;
-        let mut streams = Vec::with_capacity(alloc, counters.streams.len())?;
-        for stream in counters.streams.iter() {
-            streams.push(stats_of(stream))?;
-        }
+        let counters = self.counters;
         Ok(Stats {
-            bytes: memory_bytes(&self.rt),
-            open: counters.connections.get(),
-            accepted: counters.accepted.get(),
-            lines: counters.clients.lines.get(),
+            bytes: memory_bytes(self.rt),
+            connections: ConnectionStats {
+                accepted: counters.connections.accepted.get(),
+                open: counters.connections.open.get(),
+                idle: counters.connections.idle.get(),
+                refused: counters.connections.refused.get(),
+            },
+            lines: LineStats {
+                answered: counters.clients.lines.get(),
+                refused: counters.refused.get(),
+            },
             rounds: counters.rounds.get(),
-            streams,
-            uptime: seconds_since(&self.rt, &self.started),
+            streams: stats_of_streams(self.rt, alloc, &counters.streams)?,
+            uptime: seconds_since(self.rt, self.started).unwrap_or(0),
             version: VERSION,
         })
     }
+
+    fn has_client_gone(&self) -> bool {
+        self.client.has_gone()
+    }
 }
 
-fn stats_of(stream: &StreamCounters) -> StreamStats {
-    StreamStats {
+fn stats_of_streams<R: Wait + Clock>(
+    rt: &R,
+    alloc: Global,
+    streams: &[StreamCounters],
+) -> Result<Vec<StreamStats>, NoMemory> {
+    let mut stats = Vec::with_capacity(alloc, streams.len())?;
+    for stream in streams {
+        if let Some(status) = &stream.status {
+            stats.push(stats_of(rt, alloc, stream, status)?)?;
+        }
+    }
+    Ok(stats)
+}
+
+fn stats_of<R: Wait + Clock>(
+    rt: &R,
+    alloc: Global,
+    stream: &StreamCounters,
+    status: &StreamStatus,
+) -> Result<StreamStats, AllocError> {
+    let status = status.read(rt, alloc)?;
+    Ok(StreamStats {
         name: stream.name,
+        path: status.path,
         position: match &stream.taken {
             Some(taken) => taken.get(),
             None => 0,
         },
         messages: stream.input.lines.get(),
         bytes: stream.input.bytes.get(),
-        state: stream.input.state(),
-    }
+        state: status.state,
+        since: seconds_since(rt, &status.came),
+        fault: status.fault,
+    })
 }
 
-// How many whole seconds have passed since then, or 0 where the clock does not say.
-fn seconds_since<R: Clock>(rt: &R, then: &Option<Instant>) -> u64 {
-    let Some(then) = then else { return 0 };
-    match then.elapsed(rt) {
-        Ok(elapsed) => elapsed.as_secs(),
-        Err(_) => 0,
+// How many whole seconds have passed since then, where the clock says it.
+fn seconds_since<R: Clock>(rt: &R, then: &Option<Instant>) -> Option<u64> {
+    match then {
+        Some(then) => Some(then.elapsed(rt).ok()?.as_secs()),
+        None => None,
     }
 }

@@ -8,6 +8,7 @@ ghost use Rattle.slab.specs.Slab.{slab_len, Updates};
 use crate::connection::Connection;
 use crate::connection_state::{Pause, ThreadBuffers};
 use crate::counters::Counters;
+use crate::lingering::LingeringSockets;
 use crate::socket::Socket;
 use crate::socket_mailbox::SocketMailbox;
 use mio::{Events, Poll, Token};
@@ -15,7 +16,7 @@ use pn_serve::LineHandler;
 use slab::Slab;
 use std::alloc::Global;
 use std::sync::{Arc, Wait};
-use std::time::Duration;
+use std::time::{Clock, Duration};
 use std::{io, mem};
 
 /// How many events one wait gives at most.
@@ -42,6 +43,8 @@ pub(crate) struct EventLoop {
     ready: Vec<usize>,
     // An empty list, which has the memory for the keys of the next round.
     spare: Vec<usize>,
+    // The sockets of connections that a stop has ended.
+    lingering: LingeringSockets,
 }
 
 impl EventLoop {
@@ -68,6 +71,7 @@ impl EventLoop {
             counters,
             ready: Vec::new(alloc),
             spare: Vec::new(alloc),
+            lingering: LingeringSockets::new(alloc),
         })
     }
 
@@ -126,6 +130,7 @@ impl EventLoop {
     // Adds the sockets that were accepted.
     fn add_accepted<R: Wait>(&mut self, rt: &R, mailbox: &SocketMailbox) {
         for _ in 0..self.add_all(mailbox.take(rt)) {
+            self.counters.connections.refused.add(1);
             mailbox.release(rt);
         }
     }
@@ -157,8 +162,7 @@ impl EventLoop {
         let mut connection = Connection::new(self.alloc, socket);
         connection.is_ready = self.ready.push(key).is_ok();
         let _ = self.connections.insert_reserved(connection);
-        self.counters.connections.add(1);
-        self.counters.accepted.add(1);
+        self.counters.connections.begin();
         Ok(())
     }
 
@@ -166,10 +170,18 @@ impl EventLoop {
     fn remove<R: Wait>(&mut self, rt: &R, mailbox: &SocketMailbox, key: usize)
         ensures { Updates self.old.connections self.new.connections key None }
     {
-        if self.connections.try_remove(key).is_some() {
-            self.counters.connections.subtract(1);
+        if let Some(connection) = self.connections.try_remove(key) {
+            self.counters.connections.end();
+            if mailbox.is_stopping(rt) {
+                self.lingering.add(connection.into_socket());
+            }
             mailbox.release(rt);
         }
+    }
+
+    /// Closes the sockets of connections that a stop has ended.
+    pub(crate) fn close<R: Clock>(&mut self, rt: &R) {
+        self.lingering.close(rt);
     }
 
     // Once the thread is to end, the input of each client ends after what has come of it.
@@ -208,6 +220,7 @@ impl EventLoop {
         ensures others { (other : ℕ) → other ≢ key → idle_at self.new.connections other ≡ idle_at self.old.connections other }
     {
         if age(&mut self.connections, &mut self.ready, key, idle) {
+            self.counters.connections.idle.add(1);
             self.remove(rt, mailbox, key);
         }
     }
@@ -233,10 +246,9 @@ impl EventLoop {
         }
         ready.clear();
         self.spare = ready;
-        self.counters
-            .clients
-            .lines
-            .add(self.buffers.take_line_count());
+        let counts = self.buffers.take_line_counts();
+        self.counters.clients.lines.add(counts.answered);
+        self.counters.refused.add(counts.refused);
     }
 
     // One turn of the connection of a key. Where it is gone, nothing is at hand.

@@ -10,6 +10,7 @@ mod current_stats;
 mod event_loop;
 mod input_buffer;
 mod laws;
+mod lingering;
 mod listener;
 mod messages;
 mod output_buffer;
@@ -29,7 +30,7 @@ pub use connection::IdleTimeout;
 pub use connection_state::{
     Answering, Closing, ConnectionState, Pause, ThreadBuffers, TurnOutcome,
 };
-pub use counters::{Counters, CountingSource, InputCounters, StreamCounters};
+pub use counters::{ConnectionCounters, Counters, CountingSource, InputCounters, StreamCounters};
 pub use input_buffer::{INPUT_CAPACITY, InputBuffer, READ_SIZE};
 pub use laws::{answer_in_turns, every_way_of_coming_and_going};
 pub use listener::Listener;
@@ -45,4 +46,5 @@ pub use streams::input::{StreamInput, StreamSource};
 pub use streams::listener::StreamListener;
 pub use streams::opening::{OpenedStreams, StreamSetting, open_origins, remove_sockets};
 pub use streams::origin::StreamOrigin;
+pub use streams::status::StreamStatus;
 pub use streams::writer::WriterSocket;

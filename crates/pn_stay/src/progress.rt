@@ -54,7 +54,7 @@ impl Totals {
         Ok(Totals {
             positions,
             rounds: counters.rounds.get(),
-            connections: counters.connections.get(),
+            connections: counters.connections.open.get(),
             lines: counters.clients.lines.get(),
         })
     }

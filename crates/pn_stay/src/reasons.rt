@@ -58,8 +58,8 @@ pub fn format_failure(
     format!(in alloc; "stream {name} failed at {position} (line {line}): {reason}")
 }
 
-// The reason in words, as `out-of-range master`.
-fn describe_fault(alloc: Global, fault: &ResumeFault) -> Result<String, AllocError>
+/// The reason in words, as `out-of-range master`.
+pub(crate) fn describe_fault(alloc: Global, fault: &ResumeFault) -> Result<String, AllocError>
     ensures { IfOk result (λ text. string_bytes text ≡ reason_words fault.now) }
 {
     match fault {

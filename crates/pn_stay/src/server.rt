@@ -1,6 +1,6 @@
 //! A server that stays: threads answer its connections while its live region reads streams.
 
-ghost use Rattle.std.specs.Prelude.{◌≡◌, ◌+◌, ◌≤◌, false, map, vec_len, vec_capacity, All, IfOk};
+ghost use Rattle.std.specs.Prelude.{◌≡◌, ◌+◌, ◌≤◌, false, map, vec_len, vec_capacity, All, IfOk, OnOk};
 ghost use Rattle.pn_live.specs.Prelude.{tablets_in, tablets_of, IsNewLive};
 ghost use Rattle.pn_serve.specs.declared.arguments.options.TheConstants.{MAX_SESSIONS};
 ghost use Rattle.pn_live.specs.declared.region.opening.TheConstants.{MAX_READERS};
@@ -8,38 +8,37 @@ ghost use Rattle.pn_serve.specs.Server.Events.{ReadsBesides};
 ghost use Rattle.pn_serve.specs.Server.Reading.{ReadsStreams};
 ghost use Rattle.pn_serve.specs.Server.Sessions.{AllRead};
 
+mod control_client;
 mod control_threads;
 mod stopping;
 mod threads;
 
 use crate::acceptor::SocketAcceptor;
-use crate::server::control_threads::{ControlSetting, start_controls};
+use crate::server::control_threads::start_controls;
 use crate::server::stopping::Stopping;
-use crate::server::threads::{Answering, start_answering};
+use crate::server::threads::start_answering;
 use pn_line::Source;
 use pn_live::{LiveReader, LiveRegion};
 use pn_serve::{
-    Acceptor, ControlMailboxes, MAX_CONTROLS, Origin, ServeFault, SessionThread, Settings, Stream,
-    Watchers, close_region, join_sessions, open_region, read_streams, take_commands,
+    Acceptor, MAX_CONTROLS, Origin, ServeFault, SessionThread, Settings, Stream, Watchers,
+    close_region, join_sessions, open_region, read_streams, take_commands,
 };
 use pn_tablet::Layout;
-use std::alloc::Global;
+use std::alloc::{AllocError, Global};
 use std::fs::{File, Files};
-use std::io;
 use std::io::ErrorKind;
 use std::marker::Model;
 use std::net::Net;
 use std::sync::{Arc, Wait};
 use std::thread::Threads;
 use std::time::Clock;
+use std::{io, mem};
 
 /// A live region and the threads that answer connections from it.
 pub struct StayingServer {
     live: LiveRegion,
     workers: usize,
     running: Vec<SessionThread>,
-    // Those that answer control sessions.
-    controllers: Vec<SessionThread>,
     // A list with the memory for the readers that come back.
     readers: Vec<LiveReader>,
     watchers: Watchers,
@@ -90,24 +89,19 @@ impl StayingServer {
         };
         let (live, readers) = open_for(rt, alloc, layout, threads + controls)?;
         let mut readers = readers;
-        match start_threads(rt, alloc, acceptor, connections, &live, &mut readers) {
-            Ok(started) => {
-                let Started {
-                    running,
-                    controllers,
-                    watchers,
-                    stopping,
-                } = started;
-                Ok(StayingServer {
-                    live,
-                    workers,
-                    running,
-                    controllers,
-                    readers,
-                    watchers,
-                    stopping,
-                })
-            }
+        let sizes = Sizes {
+            threads,
+            connections,
+        };
+        match start_threads(rt, alloc, acceptor, sizes, &live, &mut readers) {
+            Ok(started) => Ok(StayingServer {
+                live,
+                workers,
+                running: started.running,
+                readers,
+                watchers: started.watchers,
+                stopping: started.stopping,
+            }),
             Err(error) => {
                 let _ = close_region(rt, live, readers);
                 Err(error)
@@ -155,18 +149,19 @@ impl StayingServer {
         }
     }
 
-    /// Closes the region, and leaves the threads to the end of the program.
+    /// Closes the region, and leaves its memory and the threads to the end of the program.
     pub fn leave<R: Wait>(self, rt: &R) {
         let StayingServer {
             live,
             workers: _,
             running: _,
-            controllers: _,
             readers,
             watchers: _,
             stopping: _,
         } = self;
-        let _ = close_region(rt, live, readers);
+        if let Ok(region) = close_region(rt, live, readers) {
+            mem::forget(region);
+        }
     }
 
     // Waits for the threads, which end where the system tells nothing more of sockets, and closes the region.
@@ -175,7 +170,6 @@ impl StayingServer {
             live,
             workers: _,
             running,
-            controllers: _,
             readers,
             watchers: _,
             stopping: _,
@@ -186,63 +180,81 @@ impl StayingServer {
     }
 }
 
+// How many threads answer connections, and how many may be open at once.
+#[derive(Clone, Copy)]
+struct Sizes {
+    threads: usize,
+    connections: usize,
+}
+
 // What a server has started.
+#[derive(Drop)]
 struct Started {
     running: Vec<SessionThread>,
-    controllers: Vec<SessionThread>,
     watchers: Watchers,
     stopping: Stopping,
 }
 
-// Starts the threads that answer control sessions and connections, and one that accepts connections.
+// Starts the threads that answer connections and control sessions, and one that accepts connections.
 fn start_threads<R>(
     rt: &R,
     alloc: Global,
     acceptor: SocketAcceptor,
-    connections: usize,
+    sizes: Sizes,
     live: &LiveRegion,
     readers: &mut Vec<LiveReader>,
 ) -> io::Result<Started>
 where
     R: Threads + Wait + Net + Clock + Files<File = File> + Copy + Send + Drop + 'static,
-    requires { AllRead (tablets_in live.now) readers.old.items }
+    requires readers { AllRead (tablets_in live.now) readers.old.items }
+    requires threads { sizes.threads ≤ vec_len readers.old }
+    ensures running { IfOk result (λ started. All (λ session. tablets_of session.promise.0.value ≡ tablets_in live.now) started.running.items) }
     ensures readers { AllRead (tablets_in live.now) readers.new.items }
+    ensures capacity { IfOk result (λ started. vec_len started.running + vec_len readers.new ≤ vec_capacity readers.new) }
+    ensures all { IfOk result (λ started. vec_len started.running ≡ sizes.threads) }
 {
     let mut acceptor = acceptor;
+    let beside = take_beside(alloc, live, readers, sizes.threads)?;
     let rounds = acceptor.round_counter();
     let listener = acceptor.listener.try_clone()?;
-    let (control, controls, controllers) = match acceptor.control.take() {
-        Some(control) => {
-            let mailboxes = Arc::new(alloc, ControlMailboxes::new(alloc, MAX_CONTROLS)?)?;
-            let setting = ControlSetting {
-                alloc,
-                listener: control.try_clone()?,
-                mailboxes: Arc::try_clone(&mailboxes)?,
-                counters: Arc::try_clone(&acceptor.counters)?,
-            };
-            let controllers = start_controls(rt, &setting, live, readers)?;
-            (Some(control), Some(mailboxes), controllers)
-        }
-        None => (None, None, Vec::new(alloc)),
-    };
-    let Answering { running, mailboxes } = start_answering(
-        rt,
-        alloc,
-        acceptor,
-        connections,
-        live,
-        readers,
-    )?;
+    let counters = Arc::try_clone(&acceptor.counters)?;
+    let controls = start_controls(rt, alloc, acceptor.control.take(), &counters, beside)?;
+    let answering = start_answering(rt, alloc, acceptor, sizes.connections, live, readers)?;
     Ok(Started {
-        running,
-        controllers,
-        watchers: Watchers { rounds, controls },
+        running: answering.running,
+        watchers: Watchers {
+            rounds,
+            controls: controls.mailboxes,
+        },
         stopping: Stopping {
             listener,
-            control,
-            mailboxes,
+            control: controls.listener,
+            mailboxes: answering.mailboxes,
+            clients: controls.clients,
+            counters,
         },
     })
+}
+
+// Takes the readers beside those of this many threads.
+fn take_beside(
+    alloc: Global,
+    live: &LiveRegion,
+    readers: &mut Vec<LiveReader>,
+    threads: usize,
+) -> Result<Vec<LiveReader>, AllocError>
+    requires readers { AllRead (tablets_in live.now) readers.old.items }
+    requires threads { threads ≤ vec_len readers.old }
+    ensures readers { AllRead (tablets_in live.now) readers.new.items }
+    ensures left { OnOk result (vec_len readers.new ≡ threads) }
+{
+    let mut beside = Vec::new(alloc);
+    while readers.len() > threads {
+        if let Some(reader) = readers.pop() {
+            beside.push(reader)?;
+        }
+    }
+    Ok(beside)
 }
 
 // Opens a live region with a reader for each thread.

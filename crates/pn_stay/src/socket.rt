@@ -1,15 +1,17 @@
 //! The sockets of clients, over TCP or at a path.
 
-ghost use Rattle.std.specs.Prelude.{◌≡◌, ◌≢◌, ◌||◌, true, OnOk, MatchBool};
+ghost use Rattle.std.specs.Prelude.{◌≡◌, ◌≢◌, ◌||◌, ◌⊎◌, true, Ok, IfErr, OnOk, MatchBool};
 ghost use Rattle.std.specs.Io.{ReadsAtMost, WritesAtMost};
 ghost use Rattle.std.specs.IoError.{error_kind};
 
+use libc::net::{POLLHUP, poll};
+use libc::types::pollfd;
 use mio::unix::SourceFd;
 use mio::{Interest, Registry, Token};
 use std::io;
 use std::io::{ErrorKind, Read, Write};
 use std::net::{Shutdown, TcpStream};
-use std::os::fd::AsRawFd;
+use std::os::fd::{AsRawFd, RawFd};
 use std::os::unix::net::UnixStream;
 use std::time::Duration;
 
@@ -43,36 +45,52 @@ impl Socket {
         }
     }
 
-    /// The client's input ends after what has come of it.
+    /// The client's input ends after what has come of it, also for who waits for it.
     pub(crate) fn end_input(&self) {
+        self.shut(Shutdown::Read);
+    }
+
+    /// The client is told that it gets nothing after what was written.
+    pub(crate) fn end_output(&self) {
+        self.shut(Shutdown::Write);
+    }
+
+    // A socket that the client has closed is left as it is.
+    fn shut(&self, how: Shutdown) {
         let _ = match self {
-            Socket::Tcp(stream) => stream.shutdown(Shutdown::Read),
-            Socket::Unix(stream) => stream.shutdown(Shutdown::Read),
+            Socket::Tcp(stream) => stream.shutdown(how),
+            Socket::Unix(stream) => stream.shutdown(how),
         };
     }
 
-    /// From now on reads wait for the client without end, and writes no longer than this.
-    pub(crate) fn set_write_timeout(&self, most: Duration) -> io::Result<()> {
+    /// Whether the client has closed its socket, so that it takes nothing more.
+    pub(crate) fn has_gone(&self) -> bool {
+        let mut looks = [pollfd {
+            fd: self.number(),
+            events: 0,
+            revents: 0,
+        }];
+        poll(&mut looks, 0) > 0 && looks[0].revents & POLLHUP != 0
+    }
+
+    fn number(&self) -> RawFd {
         match self {
-            Socket::Tcp(stream) => stream.set_write_timeout(Some(most)),
-            Socket::Unix(stream) => stream.set_write_timeout(Some(most)),
+            Socket::Tcp(stream) => stream.as_raw_fd(),
+            Socket::Unix(stream) => stream.as_raw_fd(),
         }
     }
 
     /// From now on a poll reports when it can be read or written.
     pub(crate) fn register(&self, registry: &Registry, token: Token) -> io::Result<()> {
-        let number = match self {
-            Socket::Tcp(stream) => stream.as_raw_fd(),
-            Socket::Unix(stream) => stream.as_raw_fd(),
-        };
         registry.register(
-            &mut SourceFd(&number),
+            &mut SourceFd(&self.number()),
             token,
             Interest::READABLE | Interest::WRITABLE,
         )
     }
 
-    fn read_some(&self, buf: &mut [u8]) -> io::Result<usize>
+    /// Reads what is at hand.
+    pub(crate) fn read_some(&self, buf: &mut [u8]) -> io::Result<usize>
         ensures { ReadsAtMost result buf.new }
     {
         match self {
@@ -96,6 +114,8 @@ impl Socket {
 pub(crate) struct TrackedSocket<'a> {
     socket: &'a Socket,
     has_moved: bool,
+    // Whether its input ends where a read would wait.
+    is_ending: bool,
 }
 
 impl<'a> TrackedSocket<'a> {
@@ -104,7 +124,13 @@ impl<'a> TrackedSocket<'a> {
         TrackedSocket {
             socket,
             has_moved: false,
+            is_ending: false,
         }
+    }
+
+    /// From now on its input is at its end where a read would wait for more, if so.
+    pub(crate) fn end_input_if(&mut self, is_ending: bool) {
+        self.is_ending = is_ending;
     }
 
     // Answers what a read or a write answered. Where it succeeded, bytes went over the socket, or its end.
@@ -128,9 +154,26 @@ pub(crate) fn has_moved(input: &TrackedSocket<'_>, output: &TrackedSocket<'_>) -
 
 impl Read for TrackedSocket<'_> {
     fn read(&mut self, buf: &mut [u8]) -> io::Result<usize> {
-        let count = self.socket.read_some(buf);
+        let mut count = self.socket.read_some(buf);
+        if self.is_ending {
+            count = end_in_place_of_wait(count);
+        }
         self.note(count)
     }
+}
+
+// The end of an input in place of a wait for more.
+fn end_in_place_of_wait(read: io::Result<usize>) -> io::Result<usize>
+    ensures end { IfErr read (λ error. error_kind error ≡ ErrorKind.WouldBlock → result ≡ Ok 0) }
+    ensures fault { IfErr read (λ error. error_kind error ≢ ErrorKind.WouldBlock → result ≡ read) }
+    ensures ok { OnOk read (result ≡ read) }
+    ensures either { (result ≡ Ok 0) ⊎ (result ≡ read) }
+{
+    let waits = match &read {
+        Ok(_) => false,
+        Err(error) => is_wait(error),
+    };
+    if waits { Ok(0) } else { read }
 }
 
 impl Write for TrackedSocket<'_> {

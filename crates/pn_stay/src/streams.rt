@@ -8,4 +8,5 @@ pub(crate) mod notes;
 pub(crate) mod opening;
 pub(crate) mod origin;
 pub(crate) mod sockets;
+pub(crate) mod status;
 pub(crate) mod writer;

@@ -56,33 +56,42 @@ fn take<R: Threads + Sync>(
 fn adopt_all<R: Threads + Wait + Sync>(rt: &R, alloc: Global, live: &mut LiveRegion) -> Option<()> {
     for tablet in 0..3 {
         let copy = copy_of(rt, alloc, tablet, tablet as u64)?;
+        if live.tablet_for(&copy.range)? != tablet {
+            return None;
+        }
         live.adopt(rt, copy).ok()?;
     }
     Some(())
 }
 
-fn mark(live: &LiveRegion) -> Option<u64> {
-    Some(live.marks().position(&Name::read(b"east").ok()?))
+fn position(marks: &Marks) -> Option<u64> {
+    Some(marks.position(&Name::read(b"east").ok()?))
 }
 
-// The mark before and after it advanced, whether a round past it is a gap, and the mark after the next message.
+fn mark(live: &LiveRegion) -> Option<u64> {
+    position(live.marks())
+}
+
+// The mark before it advanced, what all tablets have taken, the mark after it advanced, whether a round past it is a gap,
+// and the mark after the next message.
 fn run<R: Threads + Wait + Sync>(
     rt: &R,
     alloc: Global,
     live: &mut LiveRegion,
-) -> Option<(u64, u64, bool, u64)> {
+) -> Option<(u64, u64, u64, bool, u64)> {
     adopt_all(rt, alloc, live)?;
     let before = mark(live)?;
+    let common = position(&live.common_marks().ok()?)?;
     live.advance().ok()?;
     let advanced = mark(live)?;
     let late = deliveries(alloc, 5, "n", 9)?;
     let gap = live.round(rt, late, 1, &Open).is_err();
     let next = deliveries(alloc, 4, "n", 9)?;
     live.round(rt, next, 1, &Open).ok()?;
-    Some((before, advanced, gap, mark(live)?))
+    Some((before, common, advanced, gap, mark(live)?))
 }
 
-fn advance<R: Threads + Wait + Sync>(rt: &R, alloc: Global) -> Option<(u64, u64, bool, u64)> {
+fn advance<R: Threads + Wait + Sync>(rt: &R, alloc: Global) -> Option<(u64, u64, u64, bool, u64)> {
     let (mut live, _reader) = open_one(rt, alloc, layout(alloc, BOUNDS)?)?;
     let marks = run(rt, alloc, &mut live);
     if !end(rt, alloc, live) {
@@ -94,5 +103,5 @@ fn advance<R: Threads + Wait + Sync>(rt: &R, alloc: Global) -> Option<(u64, u64,
 #[test]
 fn marks_advance_to_what_all_tablets_have_taken(rt: HostRuntime) {
     let marks = advance(&rt, rt.alloc());
-    assert!(rt; marks == Some((0, 3, true, 4)));
+    assert!(rt; marks == Some((0, 3, 3, true, 4)));
 }

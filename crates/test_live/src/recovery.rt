@@ -14,7 +14,7 @@ use test_kit::{deliveries, keys, layout};
 use test_kit_live::{end, open_one};
 
 /// What is asked, and the answer. The reader has entered the tablet before each change, and finds it in each kind of call.
-const STEPS: [(&str, &str); 19] = [
+const STEPS: [(&str, &str); 21] = [
     ("get a", "none"),
     ("take 1 a b c d e", "5 changed"),
     ("get a", "0"),
@@ -40,6 +40,8 @@ const STEPS: [(&str, &str); 19] = [
     ("copy 5", "6 records, 1 mark"),
     ("notices 5", "missed, next 9"),
     ("notices 9", "0 notices, next 9"),
+    ("last", "9"),
+    ("tablet", "6 records"),
 ];
 
 fn answer<R: Threads + Wait + Sync>(
@@ -55,6 +57,8 @@ fn answer<R: Threads + Wait + Sync>(
         "lose" => lose(rt, alloc, live),
         "adopt" => adopt(rt, alloc, live, rest),
         "notices" => notices(alloc, live, rest),
+        "last" => format!(in alloc; "{}", live.last_number()).ok(),
+        "tablet" => format!(in alloc; "{} records", live.tablet(0).cells().len()).ok(),
         "get" => get(alloc, reader, rest),
         "scan" => scan(alloc, reader),
         _ => copy(alloc, reader, rest),

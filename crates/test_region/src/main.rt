@@ -1,17 +1,19 @@
 //! Cases of `pn_apply` and `pn_region`, a line each, of what the stored scripts of `test_rows` cannot say.
 //!
 //! `reduce` and `round` work eight tablets by some workers, and show how often the gate was entered with each; `relayout` shows
-//! the keys of tablets of other bounds, `advance` the marks of three tablets that adopted copies, and `faults` fault texts.
-//! `stdout` has what must be answered.
+//! the keys of tablets of other bounds, `advance` the marks of three tablets that adopted copies, `log` the last number of a
+//! log, and `faults` fault texts. `stdout` has what must be answered.
 #![tactic(auto)]
 
 mod advancing;
 mod counting;
 mod layouts;
+mod logs;
 mod work;
 
 use advancing::{advance, advance_many};
 use layouts::keys_after_relayout;
+use logs::last_number;
 use pn_join::{Name, NoMemory};
 use pn_region::{AdoptFault, AdvanceFault, RelayoutFault, RoundFault};
 use std::alloc::Global;
@@ -30,6 +32,7 @@ fn answer<R: Threads + Sync>(rt: &R, alloc: Global, line: &str) -> Result<String
         Some(("relayout", bounds)) => Ok(keys_after_relayout(rt, alloc, bounds).ok_or(NoMemory)?),
         Some(("advance", "many")) => Ok(advance_many(rt, alloc).ok_or(NoMemory)?),
         Some(("advance", counts)) => Ok(advance(rt, alloc, counts).ok_or(NoMemory)?),
+        Some(("log", breaks)) => Ok(last_number(alloc, breaks).ok_or(NoMemory)?),
         Some((_, workers)) => Ok(round(rt, alloc, workers).ok_or(NoMemory)?),
         None => faults(alloc),
     }

@@ -39,6 +39,8 @@ impl<R: Clock + Drop> Origin<InMemory<'static>> for SlowOrigin<R> {
     fn hand_on(&mut self, _last: u64) {}
 
     fn end_writer(&mut self, _source: InMemory<'static>, _end: &WriterEnd, _last: u64) {}
+
+    fn stop_writer(&mut self, _source: InMemory<'static>) {}
 }
 
 fn stream<R: Clock + Copy + Drop>(

@@ -56,6 +56,8 @@ impl<R: Wait + Copy> Origin<InMemory<'static>> for Script<R> {
             } => format!(in self.alloc; ", {fault} (at {position}, line {line}); "),
         });
     }
+
+    fn stop_writer(&mut self, _source: InMemory<'static>) {}
 }
 
 /// How the stream of a line was read, how far it was taken, and the version of its record.

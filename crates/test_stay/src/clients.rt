@@ -29,7 +29,10 @@ pub(crate) fn take_turns(alloc: Global, line: &str) -> Result<String, Fail> {
         }
     }
     let taken = show(alloc, output.bytes())?;
-    Ok(format!(in alloc; "{pauses} {taken} of {} lines", buffers.take_line_count())?)
+    Ok(format!(in alloc;
+        "{pauses} {taken} of {} lines",
+        buffers.take_line_counts().answered
+    )?)
 }
 
 fn sign(pause: Pause) -> char {
@@ -98,6 +101,8 @@ fn new_counters(alloc: Global, input: Arc<InputCounters>) -> Result<Counters, Fa
         name: Name::read(b"east")?,
         input,
         taken: None,
+        told: None,
+        status: None,
         size: None,
     })?;
     Ok(Counters::new(alloc, streams)?)

@@ -7,6 +7,7 @@
 mod clients;
 mod echo;
 mod served;
+mod stopped;
 mod talks;
 mod writers;
 
@@ -16,6 +17,7 @@ use pn_stay::every_way_of_coming_and_going;
 use served::{answer_flood, listen_twice, serve_session, stay_until_idle};
 use std::alloc::Global;
 use std::test::Fail;
+use stopped::stop_server;
 use test_kit::{answer_lines, spell_out};
 use writers::{leave_many, read_fifo, read_socket};
 
@@ -38,6 +40,7 @@ fn main(rt: HostRuntime) -> Result<(), Fail> {
             Some(("serves", at)) => serve_session(&rt, alloc, at),
             Some(("stays", at)) => stay_until_idle(&rt, alloc, at),
             Some(("flood", _)) => answer_flood(&rt, alloc),
+            Some(("stops", _)) => stop_server(&rt, alloc),
             Some(("writers", "socket")) => read_socket(&rt, alloc),
             Some(("writers", "fifo")) => read_fifo(&rt, alloc),
             Some(("messages", _)) => leave_many(&rt, alloc),

@@ -8,7 +8,7 @@ use pn_serve::{Counter, Origin, Settings, Stream, WriterEnd, serve};
 use pn_stay::{Counters, Listener, SocketAcceptor, StayingServer};
 use pn_stream::StreamReader;
 use std::alloc::{AllocError, Global};
-use std::fs::Files;
+use std::fs::{File, Files};
 use std::net::{IpAddr, Ipv4Addr, Net, TcpListener, TcpStream};
 use std::sync::{Arc, Wait};
 use std::test::Fail;
@@ -41,6 +41,8 @@ impl Origin<InMemory<'static>> for Once {
     fn hand_on(&mut self, _last: u64) {}
 
     fn end_writer(&mut self, _source: InMemory<'static>, _end: &WriterEnd, _last: u64) {}
+
+    fn stop_writer(&mut self, _source: InMemory<'static>) {}
 }
 
 fn new_settings(alloc: Global) -> Result<Settings, NoMemory> {
@@ -118,7 +120,7 @@ where
     let written = show(alloc, &written)?;
     let counters = acceptor.counters;
     let is_counted = counters.rounds.get() > 0 && counters.clients.lines.get() > 0;
-    let open = counters.connections.get();
+    let open = counters.connections.open.get();
     match ended {
         Ok(()) => Ok(format!(in alloc; "{told:?}, {written}, {is_counted}, {open}")?),
         Err(fault) => Ok(format!(in alloc; "{told:?}, {written}{fault}")?),
@@ -129,7 +131,7 @@ where
 /// all streams to their ends.
 pub(crate) fn stay_until_idle<R>(rt: &R, alloc: Global, at: &str) -> Result<String, Fail>
 where
-    R: Files
+    R: Files<File = File>
         + Net<Listener = TcpListener, Stream = TcpStream>
         + Threads
         + Wait
@@ -137,6 +139,7 @@ where
         + Sync
         + Copy
         + Send
+        + Drop
         + 'static,
 {
     let (listener, to) = listen(rt, at)?;
@@ -157,7 +160,7 @@ where
 /// How many replies are whole that a server sends to a client which asks very often, and reads late.
 pub(crate) fn answer_flood<R>(rt: &R, alloc: Global) -> Result<String, Fail>
 where
-    R: Files
+    R: Files<File = File>
         + Net<Listener = TcpListener, Stream = TcpStream>
         + Threads
         + Wait
@@ -165,6 +168,7 @@ where
         + Sync
         + Copy
         + Send
+        + Drop
         + 'static,
 {
     let (listener, to) = listen(rt, "path")?;
@@ -191,7 +195,7 @@ fn wait_for<R: Clock>(rt: &R, number: &Counter) -> bool {
 // A server that stays. None where it does not begin; else it ends only with the program. It counts its end of reading.
 fn stay<R>(rt: &R, alloc: Global, listener: Listener, ended: &Counter) -> Option<()>
 where
-    R: Threads + Wait + Net + Clock + Sync + Copy + Send + 'static,
+    R: Files<File = File> + Threads + Wait + Net + Clock + Sync + Copy + Send + Drop + 'static,
 {
     let acceptor = new_acceptor(alloc, listener, 2).ok()?;
     let mut streams = Vec::with_capacity(alloc, 1).ok()?;

@@ -75,8 +75,8 @@ impl LiveRegion {
         self.log.since(number)
     }
 
-    // The number of the tablet that has the range.
-    fn tablet_for(&self, range: &Range) -> Option<usize>
+    /// The number of the tablet that has the range.
+    pub fn tablet_for(&self, range: &Range) -> Option<usize>
         ensures { result ≡ position (λ tablet. same_range tablet.range range.now) self.now.tablets }
     {
         self.tablets

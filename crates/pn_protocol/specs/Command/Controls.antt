@@ -58,11 +58,15 @@ control_word_in d = option_and_then control_word_of (option_and_then as_str d)
 abbrev pub are_seconds : ℕ → Bool
 are_seconds seconds = nat_le seconds MAX_SECONDS
 
+-- the seconds that a value says, or the usual ones where it is null
+abbrev pub seconds_in : ℕ → Part → Data → Result ℕ Refusal
+seconds_in usual part null = Ok usual
+seconds_in usual part d = ok_or (whole_number d) (BadShape part)
+
 -- the seconds that a member says, or the usual ones where it is missing or null
 abbrev pub seconds_at : ℕ → Part → Option Data → Result ℕ Refusal
 seconds_at usual part None = Ok usual
-seconds_at usual part (Some null) = Ok usual
-seconds_at usual part (Some d) = member_as whole_number (BadShape part) (Some d)
+seconds_at usual part (Some d) = seconds_in usual part d
 
 -- a command whose one member is its word
 unfoldable pub alone_as : ControlValue → Members → Result ControlValue Refusal
@@ -100,7 +104,7 @@ control_as (Some word.Advance) d members = alone_as advance members
 control_as (Some word.Notices) d members = waiting_in members
 control_as (Some word.Stats) d members = alone_as stats members
 control_as (Some word.Stop) d members = stop_in members
-control_as None d members = script_as d
+control_as None d _ = script_as d
 
 -- the command that a value says
 unfoldable pub control_in : Data → Result ControlValue Refusal

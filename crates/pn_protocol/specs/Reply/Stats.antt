@@ -1,8 +1,11 @@
 -- The reply to `stats`.
-use Rattle.std.specs.Prelude.{ℕ, List, map, codes}
-use Rattle.serde_json.specs.Data.{Data, number, string, array, object, unsigned, Members, no_members, member}
+use Rattle.std.specs.Prelude.{ℕ, List, map, codes, Option, Some, None, string_bytes}
+use Rattle.serde_json.specs.Data.{Data, null, number, string, array, object, unsigned, Members, no_members, member}
 use Rattle.serde_json.specs.View.{items_of}
+use Rattle.pn_protocol.specs.declared.reply.stats.ConnectionStats.{ConnectionStats}
+use Rattle.pn_protocol.specs.declared.reply.stats.LineStats.{LineStats}
 use Rattle.pn_protocol.specs.declared.reply.stats.Stats.{Stats}
+use Rattle.pn_protocol.specs.declared.reply.stats.StreamFaultStats.{StreamFaultStats}
 use Rattle.pn_protocol.specs.declared.reply.stats.StreamState.{StreamState}
 use Rattle.pn_protocol.specs.declared.reply.stats.StreamState.TheVariants.{Waiting, Open, Ended, Failed}
 use Rattle.pn_protocol.specs.declared.reply.stats.StreamStats.{StreamStats}
@@ -18,29 +21,52 @@ state_word Open = codes "open"
 state_word Ended = codes "ended"
 state_word Failed = codes "failed"
 
+-- a number, or null where there is none
+abbrev pub number_or_null : Option ℕ → Data
+number_or_null None = null
+number_or_null (Some value) = number (unsigned value)
+
+-- the line of a fault, or null where there was none
+abbrev pub fault_line : Option StreamFaultStats → Data
+fault_line None = null
+fault_line (Some fault) = number (unsigned fault.line)
+
+-- what a fault is, or null where there was none
+abbrev pub fault_reason : Option StreamFaultStats → Data
+fault_reason None = null
+fault_reason (Some fault) = string (string_bytes fault.reason)
+
 -- the connections of a server
-unfoldable pub connections_data : Stats → Data
-connections_data stats = object (count (codes "accepted") stats.accepted (count (codes "open") stats.open no_members))
+unfoldable pub connections_data : ConnectionStats → Data
+connections_data connections =
+    object (count (codes "accepted") connections.accepted
+    (count (codes "idle") connections.idle
+    (count (codes "open") connections.open
+    (count (codes "refused") connections.refused no_members))))
 
 -- the lines of its clients
-unfoldable pub lines_data : Stats → Data
-lines_data stats = object (count (codes "answered") stats.lines no_members)
+unfoldable pub lines_data : LineStats → Data
+lines_data lines = object (count (codes "answered") lines.answered (count (codes "refused") lines.refused no_members))
 
 -- a stream of it
 unfoldable pub stream_data : StreamStats → Data
 stream_data stream =
     object (count (codes "bytes") stream.bytes
+    (member (codes "line") (fault_line stream.fault)
     (count (codes "messages") stream.messages
     (member (codes "name") (string stream.name)
+    (member (codes "path") (string (string_bytes stream.path))
     (count (codes "position") stream.position
-    (member (codes "state") (string (state_word stream.state)) no_members)))))
+    (member (codes "reason") (fault_reason stream.fault)
+    (member (codes "since") (number_or_null stream.since)
+    (member (codes "state") (string (state_word stream.state)) no_members)))))))))
 
 -- what a server has done so far
 unfoldable pub stats_data : Stats → Data
 stats_data stats =
     object (count (codes "bytes") stats.bytes
-    (member (codes "connections") (connections_data stats)
-    (member (codes "lines") (lines_data stats)
+    (member (codes "connections") (connections_data stats.connections)
+    (member (codes "lines") (lines_data stats.lines)
     (count (codes "rounds") stats.rounds
     (member (codes "streams") (array (items_of (map stream_data stats.streams.items)))
     (count (codes "uptime") stats.uptime

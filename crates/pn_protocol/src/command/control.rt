@@ -1,10 +1,13 @@
 //! Reads a line of a control session.
 
-ghost use Rattle.std.specs.Prelude.{◌≡◌, false, IsErrOf};
+ghost use Rattle.std.specs.Prelude.{◌≡◌, ◌<◌, ℕ, List, false, Ok, length, IfOk, IsErrOf, IsTrue};
 ghost use Rattle.serde_json.specs.View.{view, members_view};
 ghost use Rattle.pn_json.specs.Prelude.{Shows, ShowsUnless, seen};
-ghost use Rattle.pn_protocol.specs.Command.Controls.{advance, alone_as, control_at, control_in, control_value, control_word_in, control_word_of as word_named, seconds_at, stats, stop_in, waiting_in};
+ghost use Rattle.pn_record.specs.Prelude.{max_line_bytes};
+ghost use Rattle.pn_protocol.specs.Command.ControlGrammar.{IsControlLine};
+ghost use Rattle.pn_protocol.specs.Command.Controls.{ControlValue, alone_as, control_at, control_in, control_value, control_word_in, control_word_of as word_named, seconds_at, seconds_in, stop_in, waiting_in};
 ghost use Rattle.pn_protocol.specs.Command.Lines.{is_too_long};
+ghost use Rattle.pn_protocol.specs.Command.Objects.{TakesMemory};
 
 use crate::command::members::{check_members, find_member};
 use crate::command::parse::{Allowed, parse_value};
@@ -56,19 +59,38 @@ impl ControlWord {
     }
 }
 
+/// No line of a control session says two commands. A call does nothing.
+pub fn a_control_line_is_one_command()
+    ensures { (line : List ℕ) (one other : ControlValue) → IsControlLine line one → IsControlLine line other → one ≡ other }
+{}
+
 /// Reads a line of a control session as a command, or answers its first fault. `ReadOnly` names `deliver` and `relayout`,
-/// whatever their other members are.
+/// whatever their other members are. `Memory` may replace any fault but `TooLong`.
 pub fn control_of(alloc: Global, line: &[u8]) -> Result<ControlCommand, Refusal>
+    ensures found { IfOk result (λ command. IsControlLine line.now (control_value command)) }
+    ensures only { (command : ControlValue) → IsControlLine line.now command → ShowsUnless Refusal.Memory control_value result (Ok command) }
+
+    // Exactly this fault.
     ensures exact { ShowsUnless Refusal.Memory control_value result (control_at line.now) }
+    ensures too_long { IsTrue (is_too_long line.now) → IsErrOf result Refusal.TooLong }
     ensures memory { IsErrOf result Refusal.Memory → is_too_long line.now ≡ false }
+{
+    parse_line(alloc, line)
+}
+
+fn parse_line(alloc: Global, line: &[u8]) -> Result<ControlCommand, Refusal>
+    ensures exact { ShowsUnless Refusal.Memory control_value result (control_at line.now) }
+    ensures too_long { max_line_bytes < length line.now → IsErrOf result Refusal.TooLong }
 {
     let value = read_value(alloc, line)?;
     parse_control(alloc, value)
 }
 
+// Reads a value as a command. Memory runs out only for a command of scripts.
 #[tactic(auto, unfolding(crate::specs::Command::Controls::control_in))]
 fn parse_control(alloc: Global, value: Value) -> Result<ControlCommand, Refusal>
-    ensures { ShowsUnless Refusal.Memory control_value result (control_in (view value)) }
+    ensures exact { ShowsUnless Refusal.Memory control_value result (control_in (view value)) }
+    ensures memory { IsErrOf result Refusal.Memory → TakesMemory Allowed.Controls (view value) }
 {
     let members = value.as_object().ok_or(Refusal::BadShape(Part::Whole))?;
     match control_word(find_member(members, "do")) {
@@ -95,7 +117,8 @@ fn parse_alone(
     members: &Map<String, Value>,
     command: ControlCommand,
 ) -> Result<ControlCommand, Refusal>
-    ensures { Shows control_value result (alone_as (control_value command) (members_view members.now.entries)) }
+    ensures exact { Shows control_value result (alone_as (control_value command) (members_view members.now.entries)) }
+    ensures memory { IsErrOf result Refusal.Memory → ⊥ }
 {
     check_members(members, &["do"])?;
     Ok(command)
@@ -103,7 +126,8 @@ fn parse_alone(
 
 #[tactic(auto, unfolding(crate::specs::Command::Controls::waiting_in))]
 fn parse_waiting(members: &Map<String, Value>) -> Result<ControlCommand, Refusal>
-    ensures { Shows control_value result (waiting_in (members_view members.now.entries)) }
+    ensures exact { Shows control_value result (waiting_in (members_view members.now.entries)) }
+    ensures memory { IsErrOf result Refusal.Memory → ⊥ }
 {
     let since = whole_number_of(
         find_member(members, "since"),
@@ -118,7 +142,8 @@ fn parse_waiting(members: &Map<String, Value>) -> Result<ControlCommand, Refusal
 
 #[tactic(auto, unfolding(crate::specs::Command::Controls::stop_in))]
 fn parse_stop(members: &Map<String, Value>) -> Result<ControlCommand, Refusal>
-    ensures { Shows control_value result (stop_in (members_view members.now.entries)) }
+    ensures exact { Shows control_value result (stop_in (members_view members.now.entries)) }
+    ensures memory { IsErrOf result Refusal.Memory → ⊥ }
 {
     let seconds = seconds_of(find_member(members, "seconds"), STOP_SECONDS, Part::Seconds)?;
     check_members(members, &["do", "seconds"])?;
@@ -126,12 +151,23 @@ fn parse_stop(members: &Map<String, Value>) -> Result<ControlCommand, Refusal>
     Ok(ControlCommand::Stop { seconds })
 }
 
-// The number of seconds that a member says, or this one where it is missing or null.
+// The seconds that a member says, or the usual ones where it is missing or null.
 fn seconds_of(value: Option<&Value>, usual: u64, part: Part) -> Result<u64, Refusal>
-    ensures { result ≡ seconds_at usual part (seen value.entry) }
+    ensures exact { result ≡ seconds_at usual part (seen value.entry) }
+    ensures memory { IsErrOf result Refusal.Memory → ⊥ }
 {
     match value {
-        None | Some(Value::Null) => Ok(usual),
-        Some(value) => whole_number_of(Some(value), Refusal::BadShape(part)),
+        None => Ok(usual),
+        Some(value) => seconds_said(value, usual, part),
+    }
+}
+
+fn seconds_said(value: &Value, usual: u64, part: Part) -> Result<u64, Refusal>
+    ensures exact { result ≡ seconds_in usual part (view value.now) }
+    ensures memory { IsErrOf result Refusal.Memory → ⊥ }
+{
+    match value {
+        Value::Null => Ok(usual),
+        _ => value.as_u64().ok_or(Refusal::BadShape(part)),
     }
 }

@@ -1,15 +1,14 @@
 //! Replies to `notices`.
 
-ghost use Rattle.std.specs.Prelude.{◌≡◌, map, IfOk, OnOk};
-ghost use Rattle.serde_json.specs.Data.{array};
-ghost use Rattle.serde_json.specs.View.{items_of};
+ghost use Rattle.std.specs.Prelude.{◌≡◌, IfOk, OnOk};
 ghost use Rattle.pn_json.specs.Prelude.{line_of, Appends, value_tokens};
-ghost use Rattle.pn_protocol.specs.Reply.Notices.{notice_data, notices_data, missed_data, found_since};
+ghost use Rattle.pn_protocol.specs.Reply.Notices.{notices_data, missed_data, found_since};
 
 use crate::reply::rows::write_version_or_null;
+use crate::reply::shown::{Shown, shown_line, write_array};
 use json::Writer;
 use pn_join::NoMemory;
-use pn_json::{begin_line, finish_line, write_number_member, write_text_member};
+use pn_json::{write_number_member, write_text_member};
 use pn_record::write_version;
 use pn_region::{Notice, Since};
 use std::alloc::Global;
@@ -18,17 +17,19 @@ use std::alloc::Global;
 pub fn notices_reply(alloc: Global, since: &Since) -> Result<Vec<u8>, NoMemory>
     ensures { IfOk result (λ text. text.items ≡ line_of (found_since since.now)) }
 {
-    let mut writer = begin_line(alloc)?;
-    write_since(&mut writer, since)?;
-    finish_line(writer)
+    shown_line(alloc, since)
 }
 
-fn write_since(writer: &mut Writer, since: &Since) -> Result<(), NoMemory>
-    ensures { OnOk result (Appends writer.old writer.new (value_tokens (found_since since.now))) }
-{
-    match since {
-        Since::Notices { next, list } => write_list(writer, *next, list),
-        Since::Missed { next } => write_missed(writer, *next),
+impl Shown for Since {
+    ghost use Rattle.pn_protocol.specs.Reply.Notices.{found_since};
+
+    ghost value = { λ since. found_since since };
+
+    fn write(&self, writer: &mut Writer) -> Result<(), NoMemory> {
+        match self {
+            Since::Notices { next, list } => write_list(writer, *next, list),
+            Since::Missed { next } => write_missed(writer, *next),
+        }
     }
 }
 
@@ -39,7 +40,7 @@ fn write_list(writer: &mut Writer, next: u64, list: &[Notice]) -> Result<(), NoM
     writer.begin_object()?;
     write_number_member(writer, "next", next)?;
     writer.key("notices")?;
-    write_notices(writer, list)?;
+    write_array(writer, list)?;
     writer.end_object()?;
     Ok(())
 }
@@ -56,28 +57,21 @@ fn write_missed(writer: &mut Writer, next: u64) -> Result<(), NoMemory>
     Ok(())
 }
 
-fn write_notices(writer: &mut Writer, list: &[Notice]) -> Result<(), NoMemory>
-    ensures { OnOk result (Appends writer.old writer.new (value_tokens (array (items_of (map notice_data list.now))))) }
-{
-    writer.begin_array()?;
-    for notice in list {
-        write_notice(writer, notice)?;
-    }
-    writer.end_array()?;
-    Ok(())
-}
+impl Shown for Notice {
+    ghost use Rattle.pn_protocol.specs.Reply.Notices.{notice_data};
 
-#[tactic(auto, unfolding(crate::specs::Reply::Notices::notice_data))]
-fn write_notice(writer: &mut Writer, notice: &Notice) -> Result<(), NoMemory>
-    ensures { OnOk result (Appends writer.old writer.new (value_tokens (notice_data notice.now))) }
-{
-    writer.begin_object()?;
-    writer.key("after")?;
-    write_version(writer, notice.change.after)?;
-    writer.key("before")?;
-    write_version_or_null(writer, notice.change.before)?;
-    write_text_member(writer, "key", notice.change.key.as_str())?;
-    write_number_member(writer, "number", notice.number)?;
-    writer.end_object()?;
-    Ok(())
+    ghost value = { λ notice. notice_data notice };
+
+    #[tactic(auto, unfolding(crate::specs::Reply::Notices::notice_data))]
+    fn write(&self, writer: &mut Writer) -> Result<(), NoMemory> {
+        writer.begin_object()?;
+        writer.key("after")?;
+        write_version(writer, self.change.after)?;
+        writer.key("before")?;
+        write_version_or_null(writer, self.change.before)?;
+        write_text_member(writer, "key", self.change.key.as_str())?;
+        write_number_member(writer, "number", self.number)?;
+        writer.end_object()?;
+        Ok(())
+    }
 }

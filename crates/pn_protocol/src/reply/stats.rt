@@ -1,14 +1,13 @@
 //! The reply to `stats`: what a server has done so far.
 
-ghost use Rattle.std.specs.Prelude.{◌≡◌, map, IfOk, OnOk};
-ghost use Rattle.serde_json.specs.Data.{array};
-ghost use Rattle.serde_json.specs.View.{items_of};
-ghost use Rattle.pn_json.specs.Prelude.{line_of, Appends, value_tokens};
-ghost use Rattle.pn_protocol.specs.Reply.Stats.{connections_data, lines_data, state_word as word_of_state, stats_data, stream_data};
+ghost use Rattle.std.specs.Prelude.{◌≡◌, codes, IfOk, OnOk};
+ghost use Rattle.pn_json.specs.Prelude.{line_of, member_tokens, Appends, value_tokens};
+ghost use Rattle.pn_protocol.specs.Reply.Stats.{connections_data, fault_line, fault_reason, lines_data, number_or_null, state_word as word_of_state, stats_data};
 
+use crate::reply::shown::{Shown, shown_line, write_array};
 use json::Writer;
 use pn_join::{NoMemory, StreamName};
-use pn_json::{begin_line, finish_line, write_number_member, write_text_member};
+use pn_json::{write_null_member, write_number_member, write_text_member};
 use std::alloc::Global;
 
 /// What a server has done so far.
@@ -16,11 +15,8 @@ use std::alloc::Global;
 pub struct Stats {
     /// How many bytes of memory the process has.
     pub bytes: u64,
-    /// How many connections are open, and how many were accepted.
-    pub open: u64,
-    pub accepted: u64,
-    /// How many lines of clients were answered.
-    pub lines: u64,
+    pub connections: ConnectionStats,
+    pub lines: LineStats,
     pub rounds: u64,
     pub streams: Vec<StreamStats>,
     /// For how many seconds the server runs.
@@ -28,16 +24,49 @@ pub struct Stats {
     pub version: &'static str,
 }
 
+/// The connections of clients.
+#[derive(Clone, Copy, Debug)]
+pub struct ConnectionStats {
+    /// How many were accepted, and how many are open.
+    pub accepted: u64,
+    pub open: u64,
+    /// How many were ended since nothing came for too long.
+    pub idle: u64,
+    /// How many were refused since there was no room.
+    pub refused: u64,
+}
+
+/// The lines of clients.
+#[derive(Clone, Copy, Debug)]
+pub struct LineStats {
+    /// How many were answered, and how many of these answers are refusals.
+    pub answered: u64,
+    pub refused: u64,
+}
+
 /// What was read of a stream.
 #[derive(Drop)]
 pub struct StreamStats {
     pub name: StreamName,
+    /// Where its writers come.
+    pub path: String,
     /// Up to which position rounds have taken it.
     pub position: u64,
     /// How many lines and bytes were read.
     pub messages: u64,
     pub bytes: u64,
     pub state: StreamState,
+    /// How many seconds ago the last message came, if one came.
+    pub since: Option<u64>,
+    /// The last fault of a writer, if there was one.
+    pub fault: Option<StreamFaultStats>,
+}
+
+/// The fault of a writer: in which of its lines, from 1, and what it is.
+#[derive(Drop)]
+pub struct StreamFaultStats {
+    pub line: u64,
+    pub reason: String,
 }
 
 /// How a stream goes.
@@ -53,78 +82,114 @@ pub enum StreamState {
     Failed,
 }
 
-/// The reply to `stats`, its members in byte order.
+/// The reply to `stats`.
 pub fn stats_reply(alloc: Global, stats: &Stats) -> Result<Vec<u8>, NoMemory>
     ensures { IfOk result (λ text. text.items ≡ line_of (stats_data stats.now)) }
 {
-    let mut writer = begin_line(alloc)?;
-    write_stats(&mut writer, stats)?;
-    finish_line(writer)
+    shown_line(alloc, stats)
 }
 
-#[tactic(auto, unfolding(crate::specs::Reply::Stats::stats_data))]
-fn write_stats(writer: &mut Writer, stats: &Stats) -> Result<(), NoMemory>
-    ensures { OnOk result (Appends writer.old writer.new (value_tokens (stats_data stats.now))) }
-{
-    writer.begin_object()?;
-    write_number_member(writer, "bytes", stats.bytes)?;
-    writer.key("connections")?;
-    write_connections(writer, stats)?;
-    writer.key("lines")?;
-    write_lines(writer, stats)?;
-    write_number_member(writer, "rounds", stats.rounds)?;
-    writer.key("streams")?;
-    write_streams(writer, &stats.streams)?;
-    write_number_member(writer, "uptime", stats.uptime)?;
-    write_text_member(writer, "version", stats.version)?;
-    writer.end_object()?;
-    Ok(())
-}
+impl Shown for Stats {
+    ghost use Rattle.pn_protocol.specs.Reply.Stats.{stats_data};
 
-#[tactic(auto, unfolding(crate::specs::Reply::Stats::connections_data))]
-fn write_connections(writer: &mut Writer, stats: &Stats) -> Result<(), NoMemory>
-    ensures { OnOk result (Appends writer.old writer.new (value_tokens (connections_data stats.now))) }
-{
-    writer.begin_object()?;
-    write_number_member(writer, "accepted", stats.accepted)?;
-    write_number_member(writer, "open", stats.open)?;
-    writer.end_object()?;
-    Ok(())
-}
+    ghost value = { λ stats. stats_data stats };
 
-#[tactic(auto, unfolding(crate::specs::Reply::Stats::lines_data))]
-fn write_lines(writer: &mut Writer, stats: &Stats) -> Result<(), NoMemory>
-    ensures { OnOk result (Appends writer.old writer.new (value_tokens (lines_data stats.now))) }
-{
-    writer.begin_object()?;
-    write_number_member(writer, "answered", stats.lines)?;
-    writer.end_object()?;
-    Ok(())
-}
-
-fn write_streams(writer: &mut Writer, streams: &[StreamStats]) -> Result<(), NoMemory>
-    ensures { OnOk result (Appends writer.old writer.new (value_tokens (array (items_of (map stream_data streams.now))))) }
-{
-    writer.begin_array()?;
-    for stream in streams {
-        write_stream(writer, stream)?;
+    #[tactic(auto, unfolding(crate::specs::Reply::Stats::stats_data))]
+    fn write(&self, writer: &mut Writer) -> Result<(), NoMemory> {
+        writer.begin_object()?;
+        write_number_member(writer, "bytes", self.bytes)?;
+        writer.key("connections")?;
+        self.connections.write(writer)?;
+        writer.key("lines")?;
+        self.lines.write(writer)?;
+        write_number_member(writer, "rounds", self.rounds)?;
+        writer.key("streams")?;
+        write_array(writer, &self.streams)?;
+        write_number_member(writer, "uptime", self.uptime)?;
+        write_text_member(writer, "version", self.version)?;
+        writer.end_object()?;
+        Ok(())
     }
-    writer.end_array()?;
-    Ok(())
 }
 
-#[tactic(auto, unfolding(crate::specs::Reply::Stats::stream_data))]
-fn write_stream(writer: &mut Writer, stream: &StreamStats) -> Result<(), NoMemory>
-    ensures { OnOk result (Appends writer.old writer.new (value_tokens (stream_data stream.now))) }
+impl ConnectionStats {
+    #[tactic(auto, unfolding(crate::specs::Reply::Stats::connections_data))]
+    fn write(&self, writer: &mut Writer) -> Result<(), NoMemory>
+        ensures { OnOk result (Appends writer.old writer.new (value_tokens (connections_data self.now))) }
+    {
+        writer.begin_object()?;
+        write_number_member(writer, "accepted", self.accepted)?;
+        write_number_member(writer, "idle", self.idle)?;
+        write_number_member(writer, "open", self.open)?;
+        write_number_member(writer, "refused", self.refused)?;
+        writer.end_object()?;
+        Ok(())
+    }
+}
+
+impl LineStats {
+    #[tactic(auto, unfolding(crate::specs::Reply::Stats::lines_data))]
+    fn write(&self, writer: &mut Writer) -> Result<(), NoMemory>
+        ensures { OnOk result (Appends writer.old writer.new (value_tokens (lines_data self.now))) }
+    {
+        writer.begin_object()?;
+        write_number_member(writer, "answered", self.answered)?;
+        write_number_member(writer, "refused", self.refused)?;
+        writer.end_object()?;
+        Ok(())
+    }
+}
+
+impl Shown for StreamStats {
+    ghost use Rattle.pn_protocol.specs.Reply.Stats.{stream_data};
+
+    ghost value = { λ stream. stream_data stream };
+
+    #[tactic(auto, unfolding(crate::specs::Reply::Stats::stream_data))]
+    fn write(&self, writer: &mut Writer) -> Result<(), NoMemory> {
+        writer.begin_object()?;
+        write_number_member(writer, "bytes", self.bytes)?;
+        write_fault_line(writer, &self.fault)?;
+        write_number_member(writer, "messages", self.messages)?;
+        write_text_member(writer, "name", self.name.as_str())?;
+        write_text_member(writer, "path", self.path.as_str())?;
+        write_number_member(writer, "position", self.position)?;
+        write_fault_reason(writer, &self.fault)?;
+        write_since(writer, self.since)?;
+        write_text_member(writer, "state", state_word(self.state))?;
+        writer.end_object()?;
+        Ok(())
+    }
+}
+
+// The line of the last fault, or null.
+fn write_fault_line(writer: &mut Writer, fault: &Option<StreamFaultStats>) -> Result<(), NoMemory>
+    ensures { OnOk result (Appends writer.old writer.new (member_tokens (codes "line") (fault_line fault.now))) }
 {
-    writer.begin_object()?;
-    write_number_member(writer, "bytes", stream.bytes)?;
-    write_number_member(writer, "messages", stream.messages)?;
-    write_text_member(writer, "name", stream.name.as_str())?;
-    write_number_member(writer, "position", stream.position)?;
-    write_text_member(writer, "state", state_word(stream.state))?;
-    writer.end_object()?;
-    Ok(())
+    match fault {
+        Some(fault) => write_number_member(writer, "line", fault.line),
+        None => write_null_member(writer, "line"),
+    }
+}
+
+// What the last fault is, or null.
+fn write_fault_reason(writer: &mut Writer, fault: &Option<StreamFaultStats>) -> Result<(), NoMemory>
+    ensures { OnOk result (Appends writer.old writer.new (member_tokens (codes "reason") (fault_reason fault.now))) }
+{
+    match fault {
+        Some(fault) => write_text_member(writer, "reason", fault.reason.as_str()),
+        None => write_null_member(writer, "reason"),
+    }
+}
+
+// How long ago the last message came, or null.
+fn write_since(writer: &mut Writer, since: Option<u64>) -> Result<(), NoMemory>
+    ensures { OnOk result (Appends writer.old writer.new (member_tokens (codes "since") (number_or_null since))) }
+{
+    match since {
+        Some(seconds) => write_number_member(writer, "since", seconds),
+        None => write_null_member(writer, "since"),
+    }
 }
 
 fn state_word(state: StreamState) -> &'static str

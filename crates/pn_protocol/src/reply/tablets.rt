@@ -1,6 +1,6 @@
 //! The replies that show the tablets, and how far streams were taken.
 
-ghost use Rattle.std.specs.Prelude.{◌≡◌, map, IfOk, OnOk};
+ghost use Rattle.std.specs.Prelude.{◌≡◌, ◌+◌, length, map, IfOk, OnOk};
 ghost use Rattle.std.specs.Option.{option_copied};
 ghost use Rattle.serde_json.specs.Data.{array};
 ghost use Rattle.serde_json.specs.View.{items_of};
@@ -37,12 +37,21 @@ impl ShownTablets for Region {
     ghost tablets = { λ region. region.state.tablets };
 
     fn count(&self) -> usize {
+        recall_tablet_count(self);
         self.layout().count()
     }
 
     fn tablet(&self, number: usize) -> &TabletState {
+        recall_tablet_count(self);
         Region::tablet(self, number)
     }
+}
+
+// There is one tablet more than bounds.
+fn recall_tablet_count(region: &Region)
+    ensures { length region.now.state.tablets ≡ length region.now.state.layout + 1 }
+{
+    let _layout = region.layout();
 }
 
 /// The tablets in their order: `{"tablets":[{"cover":{..},"from":F,"need":M,"to":T},..]}`.

@@ -1,8 +1,7 @@
 -- What the writer of a live region does for control sessions.
-use Rattle.std.specs.Prelude.{◌≡◌, ◌⊎◌, ℕ, true, false, List, [], ◌∷◌, Result, Ok, Err}
+use Rattle.std.specs.Prelude.{◌≡◌, ◌⊎◌, ℕ, Bool, true, false, if◌then◌else◌, List, ◌∷◌, Option, None, Some, Result, Ok, Err}
 use Rattle.pn_json.specs.Lines.{line_of}
-use Rattle.pn_tablet.specs.Copies.{TabletCopyValue, IsCopy}
-use Rattle.pn_tablet.specs.declared.state.TabletOp.TheVariants.{Lose}
+use Rattle.pn_tablet.specs.Copies.{TabletCopyValue}
 use Rattle.pn_region.specs.Advancing.{after_advance}
 use Rattle.pn_region.specs.Events as events
 use Rattle.pn_region.specs.Events.{RegionEvent}
@@ -10,8 +9,8 @@ use Rattle.pn_region.specs.Logged.{LoggedRegion}
 use Rattle.pn_region.specs.Recovery.{after_adoption}
 use Rattle.pn_region.specs.Regions.{RegionValue}
 use Rattle.pn_region.specs.declared.fault.AdvanceFault.{AdvanceFault}
+use Rattle.pn_live.specs.Events.{LeadsLive}
 use Rattle.pn_live.specs.LiveRegions.{LiveRegionValue, core}
-use Rattle.pn_live.specs.Recovery.{after_op_at, Adopts, Advances}
 use Rattle.pn_protocol.specs.Command.Meaning as command
 use Rattle.pn_protocol.specs.Reply.Faults.{advance_fault_data}
 use Rattle.pn_protocol.specs.Reply.Notices.{found_since}
@@ -23,7 +22,6 @@ use Rattle.pn_protocol.specs.declared.refusal.Refusal.TheVariants.{Memory}
 use Rattle.pn_serve.specs.Machine.Doing.{plain_turn}
 use Rattle.pn_serve.specs.Machine.Outcomes.{Turn, machine_over}
 use Rattle.pn_serve.specs.Machine.Recovering.{adoption_turn}
-use Rattle.pn_serve.specs.Machine.Ways.{ComesTo}
 use Rattle.pn_serve.specs.declared.control.commands.WriterAnswer.{WriterAnswer}
 use Rattle.pn_serve.specs.declared.control.commands.WriterAnswer.TheVariants as answers
 use Rattle.pn_serve.specs.declared.control.commands.WriterCommand.{WriterCommand}
@@ -48,16 +46,30 @@ asked commands.Marks = marks
 asked (commands.Notices since) = notices since
 asked commands.Tablets = tablets
 
+-- what an answer says: the bytes of the reply, and whether that is a refusal
+pub record Said : Type 0 where
+  pub text : List ℕ
+  pub refused : Bool
+
+-- what a reply says
+abbrev pub said_by : Reply → Said
+said_by reply = record { text = reply_text reply; refused = is_refusal reply }
+
+-- what the writer's answer says
+abbrev pub answer_of : WriterAnswer → Said
+answer_of (answers.Reply reply) = said_by reply
+answer_of (answers.Found since) = record { text = line_of (found_since since); refused = false }
+
 -- the region with its log that a live region is
 abbrev pub logged : LiveRegionValue → LoggedRegion
 logged live = record { state = core live; log = live.log }
 
--- the marks advance, or stay for this fault
+-- the marks advance, or stay for this fault; scripts have no such command
 abbrev pub advance_turn : LoggedRegion → Result RegionValue AdvanceFault → Turn
 advance_turn old (Ok after) = record { machine = machine_over (record old { state = after }); reply = line_of (marks_reply_data after.marks); refused = false }
 advance_turn old (Err fault) = record { machine = machine_over old; reply = line_of (advance_fault_data fault); refused = true }
 
--- the turn of a script over the region
+-- what the machine of a script would do over the region
 abbrev pub asked_turn : LoggedRegion → Asked → Turn
 asked_turn old (adopt copy) = adoption_turn old (after_adoption old.state copy)
 asked_turn old advance = advance_turn old (after_advance old.state)
@@ -66,54 +78,33 @@ asked_turn old marks = plain_turn (machine_over old) command.marks
 asked_turn old (notices since) = plain_turn (machine_over old) (command.notices since)
 asked_turn old tablets = plain_turn (machine_over old) command.tablets
 
--- what is published by a command that was done
-abbrev pub Publishes : LiveRegionValue → Asked → LiveRegionValue → Type 0
-Publishes old (adopt copy) new = Adopts copy old new
-Publishes old advance new = Advances old new
-Publishes old (lose tablet) new = new ≡ after_op_at old tablet Lose
-Publishes old marks new = new ≡ old
-Publishes old (notices since) new = new ≡ old
-Publishes old tablets new = new ≡ old
+-- the turn that leaves this region and says this
+abbrev pub turn_to : LoggedRegion → Said → Turn
+turn_to new said = record { machine = machine_over new; reply = said.text; refused = said.refused }
 
--- what an answer says of the command: a reply, or what changed, of which the session writes the reply
-pub data Said : Type 0 where
-  reply : Reply → Said
-  text : List ℕ → Said
+-- the event that a command is; a question is none
+abbrev pub event_of : Asked → Option RegionEvent
+event_of (adopt copy) = Some (events.adoption copy)
+event_of advance = Some events.advance
+event_of (lose tablet) = Some (events.loss tablet)
+event_of asked = None
 
-abbrev pub answer_of : WriterAnswer → Said
-answer_of (answers.Reply said) = reply said
-answer_of (answers.Found since) = text (line_of (found_since since))
+-- the event that came about; a refused command is none
+abbrev pub event_by : Asked → Said → Option RegionEvent
+event_by asked said = if said.refused then None else event_of asked
 
--- the turn comes to this region and this reply
-abbrev pub Shows : Turn → LoggedRegion → LoggedRegion → Said → Type 0
-Shows turn old new (reply said) = ComesTo turn old new said
-Shows turn old new (text said) = (turn.machine ≡ machine_over new) × (turn.reply ≡ said) × (turn.refused ≡ false)
+-- the event, if there was one, before others
+abbrev pub with_event : Option RegionEvent → List RegionEvent → List RegionEvent
+with_event None later = later
+with_event (Some event) later = event ∷ later
 
--- the command was done and published, or refused, and then nothing changed; marks that advanced may be refused a reply for want
--- of memory
-abbrev pub IsDoneOr : LiveRegionValue → Asked → LiveRegionValue → Said → Type 0
-IsDoneOr old asked new (text said) = Publishes old asked new
-IsDoneOr old advance new (reply said) = ((is_refusal said ≡ true) × (new ≡ old)) ⊎ (((is_refusal said ≡ false) ⊎ (said ≡ Refused Memory)) × Advances old new)
-IsDoneOr old asked new (reply said) = ((is_refusal said ≡ true) × (new ≡ old)) ⊎ ((is_refusal said ≡ false) × Publishes old asked new)
+-- the live region after the event, if there was one
+abbrev pub IsAfter : Option RegionEvent → LiveRegionValue → LiveRegionValue → Type 0
+IsAfter None old new = new ≡ old
+IsAfter (Some event) old new = LeadsLive event old new
 
--- the reply to a command is that of a script over the region, or memory ran out
+-- a command was answered as a script over the region would answer it, or memory ran out; and what was done and published is its
+-- event, or nothing
 pub record ObeysLive (old : LiveRegionValue) (asked : Asked) (new : LiveRegionValue) (said : Said) : Type 0 where
-  pub shows : Shows (asked_turn (logged old) asked) (logged old) (logged new) said
-  pub done : IsDoneOr old asked new said
-
--- the events of a command that was done
-abbrev pub events_of : Asked → List RegionEvent
-events_of (adopt copy) = events.adoption copy ∷ []
-events_of advance = events.advance ∷ []
-events_of (lose tablet) = events.loss tablet ∷ []
-events_of asked = []
-
--- the command was done
-abbrev pub IsDone : Said → Type 0
-IsDone (reply said) = is_refusal said ≡ false
-IsDone (text said) = Unit {0}
-
--- what the command brings is lawful: a copy is one
-abbrev pub IsLawful : Asked → Type 0
-IsLawful (adopt copy) = IsCopy copy.range copy.marks copy.cells
-IsLawful asked = Unit {0}
+  pub replied : (said ≡ said_by (Refused Memory)) ⊎ (asked_turn (logged old) asked ≡ turn_to (logged new) said)
+  pub left : IsAfter (event_by asked said) old new

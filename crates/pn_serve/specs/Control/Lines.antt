@@ -1,103 +1,93 @@
--- What a control session does with a line: its reply, and the handler afterwards.
-use Rattle.std.specs.Prelude.{◌≡◌, ◌⊎◌, ℕ, ◌-◌, nat_le, false, if◌then◌else◌, List, [], ◌∷◌, Option, None, Some, Result, Ok, Err}
-use Rattle.pn_live.specs.LiveRegions.{LiveRegionValue}
+-- What a control session does with a line: its reply, and the session afterwards.
+use Rattle.std.specs.Prelude.{◌≡◌, ℕ, ◌-◌, nat_le, Bool, true, false, List, [], ◌∷◌, Option, None, Some}
 use Rattle.pn_live.specs.Readers.{LiveReaderValue}
-use Rattle.pn_tablet.specs.Copies.{TabletCopyValue}
-use Rattle.pn_tablet.specs.CopyReading.{copy_at}
-use Rattle.pn_tablet.specs.declared.fault.CopyTextFault.{CopyTextFault}
-use Rattle.pn_protocol.specs.Command.Controls.{ControlValue, control_at, script, notices, advance, stats, stop}
-use Rattle.pn_protocol.specs.Command.Lines.{is_too_long}
-use Rattle.pn_protocol.specs.Command.Meaning as command
-use Rattle.pn_protocol.specs.declared.refusal.Refusal.{Refusal}
-use Rattle.pn_protocol.specs.declared.refusal.Refusal.TheVariants.{Memory}
-use Rattle.pn_protocol.specs.Reply.Refusals.{Refuses}
 use Rattle.pn_protocol.specs.declared.reply.Reply.{Reply}
-use Rattle.pn_protocol.specs.declared.reply.Reply.TheVariants.{Refused, Silent, Stopping, Text}
-use Rattle.pn_protocol.specs.declared.reply.refusals.CommandFault.TheVariants.{CopyText}
-use Rattle.pn_serve.specs.Control.Commands.{Asked, ObeysLive, Said, reply, text}
-use Rattle.pn_serve.specs.Control.Commands as control
+use Rattle.pn_protocol.specs.declared.reply.Reply.TheVariants.{Silent, Stopping}
+use Rattle.pn_serve.specs.Control.Steps.{AdoptsText, StepsBy, StepsLast}
 use Rattle.pn_serve.specs.Machine.Announced.{unless_call, with_line}
 use Rattle.pn_serve.specs.Machine.Outcomes.{Mode, Outcome, awaits_command, announced}
-use Rattle.pn_serve.specs.Session.Lines.{LooksUp}
+use Rattle.pn_serve.specs.declared.control.steps.Step.{Step}
+use Rattle.pn_serve.specs.declared.control.steps.Step.TheVariants.{Replies, Announces, Stops, Ends}
 
--- a control session between two lines: its reader, what the next line is, and the seconds of a stop that it asks for
+-- a control session between two lines: its reader, what the next line is, after how many seconds the server is to end, once that
+-- was asked for, and whether the writer takes no command any more
 pub record ControlState : Type 0 where
   pub reader : LiveReaderValue
   pub mode : Mode
   pub stop : Option ℕ
+  pub over : Bool
 
--- the reply shows what was said
-abbrev pub IsSaid : Said → Reply → Type 0
-IsSaid (reply said) shown = shown ≡ said
-IsSaid (text said) shown = ((bytes : _) × (shown ≡ Text bytes) × (bytes.items ≡ said)) ⊎ (shown ≡ Refused Memory)
+-- a session whose next line is a command
+abbrev pub at_rest : LiveReaderValue → ControlState
+at_rest reader = record { reader = reader; mode = awaits_command; stop = None; over = false }
 
--- the writer answered so, over the live region as it was then; or memory ran out before it was asked; or there is no reply, since
--- it takes no command any more
-abbrev pub IsAnswered : Asked → Reply → Type 0
-IsAnswered asked shown = ((old : LiveRegionValue) × (new : LiveRegionValue) × (said : Said) × ObeysLive old asked new said × IsSaid said shown) ⊎ (shown ≡ Refused Memory) ⊎ (shown ≡ Silent)
+-- no further line is answered
+abbrev pub closed_by : Option ℕ → Bool → Bool
+closed_by None over = over
+closed_by (Some seconds) over = true
 
--- a command of scripts was answered by the reader, or by the writer
-abbrev pub AnswersScript : ControlState → command.CommandValue → ControlState → Reply → Type 0
-AnswersScript old (command.adopt lines) new shown = (new ≡ record old { mode = announced lines (Some []) }) × (shown ≡ Silent)
-AnswersScript old (command.lose tablet) new shown = (new ≡ old) × IsAnswered (control.lose tablet) shown
-AnswersScript old command.marks new shown = (new ≡ old) × IsAnswered control.marks shown
-AnswersScript old command.tablets new shown = (new ≡ old) × IsAnswered control.tablets shown
-AnswersScript old asked new shown = (new ≡ record old { reader = new.reader }) × LooksUp old.reader asked new.reader shown
+abbrev pub is_closed : ControlState → Bool
+is_closed state = closed_by state.stop state.over
 
--- a command was answered; of `stats` it is said only that the session stays as it was
-abbrev pub AnswersCommand : ControlState → ControlValue → ControlState → Reply → Type 0
-AnswersCommand old (script asked) new shown = AnswersScript old asked new shown
-AnswersCommand old (notices since wait) new shown = (new ≡ old) × IsAnswered (control.notices since) shown
-AnswersCommand old advance new shown = (new ≡ old) × IsAnswered control.advance shown
-AnswersCommand old stats new shown = new ≡ old
-AnswersCommand old (stop seconds) new shown = (new ≡ record old { stop = Some seconds }) × (shown ≡ Stopping seconds)
+-- the session after a step
+abbrev pub after_step : LiveReaderValue → Step → ControlState
+after_step reader (Replies shown) = at_rest reader
+after_step reader (Announces lines) = record { reader = reader; mode = announced lines (Some []); stop = None; over = false }
+after_step reader (Stops seconds) = record { reader = reader; mode = awaits_command; stop = Some seconds; over = false }
+after_step reader Ends = record { reader = reader; mode = awaits_command; stop = None; over = true }
 
--- a line was answered as it reads
-abbrev pub Tells : ControlState → Result ControlValue Refusal → ControlState → Reply → Type 0
-Tells old (Ok asked) new shown = AnswersCommand old asked new shown
-Tells old (Err refusal) new shown = (new ≡ old) × (shown ≡ Refused refusal)
+-- the reply of a step
+abbrev pub reply_of : Step → Reply
+reply_of (Replies shown) = shown
+reply_of (Announces lines) = Silent
+reply_of (Stops seconds) = Stopping seconds
+reply_of Ends = Silent
 
--- the writer was asked to adopt the copy that a text is; or it is no copy
-abbrev pub AdoptsRead : Result TabletCopyValue CopyTextFault → Reply → Type 0
-AdoptsRead (Ok copy) shown = IsAnswered (control.adopt copy) shown
-AdoptsRead (Err fault) shown = Refuses (CopyText fault) shown
+-- a line came to such a step
+pub record Comes (steps : LiveReaderValue → Step → Type 0) (new : ControlState) (shown : Reply) : Type 0 where
+  pub reader : LiveReaderValue
+  pub step : Step
+  pub stepped : steps reader step
+  pub state : new ≡ after_step reader step
+  pub replied : shown ≡ reply_of step
 
--- so for an announced text, unless memory ran out while it came
-abbrev pub AdoptsText : Option (List ℕ) → Reply → Type 0
-AdoptsText None shown = shown ≡ Refused Memory
-AdoptsText (Some text) shown = AdoptsRead (copy_at text) shown
+-- the session stays as it is, without a reply
+abbrev pub Stays : ControlState → ControlState → Reply → Type 0
+Stays old new shown = (new ≡ old) × (shown ≡ Silent)
 
--- a command is next
-abbrev pub at_rest : ControlState → ControlState
-at_rest state = record state { mode = awaits_command }
+-- an announced text is adopted
+abbrev pub Adopts : ControlState → Option (List ℕ) → ControlState → Reply → Type 0
+Adopts old came new shown = Comes (λ reader step. (reader ≡ old.reader) × AdoptsText came step) new shown
 
 -- an announced line came: the text of the last one is adopted, and another one is waited for
-abbrev pub TakesLine : ControlState → ℕ → Option (List ℕ) → ControlState → Reply → Type 0
-TakesLine old left came new shown =
-    if nat_le left 1 then ((new ≡ at_rest old) × AdoptsText came shown) else ((new ≡ record old { mode = announced (left - 1) came }) × (shown ≡ Silent))
+abbrev pub TakesLine : Bool → ControlState → ℕ → Option (List ℕ) → ControlState → Reply → Type 0
+TakesLine true old left came new shown = Adopts old came new shown
+TakesLine false old left came new shown = (new ≡ record old { mode = announced (left - 1) came }) × (shown ≡ Silent)
 
--- a command was answered as it reads; or memory ran out before it was read, unless it is too long
-abbrev pub AnswersAtRest : ControlState → List ℕ → ControlState → Reply → Type 0
-AnswersAtRest old line new shown = Tells old (control_at line) new shown ⊎ ((is_too_long line ≡ false) × (new ≡ old) × (shown ≡ Refused Memory))
-
+-- a line is a command, or was announced
 abbrev pub AnswersIn : Mode → ControlState → List ℕ → ControlState → Reply → Type 0
-AnswersIn awaits_command old line new shown = AnswersAtRest old line new shown
-AnswersIn (announced left came) old line new shown = (outcome : Outcome) × TakesLine old left (unless_call outcome (with_line came line (10 ∷ []))) new shown
+AnswersIn awaits_command old line new shown = Comes (StepsBy old.reader line) new shown
+AnswersIn (announced left came) old line new shown = (outcome : Outcome) × TakesLine (nat_le left 1) old left (unless_call outcome (with_line came line (10 ∷ []))) new shown
+
+-- unless no further line is answered
+abbrev pub AnswersUnless : Bool → ControlState → List ℕ → ControlState → Reply → Type 0
+AnswersUnless true old line new shown = Stays old new shown
+AnswersUnless false old line new shown = AnswersIn old.mode old line new shown
 
 -- a line of a control session was answered
 abbrev pub AnswersControl : ControlState → List ℕ → ControlState → Reply → Type 0
-AnswersControl old line new shown = AnswersIn old.mode old line new shown
+AnswersControl old line new shown = AnswersUnless (is_closed old) old line new shown
 
--- the last command was answered; where it announces lines, none can come
-abbrev pub AnswersLast : ControlState → List ℕ → ControlState → Reply → Type 0
-AnswersLast old part new shown =
-    AnswersAtRest old part new shown ⊎ ((lines : ℕ) × (outcome : Outcome) × (control_at part ≡ Ok (script (command.adopt lines))) × (new ≡ old) × AdoptsText (unless_call outcome (Some [])) shown)
-
+-- the input ended after this part of a line
 abbrev pub EndsIn : Mode → ControlState → List ℕ → ControlState → Reply → Type 0
-EndsIn awaits_command old [] new shown = (new ≡ old) × (shown ≡ Silent)
-EndsIn awaits_command old (b ∷ part) new shown = AnswersLast old (b ∷ part) new shown
-EndsIn (announced left came) old part new shown = (outcome : Outcome) × (new ≡ at_rest old) × AdoptsText (unless_call outcome (with_line came part [])) shown
+EndsIn awaits_command old [] new shown = Stays old new shown
+EndsIn awaits_command old (b ∷ part) new shown = Comes (StepsLast old.reader (b ∷ part)) new shown
+EndsIn (announced left came) old part new shown = (outcome : Outcome) × Adopts old (unless_call outcome (with_line came part [])) new shown
+
+abbrev pub EndsUnless : Bool → ControlState → List ℕ → ControlState → Reply → Type 0
+EndsUnless true old part new shown = Stays old new shown
+EndsUnless false old part new shown = EndsIn old.mode old part new shown
 
 -- the input of a control session ended after this part of a line
 abbrev pub EndsControl : ControlState → List ℕ → ControlState → Reply → Type 0
-EndsControl old part new shown = EndsIn old.mode old part new shown
+EndsControl old part new shown = EndsUnless (is_closed old) old part new shown

@@ -1,5 +1,5 @@
 -- What parts of a turn come to.
-use Rattle.std.specs.Prelude.{◌≡◌, ◌⊎◌, ℕ, List, Option}
+use Rattle.std.specs.Prelude.{◌≡◌, ◌⊎◌, ◌<◌, ◌≤◌, ℕ, ◌-◌, List, [], ◌∷◌, Option}
 use Rattle.pn_region.specs.Logged.{LoggedRegion}
 use Rattle.pn_protocol.specs.declared.reply.Reply.{Reply}
 use Rattle.pn_protocol.specs.declared.reply.Reply.TheVariants.{Refused}
@@ -9,6 +9,9 @@ use Rattle.pn_serve.specs.Machine.Outcomes.{Outcome, Turn, machine_over}
 use Rattle.pn_protocol.specs.Command.Lines.{command_at}
 use Rattle.pn_protocol.specs.Command.Meaning.{CommandValue, adopt}
 use Rattle.pn_serve.specs.declared.machine.Handled.{Handled}
+use Rattle.pn_serve.specs.declared.machine.adoption.Gathered.{Gathered}
+use Rattle.pn_serve.specs.declared.machine.adoption.Gathered.TheVariants.{More, Text}
+use Rattle.pn_serve.specs.Machine.Modes.{bytes_of}
 use Rattle.pn_serve.specs.declared.machine.Handled.TheVariants.{Obeyed, Announces}
 use Rattle.pn_serve.specs.Machine.LastTurns.{last_of}
 use Rattle.pn_serve.specs.Machine.Turns.{outcome_at}
@@ -37,3 +40,8 @@ LastsBy may_run_out old text new reply = TurnedBy may_run_out (λ outcome. last_
 -- the line was added to the text, or memory ran out
 abbrev pub IsJoined : Option (List ℕ) → List ℕ → List ℕ → Option (List ℕ) → Type 0
 IsJoined text line newline joined = (outcome : Outcome) × (joined ≡ unless_call outcome (with_line text line newline))
+
+-- an announced line was added to the text: more are to come, or it was the last one
+abbrev pub Gathers : ℕ → Option (List ℕ) → List ℕ → Gathered → Type 0
+Gathers left text line (More more) = (1 < left) × (more.left ≡ left - 1) × IsJoined text line (10 ∷ []) (bytes_of more.text)
+Gathers left text line (Text whole) = (left ≤ 1) × IsJoined text line (10 ∷ []) (bytes_of whole)

@@ -24,8 +24,8 @@ pub(crate) const MAX_CONNECTIONS: u32 = 65_536;
 /// The most seconds after which an idle client is ended: a day.
 pub(crate) const MAX_IDLE: u32 = 86_400;
 
-/// The version that `--version` says.
-const VERSION: &str = "0.1.0";
+/// The version that `--version` says, and `stats`.
+pub const VERSION: &str = "0.1.0";
 
 /// The examples of `pnuts --help`.
 const EXAMPLES: &str = "\

@@ -1,17 +1,19 @@
 //! What the writer of a live region does for control sessions.
 
-ghost use Rattle.std.specs.Prelude.{◌≡◌};
+ghost use Rattle.std.specs.Prelude.{◌≡◌, ◌+◌, length, Ok};
+ghost use Rattle.pn_region.specs.Advancing.{after_advance, with_marks};
+ghost use Rattle.pn_live.specs.LiveRegions.{core};
 ghost use Rattle.pn_live.specs.Prelude.{tablets_in};
-ghost use Rattle.pn_serve.specs.Control.Commands.{ObeysLive, answer_of, asked};
+ghost use Rattle.pn_serve.specs.Control.Commands.{ObeysLive, answer_of, asked, said_by};
 ghost use Rattle.pn_serve.specs.Control.Commands as control;
-ghost use Rattle.pn_tablet.specs.Prelude.{TabletCopyValue};
 
+use pn_join::Marks;
 use pn_live::LiveRegion;
 use pn_protocol::{
     CommandFault, Part, Refusal, Reply, ShownTablets, answer_text, marks_reply, refuse,
     tablets_reply,
 };
-use pn_region::Since;
+use pn_region::{AdoptFault, Since};
 use pn_tablet::{TabletCopy, TabletState};
 use std::alloc::Global;
 use std::sync::Wait;
@@ -46,22 +48,30 @@ pub(crate) enum WriterAnswer {
 struct LiveTablets<'a>(&'a LiveRegion);
 
 impl ShownTablets for LiveTablets<'_> {
-    ghost use Rattle.std.specs.Prelude.{map};
-    ghost use Rattle.pn_live.specs.PublishedTablets.{state_at};
+    ghost use Rattle.pn_live.specs.LiveRegions.{core};
 
-    ghost tablets = { λ shown. map state_at shown.0.now.tablets };
+    ghost tablets = { λ shown. (core shown.0.now).tablets };
 
     fn count(&self) -> usize {
+        recall_tablet_count(self.0);
         self.0.layout().count()
     }
 
     fn tablet(&self, number: usize) -> &TabletState {
+        recall_tablet_count(self.0);
         self.0.tablet(number)
     }
 }
 
-/// Does what a control session asks for. Its reply is that of a script over the same region, or out of memory, and a
-/// refusal changes nothing.
+// There is one tablet more than bounds.
+fn recall_tablet_count(live: &LiveRegion)
+    ensures { length (core live.now).tablets ≡ length live.now.layout + 1 }
+{
+    let _layout = live.layout();
+}
+
+/// Does what a control session asks for. The reply is that of a script over the same region, or says that memory ran out.
+/// A refusal changes nothing.
 pub(crate) fn obey<R: Wait>(
     rt: &R,
     alloc: Global,
@@ -75,63 +85,67 @@ pub(crate) fn obey<R: Wait>(
         WriterCommand::Adopt(copy) => WriterAnswer::Reply(adopt(rt, alloc, live, copy)),
         WriterCommand::Advance => WriterAnswer::Reply(advance(alloc, live)),
         WriterCommand::Lose { tablet } => WriterAnswer::Reply(lose(rt, live, tablet)),
-        WriterCommand::Marks => {
-            WriterAnswer::Reply(answer_text(marks_reply(alloc, live.marks())))
-        }
+        WriterCommand::Marks => WriterAnswer::Reply(show_marks(alloc, live)),
         WriterCommand::Notices { since } => look_up_notices(live, since),
-        WriterCommand::Tablets => {
-            WriterAnswer::Reply(answer_text(tablets_reply(alloc, &LiveTablets(&*live))))
-        }
+        WriterCommand::Tablets => WriterAnswer::Reply(show_tablets(alloc, live)),
     }
 }
 
 fn adopt<R: Wait>(rt: &R, alloc: Global, live: &mut LiveRegion, copy: TabletCopy) -> Reply
-    ensures obeys { ObeysLive live.old (control.adopt copy) live.new result }
+    ensures obeys { ObeysLive live.old (control.adopt copy) live.new (said_by result) }
     ensures same { tablets_in live.new ≡ tablets_in live.old }
 {
-    let Some(tablet) = number_of(live, &copy) else {
-        return refuse(
-            alloc,
-            CommandFault::Adoption(pn_region::AdoptFault::WrongRange),
-        );
+    let Some(tablet) = live.tablet_for(&copy.range) else {
+        return refuse(alloc, CommandFault::Adoption(AdoptFault::WrongRange));
     };
     match live.adopt(rt, copy) {
-        Ok(_) => Reply::Adopted(tablet as u64),
+        Ok(_front) => Reply::Adopted(tablet as u64),
         Err(fault) => refuse(alloc, CommandFault::Adoption(fault)),
     }
 }
 
-// The number of the tablet that has the copy's range.
-fn number_of(live: &LiveRegion, copy: &TabletCopy) -> Option<usize> {
-    for number in 0..live.layout().count() {
-        if live.tablet(number).range() == &copy.range {
-            return Some(number);
-        }
-    }
-    None
-}
-
 fn advance(alloc: Global, live: &mut LiveRegion) -> Reply
-    ensures obeys { ObeysLive live.old control.advance live.new result }
+    ensures obeys { ObeysLive live.old control.advance live.new (said_by result) }
     ensures same { tablets_in live.new ≡ tablets_in live.old }
 {
+    match live.common_marks() {
+        Ok(marks) => advance_to(alloc, live, &marks),
+        Err(fault) => refuse(alloc, CommandFault::Advance(fault)),
+    }
+}
+
+// Advances to these marks. The reply is written before, so that no marks advance without one.
+fn advance_to(alloc: Global, live: &mut LiveRegion, marks: &Marks) -> Reply
+    requires { after_advance (core live.old) ≡ Ok (with_marks (core live.old) marks.now) }
+    ensures obeys { ObeysLive live.old control.advance live.new (said_by result) }
+    ensures same { tablets_in live.new ≡ tablets_in live.old }
+{
+    let Ok(text) = marks_reply(alloc, marks) else {
+        return Reply::Refused(Refusal::Memory);
+    };
     match live.advance() {
-        Ok(()) => answer_text(marks_reply(alloc, live.marks())),
+        Ok(()) => Reply::Text(text),
         Err(fault) => refuse(alloc, CommandFault::Advance(fault)),
     }
 }
 
 fn lose<R: Wait>(rt: &R, live: &mut LiveRegion, tablet: u64) -> Reply
-    ensures obeys { ObeysLive live.old (control.lose tablet) live.new result }
+    ensures obeys { ObeysLive live.old (control.lose tablet) live.new (said_by result) }
     ensures same { tablets_in live.new ≡ tablets_in live.old }
 {
     if tablet >= live.layout().count() as u64 {
         return Reply::Refused(Refusal::OutOfRange(Part::Tablet));
     }
     match live.lose(rt, tablet as usize) {
-        Ok(_) => Reply::Lost(tablet),
+        Ok(_front) => Reply::Lost(tablet),
         Err(_) => Reply::Refused(Refusal::Memory),
     }
+}
+
+fn show_marks(alloc: Global, live: &LiveRegion) -> Reply
+    ensures { ObeysLive live.now control.marks live.now (said_by result) }
+{
+    answer_text(marks_reply(alloc, live.marks()))
 }
 
 fn look_up_notices(live: &LiveRegion, since: u64) -> WriterAnswer
@@ -141,4 +155,10 @@ fn look_up_notices(live: &LiveRegion, since: u64) -> WriterAnswer
         Ok(found) => WriterAnswer::Found(found),
         Err(_) => WriterAnswer::Reply(Reply::Refused(Refusal::Memory)),
     }
+}
+
+fn show_tablets(alloc: Global, live: &LiveRegion) -> Reply
+    ensures { ObeysLive live.now control.tablets live.now (said_by result) }
+{
+    answer_text(tablets_reply(alloc, &LiveTablets(live)))
 }

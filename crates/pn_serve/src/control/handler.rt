@@ -1,111 +1,114 @@
 //! The handler of a control session's lines.
 
-use crate::control::commands::{WriterAnswer, WriterCommand};
-use crate::control::mailboxes::ControlMailboxes;
-use crate::control::session::StatsSource;
-use crate::machine::adoption::{Announced, Gathered, read_text};
+ghost use Rattle.std.specs.Prelude.{◌≡◌};
+ghost use Rattle.pn_serve.specs.Control.Lines.{after_step, at_rest, is_closed, reply_of};
+
+use crate::control::session::{ControlSession, StatsSource};
+use crate::control::steps::Step;
+use crate::machine::adoption::{Announced, Gathered};
 use crate::machine::line_handler::LineHandler;
-use crate::sessions::lookups::look_up;
 use pn_line::LineBuffer;
 use pn_live::LiveReader;
-use pn_protocol::{
-    Command, CommandFault, ControlCommand, Refusal, Reply, answer_text, control_of, notices_reply,
-    refuse, stats_reply,
-};
+use pn_protocol::Reply;
 use std::alloc::Global;
+use std::marker::Model;
 use std::sync::Wait;
 use std::time::Clock;
 
-/// A reader that looks up, and a mailbox by which the writer is asked for the rest.
+/// A control session, its reader, and how far it is.
 #[derive(Drop)]
-pub(crate) struct ControlHandler<'a, R, C> {
-    pub(crate) rt: &'a R,
-    pub(crate) reader: &'a mut LiveReader,
-    pub(crate) mailboxes: &'a ControlMailboxes,
-    /// The number of the session's mailbox.
-    pub(crate) number: usize,
-    pub(crate) stats: &'a C,
-    /// The lines that are still to come. None: the next line is a command.
-    pub(crate) announced: Option<Announced>,
-    /// After how many seconds at most the server is to end, once that was asked for.
-    pub(crate) stop: Option<u64>,
-    /// Whether the writer takes no command any more: the session ends, and the last line has no reply.
-    pub(crate) is_over: bool,
+pub(crate) struct ControlHandler<'a, R, C: Drop> {
+    rt: &'a R,
+    session: &'a ControlSession<C>,
+    reader: LiveReader,
+    // The lines that are still to come. None: the next line is a command.
+    announced: Option<Announced>,
+    // After how many seconds at most the server is to end, once that was asked for.
+    stop: Option<u64>,
+    // Whether the writer takes no command any more.
+    is_over: bool,
 }
 
-impl<'a, R: Wait + Clock, C: StatsSource> ControlHandler<'a, R, C> {
-    // Answers a command, or gathers the lines that it announces.
-    fn answer_command(&mut self, alloc: Global, line: &[u8]) -> Reply {
-        match control_of(alloc, line) {
-            Ok(ControlCommand::Script(Command::Adopt { lines })) => {
+impl<'a, R, C: Drop> Model for ControlHandler<'a, R, C> {
+    ghost use Rattle.pn_serve.specs.Control.Lines.{ControlState};
+    ghost use Rattle.pn_serve.specs.Machine.Modes.{mode_of};
+
+    ghost Value = { ControlState };
+
+    ghost use Rattle.pn_serve.specs.Control.Coding.{control_code};
+
+    ghost coded = { control_code };
+
+    ghost view = { λ session. record { reader = session.reader; mode = mode_of session.announced; stop = session.stop; over = session.is_over } };
+}
+
+impl<'a, R, C: Drop> ControlHandler<'a, R, C> {
+    /// A session that waits for a command.
+    pub(crate) fn new(
+        rt: &'a R,
+        session: &'a ControlSession<C>,
+        reader: LiveReader,
+    ) -> ControlHandler<'a, R, C>
+        ensures { result ≡ at_rest reader }
+    {
+        ControlHandler {
+            rt,
+            session,
+            reader,
+            announced: None,
+            stop: None,
+            is_over: false,
+        }
+    }
+
+    /// Whether no further line is answered: the server is to stop, or the writer takes no command any more.
+    pub(crate) fn is_closed(&self) -> bool
+        ensures { result ≡ is_closed self.now }
+    {
+        self.stop.is_some() || self.is_over
+    }
+
+    /// Gives the reader back, and after how many seconds at most the server is to end, once that was asked for.
+    pub(crate) fn end(self) -> (LiveReader, Option<u64>)
+        ensures reader { result.0 ≡ self.entry.reader }
+        ensures stop { result.1 ≡ self.entry.stop }
+    {
+        let ControlHandler {
+            rt: _rt,
+            session: _session,
+            reader,
+            announced: _announced,
+            stop,
+            is_over: _is_over,
+        } = self;
+        (reader, stop)
+    }
+
+    // Notes what a line came to. Answers its reply.
+    fn note(&mut self, alloc: Global, step: Step) -> Reply
+        requires { self.old ≡ at_rest self.old.reader }
+        ensures state { self.new ≡ after_step self.old.reader step }
+        ensures reply { result ≡ reply_of step }
+    {
+        match step {
+            Step::Replies(reply) => reply,
+            Step::Announces(lines) => {
                 self.announced = Some(Announced::new(alloc, lines));
                 Reply::Silent
             }
-            Ok(command) => self.answer_alone(alloc, command),
-            Err(refusal) => Reply::Refused(refusal),
-        }
-    }
-
-    fn answer_alone(&mut self, alloc: Global, command: ControlCommand) -> Reply {
-        match command {
-            ControlCommand::Script(command) => self.answer_script(alloc, command),
-            ControlCommand::Notices { since, wait } => {
-                if wait > 0 {
-                    self.mailboxes.wait_past(self.rt, since, wait);
-                }
-                self.ask(alloc, WriterCommand::Notices { since })
-            }
-            ControlCommand::Advance => self.ask(alloc, WriterCommand::Advance),
-            ControlCommand::Stats => self.answer_stats(alloc),
-            ControlCommand::Stop { seconds } => {
+            Step::Stops(seconds) => {
                 self.stop = Some(seconds);
                 Reply::Stopping(seconds)
             }
-        }
-    }
-
-    // Answers a command of scripts that announces nothing.
-    fn answer_script(&mut self, alloc: Global, command: Command) -> Reply {
-        match command {
-            Command::Lose { tablet } => self.ask(alloc, WriterCommand::Lose { tablet }),
-            Command::Marks => self.ask(alloc, WriterCommand::Marks),
-            Command::Tablets => self.ask(alloc, WriterCommand::Tablets),
-            command => look_up(alloc, &mut *self.reader, command),
-        }
-    }
-
-    fn answer_stats(&self, alloc: Global) -> Reply {
-        match self.stats.stats(alloc) {
-            Ok(stats) => answer_text(stats_reply(alloc, &stats)),
-            Err(_) => Reply::Refused(Refusal::Memory),
-        }
-    }
-
-    // The writer's reply, if it still takes commands.
-    fn ask(&mut self, alloc: Global, command: WriterCommand) -> Reply {
-        match self.mailboxes.ask(self.rt, self.number, command) {
-            Some(WriterAnswer::Reply(reply)) => reply,
-            Some(WriterAnswer::Found(since)) => answer_text(notices_reply(alloc, &since)),
-            None => {
+            Step::Ends => {
                 self.is_over = true;
                 Reply::Silent
             }
         }
     }
-
-    // Has the copy of a text adopted. None: memory ran out before.
-    fn adopt(&mut self, alloc: Global, text: Option<Vec<u8>>) -> Reply {
-        let Some(text) = text else {
-            return Reply::Refused(Refusal::Memory);
-        };
-        match read_text(alloc, text) {
-            Ok(copy) => self.ask(alloc, WriterCommand::Adopt(copy)),
-            Err(fault) => refuse(alloc, CommandFault::CopyText(fault)),
-        }
-    }
 }
 
-impl<'a, R: Wait + Clock, C: StatsSource> LineHandler for ControlHandler<'a, R, C> {
+impl<'a, R: Wait + Clock, C: StatsSource + Drop> LineHandler for ControlHandler<'a, R, C> {
     ghost use Rattle.pn_serve.specs.Control.Lines.{AnswersControl, EndsControl};
     ghost use Rattle.std.specs.Prelude.{⊤};
 
@@ -115,31 +118,46 @@ impl<'a, R: Wait + Clock, C: StatsSource> LineHandler for ControlHandler<'a, R, 
 
     ghost ends = { EndsControl };
 
-    ghost reader = { λ handler. handler.reader };
+    ghost reader = { λ session. session.reader };
 
     fn answer(&mut self, alloc: Global, line: &LineBuffer) -> Reply {
+        if self.is_closed() {
+            return Reply::Silent;
+        }
         match self.announced.take() {
-            None => self.answer_command(alloc, line.bytes()),
+            None => {
+                let reader = &mut self.reader;
+                let step = self.session.step(self.rt, alloc, reader, line.bytes());
+                self.note(alloc, step)
+            }
             Some(announced) => match announced.gather(line.bytes()) {
                 Gathered::More(announced) => {
                     self.announced = Some(announced);
                     Reply::Silent
                 }
-                Gathered::Text(text) => self.adopt(alloc, text),
+                Gathered::Text(text) => {
+                    let step = self.session.adopt(self.rt, alloc, text);
+                    self.note(alloc, step)
+                }
             },
         }
     }
 
     fn answer_end(&mut self, alloc: Global, part: &LineBuffer) -> Reply {
+        if self.is_closed() {
+            return Reply::Silent;
+        }
         match self.announced.take() {
-            Some(announced) => self.adopt(alloc, announced.end(part.bytes())),
+            Some(announced) => {
+                let text = announced.end(part.bytes());
+                let step = self.session.adopt(self.rt, alloc, text);
+                self.note(alloc, step)
+            }
             None if part.is_empty() => Reply::Silent,
             None => {
-                let reply = self.answer_command(alloc, part.bytes());
-                match self.announced.take() {
-                    Some(announced) => self.adopt(alloc, announced.end(b"")),
-                    None => reply,
-                }
+                let reader = &mut self.reader;
+                let step = self.session.last_step(self.rt, alloc, reader, part.bytes());
+                self.note(alloc, step)
             }
         }
     }

@@ -1,5 +1,7 @@
 //! Tells control sessions that the log of the live region has grown.
 
+ghost use Rattle.std.specs.Prelude.{◌≡◌, ◌==◌, ◌&&◌, not};
+
 use std::sync::{Condvar, CondvarTimeouts, Mutex, Wait};
 use std::time::{Clock, Duration};
 
@@ -35,13 +37,14 @@ impl LogWatch {
         }
     }
 
-    /// Waits for so many seconds at most while the last number is this one.
-    pub(crate) fn wait_past<R: Wait + Clock>(&self, rt: &R, number: u64, seconds: u64) {
+    /// Waits for so many seconds at most while the last number is this one. Whether it is another one.
+    pub(crate) fn wait_past<R: Wait + Clock>(&self, rt: &R, number: u64, seconds: u64) -> bool {
         let most = Duration::from_secs(seconds);
         let guard = self.state.lock(rt);
-        let _ = self
+        let (_state, waited) = self
             .changed
             .wait_timeout_while(rt, guard, most, |state| state.is_at(number));
+        !waited.timed_out()
     }
 
     /// From now on nobody waits.
@@ -53,14 +56,19 @@ impl LogWatch {
 
 impl WatchState {
     // Whether the number was another one.
-    fn note(&mut self, last: u64) -> bool {
+    fn note(&mut self, last: u64) -> bool
+        ensures noted { self.new ≡ record self.old { last = last } }
+        ensures other { result ≡ not (self.old.last == last) }
+    {
         let is_other = self.last != last;
         self.last = last;
         is_other
     }
 
     // Whether one who asks for what came after this number waits.
-    fn is_at(&self, number: u64) -> bool {
+    fn is_at(&self, number: u64) -> bool
+        ensures { result ≡ (self.now.last == number && not self.now.is_closed) }
+    {
         self.last == number && !self.is_closed
     }
 }

@@ -1,12 +1,15 @@
 //! The mailboxes in which control sessions leave commands, and in which the writer leaves its answers.
 
-ghost use Rattle.std.specs.Prelude.{◌≡◌, ◌≢◌, ℕ, List, None, MatchBool, MatchOption};
+ghost use Rattle.std.specs.Prelude.{◌≡◌, ◌≢◌, ℕ, List, None, IfSome, MatchBool, MatchOption};
 ghost use Rattle.pn_live.specs.Prelude.{tablets_in};
+ghost use Rattle.pn_serve.specs.Control.Answers.{IsGiven, question_of};
+ghost use Rattle.pn_serve.specs.Control.Commands.{answer_of, asked};
 ghost use Rattle.pn_serve.specs.Server.Events.{ToldAll};
 ghost use Rattle.pn_serve.specs.declared.control.mailboxes.HeldCommand.TheVariants.{Nothing, Asked, Taken, Answered, Closed};
 ghost use Rattle.pn_serve.specs.declared.server.mailboxes.AtFault.{AtFault};
 
-use crate::control::commands::{WriterAnswer, WriterCommand, obey};
+use crate::control::answers::{GivenAnswer, Question, give_answer};
+use crate::control::commands::{WriterAnswer, WriterCommand};
 use crate::control::log_watch::LogWatch;
 use crate::control::stop::StopRequest;
 use crate::server::mailboxes::Wakeup;
@@ -44,7 +47,7 @@ enum HeldCommand {
     /// Nothing: the writer does the command.
     Taken,
     /// The answer, until the session takes it.
-    Answered(WriterAnswer),
+    Answered(GivenAnswer),
     /// Nothing, and no command is taken.
     Closed,
 }
@@ -70,18 +73,21 @@ impl ControlMailboxes {
         rt: &R,
         session: usize,
         command: WriterCommand,
-    ) -> Option<WriterAnswer> {
+    ) -> Option<WriterAnswer>
+        ensures { IfSome result (λ answer. IsGiven (question_of (asked command)) (answer_of answer)) }
+    {
         let mailbox = self.mailboxes.get(session)?;
+        let question = Question::of(&command);
         if !mailbox.put(rt, command) {
             return None;
         }
         self.wakeup.notify(rt);
-        mailbox.wait(rt)
+        mailbox.wait(rt)?.to(question)
     }
 
-    /// Waits for so many seconds at most while the last number of the log is this one.
-    pub(crate) fn wait_past<R: Wait + Clock>(&self, rt: &R, number: u64, seconds: u64) {
-        self.log.wait_past(rt, number, seconds);
+    /// Waits for so many seconds at most while the last number of the log is this one. Whether it is another one.
+    pub(crate) fn wait_past<R: Wait + Clock>(&self, rt: &R, number: u64, seconds: u64) -> bool {
+        self.log.wait_past(rt, number, seconds)
     }
 
     /// Asks the server to end after so many seconds at most.
@@ -102,10 +108,11 @@ impl ControlMailboxes {
         ensures same { tablets_in live.new ≡ tablets_in live.old }
     {
         for mailbox in self.mailboxes.iter() {
-            if let Some(command) = mailbox.take(rt) {
-                mailbox.answer(rt, obey(rt, alloc, live, command));
-                self.note_log(rt, live);
-            }
+            let Some(command) = mailbox.take(rt) else {
+                continue;
+            };
+            mailbox.answer(rt, give_answer(rt, alloc, live, command));
+            self.note_log(rt, live);
         }
     }
 
@@ -136,7 +143,7 @@ impl ControlMailbox {
     }
 
     // Waits for the answer.
-    fn wait<R: Wait>(&self, rt: &R) -> Option<WriterAnswer> {
+    fn wait<R: Wait>(&self, rt: &R) -> Option<GivenAnswer> {
         let guard = self.held.lock(rt);
         let mut held = self
             .answered
@@ -150,7 +157,7 @@ impl ControlMailbox {
     }
 
     // Leaves the answer to the command that was taken.
-    fn answer<R: Wait>(&self, rt: &R, answer: WriterAnswer) {
+    fn answer<R: Wait>(&self, rt: &R, answer: GivenAnswer) {
         self.held.lock(rt).answer(answer);
         self.answered.notify_one();
     }
@@ -191,7 +198,7 @@ impl HeldCommand {
     }
 
     // Leaves the answer to the command that was taken. Elsewhere it is dropped.
-    fn answer(&mut self, answer: WriterAnswer)
+    fn answer(&mut self, answer: GivenAnswer)
         ensures answered { self.old ≡ Taken → self.new ≡ Answered answer }
         ensures dropped { self.old ≢ Taken → self.new ≡ self.old }
     {
@@ -201,7 +208,7 @@ impl HeldCommand {
     }
 
     // Takes the answer, if there is one.
-    fn take_answer(&mut self) -> Option<WriterAnswer>
+    fn take_answer(&mut self) -> Option<GivenAnswer>
         ensures { MatchOption result (self.new ≡ self.old) (λ answer. (self.old ≡ Answered answer) × (self.new ≡ Nothing)) }
     {
         match mem::replace(self, HeldCommand::Nothing) {

@@ -9,7 +9,7 @@ ghost use Rattle.pn_serve.specs.Machine.Modes.{bytes_of, mode_of, with_mode};
 ghost use Rattle.pn_serve.specs.Machine.Outcomes.{announced as announced_mode, machine_over};
 ghost use Rattle.pn_serve.specs.Machine.Recovering.{adoption_turn, text_adoption_turn};
 ghost use Rattle.pn_serve.specs.Machine.Answers.{AnswersBy, ConcludesBy};
-ghost use Rattle.pn_serve.specs.Machine.Ways.{ComesTo, IsJoined};
+ghost use Rattle.pn_serve.specs.Machine.Ways.{ComesTo, Gathers, IsJoined};
 
 use crate::machine::Answer;
 use pn_join::NoMemory;
@@ -51,7 +51,9 @@ pub(crate) enum Gathered {
 
 impl Announced {
     /// Takes a line with its newline.
-    pub(crate) fn gather(self, line: &[u8]) -> Gathered {
+    pub(crate) fn gather(self, line: &[u8]) -> Gathered
+        ensures { Gathers self.left (bytes_of self.text) line.now result }
+    {
         let Announced { left, text } = self;
         let text = append_line(text, line, b"\n");
         if left > 1 {

@@ -69,4 +69,6 @@ impl<R: Wait + Copy, S: Source + Drop> Origin<S> for OneWriter<R> {
             );
         }
     }
+
+    fn stop_writer(&mut self, _source: S) {}
 }

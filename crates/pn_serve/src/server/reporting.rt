@@ -37,7 +37,7 @@ pub(crate) fn report_stream<R: Wait, S: Source + Drop, O: Origin<S> + Drop>(
     let mut origin = origin;
     for _ in rt.forever() {
         let Some(end) = read_writer(rt, &mut input, &mut origin, reporter) else {
-            return Err(input.name());
+            return Err(stop_reading(input, &mut origin));
         };
         let ended = end_of(&input, &end);
         match what_comes_next(alloc, input, &end, &mut origin) {
@@ -49,6 +49,15 @@ pub(crate) fn report_stream<R: Wait, S: Source + Drop, O: Origin<S> + Drop>(
         }
     }
     unreachable!()
+}
+
+// Gives back what a writer was read from before its end. Answers the stream's name.
+fn stop_reading<S: Source + Drop, O: Origin<S>>(input: WriterInput<S>, origin: &mut O) -> StreamName
+    ensures { result ≡ input.reader.name }
+{
+    let name = input.name();
+    origin.stop_writer(input.reader.into_source());
+    name
 }
 
 // Reports the messages of a writer. Answers how its input ended, or None where the mailbox takes nothing more.

@@ -3,18 +3,17 @@
 ghost use Rattle.std.specs.Prelude.{◌≡◌, [], ◌∷◌, ◌++◌, ◌≤◌, map, None, IfErr, IfOk, OnOk};
 ghost use Rattle.pn_apply.specs.declared.reducing.TheConstants.{MAX_WORKERS};
 ghost use Rattle.pn_live.specs.Prelude.{tablets_in};
-ghost use Rattle.pn_serve.specs.Server.Events.{ReadsBesides, RunsCommands};
+ghost use Rattle.pn_serve.specs.Server.Events.{ReadsBesides};
 ghost use Rattle.pn_serve.specs.Server.Reading.{ReadsStreams};
 ghost use Rattle.pn_serve.specs.declared.server.mailboxes.AtFault.TheVariants.{GoOn};
 
 use crate::ServeFault;
 use crate::control::mailboxes::ControlMailboxes;
 use crate::server::counter::Counter;
-use crate::server::events::{run_commands, run_events};
+use crate::server::events::run_beside;
 use crate::server::mailboxes::{AtFault, Reporter, StreamMailboxes, Wakeup};
 use crate::server::reporting::{next_input, report_stream};
 use crate::server::reports::Report;
-use crate::server::rounds::run_rounds;
 use crate::server::writers::{Origin, Stream};
 use pn_line::Source;
 use pn_live::LiveRegion;
@@ -32,22 +31,9 @@ pub struct Watchers {
     pub controls: Option<Arc<ControlMailboxes>>,
 }
 
-/// Does what control sessions ask for, until one asks the server to stop. Answers in how many seconds at most it is to end.
-pub fn take_commands<R: Wait>(
-    rt: &R,
-    alloc: Global,
-    live: &mut LiveRegion,
-    controls: &ControlMailboxes,
-) -> u64
-    ensures runs { RunsCommands GoOn live.old live.new }
-    ensures same { tablets_in live.new ≡ tablets_in live.old }
-{
-    run_commands(rt, alloc, live, controls)
-}
-
-/// Reads streams into a live region until all have ended, at most 1,000 messages of each a round. A stream's fault
-/// ends that stream alone. The fault is `Start`, or `Round`, after which no stream is read. Rounds are counted where
-/// somebody looks at it.
+/// Reads streams into a live region until all have ended, or a control session asks the server to stop, at most 1,000 messages
+/// of each a round. Between two rounds it does what control sessions ask for. A stream's fault ends that stream alone. The
+/// fault is `Start`, or `Round`, after which no stream is read. Rounds are counted where somebody looks at it.
 pub fn read_streams<R, S, O>(
     rt: &R,
     alloc: Global,
@@ -66,10 +52,7 @@ where
     ensures same { tablets_in live.new ≡ tablets_in live.old }
 {
     let mut mailboxes = start_threads::<R, S, O>(rt, alloc, streams, watchers)?;
-    let read = match &watchers.controls {
-        Some(controls) => run_events(rt, alloc, live, workers, &mut mailboxes, controls),
-        None => run_rounds(rt, alloc, live, workers, &mut mailboxes),
-    };
+    let read = run_beside(rt, alloc, live, workers, &mut mailboxes, &watchers.controls);
     mailboxes.close(rt);
     read
 }

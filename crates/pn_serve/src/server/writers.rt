@@ -37,6 +37,9 @@ pub trait Origin<S: Source + Drop> {
 
     /// Notes how a writer's input ended, and takes back what it was read from.
     fn end_writer(&mut self, source: S, end: &WriterEnd, last: u64);
+
+    /// Takes back what a writer was read from before its end: no round takes anything more of the stream.
+    fn stop_writer(&mut self, source: S);
 }
 
 /// A stream that is read from one writer after another, and what it was taken up to before.

@@ -1,19 +1,15 @@
 //! The threads that answer control sessions: each takes one client of the control socket after another.
 
-ghost use Rattle.std.specs.Prelude.{◌≡◌, All, IfOk};
-ghost use Rattle.pn_live.specs.Prelude.{tablets_in, tablets_of};
-ghost use Rattle.pn_serve.specs.Server.Sessions.{AllRead};
-
 use crate::counters::Counters;
 use crate::current_stats::CurrentStats;
 use crate::listener::Listener;
+use crate::server::control_client::ControlClient;
 use crate::socket::{Socket, TrackedSocket};
-use pn_live::{LiveReader, LiveRegion};
-use pn_serve::{ComesBack, ControlMailboxes, ControlSession, MAX_CONTROLS, SessionThread};
+use pn_live::LiveReader;
+use pn_serve::{ControlMailboxes, ControlSession, MAX_CONTROLS};
 use std::alloc::Global;
 use std::fs::{File, Files};
 use std::io::BufReader;
-use std::snapshot::Snapshot;
 use std::sync::{Arc, Wait};
 use std::thread::Threads;
 use std::time::{Clock, Duration, Instant};
@@ -22,127 +18,167 @@ use std::{io, thread};
 /// How many bytes of a control session are read at a time.
 const CONTROL_READ_SIZE: usize = 65_536;
 
-/// For how many seconds a control client is waited for that takes nothing.
-const PATIENCE: u64 = 60;
+/// For how many seconds a control client is waited for that writes nothing, or takes nothing.
+const PATIENCE: u64 = 300;
 
 /// For how many milliseconds nobody is accepted after the system refused a socket.
 const RETRY: u64 = 10;
 
-/// What control threads share: their socket, their mailboxes, and what was counted.
+/// What is started for control sessions.
 #[derive(Drop)]
-pub(super) struct ControlSetting {
-    pub(super) alloc: Global,
-    pub(super) listener: Listener,
-    pub(super) mailboxes: Arc<ControlMailboxes>,
-    pub(super) counters: Arc<Counters>,
+pub(super) struct Controls {
+    /// Their socket, and the mailboxes in which they leave commands, where there may be some.
+    pub(super) listener: Option<Listener>,
+    pub(super) mailboxes: Option<Arc<ControlMailboxes>>,
+    pub(super) clients: Vec<Arc<ControlClient>>,
 }
 
-/// Starts as many threads as there may be control sessions, each with a reader.
+/// Starts a thread for each reader, where there may be control sessions.
 pub(super) fn start_controls<R>(
     rt: &R,
-    setting: &ControlSetting,
-    live: &LiveRegion,
-    readers: &mut Vec<LiveReader>,
-) -> io::Result<Vec<SessionThread>>
-where
-    R: Threads + Wait + Clock + Files<File = File> + Copy + Send + Drop + 'static,
-    requires { AllRead (tablets_in live.now) readers.old.items }
-    ensures running { IfOk result (λ running. All (λ session. tablets_of session.promise.0.value ≡ tablets_in live.now) running.items) }
-    ensures readers { AllRead (tablets_in live.now) readers.new.items }
-{
-    let started = Instant::now(rt).ok();
-    let mut running = Vec::with_capacity(setting.alloc, MAX_CONTROLS)?;
-    for number in 0..MAX_CONTROLS {
-        let Some(reader) = readers.pop() else {
-            return Ok(running);
-        };
-        let session = ControlSession {
-            mailboxes: Arc::try_clone(&setting.mailboxes)?,
-            number,
-            stats: CurrentStats {
-                rt: *rt,
-                counters: Arc::try_clone(&setting.counters)?,
-                started,
-            },
-        };
-        let thread = start_control(rt, setting, session, reader)?;
-        running.push(thread)?;
-    }
-    Ok(running)
-}
-
-fn start_control<R>(
-    rt: &R,
-    setting: &ControlSetting,
-    session: ControlSession<CurrentStats<R>>,
-    reader: LiveReader,
-) -> io::Result<SessionThread>
-where
-    R: Threads + Wait + Clock + Files<File = File> + Copy + Send + Drop + 'static,
-    ensures { IfOk result (λ running. tablets_of running.promise.0.value ≡ tablets_of reader) }
-{
-    let promise = ComesBack(Snapshot::of(&reader));
-    let body = ControlThread {
-        alloc: setting.alloc,
-        listener: setting.listener.try_clone()?,
-        session,
-        reader,
-    };
-    let host = *rt;
-    Ok(thread::spawn_with(rt, promise, move || answer_clients(&host, body))?)
-}
-
-// What a control thread begins with.
-#[derive(Drop)]
-struct ControlThread<R: Drop> {
     alloc: Global,
-    listener: Listener,
-    session: ControlSession<CurrentStats<R>>,
-    reader: LiveReader,
-}
-
-// Answers one client after another until the server is to stop, and gives the reader back.
-fn answer_clients<R>(rt: &R, body: ControlThread<R>) -> LiveReader
+    listener: Option<Listener>,
+    counters: &Arc<Counters>,
+    readers: Vec<LiveReader>,
+) -> io::Result<Controls>
 where
-    R: Wait + Clock + Files<File = File> + Drop,
-    ensures { tablets_of result ≡ tablets_of body.reader }
+    R: Threads + Wait + Clock + Files<File = File> + Copy + Send + Drop + 'static,
 {
-    let ControlThread {
+    let Some(listener) = listener else {
+        return Ok(Controls {
+            listener: None,
+            mailboxes: None,
+            clients: Vec::new(alloc),
+        });
+    };
+    let setting = ControlSetting {
         alloc,
         listener,
-        session,
-        reader,
-    } = body;
+        mailboxes: Arc::new(alloc, ControlMailboxes::new(alloc, MAX_CONTROLS)?)?,
+        counters: Arc::try_clone(counters)?,
+        started: Instant::now(rt).ok(),
+    };
+    let clients = start_threads(rt, &setting, readers)?;
+    Ok(Controls {
+        listener: Some(setting.listener),
+        mailboxes: Some(setting.mailboxes),
+        clients,
+    })
+}
+
+// What control threads share: their socket, their mailboxes, what was counted, and since when.
+#[derive(Drop)]
+struct ControlSetting {
+    alloc: Global,
+    listener: Listener,
+    mailboxes: Arc<ControlMailboxes>,
+    counters: Arc<Counters>,
+    started: Option<Instant>,
+}
+
+impl ControlSetting {
+    fn try_clone(&self) -> io::Result<ControlSetting> {
+        Ok(ControlSetting {
+            alloc: self.alloc,
+            listener: self.listener.try_clone()?,
+            mailboxes: Arc::try_clone(&self.mailboxes)?,
+            counters: Arc::try_clone(&self.counters)?,
+            started: self.started,
+        })
+    }
+}
+
+fn start_threads<R>(
+    rt: &R,
+    setting: &ControlSetting,
+    readers: Vec<LiveReader>,
+) -> io::Result<Vec<Arc<ControlClient>>>
+where
+    R: Threads + Wait + Clock + Files<File = File> + Copy + Send + Drop + 'static,
+{
+    let mut clients = Vec::with_capacity(setting.alloc, readers.len())?;
+    for reader in readers {
+        let client = Arc::new(setting.alloc, ControlClient::new())?;
+        let thread = ControlThread {
+            setting: setting.try_clone()?,
+            number: clients.len(),
+            client: Arc::try_clone(&client)?,
+        };
+        let host = *rt;
+        thread::spawn(rt, move || answer_clients(&host, &thread, reader))?;
+        clients.push(client)?;
+    }
+    Ok(clients)
+}
+
+// What a control thread begins with, beside its reader.
+#[derive(Drop)]
+struct ControlThread {
+    setting: ControlSetting,
+    number: usize,
+    client: Arc<ControlClient>,
+}
+
+// Answers one client after another until the server is to stop.
+fn answer_clients<R>(rt: &R, thread: &ControlThread, reader: LiveReader)
+where
+    R: Wait + Clock + Files<File = File> + Drop,
+{
     let mut reader = reader;
     for _ in rt.forever() {
-        match listener.accept() {
+        let accepted = thread.setting.listener.accept();
+        if thread.client.is_stopping(rt) {
+            thread.client.note_end(rt);
+            return;
+        }
+        match begin(rt, thread, accepted) {
             Ok(socket) => {
-                let _ = answer(rt, alloc, &session, &mut reader, &socket);
+                reader = answer(rt, thread, reader, &socket);
+                thread.client.end(rt);
             }
             Err(_) => thread::sleep(rt, Duration::from_millis(RETRY)),
         }
-        if session.mailboxes.stop_asked(rt).is_some() {
-            return reader;
-        }
     }
-    unreachable!()
 }
 
-// Answers a client to its end.
-fn answer<R>(
+// The socket of a client who is to be answered. It is waited for no longer than is bearable.
+fn begin<R: Wait>(
     rt: &R,
-    alloc: Global,
-    session: &ControlSession<CurrentStats<R>>,
-    reader: &mut LiveReader,
-    socket: &Socket,
-) -> io::Result<()>
+    thread: &ControlThread,
+    accepted: io::Result<Socket>,
+) -> io::Result<Arc<Socket>> {
+    let socket = accepted?;
+    socket.set_timeout(Duration::from_secs(PATIENCE))?;
+    let socket = Arc::new(thread.setting.alloc, socket)?;
+    thread.client.begin(rt, Arc::try_clone(&socket)?)?;
+    Ok(socket)
+}
+
+// Answers a client to its end. Out of memory it is not answered.
+fn answer<R>(rt: &R, thread: &ControlThread, reader: LiveReader, socket: &Socket) -> LiveReader
 where
     R: Wait + Clock + Files<File = File> + Drop,
-    ensures { tablets_of reader.new ≡ tablets_of reader.old }
 {
-    socket.set_write_timeout(Duration::from_secs(PATIENCE))?;
-    let mut input = BufReader::with_capacity(alloc, CONTROL_READ_SIZE, TrackedSocket::new(socket))?;
+    let setting = &thread.setting;
+    let alloc = setting.alloc;
+    let Ok(mailboxes) = Arc::try_clone(&setting.mailboxes) else {
+        return reader;
+    };
+    let session = ControlSession {
+        mailboxes,
+        number: thread.number,
+        stats: CurrentStats {
+            rt,
+            counters: &setting.counters,
+            started: &setting.started,
+            client: socket,
+        },
+    };
+    let input = TrackedSocket::new(socket);
+    let Ok(mut input) = BufReader::with_capacity(alloc, CONTROL_READ_SIZE, input) else {
+        return reader;
+    };
     let mut output = TrackedSocket::new(socket);
-    let _ = session.answer(rt, alloc, reader, &mut input, &mut output);
-    Ok(())
+    let (reader, _) = session.answer(rt, alloc, reader, &mut input, &mut output);
+    reader
 }

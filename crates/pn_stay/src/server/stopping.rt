@@ -1,10 +1,12 @@
 //! How a server that stays is stopped.
 
+use crate::counters::{Counters, StreamCounters};
 use crate::listener::Listener;
+use crate::server::control_client::ControlClient;
 use crate::socket_mailbox::SocketMailbox;
 use std::sync::{Arc, Wait};
 use std::thread;
-use std::time::{Clock, Duration};
+use std::time::{Clock, Duration, Instant};
 
 /// For how many milliseconds the threads are waited for at a time.
 const STEP: u64 = 10;
@@ -12,39 +14,96 @@ const STEP: u64 = 10;
 /// How many such steps a second has.
 const STEPS: u64 = 100;
 
-/// What a server listens on, and the mailboxes of the threads that answer its connections.
+/// For how many steps the writers of streams are waited for that are told what was taken.
+const TELLING_STEPS: u64 = 20;
+
+/// What a server listens on, what the threads that answer its clients look at, and how far its streams are.
 #[derive(Drop)]
 pub(super) struct Stopping {
     pub(super) listener: Listener,
     pub(super) control: Option<Listener>,
     pub(super) mailboxes: Arc<Vec<Arc<SocketMailbox>>>,
+    pub(super) clients: Vec<Arc<ControlClient>>,
+    pub(super) counters: Arc<Counters>,
 }
 
 impl Stopping {
-    /// Accepts nobody from now on, and waits so many seconds at most until the lines that have come are answered.
+    /// Accepts nobody from now on, and waits so many seconds at most until the lines that have come are answered, and
+    /// writers are told what was taken.
     pub(super) fn run<R: Wait + Clock>(&self, rt: &R, seconds: u64) {
-        self.listener.stop();
-        if let Some(control) = &self.control {
-            control.stop();
-        }
-        for mailbox in self.mailboxes.iter() {
-            let _ = mailbox.tell_stop(rt);
-        }
-        for _ in 0..seconds.saturating_mul(STEPS) {
-            if self.have_ended(rt) {
+        let began = Instant::now(rt).ok();
+        self.tell_all(rt);
+        for step in 0..seconds.saturating_mul(STEPS) {
+            let is_told = step >= TELLING_STEPS || self.are_told(rt);
+            if is_told && self.have_ended(rt) || is_over(rt, &began, seconds) {
                 return;
             }
             thread::sleep(rt, Duration::from_millis(STEP));
         }
     }
 
-    // Whether all threads that answer connections have ended.
+    // Threads learn of the stop before nobody is accepted any more, so that none takes that for a fault.
+    fn tell_all<R: Wait>(&self, rt: &R) {
+        for mailbox in self.mailboxes.iter() {
+            let _ = mailbox.tell_stop(rt);
+        }
+        stop_clients(rt, &self.clients);
+        self.listener.stop();
+        if let Some(control) = &self.control {
+            control.stop();
+        }
+    }
+
+    // Whether all threads that answer clients have ended.
     fn have_ended<R: Wait>(&self, rt: &R) -> bool {
         for mailbox in self.mailboxes.iter() {
             if !mailbox.has_ended(rt) {
                 return false;
             }
         }
+        have_clients_ended(rt, &self.clients)
+    }
+
+    // Whether each writer is told what was taken of its stream.
+    fn are_told<R: Wait>(&self, rt: &R) -> bool {
+        for stream in self.counters.streams.iter() {
+            if is_behind(rt, stream) {
+                return false;
+            }
+        }
         true
     }
+}
+
+// Whether the writer of a stream is still to be told what was taken.
+fn is_behind<R: Wait>(rt: &R, stream: &StreamCounters) -> bool {
+    match (&stream.taken, &stream.told, &stream.status) {
+        (Some(taken), Some(told), Some(status)) => told.get() < taken.get() && status.is_open(rt),
+        _ => false,
+    }
+}
+
+// Whether so many seconds are over since then. Where the clock does not say it, steps are counted alone.
+fn is_over<R: Clock>(rt: &R, then: &Option<Instant>, seconds: u64) -> bool {
+    let Some(then) = then else { return false };
+    match then.elapsed(rt) {
+        Ok(elapsed) => elapsed >= Duration::from_secs(seconds),
+        Err(_) => false,
+    }
+}
+
+fn stop_clients<R: Wait>(rt: &R, clients: &[Arc<ControlClient>]) {
+    for client in clients {
+        client.stop(rt);
+    }
+}
+
+// Whether all threads that answer control sessions have ended.
+fn have_clients_ended<R: Wait>(rt: &R, clients: &[Arc<ControlClient>]) -> bool {
+    for client in clients {
+        if !client.has_ended(rt) {
+            return false;
+        }
+    }
+    true
 }

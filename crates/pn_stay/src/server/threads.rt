@@ -61,7 +61,7 @@ where
     };
     let mut mailboxes = Vec::new(alloc);
     let running = start_threads(rt, &shared, &mut mailboxes, live, readers)?;
-    let notes = AcceptNotes::new(alloc, messages);
+    let notes = AcceptNotes::new(alloc, Arc::try_clone(&shared.counters)?, messages);
     let mailboxes = Arc::new(alloc, mailboxes)?;
     start_accepting(rt, shared, listener, Arc::try_clone(&mailboxes)?, notes)?;
     Ok(Answering { running, mailboxes })
@@ -109,7 +109,7 @@ fn start_threads<R>(
     readers: &mut Vec<LiveReader>,
 ) -> io::Result<Vec<SessionThread>>
 where
-    R: Threads + Wait + Net + Copy + Send + 'static,
+    R: Threads + Wait + Net + Clock + Copy + Send + 'static,
     requires { AllRead (tablets_in live.now) readers.old.items }
     ensures running { IfOk result (λ running. All (λ session. tablets_of session.promise.0.value ≡ tablets_in live.now) running.items) }
     ensures readers { AllRead (tablets_in live.now) readers.new.items }
@@ -132,7 +132,7 @@ fn start_thread<R>(
     reader: LiveReader,
 ) -> io::Result<SessionThread>
 where
-    R: Threads + Wait + Net + Copy + Send + 'static,
+    R: Threads + Wait + Net + Clock + Copy + Send + 'static,
     ensures { IfOk result (λ session. tablets_of session.promise.0.value ≡ tablets_of reader) }
 {
     let poll = Poll::new(rt)?;
@@ -184,21 +184,21 @@ trait ThreadBody {
     ghost reader: { Self → LiveReaderValue };
 
     // Answers connections, and gives the reader back.
-    fn answer_all<R: Wait>(self, rt: &R) -> EndedThread
+    fn answer_all<R: Wait + Clock>(self, rt: &R) -> EndedThread
         ensures { tablets_of result.reader ≡ tablets_of (reader self) };
 }
 
 impl ThreadBody for LoopThread {
     ghost reader = { λ body. body.reader };
 
-    fn answer_all<R: Wait>(self, rt: &R) -> EndedThread {
+    fn answer_all<R: Wait + Clock>(self, rt: &R) -> EndedThread {
         answer_all(rt, self)
     }
 }
 
 fn spawn_thread<R, B>(rt: &R, promise: ComesBack, body: B) -> io::Result<SessionThread>
 where
-    R: Threads + Wait + Copy + Send + 'static,
+    R: Threads + Wait + Clock + Copy + Send + 'static,
     B: ThreadBody + Drop + Send + 'static,
     requires { tablets_of (B.reader body) ≡ tablets_of promise.0.value }
     ensures { IfOk result (λ running. running.promise ≡ promise) }
@@ -208,7 +208,7 @@ where
 }
 
 // Answers connections until the system's wait fails, and closes the mailbox.
-fn answer_all<R: Wait>(rt: &R, body: LoopThread) -> EndedThread
+fn answer_all<R: Wait + Clock>(rt: &R, body: LoopThread) -> EndedThread
     ensures tablets { tablets_of result.reader ≡ tablets_of body.reader }
     ensures knows { KnowsNoLess body.reader result.reader }
 {
@@ -233,7 +233,7 @@ fn answer_all<R: Wait>(rt: &R, body: LoopThread) -> EndedThread
     }
 }
 
-fn run<R: Wait>(
+fn run<R: Wait + Clock>(
     rt: &R,
     begun: io::Result<EventLoop>,
     mailbox: &SocketMailbox,
@@ -241,5 +241,8 @@ fn run<R: Wait>(
 ) -> io::Result<()>
     ensures { KnowsNoLess reader.old reader.new }
 {
-    begun?.run(rt, mailbox, reader)
+    let mut events = begun?;
+    let ended = events.run(rt, mailbox, reader);
+    events.close(rt);
+    ended
 }

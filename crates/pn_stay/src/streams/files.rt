@@ -104,6 +104,8 @@ fn open_file<R: Files<File = File>>(
             name,
             input,
             taken: None,
+            told: None,
+            status: None,
             size,
         })?;
     }

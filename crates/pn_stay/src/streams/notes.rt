@@ -2,13 +2,16 @@
 
 use crate::counters::InputCounters;
 use crate::messages::Messages;
-use crate::reasons::{describe_error, format_failure};
+use crate::reasons::{describe_error, describe_fault, format_failure};
+use crate::streams::status::StreamStatus;
 use crate::streams::writer::Progress;
 use pn_join::Name;
-use pn_serve::{Counter, StreamState, WriterEnd};
+use pn_serve::{StreamFaultStats, StreamState, WriterEnd};
+use pn_stream::ResumeFault;
 use std::alloc::{AllocError, Global};
 use std::io;
 use std::sync::{Arc, Wait};
+use std::time::Clock;
 
 /// The name of a stream, and where it is told and counted how it goes.
 #[derive(Drop)]
@@ -17,35 +20,54 @@ pub(crate) struct StreamNotes<R> {
     pub(crate) alloc: Global,
     pub(crate) name: Name,
     pub(crate) messages: Arc<Messages>,
-    /// The counters of what is read, where somebody looks at them.
+    /// The counters of what is read, and where it is noted how the stream goes, where somebody looks at them.
     pub(crate) counters: Option<Arc<InputCounters>>,
+    pub(crate) status: Option<Arc<StreamStatus>>,
     pub(crate) progress: Progress,
 }
 
+impl<R: Wait + Clock + Drop> StreamNotes<R> {
+    /// Notes that messages up to this position were handed to rounds.
+    pub(crate) fn hand_on(&self, last: u64) {
+        self.progress.handed.set(last);
+        if let Some(status) = &self.status {
+            status.note_message(&self.rt);
+        }
+    }
+}
+
 impl<R: Wait + Drop> StreamNotes<R> {
-    /// Notes how the stream goes, where somebody looks at that.
+    /// Notes whether a writer is read, where somebody looks at that.
     pub(crate) fn set_state(&self, state: StreamState) {
-        if let Some(counters) = &self.counters {
-            counters.set_state(state);
+        if let Some(status) = &self.status {
+            status.set_state(&self.rt, state);
         }
     }
 
     /// Tells how a writer's input ended.
     pub(crate) fn tell_end(&self, end: &WriterEnd) {
-        self.set_state(match end {
-            WriterEnd::End => StreamState::Ended,
-            WriterEnd::Fault { .. } => StreamState::Failed,
-        });
         match end {
-            WriterEnd::End => self.tell("ended"),
+            WriterEnd::End => {
+                self.set_state(StreamState::Ended);
+                self.tell("ended");
+            }
             WriterEnd::Fault {
                 fault,
                 position,
                 line,
             } => {
+                self.note_fault(fault, *line);
                 let text = format_failure(self.alloc, &self.name, fault, *position, *line);
                 self.messages.leave(&self.rt, text);
             }
+        }
+    }
+
+    // Notes a fault, where somebody looks at that. Out of memory it has no reason.
+    fn note_fault(&self, fault: &ResumeFault, line: u64) {
+        if let Some(status) = &self.status {
+            let reason = describe_fault(self.alloc, fault).unwrap_or(String::new(self.alloc));
+            status.note_fault(&self.rt, StreamFaultStats { line, reason });
         }
     }
 

@@ -12,9 +12,10 @@ use crate::streams::listener::StreamListener;
 use crate::streams::notes::StreamNotes;
 use crate::streams::origin::{StreamOrigin, Writers};
 use crate::streams::sockets::SocketWriters;
+use crate::streams::status::StreamStatus;
 use crate::streams::writer::Progress;
 use pn_join::Name;
-use pn_serve::{Counter, Stream, StreamPath};
+use pn_serve::{Stream, StreamPath};
 use std::alloc::{AllocError, Global};
 use std::fs::{File, Files};
 use std::net::Net;
@@ -32,6 +33,9 @@ pub struct OpenedStreams<R: Drop> {
     /// The paths of the sockets at which writers come.
     pub sockets: Vec<String>,
 }
+
+// The writers of a stream, and how many bytes its file has, where it ends.
+type OpenedWriters<R> = Result<(Writers<R>, Option<u64>), OpenFault>;
 
 /// Where it is told how streams go, and whether what is read of them is counted.
 #[derive(Drop)]
@@ -85,10 +89,10 @@ where
     ensures first { OnOk result (All (λ stream. stream.after ≡ 0) opened.new.streams.items) }
     ensures names { OnOk result (map (λ stream. stream.name) opened.new.streams.items ≡ map (λ stream. stream.name) opened.old.streams.items ++ name ∷ []) }
 {
-    let notes = new_notes(setting, name)?;
+    let notes = new_notes(setting, name, &path)?;
     let (writers, size) = open_writers(&notes, path, &mut opened.sockets)?;
     let taken = Arc::try_clone(&notes.progress.taken)?;
-    add_counters(&mut opened.counters, &notes, size)?;
+    add_counters(&mut opened.counters, &notes, &writers, size)?;
     opened.streams.push(Stream {
         name,
         after: 0,
@@ -99,16 +103,23 @@ where
 }
 
 // Adds the counters of a stream that is counted.
-fn add_counters<R>(
+fn add_counters<R: Drop>(
     counters: &mut Vec<StreamCounters>,
     notes: &StreamNotes<R>,
+    writers: &Writers<R>,
     size: Option<u64>,
 ) -> Result<(), AllocError> {
     if let Some(input) = share(&notes.counters)? {
+        let told = match writers {
+            Writers::Socket(_) => Some(Arc::try_clone(&notes.progress.told)?),
+            Writers::File(_) | Writers::Fifo(_) => None,
+        };
         counters.push(StreamCounters {
             name: notes.name,
             input,
             taken: Some(Arc::try_clone(&notes.progress.taken)?),
+            told,
+            status: share(&notes.status)?,
             size,
         })?;
     }
@@ -118,6 +129,7 @@ fn add_counters<R>(
 fn new_notes<R: Copy>(
     setting: &StreamSetting<R>,
     name: Name,
+    path: &StreamPath,
 ) -> Result<StreamNotes<R>, AllocError> {
     let alloc = setting.alloc;
     Ok(StreamNotes {
@@ -126,11 +138,25 @@ fn new_notes<R: Copy>(
         name,
         messages: Arc::try_clone(&setting.messages)?,
         counters: new_counters(alloc, setting.is_counted)?,
-        progress: Progress {
-            handed: Arc::new(alloc, Counter::new())?,
-            taken: Arc::new(alloc, Counter::new())?,
-        },
+        status: new_status(alloc, path, setting.is_counted)?,
+        progress: Progress::new(alloc)?,
     })
+}
+
+// Where it is noted how a stream goes, where somebody is to look at it.
+fn new_status(
+    alloc: Global,
+    path: &StreamPath,
+    is_counted: bool,
+) -> Result<Option<Arc<StreamStatus>>, AllocError> {
+    if !is_counted {
+        return Ok(None);
+    }
+    let path = match path {
+        StreamPath::File(path) | StreamPath::Listen(path) => path,
+    };
+    let status = StreamStatus::new(String::from_str(alloc, path.as_str())?);
+    Ok(Some(Arc::new(alloc, status)?))
 }
 
 // The writers that come to a path, and how many bytes its file has, where it ends. A socket's path is added.
@@ -138,7 +164,7 @@ fn open_writers<R>(
     notes: &StreamNotes<R>,
     path: StreamPath,
     sockets: &mut Vec<String>,
-) -> Result<(Writers<R>, Option<u64>), OpenFault>
+) -> OpenedWriters<R>
 where
     R: Files<File = File> + Net + Wait + Clock + Copy + Drop,
 {
@@ -174,10 +200,7 @@ fn is_fifo<R: Files>(rt: &R, path: &str) -> io::Result<bool> {
     Ok(fs::metadata(rt, path)?.file_type().is_fifo())
 }
 
-fn open_fifo<R>(
-    notes: &StreamNotes<R>,
-    path: String,
-) -> Result<(Writers<R>, Option<u64>), OpenFault>
+fn open_fifo<R>(notes: &StreamNotes<R>, path: String) -> OpenedWriters<R>
 where
     R: Files<File = File> + Net + Wait + Clock + Copy + Drop,
 {
@@ -187,10 +210,7 @@ where
     }
 }
 
-fn open_file<R>(
-    notes: &StreamNotes<R>,
-    path: String,
-) -> Result<(Writers<R>, Option<u64>), OpenFault>
+fn open_file<R>(notes: &StreamNotes<R>, path: String) -> OpenedWriters<R>
 where
     R: Files<File = File> + Net + Wait + Clock + Copy + Drop,
 {

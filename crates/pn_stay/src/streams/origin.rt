@@ -45,7 +45,7 @@ where
     }
 
     fn hand_on(&mut self, last: u64) {
-        self.notes.progress.handed.set(last);
+        self.notes.hand_on(last);
     }
 
     fn end_writer(&mut self, source: StreamSource<R>, end: &WriterEnd, _last: u64) {
@@ -55,5 +55,10 @@ where
             Writers::Fifo(writers) => writers.end_writer(source, end),
             Writers::Socket(_) => end_socket(source, end),
         }
+    }
+
+    fn stop_writer(&mut self, source: StreamSource<R>) {
+        end_socket(source, &WriterEnd::End);
+        self.notes.set_state(StreamState::Ended);
     }
 }

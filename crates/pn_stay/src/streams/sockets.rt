@@ -6,10 +6,10 @@ use crate::seldom::Seldom;
 use crate::streams::input::{SOCKET_READ_SIZE, StreamInput, StreamSource, open_source};
 use crate::streams::listener::StreamListener;
 use crate::streams::notes::StreamNotes;
-use crate::streams::writer::{Progress, WriterSocket};
+use crate::streams::writer::WriterSocket;
 use pn_line::Source;
-use pn_serve::WriterEnd;
-use std::sync::{Arc, Wait};
+use pn_serve::{StreamState, WriterEnd};
+use std::sync::Wait;
 use std::time::{Clock, Duration};
 use std::{io, thread};
 
@@ -45,10 +45,12 @@ impl SocketWriters {
             match self.accept(notes, last) {
                 Ok(source) => {
                     let mut source = source;
+                    notes.set_state(StreamState::Open);
                     if source.has_more().unwrap_or(false) {
                         self.note_begin(notes);
                         return source;
                     }
+                    notes.set_state(StreamState::Ended);
                 }
                 Err(error) => self.note_refusal(notes, &error),
             }
@@ -61,10 +63,7 @@ impl SocketWriters {
         R: Wait + Clock + Copy + Drop,
     {
         let stream = self.listener.accept()?;
-        let progress = Progress {
-            handed: Arc::try_clone(&notes.progress.handed)?,
-            taken: Arc::try_clone(&notes.progress.taken)?,
-        };
+        let progress = notes.progress.try_clone()?;
         let socket = WriterSocket::begin(notes.rt, notes.alloc, stream, progress, last)?;
         let input = StreamInput::Socket(socket);
         open_source(notes.alloc, input, SOCKET_READ_SIZE, &notes.counters)

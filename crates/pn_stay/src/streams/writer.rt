@@ -21,11 +21,32 @@ const PAUSE: u64 = 100;
 /// For how many milliseconds a writer is waited for that takes nothing.
 const PATIENCE: u64 = 1;
 
-/// Up to which positions a stream was handed to rounds, and was taken by them.
+/// Up to which positions a stream was handed to rounds, was taken by them, and its writer was told so.
 #[derive(Drop)]
 pub(crate) struct Progress {
     pub(crate) handed: Arc<Counter>,
     pub(crate) taken: Arc<Counter>,
+    pub(crate) told: Arc<Counter>,
+}
+
+impl Progress {
+    /// That of a stream of which nothing was handed to rounds.
+    pub(crate) fn new(alloc: Global) -> Result<Progress, AllocError> {
+        Ok(Progress {
+            handed: Arc::new(alloc, Counter::new())?,
+            taken: Arc::new(alloc, Counter::new())?,
+            told: Arc::new(alloc, Counter::new())?,
+        })
+    }
+
+    /// Another handle of the same.
+    pub(crate) fn try_clone(&self) -> Result<Progress, AllocError> {
+        Ok(Progress {
+            handed: Arc::try_clone(&self.handed)?,
+            taken: Arc::try_clone(&self.taken)?,
+            told: Arc::try_clone(&self.told)?,
+        })
+    }
 }
 
 /// The socket of a writer.
@@ -35,8 +56,7 @@ pub struct WriterSocket<R> {
     alloc: Global,
     stream: UnixStream,
     progress: Progress,
-    // The position that the writer was told last, and when.
-    told: u64,
+    // When the writer was told a position last.
     told_at: Option<Instant>,
     // Whether a read ends after a tenth of a second.
     is_timed: bool,
@@ -54,12 +74,12 @@ impl<R: Clock + Drop> WriterSocket<R> {
         last: u64,
     ) -> io::Result<WriterSocket<R>> {
         stream.set_write_timeout(Some(Duration::from_millis(PATIENCE)))?;
+        progress.told.set(last);
         let mut socket = WriterSocket {
             rt,
             alloc,
             stream,
             progress,
-            told: last,
             told_at: None,
             is_timed: false,
             is_told: true,
@@ -71,10 +91,10 @@ impl<R: Clock + Drop> WriterSocket<R> {
     /// Tells the writer what is taken, where it was not told.
     pub(crate) fn tell_taken(&mut self) {
         let taken = self.progress.taken.get();
-        if taken > self.told {
+        if taken > self.progress.told.get() {
             self.told_at = Instant::now(&self.rt).ok();
             if self.tell(format_taken(self.alloc, taken)) {
-                self.told = taken;
+                self.progress.told.set(taken);
             }
         }
     }
@@ -102,14 +122,17 @@ impl<R: Clock + Drop> WriterSocket<R> {
 
     // Tells what is taken, ten times a second at most.
     fn tell_in_time(&mut self) {
-        if self.progress.taken.get() > self.told && is_over(&self.rt, &self.told_at) {
+        if self.progress.taken.get() > self.progress.told.get()
+            && is_over(&self.rt, &self.told_at)
+        {
             self.tell_taken();
         }
     }
 
     // Whether rounds are still to take what was handed to them, or the writer is to be told so.
     fn is_behind(&self) -> bool {
-        self.told < self.progress.handed.get() || self.told < self.progress.taken.get()
+        let told = self.progress.told.get();
+        told < self.progress.handed.get() || told < self.progress.taken.get()
     }
 
     // A read ends after a tenth of a second where there may be something to tell then.

@@ -78,6 +78,7 @@ impl LineLoop {
         ensures err { OnErr result (AppendsPrefix (W.contents output.old) (W.contents output.new) self.old.waits) }
         ensures fault { OnErr result W.may_fail }
         ensures empty { self.new.waits ≡ [] }
+        ensures out { OnOk result (W.is_handed_on output.new) }
         ensures line { self.new.line ≡ self.old.line }
         ensures counts { self.new.counts ≡ self.old.counts }
     {

@@ -1,7 +1,6 @@
 -- The fields and the master are within their bytes.
 use Rattle.std.proofs.Common.{◌≡◌, Some, map, sym, ap, ◌∙◌}
 use Rattle.std.proofs.lemmas.List.{length-map}
-use Rattle.pn_record.specs.Limits.{ContentValue}
 use Rattle.pn_record.specs.Showing.{shown_body, shown_field}
 use Rattle.pn_protocol.proofs.Capacity.{fields_bounded}
 use Rattle.pn_protocol.proofs.reply.capacity.step_of_content.Goals as goal

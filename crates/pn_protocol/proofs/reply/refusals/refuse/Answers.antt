@@ -19,3 +19,6 @@ returns-in-Round c = rw c.in-Round.is (told _ _ _ _ _ c.round_error.ensures c.re
 
 pub returns-in-Relayout : goal.returns-in-Relayout
 returns-in-Relayout c = rw c.in-Relayout.is (told _ _ _ _ _ c.relayout_error.ensures c.refuse_with-in-Relayout.ensures)
+
+pub returns-in-Advance : goal.returns-in-Advance
+returns-in-Advance c = rw c.in-Advance.is (told _ _ _ _ _ c.advance_error.ensures c.refuse_with-in-Advance.ensures)

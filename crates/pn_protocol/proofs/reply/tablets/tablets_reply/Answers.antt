@@ -5,5 +5,6 @@ use Rattle.pn_json.proofs.TokenLists.{has_value}
 use Rattle.pn_protocol.proofs.reply.tablets.tablets_reply.Goals as goal
 
 pub returns : goal.returns
-returns c =
-    IfOk-weaker c.finish_line.result _ _ (λ text is. is (tablets_data c.args.region.now.state.tablets) (has_value (tablets_data c.args.region.now.state.tablets) _ _ c.in_ok-writer.ensures c.in_ok-write_tablets_object.ensures)) c.finish_line.ensures
+returns g c =
+    let value = tablets_data (g.T.ShownTablets.tablets c.args.region.now) in
+    IfOk-weaker c.finish_line.result _ _ (λ text is. is value (has_value value _ _ c.in_ok-writer.ensures c.in_ok-write_tablets_object.ensures)) c.finish_line.ensures

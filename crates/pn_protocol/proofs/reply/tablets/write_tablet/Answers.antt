@@ -1,10 +1,9 @@
 -- The members of a tablet follow one another.
-use Rattle.std.proofs.Common.{◌≡◌, ℕ, List, Option, codes, ap, ◌∙◌}
+use Rattle.std.proofs.Common.{ℕ, List, Option, codes, ap, ◌∙◌}
 use Rattle.serde_json.specs.Data.{Data, object, member, no_members}
 use Rattle.pn_join.specs.Marks.{Positions}
 use Rattle.pn_record.specs.Marks.{marks_data}
 use Rattle.pn_tablet.specs.Ranges.{Ends}
-use Rattle.pn_tablet.specs.Tablets.{TabletStateValue}
 use Rattle.pn_tablet.specs.declared.state.Status.{Status}
 use Rattle.pn_protocol.specs.Reply.Tablets.{end_data, need_data, tablet_data}
 use Rattle.pn_json.specs.Tokens.{value_tokens}
@@ -21,13 +20,10 @@ tablet_of cover from status to =
 
 pub returns : goal.returns
 unfolding tablet_data
-returns c = λ shown there.
-    let same : c.tablet-state.result.now ≡ shown = let here = c.tablet-state.ensures in cc in
-    let cover = c.cover.ensures.cover ∙ ap (λ (t : TabletStateValue). t.cover) same in
-    let status = c.status.ensures.status ∙ ap (λ (t : TabletStateValue). t.status) same in
-    let from = c.from.ensures.from ∙ ap (λ (ends : Ends). ends.0) c.range.ensures.range ∙ ap (λ (t : TabletStateValue). t.range.0) same in
-    let to = c.to.ensures.to ∙ ap (λ (ends : Ends). ends.1) c.range-2.ensures.range ∙ ap (λ (t : TabletStateValue). t.range.1) same in
-    appends_as (λ i. value_tokens (tablet_of (cover i) (from i) (status i) (to i)))
+returns c =
+    let from = c.from.ensures.from ∙ ap (λ (ends : Ends). ends.0) c.range.ensures.range in
+    let to = c.to.ensures.to ∙ ap (λ (ends : Ends). ends.1) c.range-2.ensures.range in
+    appends_as (λ i. value_tokens (tablet_of (c.cover.ensures.cover i) (from i) (c.status.ensures.status i) (to i)))
     (appends_both (appends_token c.in_ok-begin_object.ensures)
     (appends_both (appends_token c.in_ok-key.ensures)
     (appends_both c.in_ok-write_marks.ensures

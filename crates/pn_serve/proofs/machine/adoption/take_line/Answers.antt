@@ -1,7 +1,9 @@
--- The last announced line came.
-use Rattle.std.proofs.Common.{arith}
-use Rattle.pn_serve.proofs.Announcing.{came_last}
+-- An announced line came.
+use Rattle.pn_serve.proofs.Announcing.{came_last, came_on}
 use Rattle.pn_serve.proofs.machine.adoption.take_line.Goals as goal
 
-pub returns : goal.returns
-returns c = came_last c.args.region.now c.args.announced c.args.line.now _ _ _ (omega (arith, c.if-left-gt1.false)) c.append_line-text.ensures c.adopt.ensures
+pub returns-in-More : goal.returns-in-More
+returns-in-More c = let came = c.in-More.ensures in came_on c.args.region.now c.args.announced c.args.line.now _ came.0 came.1 came.2
+
+pub returns-in-Text : goal.returns-in-Text
+returns-in-Text c = let came = c.in-Text.ensures in came_last c.args.region.now c.args.announced c.args.line.now _ _ _ came.0 came.1 c.adopt.ensures

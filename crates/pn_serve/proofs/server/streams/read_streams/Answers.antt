@@ -3,11 +3,13 @@ use Rattle.std.proofs.Common.{◌≡◌, ℕ, List, map, refl, sym, ◌∙◌, s
 use Rattle.std.proofs.lemmas.Result.{err_from_is_err_and}
 use Rattle.std.specs.Prelude.{IsErrAnd, Result, Ok, Err}
 use Rattle.pn_live.specs.LiveRegions.{LiveRegionValue}
+use Rattle.pn_serve.specs.Server.Events.{ReadsBesides, RunsEvents}
 use Rattle.pn_serve.specs.Server.Reading.{ReadsStreams, RunsRounds}
 use Rattle.pn_serve.specs.declared.server.fault.ServeFault.{ServeFault}
 use Rattle.pn_serve.specs.declared.server.fault.ServeFault.TheVariants.{Start, Stream, Round, Close, Write}
 use Rattle.pn_serve.specs.declared.server.mailboxes.AtFault.{AtFault}
 use Rattle.pn_serve.specs.declared.server.mailboxes.AtFault.TheVariants.{GoOn}
+use Rattle.pn_serve.proofs.EventsRead.{as_besides}
 use Rattle.pn_serve.proofs.RoundsRead.{of_rounds}
 use Rattle.pn_serve.proofs.server.streams.read_streams.Goals as goal
 
@@ -24,16 +26,34 @@ not_begun names old fault result answered start =
     let (other, is, same) = err_from_is_err_and result answered in
     subst (ReadsStreams names old old) (sym is) (subst (λ (f : ServeFault). ReadsStreams names old old (Err f)) (sym (same ∙ start)) refl)
 
+none_beside : (names : List (List ℕ)) (old : LiveRegionValue) (fault : ServeFault) (result : Result (Unit {0}) ServeFault) → IsErrAnd result (λ other. other ≡ fault) → fault ≡ Start → ReadsBesides names old old result
+none_beside names old fault result answered start =
+    let (other, is, same) = err_from_is_err_and result answered in
+    subst (ReadsBesides names old old) (sym is) (subst (λ (f : ServeFault). ReadsBesides names old old (Err f)) (sym (same ∙ start)) refl)
+
+module _ (at_fault : AtFault) (given names : List (List ℕ)) (old new : LiveRegionValue) (read : Result (Unit {0}) ServeFault) (same : given ≡ names) (goes_on : at_fault ≡ GoOn) where
+  alone : RunsRounds at_fault given old new read → ReadsStreams names old new read
+  alone reads =
+      as_streams names old new read
+      (subst (λ (a : AtFault). RunsRounds a names old new read) goes_on (subst (λ (ns : List (List ℕ)). RunsRounds at_fault ns old new read) same reads))
+
+  besides : RunsEvents at_fault given old new read → ReadsBesides names old new read
+  besides ran =
+      as_besides names old new read
+      (subst (λ (a : AtFault). RunsEvents a names old new read) goes_on (subst (λ (ns : List (List ℕ)). RunsEvents at_fault ns old new read) same ran))
+
+pub returns-clause-alone : goal.returns-clause-alone
+returns-clause-alone g c = λ none.
+    alone c.in_ok-mailboxes.mailboxes.at_fault _ _ c.args.live.now c.run_beside-read.new.live c.run_beside-read.result c.in_ok-mailboxes.ensures.names c.in_ok-mailboxes.ensures.at_fault (c.run_beside-read.ensures.alone none)
+
 pub returns-clause-reads : goal.returns-clause-reads
 returns-clause-reads g c =
-    let at_fault = c.in_ok-mailboxes.mailboxes.at_fault in
-    let old = c.args.live.now in
-    let new = c.run_rounds-read.new.live in
-    let read = c.run_rounds-read.result in
-    let names = map (λ stream. stream.name) c.args.streams.items in
-    let reads : RunsRounds at_fault names old new read = subst (λ (ns : List (List ℕ)). RunsRounds at_fault ns old new read) c.in_ok-mailboxes.ensures.names c.run_rounds-read.ensures.reads in
-    as_streams names old new read (subst (λ (a : AtFault). RunsRounds a names old new read) c.in_ok-mailboxes.ensures.at_fault reads)
+    besides c.in_ok-mailboxes.mailboxes.at_fault _ _ c.args.live.now c.run_beside-read.new.live c.run_beside-read.result c.in_ok-mailboxes.ensures.names c.in_ok-mailboxes.ensures.at_fault c.run_beside-read.ensures.runs
+
+pub returns-in_err-mailboxes-clause-alone : goal.returns-in_err-mailboxes-clause-alone
+returns-in_err-mailboxes-clause-alone g c = λ none.
+    not_begun _ c.args.live.now c.in_err-mailboxes.field-0.0 c.from_residual.result c.from_residual.ensures.1 c.in_err-mailboxes.ensures.fault
 
 pub returns-in_err-mailboxes-clause-reads : goal.returns-in_err-mailboxes-clause-reads
 returns-in_err-mailboxes-clause-reads g c =
-    not_begun _ c.args.live.now c.in_err-mailboxes.field-0.0 c.from_residual.result c.from_residual.ensures.1 c.in_err-mailboxes.ensures.fault
+    none_beside _ c.args.live.now c.in_err-mailboxes.field-0.0 c.from_residual.result c.from_residual.ensures.1 c.in_err-mailboxes.ensures.fault

@@ -1,0 +1,13 @@
+-- The members of the connections follow one another.
+use Rattle.pn_protocol.specs.Reply.Stats.{connections_data}
+use Rattle.pn_json.proofs.TokenLists.{appends_token, appends_both}
+use Rattle.pn_protocol.proofs.reply.stats.ConnectionStats.write.Goals as goal
+
+pub returns : goal.returns
+unfolding connections_data
+returns c =
+    appends_both (appends_token c.in_ok-begin_object.ensures)
+    (appends_both c.in_ok-write_number_member.ensures
+    (appends_both c.in_ok-write_number_member-2.ensures
+    (appends_both c.in_ok-write_number_member-3.ensures
+    (appends_both c.in_ok-write_number_member-4.ensures (appends_token c.in_ok-end_object.ensures)))))

@@ -1,0 +1,160 @@
+-- Steps of control sessions, by what the program did.
+use Rattle.std.proofs.Common.{◌≡◌, ◌≢◌, ◌⊎◌, ℕ, ◌<◌, Bool, true, false, List, [], ◌∷◌, length, inl, inr, refl, sym, ap, ◌∙◌, subst, arith}
+use Rattle.std.specs.Prelude.{Result, Ok, Err, Vec, IfOk, MatchResult}
+use Rattle.std.specs.declared.alloc.Global.{Global}
+use Rattle.std.proofs.lemmas.Bool.{cases_lt}
+use Rattle.std.proofs.lemmas.Bool.Decides.{nat_tests}
+use Rattle.pn_join.specs.declared.memory.NoMemory.{NoMemory}
+use Rattle.pn_line.specs.Line.{LineBufferValue, so_far, kept_bytes}
+use Rattle.pn_line.proofs.LineLaws.{kept_bytes-short, length-kept_bytes_long}
+use Rattle.pn_tablet.specs.Copies.{TabletCopyValue}
+use Rattle.pn_tablet.specs.CopyReading.{copy_at}
+use Rattle.pn_tablet.specs.declared.fault.CopyTextFault.{CopyTextFault}
+use Rattle.pn_tablet.specs.declared.fault.CopyTextFault.TheVariants as fault
+use Rattle.pn_live.specs.Readers.{LiveReaderValue}
+use Rattle.pn_protocol.proofs.ControlLines.{too_long}
+use Rattle.pn_protocol.specs.Command.Controls.{ControlValue, control_at, script, notices, advance, stats, stop}
+use Rattle.pn_protocol.specs.Command.Lines.{is_too_long}
+use Rattle.pn_protocol.specs.Command.Meaning.{command_value}
+use Rattle.pn_protocol.specs.Command.Meaning as command
+use Rattle.pn_protocol.specs.Reply.Refusals.{Refuses}
+use Rattle.pn_protocol.specs.declared.command.Command.{Command}
+use Rattle.pn_protocol.specs.declared.command.Command.TheVariants as words
+use Rattle.pn_protocol.specs.declared.refusal.Refusal.{Refusal}
+use Rattle.pn_protocol.specs.declared.refusal.Refusal.TheVariants.{TooLong, NotJson, BadShape, ReadOnly, OutOfRange, Memory}
+use Rattle.pn_protocol.specs.declared.reply.Reply.{Reply}
+use Rattle.pn_protocol.specs.declared.reply.Reply.TheVariants.{Adopted, Changed, Copied, Lost, Relaid, Stopping, Silent, Text, Refused, NotTaken}
+use Rattle.pn_protocol.specs.declared.reply.refusals.CommandFault.TheVariants.{CopyText}
+use Rattle.pn_serve.specs.Control.Commands.{Asked, Said, said_by}
+use Rattle.pn_serve.specs.Control.Steps.{AdoptsRead, AdoptsText, Asks, ObeysControl, ObeysScript, RepliesWith, Says, StepsAs, StepsBy, StepsLast, Lasts}
+use Rattle.pn_serve.specs.Session.Knowing.{KnowsNoLess}
+use Rattle.pn_serve.specs.Session.Lines.{LooksUp}
+use Rattle.pn_serve.specs.declared.control.steps.Step.{Step}
+use Rattle.pn_serve.specs.declared.control.steps.Step.TheVariants.{Replies, Announces, Stops, Ends}
+use Rattle.pn_serve.proofs.Knowing.{command_knows, knows_same}
+
+-- a line that was written says so, or memory ran out
+pub says_line : (line : List ℕ) (written : Result (Vec ℕ Global) NoMemory) (shown : Reply) → IfOk written (λ text. text.items ≡ line)
+    → MatchResult written (λ text. shown ≡ Text text) (λ _. shown ≡ Refused Memory) → Says (record { text = line; refused = false }) shown
+says_line line (Ok text) shown is shows = inl (ap said_by shows ∙ (λ i. record { text = is i; refused = false }))
+says_line line (Err none) shown is shows = inr shows
+
+-- a text that is a copy
+pub read_copy : (text : List ℕ) (copy : TabletCopyValue) (step : Step) → copy_at text ≡ Ok copy → AdoptsRead (Ok copy) step → AdoptsRead (copy_at text) step ⊎ (step ≡ Replies (Refused Memory))
+read_copy text copy step is adopts = inl (subst (λ (r : Result TabletCopyValue CopyTextFault). AdoptsRead r step) (sym is) adopts)
+
+-- or that is none
+pub read_fault : (text : List ℕ) (why : CopyTextFault) (shown : Reply) → (why ≢ fault.Memory → copy_at text ≡ Err why) → Refuses (CopyText why) shown
+    → AdoptsRead (copy_at text) (Replies shown) ⊎ (Replies shown ≡ Replies (Refused Memory))
+read_fault text why (NotTaken said) is refuses = inl (subst (λ (r : Result TabletCopyValue CopyTextFault). AdoptsRead r (Replies (NotTaken said))) (sym (is refuses.0)) refuses)
+read_fault text why (Adopted tablet) is refuses = inr (ap Replies refuses)
+read_fault text why (Changed count) is refuses = inr (ap Replies refuses)
+read_fault text why (Copied lines copied) is refuses = inr (ap Replies refuses)
+read_fault text why (Lost tablet) is refuses = inr (ap Replies refuses)
+read_fault text why (Relaid count) is refuses = inr (ap Replies refuses)
+read_fault text why (Stopping seconds) is refuses = inr (ap Replies refuses)
+read_fault text why Silent is refuses = inr (ap Replies refuses)
+read_fault text why (Text bytes) is refuses = inr (ap Replies refuses)
+read_fault text why (Refused refusal) is refuses = inr (ap Replies refuses)
+
+-- a command that the reader does
+pub looked_up : (old new : LiveReaderValue) (asked : Command) (shown : Reply) → ((lines : ℕ) → asked ≢ words.Adopt lines) → ((tablet : ℕ) → asked ≢ words.Lose tablet) → asked ≢ words.Marks → asked ≢ words.Tablets
+    → LooksUp old (command_value asked) new shown → ObeysScript old (command_value asked) new (Replies shown)
+looked_up old new (words.Adopt lines) shown adopts loses marks tablets looks = absurd (adopts lines refl)
+looked_up old new (words.Copy need tablet) shown adopts loses marks tablets looks = looks
+looked_up old new (words.Deliver deliveries) shown adopts loses marks tablets looks = looks
+looked_up old new (words.Get keys) shown adopts loses marks tablets looks = looks
+looked_up old new (words.Lose tablet) shown adopts loses marks tablets looks = absurd (loses tablet refl)
+looked_up old new words.Marks shown adopts loses marks tablets looks = absurd (marks refl)
+looked_up old new (words.Notices since) shown adopts loses marks tablets looks = looks
+looked_up old new (words.Read key version) shown adopts loses marks tablets looks = looks
+looked_up old new (words.Relayout bounds) shown adopts loses marks tablets looks = looks
+looked_up old new (words.Scan query) shown adopts loses marks tablets looks = looks
+looked_up old new words.Tablets shown adopts loses marks tablets looks = absurd (tablets refl)
+
+-- a line that says this command
+pub steps_said : (old new : LiveReaderValue) (line : List ℕ) (asked : ControlValue) (step : Step) → control_at line ≡ Ok asked → ObeysControl old asked new step → StepsBy old line new step
+steps_said old new line asked step said obeys = inl (subst (λ (r : Result ControlValue Refusal). StepsAs old r new step) (sym said) obeys)
+
+steps_refused : (old : LiveReaderValue) (line : List ℕ) (refusal : Refusal) → control_at line ≡ Err refusal → StepsBy old line old (Replies (Refused refusal))
+steps_refused old line refusal said = inl (subst (λ (r : Result ControlValue Refusal). StepsAs old r old (Replies (Refused refusal))) (sym said) (refl, refl))
+
+-- a line that was refused, or for which memory ran out
+pub steps_fault : (old : LiveReaderValue) (line : List ℕ) (refusal : Refusal) → (refusal ≢ Memory → control_at line ≡ Err refusal) → (refusal ≡ Memory → is_too_long line ≡ false) → StepsBy old line old (Replies (Refused refusal))
+steps_fault old line Memory is short = inr (short refl, refl, refl)
+steps_fault old line TooLong is short = steps_refused old line TooLong (is (λ same. cc))
+steps_fault old line NotJson is short = steps_refused old line NotJson (is (λ same. cc))
+steps_fault old line (BadShape part) is short = steps_refused old line (BadShape part) (is (λ same. cc))
+steps_fault old line ReadOnly is short = steps_refused old line ReadOnly (is (λ same. cc))
+steps_fault old line (OutOfRange part) is short = steps_refused old line (OutOfRange part) (is (λ same. cc))
+
+-- a step that announces nothing is the last one
+pub lasts_itself : (first : Step) → ((lines : ℕ) → first ≢ Announces lines) → Lasts first first
+lasts_itself (Replies shown) other = refl
+lasts_itself (Announces lines) other = absurd (other lines refl)
+lasts_itself (Stops seconds) other = refl
+lasts_itself Ends other = refl
+
+-- a line says what its kept bytes say
+said_kept : (line : List ℕ) → (control_at (kept_bytes line) ≡ control_at line) × (is_too_long (kept_bytes line) ≡ is_too_long line)
+said_kept line = elim (cases_lt 65536 (length line)) [
+  | inl long ↦
+      (
+      let long_too : 65536 < length (kept_bytes line) = omega (arith, length-kept_bytes_long line long) in
+      let here : is_too_long (kept_bytes line) ≡ true = grind (arith, nat_tests) in
+      let there : is_too_long line ≡ true = grind (arith, nat_tests) in
+      (too_long (kept_bytes line) long_too ∙ sym (too_long line long), here ∙ sym there)
+      )
+  | inr short ↦ (ap control_at (kept_bytes-short line short), ap is_too_long (kept_bytes-short line short))
+]
+
+steps_kept : (old new : LiveReaderValue) (line : List ℕ) (step : Step) → StepsBy old (kept_bytes line) new step → StepsBy old line new step
+steps_kept old new line step steps =
+    let same = said_kept line in
+    subst (λ (r : Result ControlValue Refusal). StepsAs old r new step ⊎ ((is_too_long line ≡ false) × (new ≡ old) × (step ≡ Replies (Refused Memory)))) same.0
+    (subst (λ (b : Bool). StepsAs old (control_at (kept_bytes line)) new step ⊎ ((b ≡ false) × (new ≡ old) × (step ≡ Replies (Refused Memory)))) same.1 steps)
+
+-- so a line that was read
+pub steps_so_far : (old new : LiveReaderValue) (line : LineBufferValue) (text : List ℕ) (step : Step) → line ≡ so_far text → StepsBy old line.bytes new step → StepsBy old text new step
+steps_so_far old new line text step is steps = steps_kept old new text step (subst (λ (bytes : List ℕ). StepsBy old bytes new step) (ap (λ (l : LineBufferValue). l.bytes) is) steps)
+
+pub lasts_so_far : (old new : LiveReaderValue) (line : LineBufferValue) (text : List ℕ) (step : Step) → line ≡ so_far text → StepsLast old line.bytes new step → StepsLast old text new step
+lasts_so_far old new line text step is last = record { first = last.first; steps = steps_so_far old new line text last.first is last.steps; lasts = last.lasts }
+
+-- the reader never knows less
+replied_knows : (old new : LiveReaderValue) (asked : command.CommandValue) (step : Step) → RepliesWith (λ shown. LooksUp old asked new shown) step → KnowsNoLess old new
+replied_knows old new asked (Replies shown) looks = command_knows old new asked shown looks
+replied_knows old new asked (Announces lines) looks = absurd looks
+replied_knows old new asked (Stops seconds) looks = absurd looks
+replied_knows old new asked Ends looks = absurd looks
+
+script_knows : (old new : LiveReaderValue) (asked : command.CommandValue) (step : Step) → ObeysScript old asked new step → KnowsNoLess old new
+script_knows old new (command.adopt lines) step obeys = knows_same old new obeys.0
+script_knows old new (command.lose tablet) step obeys = knows_same old new obeys.0
+script_knows old new command.marks step obeys = knows_same old new obeys.0
+script_knows old new command.tablets step obeys = knows_same old new obeys.0
+script_knows old new (command.copy need tablet) step obeys = replied_knows old new (command.copy need tablet) step obeys
+script_knows old new (command.deliver deliveries) step obeys = replied_knows old new (command.deliver deliveries) step obeys
+script_knows old new (command.get keys) step obeys = replied_knows old new (command.get keys) step obeys
+script_knows old new (command.notices since) step obeys = replied_knows old new (command.notices since) step obeys
+script_knows old new (command.read key version) step obeys = replied_knows old new (command.read key version) step obeys
+script_knows old new (command.relayout bounds) step obeys = replied_knows old new (command.relayout bounds) step obeys
+script_knows old new (command.scan query) step obeys = replied_knows old new (command.scan query) step obeys
+
+asked_knows : (old new : LiveReaderValue) (asked : ControlValue) (step : Step) → ObeysControl old asked new step → KnowsNoLess old new
+asked_knows old new (script asked) step obeys = script_knows old new asked step obeys
+asked_knows old new (notices since wait) step obeys = knows_same old new obeys.0
+asked_knows old new advance step obeys = knows_same old new obeys.0
+asked_knows old new stats step obeys = knows_same old new obeys.0
+asked_knows old new (stop seconds) step obeys = knows_same old new obeys.0
+
+as_knows : (old new : LiveReaderValue) (said : Result ControlValue Refusal) (step : Step) → StepsAs old said new step → KnowsNoLess old new
+as_knows old new (Ok asked) step steps = asked_knows old new asked step steps
+as_knows old new (Err refusal) step steps = knows_same old new steps.0
+
+pub steps_know : (old new : LiveReaderValue) (line : List ℕ) (step : Step) → StepsBy old line new step → KnowsNoLess old new
+steps_know old new line step (inl steps) = as_knows old new (control_at line) step steps
+steps_know old new line step (inr none) = knows_same old new none.1.0
+
+pub last_knows : (old new : LiveReaderValue) (part : List ℕ) (step : Step) → StepsLast old part new step → KnowsNoLess old new
+last_knows old new part step last = steps_know old new part last.first last.steps

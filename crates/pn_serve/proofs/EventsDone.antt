@@ -1,0 +1,66 @@
+-- Rounds of streams and commands of control sessions are events of the region.
+use Rattle.std.proofs.Common.{◌≡◌, ℕ, Bool, true, false, List, [], ◌∷◌, refl, sym, ap, subst, arith}
+use Rattle.std.specs.Prelude.{Contains}
+use Rattle.std.specs.FinMap.{find}
+use Rattle.pn_record.specs.Prelude.{bytes_cmp}
+use Rattle.pn_record.specs.CellMap.{table_of}
+use Rattle.pn_record.specs.declared.image.Image.{Image}
+use Rattle.pn_stream.specs.Brokers.{BrokerRecord}
+use Rattle.pn_region.specs.Events.{RegionEvent, AllLeadTo, AreHonestEvents}
+use Rattle.pn_region.specs.Faith.{AreFaithful}
+use Rattle.pn_region.specs.Held.{HoldsStill}
+use Rattle.pn_region.specs.Laws.{AreIn}
+use Rattle.pn_region.specs.Regions.{RegionValue, IsRegion, all_cells, new_region}
+use Rattle.pn_region.specs.Serving.{AllServe, ServesAt}
+use Rattle.pn_region.specs.Taken.{all_left, all_taken}
+use Rattle.pn_region.proofs.EventImages.{taken_together}
+use Rattle.pn_region.proofs.ServedRecords.{events_record}
+use Rattle.pn_live.specs.LiveRegions.{LiveRegionValue, core}
+use Rattle.pn_live.proofs.Events.{new_core}
+use Rattle.pn_serve.specs.Control.Commands.{Asked, adopt, advance, lose, marks, notices, tablets, event_by, with_event}
+use Rattle.pn_serve.specs.Server.Events.{AllDone, WriterEvent, taken, told}
+use Rattle.pn_serve.specs.Server.HonestEvents.{DidHonestly, region_events}
+use Rattle.pn_serve.specs.declared.server.mailboxes.AtFault.{AtFault}
+use Rattle.pn_serve.proofs.Obeying.{leads_first}
+
+-- what was done leads where its events lead
+pub done_leads : (at_fault : AtFault) (names : List (List ℕ)) (old : LiveRegionValue) (events : List WriterEvent) (left : List (List ℕ)) (new : LiveRegionValue)
+    → AllDone at_fault names old events left new → AllLeadTo (region_events events) (core old) (core new)
+done_leads at_fault names old [] left new all = ap core all.1
+done_leads at_fault names old (taken input ∷ later) left new all = (core all.0, all.3.takes.1.taken, done_leads at_fault all.1 all.0 later left new all.4)
+done_leads at_fault names old (told asked said ∷ later) left new all =
+    leads_first (event_by asked said) old all.0 (region_events later) (core new) all.1.left (done_leads at_fault names all.0 later left new all.2)
+
+-- none of them left images in some tablets
+none_left_by : (asked : Asked) (text : List ℕ) (refused : Bool) (later : List RegionEvent) → all_left later ≡ [] → all_left (with_event (event_by asked (record { text = text; refused = refused })) later) ≡ []
+none_left_by asked text true later none = none
+none_left_by (adopt copy) text false later none = none
+none_left_by advance text false later none = none
+none_left_by (lose tablet) text false later none = none
+none_left_by marks text false later none = none
+none_left_by (notices since) text false later none = none
+none_left_by tablets text false later none = none
+
+none_left : (events : List WriterEvent) → all_left (region_events events) ≡ []
+none_left [] = refl
+none_left (taken input ∷ later) = none_left later
+none_left (told asked said ∷ later) = none_left_by asked said.text said.refused (region_events later) (none_left later)
+
+none_in : (image : Image) → Contains [] image → ⊥
+none_in image there = omega (arith, there.1)
+
+-- so a region whose tablets all serve has the records of what it took
+pub done_records : (broker : BrokerRecord) (live : LiveRegionValue) (did : DidHonestly broker live) → AllServe (core live) → all_cells (core live) ≡ table_of (all_taken broker (region_events did.events))
+done_records broker live did serve =
+    let events = region_events did.events in
+    let leads : AllLeadTo events (new_region did.bounds) (core live) =
+    subst (λ (r : RegionValue). AllLeadTo events r (core live)) (new_core did.bounds did.opened did.is_new) (done_leads did.at_fault did.names did.opened did.events did.left live did.done) in
+    taken_together broker did.bounds events (core live) did.lawful leads did.honest serve
+    (subst (λ (left : List Image). AreIn left (all_taken broker events)) (sym (none_left did.events)) (λ image there. absurd (none_in image there)))
+
+-- and a record that is served before and after is still held
+pub done_served : (broker : BrokerRecord) (at_fault : AtFault) (names : List (List ℕ)) (old : LiveRegionValue) (events : List WriterEvent) (left : List (List ℕ)) (new : LiveRegionValue) (key : List ℕ)
+    → IsRegion (core old) → AreFaithful broker (core old).tablets → AllDone at_fault names old events left new → AreHonestEvents broker (region_events events)
+    → ServesAt (core old) key → ServesAt (core new) key → HoldsStill (find bytes_cmp key (all_cells (core old))) (find bytes_cmp key (all_cells (core new)))
+done_served broker at_fault names old events left new key is faithful all honest =
+    events_record broker (region_events events) (core old) (core new) key is faithful honest (done_leads at_fault names old events left new all)

@@ -1,0 +1,16 @@
+-- The laws are lemmas.
+use Rattle.pn_serve.proofs.EventsDone.{done_leads, done_records, done_served}
+use Rattle.pn_serve.proofs.EventsRead.{rounds_alone}
+use Rattle.pn_serve.proofs.stream_laws.streams_beside_commands_leave_what_was_taken.Goals as goal
+
+pub returns-clause-alone : goal.returns-clause-alone
+returns-clause-alone c = rounds_alone
+
+pub returns-clause-events : goal.returns-clause-events
+returns-clause-events c = done_leads
+
+pub returns-clause-records : goal.returns-clause-records
+returns-clause-records c = done_records
+
+pub returns-clause-served : goal.returns-clause-served
+returns-clause-served c = done_served

@@ -1,0 +1,27 @@
+-- Answers of the writer, each with what it answers.
+use Rattle.std.specs.Prelude.{◌≡◌}
+use Rattle.pn_live.specs.LiveRegions.{LiveRegionValue}
+use Rattle.pn_serve.specs.Control.Commands.{Asked, adopt, advance, lose, marks, notices, tablets, ObeysLive, Said}
+use Rattle.pn_serve.specs.declared.control.answers.Question.{Question}
+use Rattle.pn_serve.specs.declared.control.answers.Question.TheVariants as question
+
+-- what is asked for, but for a copy
+abbrev pub question_of : Asked → Question
+question_of (adopt copy) = question.Adopt
+question_of advance = question.Advance
+question_of (lose tablet) = question.Lose tablet
+question_of marks = question.Marks
+question_of (notices since) = question.Notices since
+question_of tablets = question.Tablets
+
+-- the writer did what this asks for, of an adoption with some copy, and said so of the live region as it was then
+pub record Gives (question : Question) (said : Said) : Type 0 where
+  pub told : Asked
+  pub is : question_of told ≡ question
+  pub old : LiveRegionValue
+  pub new : LiveRegionValue
+  pub obeyed : ObeysLive old told new said
+
+-- so it was at some time
+abbrev pub IsGiven : Question → Said → Type 0
+IsGiven question said = ∥ Gives question said ∥₁

@@ -1,0 +1,95 @@
+-- What a line of a control session comes to, by its reader and by what the writer answers.
+use Rattle.std.specs.Prelude.{◌≡◌, ◌⊎◌, ℕ, false, List, [], Option, None, Some, Result, Ok, Err}
+use Rattle.pn_json.specs.Lines.{line_of}
+use Rattle.pn_tablet.specs.Copies.{TabletCopyValue}
+use Rattle.pn_tablet.specs.CopyReading.{copy_at}
+use Rattle.pn_tablet.specs.declared.fault.CopyTextFault.{CopyTextFault}
+use Rattle.pn_live.specs.Readers.{LiveReaderValue}
+use Rattle.pn_protocol.specs.Command.Controls.{ControlValue, control_at, script, notices, advance, stats, stop}
+use Rattle.pn_protocol.specs.Command.Lines.{is_too_long}
+use Rattle.pn_protocol.specs.Command.Meaning as command
+use Rattle.pn_protocol.specs.Reply.Refusals.{Refuses}
+use Rattle.pn_protocol.specs.Reply.Stats.{stats_data}
+use Rattle.pn_protocol.specs.declared.refusal.Refusal.{Refusal}
+use Rattle.pn_protocol.specs.declared.refusal.Refusal.TheVariants.{Memory}
+use Rattle.pn_protocol.specs.declared.reply.Reply.{Reply}
+use Rattle.pn_protocol.specs.declared.reply.Reply.TheVariants.{Refused}
+use Rattle.pn_protocol.specs.declared.reply.refusals.CommandFault.TheVariants.{CopyText}
+use Rattle.pn_protocol.specs.declared.reply.stats.Stats.{Stats}
+use Rattle.pn_serve.specs.Control.Answers.{IsGiven, question_of}
+use Rattle.pn_serve.specs.Control.Commands as control
+use Rattle.pn_serve.specs.Control.Commands.{Asked, Said, said_by}
+use Rattle.pn_serve.specs.Session.Lines.{LooksUp}
+use Rattle.pn_serve.specs.declared.control.steps.Step.{Step}
+use Rattle.pn_serve.specs.declared.control.steps.Step.TheVariants.{Replies, Announces, Stops, Ends}
+
+-- it came to a reply of which this holds
+abbrev pub RepliesWith : (Reply → Type 0) → Step → Type 0
+RepliesWith holds (Replies shown) = holds shown
+RepliesWith holds step = ⊥
+
+-- the reply says so, or that memory ran out
+abbrev pub Says : Said → Reply → Type 0
+Says said shown = (said_by shown ≡ said) ⊎ (shown ≡ Refused Memory)
+
+-- the writer answered so
+pub record IsShown (asked : Asked) (shown : Reply) : Type 0 where
+  pub said : Said
+  pub given : IsGiven (question_of asked) said
+  pub says : Says said shown
+
+-- the writer answered, or takes no command any more
+abbrev pub Asks : Asked → Step → Type 0
+Asks asked (Replies shown) = IsShown asked shown
+Asks asked Ends = Unit {0}
+Asks asked step = ⊥
+
+-- the writer was asked to adopt the copy that a text is; or it is no copy
+abbrev pub AdoptsRead : Result TabletCopyValue CopyTextFault → Step → Type 0
+AdoptsRead (Ok copy) step = Asks (control.adopt copy) step
+AdoptsRead (Err fault) step = RepliesWith (Refuses (CopyText fault)) step
+
+-- so for an announced text, unless memory ran out
+abbrev pub AdoptsText : Option (List ℕ) → Step → Type 0
+AdoptsText None step = step ≡ Replies (Refused Memory)
+AdoptsText (Some came) step = AdoptsRead (copy_at came) step ⊎ (step ≡ Replies (Refused Memory))
+
+-- a command of scripts was done by the reader, or by the writer; or it announces lines
+abbrev pub ObeysScript : LiveReaderValue → command.CommandValue → LiveReaderValue → Step → Type 0
+ObeysScript old (command.adopt lines) new step = (new ≡ old) × (step ≡ Announces lines)
+ObeysScript old (command.lose tablet) new step = (new ≡ old) × Asks (control.lose tablet) step
+ObeysScript old command.marks new step = (new ≡ old) × Asks control.marks step
+ObeysScript old command.tablets new step = (new ≡ old) × Asks control.tablets step
+ObeysScript old asked new step = RepliesWith (λ shown. LooksUp old asked new shown) step
+
+-- the reply shows what some server has done so far
+abbrev pub ShowsStats : Reply → Type 0
+ShowsStats shown = (done : Stats) × Says (record { text = line_of (stats_data done); refused = false }) shown
+
+-- a command was done
+abbrev pub ObeysControl : LiveReaderValue → ControlValue → LiveReaderValue → Step → Type 0
+ObeysControl old (script asked) new step = ObeysScript old asked new step
+ObeysControl old (notices since wait) new step = (new ≡ old) × Asks (control.notices since) step
+ObeysControl old advance new step = (new ≡ old) × Asks control.advance step
+ObeysControl old stats new step = (new ≡ old) × RepliesWith ShowsStats step
+ObeysControl old (stop seconds) new step = (new ≡ old) × (step ≡ Stops seconds)
+
+-- a line that reads as this was answered
+abbrev pub StepsAs : LiveReaderValue → Result ControlValue Refusal → LiveReaderValue → Step → Type 0
+StepsAs old (Ok asked) new step = ObeysControl old asked new step
+StepsAs old (Err refusal) new step = (new ≡ old) × (step ≡ Replies (Refused refusal))
+
+-- a line was answered as it reads; or memory ran out before it was read, unless it is too long
+abbrev pub StepsBy : LiveReaderValue → List ℕ → LiveReaderValue → Step → Type 0
+StepsBy old line new step = StepsAs old (control_at line) new step ⊎ ((is_too_long line ≡ false) × (new ≡ old) × (step ≡ Replies (Refused Memory)))
+
+-- where no line can come any more, an announced text is empty
+abbrev pub Lasts : Step → Step → Type 0
+Lasts (Announces lines) step = AdoptsText (Some []) step
+Lasts first step = step ≡ first
+
+-- so the last line, which has no newline
+pub record StepsLast (old : LiveReaderValue) (part : List ℕ) (new : LiveReaderValue) (step : Step) : Type 0 where
+  pub first : Step
+  pub steps : StepsBy old part new first
+  pub lasts : Lasts first step

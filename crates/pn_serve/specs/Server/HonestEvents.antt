@@ -1,0 +1,28 @@
+-- Rounds of streams and commands of control sessions, one after another, as events of the region.
+use Rattle.std.specs.Prelude.{ℕ, List, [], ◌∷◌}
+use Rattle.pn_stream.specs.Brokers.{BrokerRecord}
+use Rattle.pn_tablet.specs.Layouts.{Bounds, IsLayout}
+use Rattle.pn_region.specs.Events.{RegionEvent, round, AreHonestEvents}
+use Rattle.pn_live.specs.LiveRegions.{LiveRegionValue, IsNewLive}
+use Rattle.pn_serve.specs.Control.Commands.{event_by, with_event}
+use Rattle.pn_serve.specs.Server.Events.{AllDone, WriterEvent, taken, told}
+use Rattle.pn_serve.specs.declared.server.mailboxes.AtFault.{AtFault}
+
+-- the events of the region that these are: each round, and each command that was done
+abbrev pub region_events : List WriterEvent → List RegionEvent
+region_events [] = []
+region_events (taken input ∷ later) = round input.deliveries ∷ region_events later
+region_events (told asked said ∷ later) = with_event (event_by asked said) (region_events later)
+
+-- a live region that took rounds and did commands since it was new, of which each brought what is honest
+pub record DidHonestly (broker : BrokerRecord) (live : LiveRegionValue) : Type 0 where
+  pub bounds : Bounds
+  pub lawful : IsLayout bounds
+  pub opened : LiveRegionValue
+  pub is_new : IsNewLive bounds opened
+  pub at_fault : AtFault
+  pub names : List (List ℕ)
+  pub events : List WriterEvent
+  pub left : List (List ℕ)
+  pub done : AllDone at_fault names opened events left live
+  pub honest : AreHonestEvents broker (region_events events)

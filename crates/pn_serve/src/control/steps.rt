@@ -1,0 +1,154 @@
+//! What a line of a control session comes to: its reader looks up, and the writer is asked for the rest.
+
+ghost use Rattle.std.specs.Prelude.{◌≡◌};
+ghost use Rattle.pn_protocol.specs.Prelude.{command_value, control_value};
+ghost use Rattle.pn_serve.specs.Control.Commands.{asked};
+ghost use Rattle.pn_serve.specs.Control.Steps.{AdoptsText, Asks, ObeysControl, ObeysScript, RepliesWith, ShowsStats, StepsBy, StepsLast};
+ghost use Rattle.pn_serve.specs.Machine.Modes.{bytes_of};
+
+use crate::control::commands::{WriterAnswer, WriterCommand};
+use crate::control::session::{ControlSession, StatsSource};
+use crate::machine::adoption::read_text;
+use crate::sessions::lookups::look_up;
+use pn_live::LiveReader;
+use pn_protocol::{
+    Command, CommandFault, ControlCommand, Refusal, Reply, answer_text, control_of, notices_reply,
+    refuse, stats_reply,
+};
+use std::alloc::Global;
+use std::sync::Wait;
+use std::time::Clock;
+
+/// What a line comes to.
+#[derive(Drop)]
+pub(crate) enum Step {
+    /// A reply.
+    Replies(Reply),
+    /// So many lines are to come.
+    Announces(u64),
+    /// The server is asked to end after so many seconds at most.
+    Stops(u64),
+    /// Nothing: the writer takes no command any more.
+    Ends,
+}
+
+impl<C: StatsSource + Drop> ControlSession<C> {
+    /// Reads a command and does it.
+    pub(crate) fn step<R: Wait + Clock>(
+        &self,
+        rt: &R,
+        alloc: Global,
+        reader: &mut LiveReader,
+        line: &[u8],
+    ) -> Step
+        ensures { StepsBy reader.old line.now reader.new result }
+    {
+        match control_of(alloc, line) {
+            Ok(command) => self.obey(rt, alloc, reader, command),
+            Err(refusal) => Step::Replies(Reply::Refused(refusal)),
+        }
+    }
+
+    /// Reads the last command and does it. No line that it announces can come.
+    pub(crate) fn last_step<R: Wait + Clock>(
+        &self,
+        rt: &R,
+        alloc: Global,
+        reader: &mut LiveReader,
+        part: &[u8],
+    ) -> Step
+        ensures { StepsLast reader.old part.now reader.new result }
+    {
+        match self.step(rt, alloc, reader, part) {
+            Step::Announces(_) => self.adopt(rt, alloc, Some(Vec::new(alloc))),
+            step => step,
+        }
+    }
+
+    /// Has the copy of a text adopted. None: memory ran out before.
+    pub(crate) fn adopt<R: Wait>(&self, rt: &R, alloc: Global, text: Option<Vec<u8>>) -> Step
+        ensures { AdoptsText (bytes_of text) result }
+    {
+        let Some(text) = text else {
+            return Step::Replies(Reply::Refused(Refusal::Memory));
+        };
+        match read_text(alloc, text) {
+            Ok(copy) => self.ask(rt, alloc, WriterCommand::Adopt(copy)),
+            Err(fault) => Step::Replies(refuse(alloc, CommandFault::CopyText(fault))),
+        }
+    }
+
+    fn obey<R: Wait + Clock>(
+        &self,
+        rt: &R,
+        alloc: Global,
+        reader: &mut LiveReader,
+        command: ControlCommand,
+    ) -> Step
+        ensures { ObeysControl reader.old (control_value command) reader.new result }
+    {
+        match command {
+            ControlCommand::Script(command) => self.obey_script(rt, alloc, reader, command),
+            ControlCommand::Notices { since, wait } => {
+                self.wait_past(rt, since, wait);
+                self.ask(rt, alloc, WriterCommand::Notices { since })
+            }
+            ControlCommand::Advance => self.ask(rt, alloc, WriterCommand::Advance),
+            ControlCommand::Stats => self.report(alloc),
+            ControlCommand::Stop { seconds } => Step::Stops(seconds),
+        }
+    }
+
+    // Does a command of scripts.
+    fn obey_script<R: Wait>(
+        &self,
+        rt: &R,
+        alloc: Global,
+        reader: &mut LiveReader,
+        command: Command,
+    ) -> Step
+        ensures { ObeysScript reader.old (command_value command) reader.new result }
+    {
+        match command {
+            Command::Adopt { lines } => Step::Announces(lines),
+            Command::Lose { tablet } => self.ask(rt, alloc, WriterCommand::Lose { tablet }),
+            Command::Marks => self.ask(rt, alloc, WriterCommand::Marks),
+            Command::Tablets => self.ask(rt, alloc, WriterCommand::Tablets),
+            command => Step::Replies(look_up(alloc, reader, command)),
+        }
+    }
+
+    // What the writer answers, if it still takes commands.
+    fn ask<R: Wait>(&self, rt: &R, alloc: Global, command: WriterCommand) -> Step
+        ensures { Asks (asked command) result }
+    {
+        match self.mailboxes.ask(rt, self.number, command) {
+            Some(WriterAnswer::Reply(reply)) => Step::Replies(reply),
+            Some(WriterAnswer::Found(since)) => {
+                Step::Replies(answer_text(notices_reply(alloc, &since)))
+            }
+            None => Step::Ends,
+        }
+    }
+
+    // Shows what the server has done so far.
+    fn report(&self, alloc: Global) -> Step
+        ensures { RepliesWith ShowsStats result }
+    {
+        match self.stats.stats(alloc) {
+            Ok(stats) => Step::Replies(answer_text(stats_reply(alloc, &stats))),
+            Err(_) => Step::Replies(Reply::Refused(Refusal::Memory)),
+        }
+    }
+
+    // Waits for so many seconds at most while the last number of the log is this one and the client is there, a second at
+    // a time.
+    fn wait_past<R: Wait + Clock>(&self, rt: &R, number: u64, seconds: u64) {
+        for _ in 0..seconds {
+            let is_past = self.mailboxes.wait_past(rt, number, 1);
+            if is_past || self.stats.has_client_gone() {
+                return;
+            }
+        }
+    }
+}

@@ -1,0 +1,114 @@
+//! How a stream goes, for whoever asks: its state, when its last message came, and its last fault.
+
+ghost use Rattle.std.specs.Prelude.{◌≡◌, None, Some, string_bytes, IfOk};
+
+use pn_serve::{StreamFaultStats, StreamState};
+use std::alloc::{AllocError, Global};
+use std::sync::{Mutex, Wait};
+use std::time::{Clock, Instant};
+
+/// How a stream goes. Its thread notes that, and others read it at any time.
+#[derive(Drop)]
+pub struct StreamStatus {
+    path: String,
+    now: Mutex<StatusNow>,
+}
+
+// What was noted last.
+#[derive(Drop)]
+struct StatusNow {
+    state: StreamState,
+    // When the last message came.
+    came: Option<Instant>,
+    fault: Option<StreamFaultStats>,
+}
+
+/// What a stream's status was at one moment.
+#[derive(Drop)]
+pub(crate) struct StatusThen {
+    pub(crate) path: String,
+    pub(crate) state: StreamState,
+    pub(crate) came: Option<Instant>,
+    pub(crate) fault: Option<StreamFaultStats>,
+}
+
+impl StreamStatus {
+    /// That of a stream whose writers come to a path, before the first.
+    pub(crate) fn new(path: String) -> StreamStatus {
+        StreamStatus {
+            path,
+            now: Mutex::new(StatusNow::new()),
+        }
+    }
+
+    /// Notes that a writer has come, or has gone.
+    pub(crate) fn set_state<R: Wait>(&self, rt: &R, state: StreamState) {
+        self.now.lock(rt).state = state;
+    }
+
+    /// Notes that a message has come.
+    pub(crate) fn note_message<R: Wait + Clock>(&self, rt: &R) {
+        let now = Instant::now(rt).ok();
+        self.now.lock(rt).came = now;
+    }
+
+    /// Notes a writer's fault.
+    pub(crate) fn note_fault<R: Wait>(&self, rt: &R, fault: StreamFaultStats) {
+        self.now.lock(rt).fail(fault);
+    }
+
+    /// Whether a writer is read.
+    pub(crate) fn is_open<R: Wait>(&self, rt: &R) -> bool {
+        self.now.lock(rt).state == StreamState::Open
+    }
+
+    /// What was noted so far.
+    pub(crate) fn read<R: Wait>(&self, rt: &R, alloc: Global) -> Result<StatusThen, AllocError> {
+        let path = String::from_str(alloc, self.path.as_str())?;
+        let now = self.now.lock(rt);
+        Ok(StatusThen {
+            path,
+            state: now.state,
+            came: now.came,
+            fault: match &now.fault {
+                Some(fault) => Some(copy_fault(alloc, fault)?),
+                None => None,
+            },
+        })
+    }
+}
+
+impl StatusNow {
+    // No writer has come.
+    fn new() -> StatusNow
+        ensures state { result.state ≡ StreamState.Waiting }
+        ensures came { result.came ≡ None }
+        ensures fault { result.fault ≡ None }
+    {
+        StatusNow {
+            state: StreamState::Waiting,
+            came: None,
+            fault: None,
+        }
+    }
+
+    // The writer is read no further.
+    fn fail(&mut self, fault: StreamFaultStats)
+        ensures state { self.new.state ≡ StreamState.Failed }
+        ensures fault { self.new.fault ≡ Some fault }
+        ensures came { self.new.came ≡ self.old.came }
+    {
+        self.state = StreamState::Failed;
+        self.fault = Some(fault);
+    }
+}
+
+fn copy_fault(alloc: Global, fault: &StreamFaultStats) -> Result<StreamFaultStats, AllocError>
+    ensures line { IfOk result (λ copy. copy.line ≡ fault.now.line) }
+    ensures reason { IfOk result (λ copy. string_bytes copy.reason ≡ string_bytes fault.now.reason) }
+{
+    Ok(StreamFaultStats {
+        line: fault.line,
+        reason: String::from_str(alloc, fault.reason.as_str())?,
+    })
+}

@@ -1,0 +1,13 @@
+//! Logs of breaks.
+
+use pn_region::Log;
+use std::alloc::Global;
+
+/// The last number of a log after so many breaks.
+pub(crate) fn last_number(alloc: Global, breaks: &str) -> Option<String> {
+    let mut log = Log::new(alloc).ok()?;
+    for _ in 0..breaks.parse::<usize>().ok()? {
+        log.cut();
+    }
+    format!(in alloc; "{}", log.last_number()).ok()
+}
