@@ -206,14 +206,14 @@ class Swarm:
     On one thread of the program, what one connection was shown holds for the next line of all others too.
     """
 
-    def __init__(self, port: int, count: int, is_one_thread: bool = False) -> None:
+    def __init__(self, port: int, count: int, is_one_thread: bool = False, kind: type[Asker] = Asker) -> None:
         shared: dict[str, int] = defaultdict(lambda: -1)
         self.numbers = itertools.count(random.randrange(KEYS))
         self.poll, self.took = select.epoll(), []
         self.askers: dict[int, Asker] = {}
         for _ in range(count):
             connection = socket.create_connection(("127.0.0.1", port), timeout=SECONDS)
-            asker = Asker(connection, shared if is_one_thread else defaultdict(lambda: -1))
+            asker = kind(connection, shared if is_one_thread else defaultdict(lambda: -1))
             self.askers[connection.fileno()] = asker
             self.poll.register(connection, select.EPOLLIN)
 

@@ -11,6 +11,7 @@ import (
 	"math"
 	"net"
 	"sync"
+	"sync/atomic"
 	"time"
 )
 
@@ -34,6 +35,7 @@ type Client struct {
 	// None once it is closed.
 	connections []*connection
 	running     sync.WaitGroup
+	sessions    atomic.Int64
 }
 
 // Open makes a client of the region at tcp://HOST:PORT, tls://HOST:PORT or unix:PATH. Connections are opened when they are
@@ -55,6 +57,9 @@ func Open(address string, options Options) (*Client, error) {
 	}
 	return client, nil
 }
+
+// Sessions is how many it has begun. A session of another number may be of a region that began anew.
+func (c *Client) Sessions() int64 { return c.sessions.Load() }
 
 // Close ends all sessions. Calls that wait fail.
 func (c *Client) Close() {
@@ -143,6 +148,7 @@ func (c *Client) connection() (*connection, error) {
 		}
 	}
 	least.opening.Do(func() {
+		c.sessions.Add(1)
 		c.running.Add(1)
 		go func() { defer c.running.Done(); least.run(c.address, c.options.Timeout) }()
 	})

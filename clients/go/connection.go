@@ -73,9 +73,7 @@ func (c *connection) run(where address, timeout time.Duration) {
 }
 
 // end ends the connection. Calls without a reply fail with the first fault.
-func (c *connection) end(fault error) {
-	c.ending.Do(func() { c.fault = fault; c.cancel() })
-}
+func (c *connection) end(fault error) { c.ending.Do(func() { c.fault = fault; c.cancel() }) }
 
 // ask sends a line, and waits for its reply. A call that gives up leaves its place, so that later replies find theirs.
 func (c *connection) ask(ctx context.Context, asked *call) (received, error) {

@@ -12,12 +12,9 @@ func writeWhole(path string, text []byte) error {
 		return err
 	}
 	defer os.Remove(file.Name())
-	_, err = file.Write(text)
-	if closed := file.Close(); err == nil {
-		err = closed
+	file.Close()
+	if err = os.WriteFile(file.Name(), text, 0o600); err != nil {
+		return err
 	}
-	if err == nil {
-		err = os.Rename(file.Name(), path)
-	}
-	return err
+	return os.Rename(file.Name(), path)
 }

@@ -58,6 +58,11 @@ func (c *Client) Copy(ctx context.Context, tablet int, path string, need map[str
 	return writeWhole(path, text)
 }
 
+// Ask gives the reply to any command that only reads, as one of the control socket: texts, an int64 for each number, lists and maps.
+func (c *Client) Ask(ctx context.Context, command map[string]any) (map[string]any, error) {
+	return ask(ctx, c, command, func(reply map[string]any, _ []byte) (map[string]any, bool) { return reply, true })
+}
+
 // together does something with each number below a count at once, and gives an error of those that there are.
 func together(count int, do func(int) error) error {
 	faults := make(chan error, count)

@@ -6,9 +6,7 @@ import "fmt"
 type Version [2]int64
 
 // Less says whether the version is older than another.
-func (v Version) Less(other Version) bool {
-	return v[0] < other[0] || v[0] == other[0] && v[1] < other[1]
-}
+func (v Version) Less(w Version) bool { return v[0] < w[0] || v[0] == w[0] && v[1] < w[1] }
 
 func (v Version) String() string { return fmt.Sprintf("%d.%d", v[0], v[1]) }
 

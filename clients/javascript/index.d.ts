@@ -96,6 +96,62 @@ export class Client implements Reads {
   close(): Promise<void>;
 }
 
+/** How far streams were taken, by their names. */
+export type Marks = { readonly [stream: string]: number };
+
+/** A change of a record: its number, and the record's version before it, null where there was none, and after it. */
+export interface Notice {
+  readonly number: number;
+  readonly key: string;
+  readonly before: Version | null;
+  readonly after: Version;
+}
+
+/** Changes, and the number to ask with next. Missed: some are not known, so all is to be read anew. */
+export interface Notices {
+  readonly next: number;
+  readonly missed: boolean;
+  readonly changes: readonly Notice[];
+}
+
+/** A stream: what was read of it, and up to which position it was taken; the reason and line are of its last fault. */
+export interface StreamStats {
+  readonly name: string;
+  readonly path: string;
+  readonly state: "waiting" | "open" | "ended" | "failed";
+  readonly position: number;
+  readonly messages: number;
+  readonly bytes: number;
+  /** Seconds since the last message, null before the first. */
+  readonly since: number | null;
+  readonly reason: string | null;
+  readonly line: number | null;
+}
+
+/** What a region has done so far: seconds that it runs, bytes of memory, rounds, and the connections and lines of clients. */
+export interface Stats {
+  readonly version: string;
+  readonly uptime: number;
+  readonly bytes: number;
+  readonly rounds: number;
+  readonly connections: { readonly accepted: number; readonly idle: number; readonly open: number; readonly refused: number };
+  readonly lines: { readonly answered: number; readonly refused: number };
+  readonly streams: readonly StreamStats[];
+}
+
+/** The control socket of a region, as unix:/run/pnuts/control. It reads records, too. */
+export class Control extends Client {
+  marks(): Promise<Marks>;
+  stats(): Promise<Stats>;
+  /** What changed after a number. Where that is nothing, it waits for it so many seconds, at most 60, less than the timeout. */
+  notices(since: number, wait?: number): Promise<Notices>;
+  /**
+   * The changes after a number as they come, or from now on, in a session of its own. Some are missed where it is given no number,
+   * and after the connection broke, for the region may have begun anew; it breaks again where that is not there after more tries.
+   */
+  watch(since?: number): AsyncGenerator<Notices, void, undefined>;
+}
+
 /** One region more than bounds: the first has the keys below the first bound, each other those from its bound on. */
 export class Regions implements Reads {
   constructor(bounds: readonly string[], clients: readonly Client[]);

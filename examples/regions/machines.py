@@ -2,21 +2,26 @@
 
 from __future__ import annotations
 
+import json
 import os
+import socket
 import ssl
 import subprocess
+import sys
 from collections.abc import Sequence
 from dataclasses import dataclass, field
 from pathlib import Path
 
 import pika
 
-from running import FEEDS, RUN, Processes, Word, kill
+from running import CLIENT, FEEDS, RUN, Processes, Word, kill
 
 COUNT = 3
 FRONT = "10.77.0.254"
 # The keys below the bound are the first range's.
 BOUND, RANGES = "m", ["low", "high"]
+# The first keys of the tablets of each range but its first.
+BOUNDS = {"low": ["a100", "a250", "a400"], "high": ["z100", "z250", "z400"]}
 REGION_PORT, PROXY_PORT = 7070, 7443
 CONNECTIONS = 64
 # A record that each stream has once the first images are there: a region that lacks it is not ready.
@@ -68,6 +73,8 @@ def context(certificate: str | None = "client") -> ssl.SSLContext:
     return made
 
 
+FRONT_SOCKET = RUN / "front.socket"
+GLOBAL = f"global\n    stats socket {FRONT_SOCKET} mode 600 level admin\n"
 # Each proxy lets in only who has a certificate of the authority.
 PROXY = """
 defaults
@@ -87,7 +94,7 @@ def start_front(processes: Processes, machines: Sequence[Machine]) -> None:
 
     A check is a connection of the region beside those that `maxconn` counts.
     """
-    text = PROXY
+    text = GLOBAL + PROXY
     for at, name in enumerate(RANGES):
         line = f'{{\\"do\\":\\"read\\",\\"key\\":\\"{LOADED[name]}\\",\\"version\\":[1,0]}}\\n'
         server = f"{TO_PROXY.format(folder=CERTIFICATES)} maxconn {CONNECTIONS - 1} {CHECK}"
@@ -102,6 +109,16 @@ listen {name}
     tcp-check expect string '{{"row"'
 """ + "".join(f"    server {machine.name} {machine.address}:{PROXY_PORT + at} {server}\n" for machine in machines)
     start_proxy(processes, "front", [], text)
+
+
+def tell_front(command: str) -> None:
+    """Has the front do a command of its socket, which says nothing where it is done."""
+    with socket.socket(socket.AF_UNIX) as front:
+        front.connect(str(FRONT_SOCKET))
+        front.sendall(f"{command}\n".encode())
+        said = front.makefile().read().strip()
+    if said:
+        raise OSError(f"the front says to {command}: {said}")
 
 
 def start_proxy(processes: Processes, name: str, within: Sequence[str], text: str) -> None:
@@ -197,10 +214,21 @@ class Machine:
         self.start(f"{name}-feed", [FEEDS / "rabbitmq-stream", *words])
 
     def start_region(self, name: str) -> None:
-        """The region of a range, which takes its stream on a socket."""
-        port, socket = REGION_PORT + RANGES.index(name), self.path(name, "socket")
-        words = ["--stay", "--sessions", "2", "--connections", str(CONNECTIONS), "--port", str(port), f"{name}=listen:{socket}"]
+        """The region of a range, which takes its stream on a socket, and is run by another one. It waits until it answers."""
+        words: list[Word] = ["--stay", "--sessions", "2", "--connections", str(CONNECTIONS), "--port", str(REGION_PORT + RANGES.index(name)),
+                 "--bounds", json.dumps(BOUNDS[name]), "--control", self.path(name, "control"), f"{name}=listen:{self.path(name, 'socket')}"]
         self.start(f"{name}-region", [self.program, "serve", *words])
+        self.run_region(name, "ready")
+
+    def run_region(self, name: str, *words: Word) -> None:
+        """Has `pnuts-ctl` do something with the region of a range."""
+        line: list[Word] = [sys.executable, "-m", "pnuts_client.ctl", "--control", self.path(name, "control"), *words]
+        run(*line, environment={"PYTHONPATH": str(CLIENT), "PYTHONDONTWRITEBYTECODE": "1"})
+
+    def set_state(self, state: str) -> None:
+        """Whether the front gives it new connections: `ready`, or `drain`."""
+        for name in RANGES:
+            tell_front(f"set server {name}/{self.name} state {state}")
 
     def path(self, name: str, kind: str) -> Path:
         """A file of the feed and the region of a range."""

@@ -12,7 +12,7 @@ from dataclasses import dataclass, field
 
 import pika
 from machines import BOUND, FRONT, LOADED, PROXY_PORT, RANGES, Machine, context
-from pnuts_client import Client, PnutsError, RecordBehind, Regions
+from pnuts_client import Client, PnutsError, RecordBehind, Recovering, Regions
 from pnuts_client.addresses import Tcp
 
 KEYS = 500
@@ -112,7 +112,7 @@ class Reader:
         for at in itertools.count(1):
             try:
                 record = regions[0].read(key, at_least=version)
-            except RecordBehind:
+            except (RecordBehind, Recovering):
                 self.behind += 1
                 regions.append(regions.pop(0))
                 time.sleep(0.002 if at % ATTEMPTS else 0.02)

@@ -20,6 +20,8 @@ export class Client {
   #retries;
   #connections;
   #isClosed = false;
+  /** How many sessions it has begun. */
+  sessions = 0;
 
   constructor(address, { connections = 1, timeout = 10_000, retries = 3, tls } = {}) {
     this.#address = addressOf(address);
@@ -30,12 +32,12 @@ export class Client {
   }
 
   async read(key, { atLeast } = {}) {
-    return this.#ask({ do: "read", key, version: atLeast }, row);
+    return this.ask({ do: "read", key, version: atLeast }, row);
   }
 
   async get(keys) {
     const batches = Array.from({ length: Math.ceil(keys.length / MAX_KEYS) }, (_, at) => keys.slice(at * MAX_KEYS, (at + 1) * MAX_KEYS));
-    return (await Promise.all(batches.map((batch) => this.#ask({ do: "get", keys: batch }, rowsOf(batch.length))))).flat();
+    return (await Promise.all(batches.map((batch) => this.ask({ do: "get", keys: batch }, rowsOf(batch.length))))).flat();
   }
 
   async *scan(query = {}) {
@@ -53,11 +55,11 @@ export class Client {
   }
 
   async page(query = {}) {
-    return this.#ask({ do: "scan", query }, page);
+    return this.ask({ do: "scan", query }, page);
   }
 
   async copy(tablet, path, { need } = {}) {
-    await writeWhole(path, await this.#ask({ do: "copy", tablet, need }, text));
+    await writeWhole(path, await this.ask({ do: "copy", tablet, need }, text));
   }
 
   async close() {
@@ -66,7 +68,7 @@ export class Client {
   }
 
   /** The answer to a command. All commands only read, so one whose connection broke is asked again. */
-  async #ask(command, meaning) {
+  async ask(command, meaning) {
     const line = `${stringify(command)}\n`;
     return answerOf(line, await this.#reply(line, command.do === "copy"), meaning);
   }
@@ -97,13 +99,14 @@ export class Client {
     const least = sizes.indexOf(Math.min(...sizes));
     if (this.#connections[least]?.fault !== undefined || this.#connections[least] === undefined) {
       this.#connections[least] = new Connection(this.#address, this.#tls);
+      this.sessions += 1;
     }
     return this.#connections[least];
   }
 }
 
 /** How many milliseconds to wait before another try: 100, and twice as many each time, at most 1,000. */
-function pause(tries) {
+export function pause(tries) {
   return Math.min(50 * 2 ** tries, 1000);
 }
 

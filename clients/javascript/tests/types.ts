@@ -1,6 +1,6 @@
 // What the types allow and refuse. It is not run.
 
-import { Client, Page, Record, RecordBehind, Regions, Value, Version, compareVersions, eq, gt, has, prefix } from "pnuts-client";
+import { Client, Control, Notices, Page, Record, RecordBehind, Regions, Value, Version, compareVersions, eq, gt, has, prefix } from "pnuts-client";
 
 const client = new Client("unix:region", { connections: 2, timeout: Infinity, tls: { ca: "" } });
 
@@ -24,6 +24,17 @@ export async function reads(): Promise<Value | undefined> {
   // @ts-expect-error: records are read only
   if (first) first.key = "k";
   return record?.fields?.["f"];
+}
+
+export async function changes(): Promise<Notices | undefined> {
+  const region = new Control("unix:control");
+  const { streams } = await region.stats();
+  const since: number | null | undefined = streams[0]?.since;
+  for await (const found of region.watch(since ?? undefined)) {
+    found.changes.map((each) => each.before ?? each.after);
+    return found;
+  }
+  return undefined;
 }
 
 export function hasOf(fault: unknown): Version | null {

@@ -6,9 +6,10 @@ import json
 import socket
 import time
 import unittest
+from dataclasses import asdict
 from typing import Any
 
-from pnuts_client import ProtocolError, Query, Record, Refused, Version, requests
+from pnuts_client import Notices, ProtocolError, Query, Record, Refused, Stats, Version, control_requests, requests
 from pnuts_client.pipeline import Pipeline
 from pnuts_client.queries import query_of
 from pnuts_client.requests import Request
@@ -28,6 +29,10 @@ def request_of(call: dict[str, Any]) -> Request[Any]:
         return requests.scan(query_of(call["query"] or None) or Query())
     if word == "copy":
         return requests.copy(call["tablet"], call.get("need"))
+    if word == "notices":
+        return control_requests.notices(call["since"], call["wait"])
+    if word in ("marks", "stats"):
+        return getattr(control_requests, word)()  # type: ignore[no-any-return]
     return requests.ask(call, lambda reply: reply)
 
 
@@ -97,6 +102,41 @@ class Vectors(unittest.TestCase):
         pipeline.send(request_of(case["call"]), None)
         for request, _, reply in pipeline.receive(case["reply"].encode() + b"\n"):
             request.answer(reply)
+
+
+class ControlVectors(unittest.TestCase):
+    """Each exchange of a control session, over bytes alone."""
+
+    def test_lines_and_answers(self) -> None:
+        for exchange in vectors("control")["exchanges"]:
+            with self.subTest(exchange["reply"]):
+                request, wanted = request_of(exchange["call"]), json.loads(exchange["reply"])
+                self.assertEqual(json.loads(request.line), json.loads(exchange["line"]))
+                if "error" in wanted:
+                    with self.assertRaises(Refused) as refused:
+                        request.answer(wanted)
+                    self.assertEqual(refused.exception.reply, wanted)
+                else:
+                    self.assertEqual(as_reply(request.answer(wanted)), wanted)
+
+    def test_faults(self) -> None:
+        for case in vectors("control")["broken"]:
+            with self.subTest(case["reply"]), self.assertRaises(ProtocolError):
+                request_of(case["call"]).answer(json.loads(case["reply"]))
+
+
+def as_reply(answer: Any) -> Any:
+    """What an answer of a control session says, in the form of a reply."""
+    if isinstance(answer, Stats):
+        later = {name: member for name, member in answer.reply.items() if name == "of-a-later-version"}
+        told = {**asdict(answer), **later}
+        del told["reply"]
+        told["connections"].update(dict.fromkeys(answer.reply["connections"].keys() - told["connections"], 1))
+        return told
+    if isinstance(answer, Notices):
+        changes = [{**asdict(it), "before": it.before and list(it.before), "after": list(it.after)} for it in answer.changes]
+        return {"missed": True, "next": answer.next} if answer.missed else {"next": answer.next, "notices": changes}
+    return {"marks": answer}
 
 
 class VectorsOfARegion(unittest.TestCase):

@@ -26,10 +26,7 @@ where
         + Print
         + Eprint,
 {
-    let control = match bind_control(rt, &service.control) {
-        Ok(control) => control,
-        Err((path, error)) => return Err(fail_at(rt, "cannot listen", path, &error, true)),
-    };
+    let control = listen_for_control(rt, service)?;
     let clients = match bind(rt, &service.address) {
         Ok(clients) => clients,
         Err(error) => {
@@ -44,17 +41,17 @@ where
     Ok(Listeners { clients, control })
 }
 
-// Listens at the path of control sessions, if there is one. Else it gives back the path, and why it is refused.
-fn bind_control<'p>(
-    rt: &(impl Files<File = File> + Net),
-    path: &'p Option<String>,
-) -> Result<Option<Listener>, (&'p str, io::Error)> {
-    let Some(path) = path else {
+// Listens for control sessions, where there may be some.
+fn listen_for_control(
+    rt: &(impl AllocGlobal + Files<File = File> + Net + Eprint),
+    service: &Service,
+) -> Result<Option<Listener>, ExitCode> {
+    let Some(path) = &service.control else {
         return Ok(None);
     };
     match Listener::bind_path(rt, path.as_str()) {
         Ok(listener) => Ok(Some(listener)),
-        Err(error) => Err((path.as_str(), error)),
+        Err(error) => Err(fail_at(rt, "cannot listen", path.as_str(), &error, true)),
     }
 }
 

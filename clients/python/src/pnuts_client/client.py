@@ -88,6 +88,8 @@ class Client:
         """The answers to requests in their order, with up to `window` lines in flight. The first refusal ends it."""
         with self._connection() as connection:
             left = list(asked)
+            if not all(request.reads for request in left):
+                connection.renew()
             tries = 0
             while left:
                 answered = 0

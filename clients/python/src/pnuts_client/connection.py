@@ -62,6 +62,11 @@ class Connection:
             self._socket.wait(sent < len(unsent), deadline)
         return sent, []
 
+    def renew(self) -> None:
+        """Ends the session where the region did, so that the next line begins another one. Nothing is in flight."""
+        if self._socket is not None and self._socket.has_ended():
+            self.close()
+
     def close(self) -> None:
         """Ends the session. The next line begins another."""
         if self._socket is not None:

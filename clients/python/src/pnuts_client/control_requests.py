@@ -172,4 +172,4 @@ def _stats(reply: Any) -> Stats:
 
 def _of(kind: type[Kind], reply: Any) -> Kind:
     """A value of the members that it knows."""
-    return kind(**{it.name: reply.get(it.name) for it in fields(kind)})
+    return kind(**{it.name: reply[it.name] for it in fields(kind)})

@@ -5,6 +5,7 @@ from __future__ import annotations
 import argparse
 import json
 import os
+import ssl
 import sys
 import time
 from collections.abc import Callable, Sequence
@@ -15,8 +16,8 @@ from typing import Any
 from .addresses import Address, Unix, address_of
 from .client import Client
 from .control import Control
-from .control_requests import Notice, Notices, Tablet
-from .errors import ConnectionFailed, PnutsError
+from .control_requests import LAST_NUMBER, Notice, Tablet
+from .errors import ConnectionFailed, PnutsError, TimedOut
 from .pauses import pause
 from .recovery import recover, save
 from .status import shown_status
@@ -55,13 +56,16 @@ def parser() -> argparse.ArgumentParser:
     watch.add_argument("--since", type=int, metavar="N", help="begin after the change of this number (default: now)")
     copied = command(save_copies, "save", "write the copies of all tablets into a file, which is there whole or not at all")
     copied.add_argument("file", type=Path, metavar="FILE", help="the file")
-    copied.add_argument("--from", dest="peer", type=_address, metavar="ADDRESS", help=f"{PEER} (default: the control socket's)")
+    copied.add_argument("--from", dest="peer", metavar="ADDRESS", help=f"{PEER} (default: the control socket's)")
+    _add_certificates(copied)
     lost = command(recover_tablet, "recover", "have a lost tablet adopt the copy of a peer, which is asked until it has what is needed")
     lost.add_argument("tablet", type=int, metavar="TABLET", help="its number, from 0")
-    lost.add_argument("--from", dest="peer", type=_address, required=True, metavar="ADDRESS", help=f"the peer: {PEER}")
+    lost.add_argument("--from", dest="peer", required=True, metavar="ADDRESS", help=f"the peer: {PEER}")
+    _add_certificates(lost)
     lost.add_argument("--timeout", type=float, default=60.0, metavar="SECONDS", help="for how long (default: %(default)s)")
     ready = command(wait_for_region, "ready", "wait until the region answers")
     ready.add_argument("--timeout", type=float, default=60.0, metavar="SECONDS", help="for how long (default: %(default)s)")
+    ready.add_argument("--process", type=int, metavar="PID", help="give up once this process, which is the region's, has ended")
     stopped = command(stop_region, "stop", "end the region once all lines that have come are answered, and wait for that")
     stopped.add_argument("--seconds", type=int, default=10, metavar="N", help="end it after so many at most, 0 to 60 (default: %(default)s)")
     shown = command(export, "exporter", "show the region to Prometheus: /metrics, and /healthz (needs python3-prometheus-client)")
@@ -70,11 +74,17 @@ def parser() -> argparse.ArgumentParser:
     return words
 
 
-def _address(text: str) -> Address:
-    try:
-        return address_of(text)
-    except ValueError as fault:
-        raise argparse.ArgumentTypeError(str(fault)) from fault
+def _add_certificates(words: argparse.ArgumentParser) -> None:
+    words.add_argument("--authority", metavar="FILE", help="certificates that vouch for tls:// (default: the machine's own)")
+    words.add_argument("--certificate", metavar="FILE", help="the certificate, with its key, to show to tls://")
+
+
+def _peer(words: Words) -> Address:
+    """The peer that the words name, with its certificates."""
+    context = ssl.create_default_context(cafile=words.authority)
+    if words.certificate:
+        context.load_cert_chain(words.certificate)
+    return address_of(words.peer, context)
 
 
 def _place(text: str) -> tuple[str, int]:
@@ -116,7 +126,7 @@ def _as_json(tablet: Tablet) -> dict[str, Any]:
 
 
 def show_changes(region: Control, words: Words) -> int:
-    since = region.notices(0).next if words.since is None else words.since
+    since = region.notices(LAST_NUMBER).next if words.since is None else words.since
     for found in region.watch(since):
         if found.missed:
             say(words, {"missed": True, "next": found.next}, f"{found.next}: some changes before this one were missed")
@@ -130,7 +140,7 @@ def _shown(change: Notice) -> str:
 
 
 def save_copies(region: Control, words: Words) -> int:
-    with Client(words.peer or Unix(words.control)) as source:
+    with Client(_peer(words) if words.peer else Unix(words.control)) as source:
         count = save(source, words.file)
     size = words.file.stat().st_size
     say(words, {"bytes": size, "path": str(words.file), "tablets": count}, f"{words.file}: {count} tablets, {size} bytes")
@@ -138,7 +148,7 @@ def save_copies(region: Control, words: Words) -> int:
 
 
 def recover_tablet(region: Control, words: Words) -> int:
-    with Client(words.peer) as peer:
+    with Client(_peer(words)) as peer:
         size = recover(region, words.tablet, peer, words.timeout)
     text = f"tablet {words.tablet} serves" if size is None else f"tablet {words.tablet} adopted {size} bytes"
     say(words, {"bytes": size, "tablet": words.tablet}, text)
@@ -151,11 +161,24 @@ def wait_for_region(region: Control, words: Words) -> int:
         try:
             region.marks()
             return 0
-        except ConnectionFailed:
+        except (ConnectionFailed, TimedOut) as fault:
+            if words.process is not None and not _is_there(words.process):
+                raise PnutsError(f"process {words.process} has ended: {fault}") from fault
             if time.monotonic() >= deadline:
                 raise
             tries += 1
             time.sleep(pause(tries))
+
+
+def _is_there(process: int) -> bool:
+    """Whether a process has not ended."""
+    try:
+        os.kill(process, 0)
+    except ProcessLookupError:
+        return False
+    except PermissionError:
+        pass
+    return True
 
 
 def stop_region(region: Control, words: Words) -> int:

@@ -22,7 +22,7 @@ PATIENCE = 10.0
 CLIENTS = 16
 """How many clients are answered at once. More of them wait."""
 STATES = ("waiting", "open", "ended", "failed")
-TEXT = [("Content-Type", "text/plain; charset=utf-8")]
+TEXT = ("Content-Type", "text/plain; charset=utf-8")
 App = Callable[[dict[str, Any], Callable[..., Any]], Iterable[bytes]]
 
 
@@ -114,10 +114,10 @@ def app_of(region: Control, silence: int | None = None) -> App:
         if environ["PATH_INFO"] == "/metrics":
             return metrics(environ, start)
         if environ["PATH_INFO"] != "/healthz":
-            start("404 Not Found", TEXT)
+            start("404 Not Found", [TEXT])
             return [b"there are /metrics and /healthz\n"]
         found = faults(region, silence)
-        start("503 Service Unavailable" if found else "200 OK", TEXT)
+        start("503 Service Unavailable" if found else "200 OK", [TEXT])
         return ["".join(f"{it}\n" for it in found or ["well"]).encode()]
 
     return app

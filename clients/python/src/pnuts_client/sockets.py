@@ -72,6 +72,13 @@ class Socket:
             raise ConnectionFailed("the region closed the connection")
         return data
 
+    def has_ended(self) -> bool:
+        """Whether the other side has ended it, where nothing is to come."""
+        try:
+            return self.receive_some() is not None
+        except ConnectionFailed:
+            return True
+
     def wait(self, to_send: bool, deadline: float | None) -> None:
         """Waits until something has come, or, where there is something to send, until more is taken."""
         left = seconds_left(deadline)

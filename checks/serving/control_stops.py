@@ -1,0 +1,194 @@
+"""Checks of `checks/run control`: the stop of a region, beside clients that have lines in flight."""
+import contextlib
+import json
+import os
+import select
+import signal
+import socket
+import time
+
+from common.served import SECONDS, same
+from serving.controlled import CHUNK, Session, region_in, written
+from serving.staying import KEYS, Staying, until
+from serving.writers import Writer
+
+CLIENTS, LINES, PAGES = 256, 100, 60
+READ = b'{"do":"read","key":"k%03d"}\n'
+HALF = b'{"error":"not-json"}\n'
+SCAN = b'{"do":"scan","query":{"limit":1000}}\n'
+
+
+class Pipelining:
+    """A client that sends lines without pause, and notes how many it had sent at some moment."""
+
+    def __init__(self, place: int | str) -> None:
+        self.socket = socket.create_connection(("127.0.0.1", place)) if isinstance(place, int) else socket.socket(socket.AF_UNIX)
+        if isinstance(place, str):
+            self.socket.connect(place)
+        self.socket.setblocking(False)
+        self.sent, self.unsent, self.came, self.is_over = 0, b"", b"", False
+
+    def turn(self) -> None:
+        """Sends what is taken, and takes what came."""
+        with contextlib.suppress(BlockingIOError, BrokenPipeError, ConnectionResetError):
+            if not self.unsent:
+                self.unsent = b"".join(READ % (number % KEYS) for number in range(self.sent, self.sent + LINES))
+                self.sent += LINES
+            self.unsent = self.unsent[self.socket.send(self.unsent) :]
+        try:
+            while not self.is_over and (part := self.socket.recv(CHUNK)):
+                self.came += part
+            self.is_over = True
+        except BlockingIOError:
+            pass
+        except ConnectionError:
+            self.is_over = True
+
+    def look(self) -> int:
+        """Looks whether the replies are whole, in the order of the lines; half a line has one, too. How many there are."""
+        same("what comes last is whole", self.came[-1:] in (b"", b"\n"), True)
+        lines = self.came.removesuffix(HALF).splitlines()
+        keys = [json.loads(line)["row"]["key"] for line in lines]
+        same("the replies are those of the first lines", keys == [f"k{number % KEYS:03}" for number in range(len(keys))], True)
+        return len(keys)
+
+
+def stopped(region: Staying, control: str, seconds: int = 10) -> float:
+    """Stops a region, and waits for its end, which is clean. How many seconds it took."""
+    start = time.monotonic()
+    with Session(control) as session:
+        same("the reply", session.told(do="stop", seconds=seconds), {"stopping": seconds})
+        same("the end of its session", session.line(), b"")
+    return ended(region, start)
+
+
+def ended(region: Staying, start: float) -> float:
+    same("its status", region.process.wait(timeout=SECONDS), 0)
+    same("what it said", [line for line in region.said().splitlines() if b"ended" not in line and b"begins" not in line], [])
+    same("files of sockets", [it for it in os.listdir(region.folder) if "errors" not in it], [])
+    return time.monotonic() - start
+
+
+def check_stop(program: str, folder: str) -> None:
+    """A stop beside 256 connections with a hundred lines in flight each: each line that had come has its reply."""
+    with region_in(folder, program) as (region, control, path), contextlib.ExitStack() as stack:
+        written(path, 1, 1000)
+        clients = [stack.enter_context(socket.create_connection(("127.0.0.1", region.port), timeout=SECONDS)) for _ in range(CLIENTS)]
+        for client in clients:
+            client.sendall(READ % 1)
+            client.recv(CHUNK)
+        for client in clients:
+            client.sendall(READ % 1 * LINES + READ[:-2] % 1)
+        waits = stack.enter_context(Session(control))
+        waits.send(b'{"do":"notices","since":1000000000000000000,"wait":60}\n{"do":"notices","since":0,"wait":60}\n')
+        writer = stack.enter_context(Writer(path))
+        writer.begin()
+        seconds = stopped(region, control)
+        for client in clients:
+            with client.makefile("rb") as file:
+                replies = file.read().splitlines()
+                same("the replies", [len(replies), replies[-1]], [LINES + 1, b'{"error":"not-json"}'])
+        print(f"    stopped in {seconds:.2f} s")
+
+
+def check_stop_beside_lines(program: str, folder: str) -> None:
+    """A stop beside 256 connections that go on sending: each is told whole replies to its first lines, over TCP and a Unix socket."""
+    for words in ([], ["--socket", f"{folder}/clients"]):
+        with region_in(folder, program, *words) as (region, control, path), Session(control) as session:
+            written(path, 1, 1000)
+            clients = [Pipelining(words[1] if words else region.port) for _ in range(CLIENTS)]
+            last = time.monotonic() + 0.3
+            while time.monotonic() < last:
+                for client in clients:
+                    client.turn()
+            start = time.monotonic()
+            session.send(b'{"do":"stop"}\n')
+            while not all(client.is_over for client in clients):
+                for client in clients:
+                    client.turn()
+                same("it ends in time", time.monotonic() < start + SECONDS, True)
+            seconds = ended(region, start)
+            print(f"    stopped in {seconds:.2f} s, {sum(client.look() for client in clients):,} replies")
+            for client in clients:
+                client.socket.close()
+
+
+def check_stop_beside_slow_clients(program: str, folder: str) -> None:
+    """A client that has taken no reply yet, and sends more while the region stops, still gets each reply to lines before the stop."""
+    with region_in(folder, program) as (region, control, path), contextlib.ExitStack() as stack:
+        written(path, 1, 1000)
+        clients = [stack.enter_context(socket.create_connection(("127.0.0.1", region.port), timeout=SECONDS)) for _ in range(20)]
+        for client in clients:
+            client.setsockopt(socket.IPPROTO_TCP, socket.TCP_NODELAY, 1)
+            client.sendall(SCAN * PAGES)
+        time.sleep(0.7)
+        session = stack.enter_context(Session(control))
+        session.send(b'{"do":"stop"}\n')
+        last = time.monotonic() + 0.3
+        while time.monotonic() < last:
+            for client in clients:
+                with contextlib.suppress(OSError):
+                    client.send(READ % 1)
+        for client in clients:
+            text = b""
+            with contextlib.suppress(ConnectionError):
+                while part := client.recv(CHUNK):
+                    text += part
+            same("how many pages came", text.count(b'{"next":'), PAGES)
+        same("its status", region.process.wait(timeout=SECONDS), 0)
+
+
+def check_stop_in_time(program: str, folder: str) -> None:
+    """Clients and sessions that take nothing do not hold up a stop for longer than it says, and `seconds` of 0 ends at once."""
+    for wanted in (0, 1, 2):
+        with region_in(folder, program) as (region, control, path), contextlib.ExitStack() as stack:
+            written(path, 1, 1000)
+            deaf = [stack.enter_context(socket.create_connection(("127.0.0.1", region.port))), stack.enter_context(Session(control)).socket]
+            for client in deaf:
+                client.setblocking(False)
+                with contextlib.suppress(BlockingIOError):
+                    for _ in range(100_000):
+                        client.send(SCAN * 100)
+            seconds = stopped(region, control, wanted)
+            same(f"it ends after {seconds:.2f} seconds, of {wanted}", wanted <= seconds + 0.1 and seconds < wanted + 2.5, True)
+
+
+def check_stop_of_many_kinds(program: str, folder: str) -> None:
+    """A stop that is asked by several at once, without a client, with streams that have ended or failed, and with half lines."""
+    for kind in ("none", "many", "half", "failed", "idle"):
+        with region_in(folder, program) as (region, control, path), contextlib.ExitStack() as stack:
+            if kind == "failed":
+                with Writer(path) as writer:
+                    writer.begin()
+                    writer.send(b"x\n")
+                    writer.last_lines()
+            if kind == "half":
+                client = stack.enter_context(socket.create_connection(("127.0.0.1", region.port)))
+                client.sendall(b'{"do":"re')
+                time.sleep(0.1)
+            if kind == "idle":
+                for _ in range(100):
+                    stack.enter_context(socket.create_connection(("127.0.0.1", region.port)))
+                for _ in range(14):
+                    stack.enter_context(Session(control))
+            start = time.monotonic()
+            sessions = [stack.enter_context(Session(control)) for _ in range(10 if kind == "many" else 1)]
+            for at, session in enumerate(sessions):
+                session.send(b'{"do":"stop","seconds":%d}\n' % (10 + at))
+            said = [session.line() for session in sessions]
+            same("a stop's reply", any(it.startswith(b'{"stopping":') for it in said), True)
+            same("its status", region.process.wait(timeout=SECONDS), 0)
+            same("it stops at once", time.monotonic() - start < 3, True)
+            same("files of sockets", [it for it in os.listdir(folder) if "errors" not in it], [])
+
+
+def check_kill(program: str, folder: str) -> None:
+    """A signal ends a region with a control socket as one without, whatever its sessions do, and the next one takes its sockets."""
+    for which in (signal.SIGTERM, signal.SIGINT, signal.SIGKILL):
+        with region_in(folder, program) as (region, control, path), Session(control) as waits, Session(control) as session:
+            written(path, 1, 5)
+            waits.send(b'{"do":"notices","since":5,"wait":60}\n')
+            session.send(b'{"do":"marks"}\n')
+            region.process.send_signal(which)
+            same("it is ended", region.process.wait(timeout=SECONDS), -which)
+            until("its sessions have ended", lambda: select.select([waits.socket], [], [], 0)[0])

@@ -1,0 +1,124 @@
+"""Checks of `checks/run control`: the words that only control sessions have, and `notices` that waits."""
+import json
+import os
+import socket
+import stat
+import subprocess
+import time
+
+from common.served import SECONDS, same
+from serving.controlled import Session, region_in, written
+from serving.staying import messages, until
+from serving.writers import Writer
+
+REFUSED = {
+    b'{"do":"deliver"}': b'{"error":"read-only"}\n', b'{"do":"relayout","bounds":1}': b'{"error":"read-only"}\n',
+    b'{"do":"notices","since":0,"wait":61}': b'{"error":"out-of-range","member":"wait"}\n',
+    b'{"do":"notices","since":0,"wait":"1"}': b'{"error":"bad-shape","member":"wait"}\n',
+    b'{"do":"stop","seconds":61}': b'{"error":"out-of-range","member":"seconds"}\n',
+    b'{"do":"stop","seconds":-1}': b'{"error":"bad-shape","member":"seconds"}\n',
+    b'{"do":"stop","wait":1}': b'{"error":"bad-shape","member":"other"}\n',
+    b'{"do":"stats","x":1}': b'{"error":"bad-shape","member":"other"}\n',
+    b'{"do":"advance","seconds":1}': b'{"error":"bad-shape","member":"other"}\n',
+    b"x": b'{"error":"not-json"}\n', b"x" * 65_537: b'{"error":"too-long"}\n',
+}
+STATS = ["bytes", "connections", "lines", "rounds", "streams", "uptime", "version"]
+CONNECTIONS, LINES = ["accepted", "idle", "open", "refused"], ["answered", "refused"]
+STREAM = ["bytes", "line", "messages", "name", "path", "position", "reason", "since", "state"]
+
+
+def check_words(program: str, folder: str) -> None:
+    """The words that only control sessions have, those that they refuse, and the mode of their socket."""
+    with region_in(folder, program) as (_, control, path), Session(control) as session:
+        same("its mode", stat.S_IMODE(os.stat(control).st_mode), 0o600)
+        written(path, 1, 250)
+        for line, reply in REFUSED.items():
+            same(f"the reply to {line[:60]!r}", session.ask(line + b"\n"), reply)
+        same("marks", session.told(do="marks"), {"marks": {"east": 250}})
+        same("advance", session.told(do="advance"), {"marks": {"east": 250}})
+        session.told(do="lose", tablet=1)
+        same("advance of a region that lost a tablet", session.told(do="advance"), {"marks": {"east": 250}})
+
+
+def check_stats(program: str, folder: str) -> None:
+    """`stats` has the members that the documents list, in their order, and counts."""
+    with region_in(folder, program) as (region, control, path), Session(control) as session, Session(control) as other:
+        written(path, 1, 250)
+        line = session.ask(b'{"do":"stats"}\n')
+        stats = json.loads(line)
+        same("compact, in byte order", line, json.dumps(stats, separators=(",", ":"), sort_keys=True).encode() + b"\n")
+        (stream,) = stats["streams"]
+        for what, found, wanted in (("its", stats, STATS), ("connections'", stats["connections"], CONNECTIONS),
+                                    ("lines'", stats["lines"], LINES), ("a stream's", stream, STREAM)):
+            same(f"{what} members", list(found), wanted)
+        same("its stream", [stream[it] for it in ("name", "path", "position", "messages", "bytes", "line", "reason")],
+             ["east", path, 250, 250, len(messages(1, 250)), None, None])
+        until("its stream has ended", lambda: other.told(do="stats")["streams"][0]["state"] == "ended")
+        with Writer(path) as writer:
+            writer.begin()
+            writer.send(messages(251, 1))
+            until("its stream is open", lambda: other.told(do="stats")["streams"][0]["state"] == "open")
+            writer.send(b"no message\n")
+            writer.last_lines()
+        (stream,) = other.told(do="stats")["streams"]
+        same("its fault", [stream["line"], stream["reason"]], [2, "not-json"])
+        same("what counts only clients", other.told(do="stats")["lines"], {"answered": 0, "refused": 0})
+
+
+def check_stats_of_connections(program: str, folder: str) -> None:
+    """`stats` counts the connections of clients, those that were idle for too long, and the lines that were refused."""
+    with region_in(folder, program, "--idle", "1") as (region, control, _), Session(control) as session:
+        for _ in range(3):
+            with socket.create_connection(("127.0.0.1", region.port), timeout=SECONDS) as client, client.makefile("rb") as replies:
+                client.sendall(b'{"do":"read","key":"k001"}\nx\n')
+                same("the replies", [replies.readline(), replies.readline()], [b'{"row":null}\n', b'{"error":"not-json"}\n'])
+                same("the end of its session", replies.readline(), b"")
+        until("none is open", lambda: session.told(do="stats")["connections"]["open"] == 0)
+        stats = session.told(do="stats")
+        same("connections", stats["connections"], {"accepted": 3, "idle": 3, "open": 0, "refused": 0})
+        same("lines", stats["lines"], {"answered": 6, "refused": 3})
+
+
+def check_waits(program: str, folder: str) -> None:
+    """A `notices` that waits is answered by a change, a loss and the end of its time; others are not held up."""
+    with region_in(folder, program) as (_, control, path), Session(control) as waits, Session(control) as other:
+        start = time.monotonic()
+        same("without a change", waits.ask(b'{"do":"notices","since":0,"wait":1}\n'), b'{"next":0,"notices":[]}\n')
+        assert 0.9 < time.monotonic() - start < 3, "it waits for its time"
+        same("of what was not yet", waits.ask(b'{"do":"notices","since":1,"wait":60}\n'), b'{"missed":true,"next":0}\n')
+        waits.send(b'{"do":"notices","since":0,"wait":60}\n')
+        time.sleep(0.2)
+        start = time.monotonic()
+        same("another session meanwhile", other.told(do="marks"), {"marks": {}})
+        assert time.monotonic() - start < 0.5, "it is not held up"
+        written(path, 1, 1)
+        told = json.loads(waits.line())
+        same("the change", [told["next"], [it["key"] for it in told["notices"]]], [1, ["k001"]])
+        waits.send(b'{"do":"notices","since":1,"wait":60}\n')
+        same("a loss", other.told(do="lose", tablet=2), {"lost": 2})
+        same("what it is told", waits.line(), b'{"missed":true,"next":2}\n')
+
+
+def check_waits_whose_client_goes(program: str, folder: str) -> None:
+    """Sixteen clients that go while they wait make room for others within seconds."""
+    with region_in(folder, program) as (_, control, _):
+        for _ in range(16):
+            with Session(control) as session:
+                session.send(b'{"do":"notices","since":0,"wait":60}\n')
+                time.sleep(0.02)
+        start = time.monotonic()
+        with Session(control) as session:
+            same("marks", session.told(do="marks"), {"marks": {}})
+        assert time.monotonic() - start < 5, "there is room"
+
+
+def check_words_of_the_program(program: str, folder: str) -> None:
+    """`--control` is only with `--stay`, and its path has at most 107 bytes."""
+    path = os.path.join(folder, "control")
+    for words, said in (
+        (["--control", path], f"pnuts: control: {path}: only with --stay\n"),
+        (["--stay", "--control", "x" * 108], f"pnuts: control: {'x' * 108}: a path of more than 107 bytes\n"),
+    ):
+        ran = subprocess.run([program, "serve", *words, "east=/dev/null"], stderr=subprocess.PIPE, timeout=SECONDS)
+        same("the status", ran.returncode, 2)
+        same("what it said", ran.stderr, said.encode())

@@ -1,0 +1,223 @@
+"""Shows regions of a built program to a real Prometheus, by `pnuts-ctl exporter`, and looks at what that has scraped and alerts of.
+
+  checks/run exporter PROGRAM [CHECK ..]
+
+It needs Debian's prometheus and python3-prometheus-client, and is skipped without. Exit status 0 where each holds.
+"""
+import contextlib
+import json
+import os
+import shutil
+import signal
+import socket
+import subprocess
+import sys
+import time
+import urllib.error
+import urllib.parse
+import urllib.request
+from collections.abc import Iterator
+
+from common.crates import TOP
+from common.served import SECONDS, Json, free_port, same
+from common.tried import checks_in, checks_parser, try_checks
+from serving.controlled import Session, adoption, region_in, written
+from serving.staying import raise_descriptors, until
+from serving.writers import Writer
+
+RULES = TOP / "packaging/prometheus/pnuts.rules.yml"
+CLIENT = TOP / "clients/python/src"
+PYTHONS = (sys.executable, "/usr/bin/python3")
+TOOLS = ("prometheus", "promtool")
+METRICS = ["pnuts_bytes", "pnuts_connections", "pnuts_info", "pnuts_lines", "pnuts_rounds", "pnuts_stream", "pnuts_tablet", "pnuts_up", "pnuts_uptime"]
+
+
+def python() -> str | None:
+    """A Python that has the library of exporters."""
+    found = (it for it in PYTHONS if os.access(it, os.X_OK) and not subprocess.run([it, "-c", "import prometheus_client"], stderr=-3).returncode)
+    return next(found, None)
+
+
+def answered(url: str) -> tuple[int, str]:
+    """The status and the text that a page has."""
+    try:
+        with urllib.request.urlopen(url, timeout=SECONDS) as page:
+            return page.status, page.read().decode()
+    except urllib.error.HTTPError as fault:
+        return fault.code, fault.read().decode()
+
+
+class Exporter:
+    """An exporter of a region's control socket, until the block ends."""
+
+    def __init__(self, control: str, *words: str) -> None:
+        self.place = f"127.0.0.1:{free_port()}"
+        line = [python(), "-m", "pnuts_client.ctl", "--control", control, "exporter", "--listen", self.place, *words]
+        environment = {**os.environ, "PYTHONPATH": str(CLIENT), "PYTHONDONTWRITEBYTECODE": "1"}
+        self.process = subprocess.Popen(line, env=environment, stdin=subprocess.DEVNULL)
+
+    def __enter__(self) -> "Exporter":
+        until("the exporter answers", self.is_there)
+        return self
+
+    def __exit__(self, *_: object) -> None:
+        self.process.kill()
+        self.process.wait()
+
+    def is_there(self) -> bool:
+        with contextlib.suppress(OSError):
+            return answered(f"http://{self.place}/none")[0] == 404
+        return False
+
+    def health(self) -> tuple[int, str]:
+        return answered(f"http://{self.place}/healthz")
+
+    def metrics(self) -> dict[str, float]:
+        """The values of all metrics, by their names with labels."""
+        status, text = answered(f"http://{self.place}/metrics")
+        same("the status of metrics", status, 200)
+        lines = (line.rpartition(" ") for line in text.splitlines() if not line.startswith("#"))
+        return {name: float(value) for name, _, value in lines}
+
+
+class Prometheus:
+    """A Prometheus that scrapes an exporter each second and knows the alerts, until the block ends."""
+
+    def __init__(self, folder: str, place: str) -> None:
+        self.url = f"http://127.0.0.1:{free_port()}"
+        scrape = {"job_name": "pnuts", "static_configs": [{"targets": [place]}]}
+        told = {"global": {"evaluation_interval": "1s", "scrape_interval": "1s"}, "rule_files": [str(RULES)], "scrape_configs": [scrape]}
+        path = os.path.join(folder, "prometheus.yml")
+        with open(path, "w", encoding="utf-8") as file:
+            json.dump(told, file)
+        words = [f"--config.file={path}", f"--storage.tsdb.path={folder}/data", f"--web.listen-address={self.url.removeprefix('http://')}"]
+        with open(f"{folder}/prometheus-said", "wb") as said:
+            self.process = subprocess.Popen(["prometheus", *words], stdin=subprocess.DEVNULL, stdout=said, stderr=said)
+
+    def __enter__(self) -> "Prometheus":
+        until("Prometheus is ready", self.is_ready)
+        return self
+
+    def __exit__(self, *_: object) -> None:
+        self.process.terminate()
+        self.process.wait(SECONDS)
+
+    def is_ready(self) -> bool:
+        with contextlib.suppress(OSError):
+            return answered(f"{self.url}/-/ready")[0] == 200
+        return False
+
+    def query(self, text: str) -> list[float]:
+        """The values that an expression has now."""
+        told = json.loads(answered(f"{self.url}/api/v1/query?{urllib.parse.urlencode({'query': text})}")[1])
+        return [float(it["value"][1]) for it in told["data"]["result"]]
+
+    def wait_for(self, text: str, values: list[float]) -> None:
+        until(f"{text} is {values}", lambda: self.query(text) == values)
+
+    def alerts(self) -> set[str]:
+        """The alerts that fire, or will once they have held for long enough."""
+        return {it["labels"]["alertname"] for it in json.loads(answered(f"{self.url}/api/v1/alerts")[1])["data"]["alerts"]}
+
+    def wait_for_alerts(self, *names: str) -> None:
+        until(f"the alerts are {names}", lambda: self.alerts() == set(names))
+
+
+def check_rules(program: str, folder: str) -> None:
+    """`promtool` takes the file of alerts, and each alert fires when it should, and not before."""
+    subprocess.run(["promtool", "check", "rules", RULES], stdout=subprocess.DEVNULL, check=True)
+    cases = {"PnutsDown": ("pnuts_up", "1 0x20", 3), "PnutsTabletRecovering": ('pnuts_tablet_recovering{tablet="1"}', "0 1x20", 7),
+             "PnutsStreamFailed": ('pnuts_stream_state{state="failed",stream="east"}', "0 1x20", 3),
+             "PnutsStreamWithoutWriter": ('pnuts_stream_state{state="ended",stream="east"}', "0 1x20", 12),
+             "PnutsConnectionsRefused": ("pnuts_connections_refused_total", "0+1x20", 7)}
+    tests = []
+    for name, (series, values, minutes) in cases.items():
+        given = [{"series": series, "values": values}, *([{"series": "pnuts_up", "values": "1x30"}] if name != "PnutsDown" else [])]
+        wanted = [{"alertname": name, "eval_time": "0m", "exp_alerts": []}]
+        tests.append({"interval": "1m", "input_series": given, "alert_rule_test": wanted,
+                      "promql_expr_test": [{"expr": f'count(ALERTS{{alertname="{name}",alertstate="firing"}})', "eval_time": f"{minutes}m",
+                                            "exp_samples": [{"labels": "{}", "value": 1}]}]})
+    path = os.path.join(folder, "tests.yml")
+    with open(path, "w", encoding="utf-8") as file:
+        json.dump({"rule_files": [str(RULES)], "tests": tests}, file)
+    ran = subprocess.run(["promtool", "test", "rules", path], capture_output=True, text=True)
+    same("what promtool says", (ran.returncode, ran.stdout.count("SUCCESS"), ran.stderr), (0, 1, ""))
+
+
+def check_scrapes(program: str, folder: str) -> None:
+    """Prometheus scrapes what a region does, and alerts of a lost tablet, a stream that fails, and a region that is gone."""
+    with region_in(folder, program) as (region, control, path), Exporter(control) as exporter, Prometheus(folder, exporter.place) as seen:
+        with Session(control) as session:
+            written(path, 1, 250)
+            copy = session.copy(1)
+            seen.wait_for('pnuts_stream_position{stream="east"}', [250.0])
+            seen.wait_for("pnuts_up", [1.0])
+            seen.wait_for("sum(pnuts_tablet_recovering)", [0.0])
+            same("its health", exporter.health(), (200, "well\n"))
+            session.told(do="lose", tablet=1)
+            seen.wait_for('pnuts_tablet_recovering == 1', [1.0])
+            same("its health", exporter.health(), (503, "tablet 1 is recovering\n"))
+            with Writer(path) as writer:
+                writer.begin()
+                writer.send(b"x\n")
+                writer.last_lines()
+            seen.wait_for_alerts("PnutsTabletRecovering", "PnutsStreamWithoutWriter")
+            same("the adoption", session.ask(adoption(copy)), b'{"adopted":1}\n')
+            seen.wait_for("sum(pnuts_tablet_recovering)", [0.0])
+            session.told(do="stop")
+        same("its status", region.process.wait(timeout=SECONDS), 0)
+        seen.wait_for("pnuts_up", [0.0])
+        seen.wait_for_alerts("PnutsDown")
+        same("its health", exporter.health()[0], 503)
+        with region_in(folder, program):
+            seen.wait_for("pnuts_up", [1.0])
+            seen.wait_for_alerts("PnutsStreamWithoutWriter")
+            same("its health", exporter.health(), (200, "well\n"))
+
+
+def check_metrics(program: str, folder: str) -> None:
+    """The metrics have the values of `stats`, and `/healthz` says which stream is silent."""
+    with region_in(folder, program) as (region, control, path), Exporter(control, "--silence", "0") as exporter, Session(control) as session:
+        written(path, 1, 250)
+        with socket.create_connection(("127.0.0.1", region.port)) as client:
+            client.sendall(b'{"do":"read","key":"k001"}\nx\n')
+            until("both are answered", lambda: session.told(do="stats")["lines"]["answered"] == 2)
+            found, stats = exporter.metrics(), session.told(do="stats")
+            (stream,) = stats["streams"]
+            wanted = {"pnuts_up": 1, "pnuts_connections_open": 1, "pnuts_connections_accepted_total": 1, "pnuts_lines_answered_total": 2,
+                      "pnuts_lines_refused_total": 1, "pnuts_rounds_total": stats["rounds"], 'pnuts_stream_messages_total{stream="east"}': 250,
+                      'pnuts_stream_bytes_total{stream="east"}': stream["bytes"], 'pnuts_stream_state{state="failed",stream="east"}': 0,
+                      'pnuts_info{version="%s"}' % stats["version"]: 1, 'pnuts_tablet_recovering{tablet="2"}': 0}
+            same("its metrics", {name: found.get(name) for name in wanted}, wanted)
+        until("its stream is silent", lambda: exporter.health()[0] == 503)
+        same("what is wrong", exporter.health()[1].startswith("stream east brought nothing for "), True)
+
+
+def check_exporter_beside_silent_clients(program: str, folder: str) -> None:
+    """Clients of an exporter that send nothing hold up no scrape, and a region that does not answer holds it up for a time only."""
+    with region_in(folder, program) as (region, control, _), Exporter(control) as exporter, contextlib.ExitStack() as stack:
+        host, _, port = exporter.place.partition(":")
+        for _ in range(12):
+            stack.enter_context(socket.create_connection((host, int(port))))
+        start = time.monotonic()
+        same("up", exporter.metrics()["pnuts_up"], 1.0)
+        same("it answers at once", time.monotonic() - start < 5, True)
+        region.process.send_signal(signal.SIGSTOP)
+        start = time.monotonic()
+        same("up", exporter.metrics()["pnuts_up"], 0.0)
+        same("it answers in time", time.monotonic() - start < 30, True)
+        region.process.send_signal(signal.SIGCONT)
+        until("it answers again", lambda: exporter.metrics()["pnuts_up"] == 1.0)
+        exporter.process.send_signal(signal.SIGTERM)
+        same("it ends by a signal", exporter.process.wait(timeout=SECONDS), -signal.SIGTERM)
+
+
+def main(words: list[str]) -> int:
+    checks = checks_in(sys.modules[__name__])
+    given = checks_parser(__doc__, checks).parse_args(words)
+    lacks = [tool for tool in TOOLS if not shutil.which(tool)] + ["python3-prometheus-client"] * (python() is None)
+    if lacks:
+        print(f"exporter: skipped, for the machine lacks {', '.join(lacks)}")
+        return 0
+    raise_descriptors()
+    return try_checks(given.program, checks, given.names or checks)

@@ -1,0 +1,159 @@
+// Package control asks the control socket of a region how it goes, and what changes.
+package control
+
+import (
+	"context"
+	"encoding/json"
+	"errors"
+	"fmt"
+	"time"
+
+	"keqapwi.example/pnuts"
+)
+
+const (
+	// longestWait is the most seconds that a line waits for changes.
+	longestWait = 60
+	// lastNumber is greater than that of any change. What came after it is never known, but for the last number.
+	lastNumber = 1e18
+	// How long to wait before a watcher asks again where the connection broke.
+	shortest, longest = 100 * time.Millisecond, time.Second
+)
+
+// Stats say what a region has done so far: the seconds that it runs, bytes of memory, rounds, connections of clients and their lines.
+type Stats struct {
+	Version               string
+	Uptime, Bytes, Rounds int64
+	Connections           struct{ Accepted, Idle, Open, Refused int64 }
+	Lines                 struct{ Answered, Refused int64 }
+	Streams               []Stream
+}
+
+// A Stream of a region. State is "waiting" for a writer, "open", "ended" or "failed"; Position is up to where it was taken; Messages
+// and Bytes were read. Since is the seconds since the last message, nil before the first. Reason and Line are of the last fault,
+// nil where there was none.
+type Stream struct {
+	Name, Path, State         string
+	Position, Messages, Bytes int64
+	Since, Line               *int64
+	Reason                    *string
+}
+
+// A Notice is a change of a record: its number, and the record's version before it, nil where there was none, and after it.
+type Notice struct {
+	Number int64
+	Key    string
+	Before *pnuts.Version
+	After  pnuts.Version
+}
+
+// Notices are changes, and in Next the number to ask with next. Missed says that some are not known, so all is to be read anew.
+type Notices struct {
+	Next    int64
+	Missed  bool
+	Changes []Notice `json:"notices"`
+}
+
+// Marks says how far streams were taken.
+func Marks(ctx context.Context, region *pnuts.Client) (map[string]int64, error) {
+	var told struct{ Marks map[string]int64 }
+	err := ask(ctx, region, map[string]any{"do": "marks"}, &told, "marks")
+	return told.Marks, err
+}
+
+// StatsOf says what a region has done so far.
+func StatsOf(ctx context.Context, region *pnuts.Client) (stats Stats, err error) {
+	err = ask(ctx, region, map[string]any{"do": "stats"}, &stats, "streams")
+	return stats, err
+}
+
+// NoticesAfter gives what changed after a number. Where that is nothing, it waits for it so many seconds, at most 60. Lines on the
+// same connection wait too, and a client's timeout has to be longer.
+func NoticesAfter(ctx context.Context, region *pnuts.Client, since, wait int64) (found Notices, err error) {
+	command := map[string]any{"do": "notices", "since": since, "wait": wait}
+	err = ask(ctx, region, command, &found, "missed", "notices")
+	return found, err
+}
+
+// ask reads a reply, which has to have one of some members.
+func ask(ctx context.Context, region *pnuts.Client, command map[string]any, answer any, members ...string) error {
+	reply, err := region.Ask(ctx, command)
+	if err != nil {
+		return err
+	}
+	text, _ := json.Marshal(reply)
+	for _, member := range members {
+		if reply[member] != nil && json.Unmarshal(text, answer) == nil {
+			return nil
+		}
+	}
+	return &pnuts.ProtocolError{Text: fmt.Sprintf("no reply to %v: %.200v", command, reply)}
+}
+
+// A Watcher goes over the changes of a region as they come, as long as Next says that there are some. Err says why not.
+type Watcher struct {
+	ctx      context.Context
+	client   *pnuts.Client
+	tries    int
+	sessions int64
+	found    Notices
+	err      error
+}
+
+// Watch goes over the changes after a number of the region at an address, or from now on where that is less than 0. It has a session
+// of its own until it ends, as it does with its context. Of the options it heeds Retries, at the connection's end, and TLS.
+func Watch(ctx context.Context, address string, options pnuts.Options, since int64) (*Watcher, error) {
+	own := pnuts.Options{Timeout: (longestWait + 10) * time.Second, Retries: -1, TLS: options.TLS}
+	client, err := pnuts.Open(address, own)
+	if since < 0 {
+		since = lastNumber
+	}
+	if options.Retries == 0 {
+		options.Retries = 3
+	}
+	return &Watcher{ctx: ctx, client: client, tries: options.Retries, found: Notices{Next: since}}, err
+}
+
+// Next waits for changes. What comes is Missed where there was no number to begin after, and where the connection broke, for the
+// region may have begun anew.
+func (w *Watcher) Next() bool {
+	for tries := 0; w.err == nil; {
+		found, err := NoticesAfter(w.ctx, w.client, w.found.Next, longestWait)
+		if broken := (*pnuts.ConnectionFailed)(nil); errors.As(err, &broken) && tries < w.tries {
+			err = w.pause(shortest << tries)
+			tries++
+		} else if err == nil {
+			if sessions := w.client.Sessions(); w.sessions != sessions {
+				if w.sessions > 0 {
+					found = Notices{Next: found.Next, Missed: true}
+				}
+				w.sessions = sessions
+			}
+			if w.found = found; found.Missed || len(found.Changes) > 0 {
+				return true
+			}
+		}
+		w.err = err
+	}
+	w.client.Close()
+	return false
+}
+
+// pause waits before another try.
+func (w *Watcher) pause(most time.Duration) error {
+	if most > longest {
+		most = longest
+	}
+	select {
+	case <-time.After(most):
+		return nil
+	case <-w.ctx.Done():
+		return w.ctx.Err()
+	}
+}
+
+// Notices are those that came.
+func (w *Watcher) Notices() Notices { return w.found }
+
+// Err is why it ended.
+func (w *Watcher) Err() error { return w.err }

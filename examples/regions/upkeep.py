@@ -1,0 +1,131 @@
+"""What those do who run regions, while they are read: a tablet is recovered, a cache is kept, and machines are stopped in turn."""
+
+from __future__ import annotations
+
+import threading
+import time
+from collections.abc import Callable
+from pathlib import Path
+
+from machines import CERTIFICATES, PROXY_PORT, RANGES, Machine, context
+from pnuts_client import Client, Control, PnutsError, Record, Recovering, Version
+from pnuts_client.addresses import Tcp
+
+from running import Word, until
+
+# The tablet of the range `high` that is lost. The front's check reads none of its keys.
+LOST, KEYS = 2, [f"z{number}" for number in range(250, 400)]
+PATIENCE = 180.0
+
+
+class Cache:
+    """A copy of a region's records, kept by the changes that its control socket tells."""
+
+    def __init__(self, control: Path) -> None:
+        self.address = f"unix:{control}"
+        self.records: dict[str, Record] = {}
+        self.loads = self.changes = 0
+
+    def run(self, is_over: Callable[[], bool]) -> None:
+        """Reads anew what it may have missed, and else what has changed. It waits while the region is away."""
+        with Control(self.address, retries=1000) as region:
+            for found in region.watch(wait=1):
+                if is_over():
+                    return
+                if found.missed:
+                    self.load(region)
+                for change in found.changes:
+                    self.take(region, change.key)
+
+    def load(self, region: Control) -> None:
+        while True:
+            try:
+                self.records = {record.key: record for record in region.scan(page=1000)}
+                self.loads += 1
+                return
+            except Recovering:
+                time.sleep(0.05)
+
+    def take(self, region: Control, key: str) -> None:
+        """Takes a record that has changed. Where its tablet was lost since, the next changes are missed, and all is read anew."""
+        try:
+            record = region.read(key)
+        except Recovering:
+            return
+        if record is not None:
+            self.records[key] = record
+            self.changes += 1
+
+    def equals_region(self) -> bool:
+        """Whether it has the records of its region, which has to rest."""
+        with Control(self.address) as region:
+            return {record.key: record for record in region.scan(page=1000)} == self.records
+
+
+class Near:
+    """Sessions of one machine's region, each of which must be shown nothing older than before."""
+
+    def __init__(self, machine: Machine) -> None:
+        self.address = Tcp(machine.address, PROXY_PORT + RANGES.index("high"), tls=context())
+        self.reads = self.recovering = 0
+        self.wrong: list[str] = []
+
+    def run(self, is_over: Callable[[], bool]) -> None:
+        shown: dict[str, Version] = {}
+        with Client(self.address) as region:
+            while not is_over():
+                for key in KEYS:
+                    try:
+                        record = region.read(key)
+                    except Recovering:
+                        self.recovering += 1
+                        continue
+                    version = Version(0, 0) if record is None else record.version
+                    if version < shown.get(key, Version(0, 0)):
+                        self.wrong.append(f"{key} was shown in {version}, after {shown[key]}")
+                    shown[key] = version
+                    self.reads += 1
+
+
+def lose_tablet(machine: Machine, peer: Machine, near: Near) -> float:
+    """A tablet of a region is lost, and adopts a copy of another machine's region once that has what is needed."""
+    over = threading.Event()
+    reading = threading.Thread(target=near.run, args=[over.is_set])
+    reading.start()
+    try:
+        until("there are readers", lambda: near.reads > len(KEYS))
+        start = time.monotonic()
+        with Control(f"unix:{machine.path('high', 'control')}") as region:
+            region.lose(LOST)
+        until("readers are told of the loss", lambda: near.recovering > 0)
+        place = f"tls://{peer.address}:{PROXY_PORT + RANGES.index('high')}"
+        certificates: list[Word] = ["--authority", CERTIFICATES / "authority.pem", "--certificate", CERTIFICATES / "client.pem"]
+        machine.run_region("high", "recover", str(LOST), "--from", place, *certificates)
+        back, before = time.monotonic() - start, near.reads
+        until("readers are shown records again", lambda: near.reads > before + len(KEYS))
+        return back
+    finally:
+        over.set()
+        reading.join()
+
+
+def renew(machine: Machine, is_level: Callable[[str], bool]) -> float:
+    """The regions of a machine are stopped and started anew: the front gives it no connections until they have all again."""
+    start = time.monotonic()
+    machine.set_state("drain")
+    for name in RANGES:
+        machine.run_region(name, "stop")
+        machine.start_region(name)
+    for name in RANGES:
+        until(f"{machine.name} has all of {name} again", lambda: is_level(name), PATIENCE)
+    machine.set_state("ready")
+    return time.monotonic() - start
+
+
+def faults(near: Near, cache: Cache) -> list[str]:
+    """What is wrong with what was shown, once nothing is published any more."""
+    try:
+        until("the cache equals its region", cache.equals_region, 30)
+    except (TimeoutError, PnutsError) as fault:
+        return [*near.wrong, str(fault)]
+    return near.wrong
