@@ -2,6 +2,7 @@
 
 ghost use Rattle.std.specs.Prelude.{◌≡◌};
 
+use crate::memory::MemoryMeter;
 use crate::streams::status::StreamStatus;
 use pn_join::Name;
 use pn_line::{LineBuffer, Piece, Source};
@@ -93,6 +94,7 @@ pub struct Counters {
     pub refused: Counter,
     pub connections: ConnectionCounters,
     pub streams: Vec<StreamCounters>,
+    pub memory: MemoryMeter,
 }
 
 impl Counters {
@@ -104,6 +106,7 @@ impl Counters {
             refused: Counter::new(),
             connections: ConnectionCounters::new(),
             streams,
+            memory: MemoryMeter::new(),
         })
     }
 }

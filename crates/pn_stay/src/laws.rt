@@ -1,6 +1,6 @@
 //! What a whole connection comes to, however its input comes and its replies are taken.
 
-ghost use Rattle.std.specs.Prelude.{◌≡◌, ℕ, List, [], Some, IfOk, IfSome, map};
+ghost use Rattle.std.specs.Prelude.{ℕ, List, [], Some, IfOk, IfSome, map};
 ghost use Rattle.std.specs.Io.KnownBytes.{prepend_known};
 ghost use Rattle.pn_serve.specs.Lines.Ends.{EndsBy};
 ghost use Rattle.pn_stay.specs.Scripted.{bytes_of, begin_with};

@@ -25,7 +25,6 @@ use pn_serve::{
 };
 use pn_tablet::Layout;
 use std::alloc::{AllocError, Global};
-use std::fs::{File, Files};
 use std::io::ErrorKind;
 use std::marker::Model;
 use std::net::Net;
@@ -76,7 +75,7 @@ impl StayingServer {
         connections: usize,
     ) -> io::Result<StayingServer>
     where
-        R: Threads + Wait + Net + Clock + Files<File = File> + Sync + Copy + Send + Drop + 'static,
+        R: Threads + Wait + Net + Clock + Sync + Copy + Send + Drop + 'static,
         requires { (1 ≤ threads) × (threads ≤ MAX_SESSIONS) }
         ensures is_new { IfOk result (λ server. IsNewLive settings.layout server.live) }
         ensures threads { IfOk result (λ server. server.threads ≡ threads) }
@@ -205,7 +204,7 @@ fn start_threads<R>(
     readers: &mut Vec<LiveReader>,
 ) -> io::Result<Started>
 where
-    R: Threads + Wait + Net + Clock + Files<File = File> + Copy + Send + Drop + 'static,
+    R: Threads + Wait + Net + Clock + Copy + Send + Drop + 'static,
     requires readers { AllRead (tablets_in live.now) readers.old.items }
     requires threads { sizes.threads ≤ vec_len readers.old }
     ensures running { IfOk result (λ started. All (λ session. tablets_of session.promise.0.value ≡ tablets_in live.now) started.running.items) }

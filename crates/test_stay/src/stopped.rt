@@ -149,7 +149,7 @@ fn ask_all<R: Net>(rt: &R, alloc: Global, told: &mut String) -> io::Result<()> {
     control.write("{\"do\":\"stop\",\"seconds\":30}\n{\"do\":\"marks\"}\n")?;
     control.read_to_end(told)?;
     client.read_to_end(told)?;
-    writer.read_to_end(told)
+    writer.read(told)
 }
 
 // A writer of a message, and of a line that is none.

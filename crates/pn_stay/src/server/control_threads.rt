@@ -8,7 +8,6 @@ use crate::socket::{Socket, TrackedSocket};
 use pn_live::LiveReader;
 use pn_serve::{ControlMailboxes, ControlSession, MAX_CONTROLS};
 use std::alloc::Global;
-use std::fs::{File, Files};
 use std::io::BufReader;
 use std::sync::{Arc, Wait};
 use std::thread::Threads;
@@ -42,7 +41,7 @@ pub(super) fn start_controls<R>(
     readers: Vec<LiveReader>,
 ) -> io::Result<Controls>
 where
-    R: Threads + Wait + Clock + Files<File = File> + Copy + Send + Drop + 'static,
+    R: Threads + Wait + Clock + Copy + Send + Drop + 'static,
 {
     let Some(listener) = listener else {
         return Ok(Controls {
@@ -94,7 +93,7 @@ fn start_threads<R>(
     readers: Vec<LiveReader>,
 ) -> io::Result<Vec<Arc<ControlClient>>>
 where
-    R: Threads + Wait + Clock + Files<File = File> + Copy + Send + Drop + 'static,
+    R: Threads + Wait + Clock + Copy + Send + Drop + 'static,
 {
     let mut clients = Vec::with_capacity(setting.alloc, readers.len())?;
     for reader in readers {
@@ -122,7 +121,7 @@ struct ControlThread {
 // Answers one client after another until the server is to stop.
 fn answer_clients<R>(rt: &R, thread: &ControlThread, reader: LiveReader)
 where
-    R: Wait + Clock + Files<File = File> + Drop,
+    R: Wait + Clock + Drop,
 {
     let mut reader = reader;
     for _ in rt.forever() {
@@ -157,7 +156,7 @@ fn begin<R: Wait>(
 // Answers a client to its end. Out of memory it is not answered.
 fn answer<R>(rt: &R, thread: &ControlThread, reader: LiveReader, socket: &Socket) -> LiveReader
 where
-    R: Wait + Clock + Files<File = File> + Drop,
+    R: Wait + Clock + Drop,
 {
     let setting = &thread.setting;
     let alloc = setting.alloc;
