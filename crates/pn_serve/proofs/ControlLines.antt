@@ -6,16 +6,15 @@ use Rattle.pn_line.proofs.LineLaws.{kept_bytes-kept_bytes}
 use Rattle.pn_live.specs.Readers.{LiveReaderValue}
 use Rattle.pn_protocol.specs.declared.reply.Reply.{Reply}
 use Rattle.pn_protocol.specs.declared.reply.Reply.TheVariants.{Silent}
-use Rattle.pn_serve.specs.Control.Lines.{ControlState, at_rest, is_closed, closed_by, after_step, reply_of, Comes, Adopts, TakesLine, AnswersIn, AnswersUnless, AnswersControl, EndsIn, EndsUnless, EndsControl}
+use Rattle.pn_serve.specs.Control.Lines.{ControlState, at_rest, is_closed, closed_by, after_step, reply_of, Adopts, TakesLine, AnswersIn, AnswersUnless, AnswersControl, EndsIn, EndsUnless, EndsControl}
 use Rattle.pn_serve.specs.Control.Steps.{AdoptsText, StepsBy, StepsLast}
 use Rattle.pn_serve.specs.Machine.Announced.{unless_call, with_line}
-use Rattle.pn_serve.specs.Machine.Outcomes.{Mode, Outcome, awaits_command, announced}
+use Rattle.pn_serve.specs.Machine.Outcomes.{Mode, awaits_command, announced}
 use Rattle.pn_serve.specs.Machine.Ways.{IsJoined}
 use Rattle.pn_serve.specs.Session.Knowing.{KnowsNoLess}
 use Rattle.pn_serve.specs.declared.control.steps.Step.{Step}
 use Rattle.pn_serve.specs.declared.control.steps.Step.TheVariants.{Replies, Announces, Stops, Ends}
 use Rattle.pn_serve.proofs.ControlSteps.{steps_so_far, lasts_so_far}
-use Rattle.pn_serve.proofs.Knowing.{knows_itself}
 
 -- a session that is not closed and waits for a command
 not_closed : (stop : Option ℕ) (over : Bool) → closed_by stop over ≡ false → (stop ≡ None) × (over ≡ false)

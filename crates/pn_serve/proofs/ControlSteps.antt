@@ -1,5 +1,5 @@
 -- Steps of control sessions, by what the program did.
-use Rattle.std.proofs.Common.{◌≡◌, ◌≢◌, ◌⊎◌, ℕ, ◌<◌, Bool, true, false, List, [], ◌∷◌, length, inl, inr, refl, sym, ap, ◌∙◌, subst, arith}
+use Rattle.std.proofs.Common.{◌≡◌, ◌≢◌, ◌⊎◌, ℕ, ◌<◌, Bool, true, false, List, length, inl, inr, refl, sym, ap, ◌∙◌, subst, arith}
 use Rattle.std.specs.Prelude.{Result, Ok, Err, Vec, IfOk, MatchResult}
 use Rattle.std.specs.declared.alloc.Global.{Global}
 use Rattle.std.proofs.lemmas.Bool.{cases_lt}
@@ -25,8 +25,8 @@ use Rattle.pn_protocol.specs.declared.refusal.Refusal.TheVariants.{TooLong, NotJ
 use Rattle.pn_protocol.specs.declared.reply.Reply.{Reply}
 use Rattle.pn_protocol.specs.declared.reply.Reply.TheVariants.{Adopted, Changed, Copied, Lost, Relaid, Stopping, Silent, Text, Refused, NotTaken}
 use Rattle.pn_protocol.specs.declared.reply.refusals.CommandFault.TheVariants.{CopyText}
-use Rattle.pn_serve.specs.Control.Commands.{Asked, Said, said_by}
-use Rattle.pn_serve.specs.Control.Steps.{AdoptsRead, AdoptsText, Asks, ObeysControl, ObeysScript, RepliesWith, Says, StepsAs, StepsBy, StepsLast, Lasts}
+use Rattle.pn_serve.specs.Control.Commands.{said_by}
+use Rattle.pn_serve.specs.Control.Steps.{AdoptsRead, ObeysControl, ObeysScript, RepliesWith, Says, StepsAs, StepsBy, StepsLast, Lasts}
 use Rattle.pn_serve.specs.Session.Knowing.{KnowsNoLess}
 use Rattle.pn_serve.specs.Session.Lines.{LooksUp}
 use Rattle.pn_serve.specs.declared.control.steps.Step.{Step}
@@ -154,7 +154,7 @@ as_knows old new (Err refusal) step steps = knows_same old new steps.0
 
 pub steps_know : (old new : LiveReaderValue) (line : List ℕ) (step : Step) → StepsBy old line new step → KnowsNoLess old new
 steps_know old new line step (inl steps) = as_knows old new (control_at line) step steps
-steps_know old new line step (inr none) = knows_same old new none.1.0
+steps_know old new line step (inr none) = knows_same old new none.1
 
 pub last_knows : (old new : LiveReaderValue) (part : List ℕ) (step : Step) → StepsLast old part new step → KnowsNoLess old new
 last_knows old new part step last = steps_know old new part last.first last.steps

@@ -34,9 +34,9 @@ use Rattle.pn_protocol.specs.Reply.Tablets.{marks_reply_data}
 use Rattle.pn_protocol.specs.declared.refusal.Part.TheVariants.{Tablet}
 use Rattle.pn_protocol.specs.declared.refusal.Refusal.TheVariants.{OutOfRange, Memory}
 use Rattle.pn_protocol.specs.declared.reply.Reply.{Reply}
-use Rattle.pn_protocol.specs.declared.reply.Reply.TheVariants.{Adopted, Lost, Text, Refused, NotTaken}
+use Rattle.pn_protocol.specs.declared.reply.Reply.TheVariants.{Adopted, Lost, Text, Refused}
 use Rattle.pn_protocol.specs.declared.reply.refusals.CommandFault.TheVariants.{Adoption, Advance}
-use Rattle.pn_serve.specs.Control.Commands.{Asked, adopt, advance, lose, Said, said_by, logged, asked_turn, advance_turn, turn_to, event_of, event_by, with_event, IsAfter, ObeysLive}
+use Rattle.pn_serve.specs.Control.Commands.{Asked, adopt, advance, lose, Said, said_by, logged, asked_turn, advance_turn, event_of, event_by, with_event, IsAfter, ObeysLive}
 use Rattle.pn_serve.specs.Machine.Outcomes.{awaits_command, machine_over, reply_turn, Turn}
 use Rattle.pn_serve.specs.Machine.Recovering.{adoption_turn, at_tablet}
 use Rattle.pn_serve.proofs.Recovering.{not_memory, no_tablet, tablet_there, telling}

@@ -187,12 +187,7 @@ fn number<'w>(
     ensures rule { rule_of result ≡ number_option name.now default.now most }
     ensures local { result.global ≡ false }
 {
-    Arg::new(alloc, name)
-        .value_parser(up_to(most))
-        .long(name)
-        .value_name(value)
-        .default_value(default)
-        .help(help)
+    option(alloc, name, value, default, help).value_parser(up_to(most))
 }
 
 // An option with one value, and no default.

@@ -1,6 +1,5 @@
 //! What a line of a control session comes to: its reader looks up, and the writer is asked for the rest.
 
-ghost use Rattle.std.specs.Prelude.{◌≡◌};
 ghost use Rattle.pn_protocol.specs.Prelude.{command_value, control_value};
 ghost use Rattle.pn_serve.specs.Control.Commands.{asked};
 ghost use Rattle.pn_serve.specs.Control.Steps.{AdoptsText, Asks, ObeysControl, ObeysScript, RepliesWith, ShowsStats, StepsBy, StepsLast};

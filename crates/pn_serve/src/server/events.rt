@@ -52,7 +52,10 @@ fn run_events<R: Threads + Wait + Sync>(
     ensures same { tablets_in live.new ≡ tablets_in live.old }
 {
     for _ in rt.forever() {
-        if mailboxes.streams.is_empty() || controls.stop_asked(rt).is_some() {
+        if mailboxes.streams.is_empty() {
+            return Ok(());
+        }
+        if controls.stop_asked(rt).is_some() {
             return Ok(());
         }
         mailboxes.wait(rt);

@@ -14,8 +14,8 @@ loop-init g c = record {
   at_fault = refl;
 }
 
-pub loop-preserved-then-has_report-false : goal.loop-preserved-then-has_report-false
-loop-preserved-then-has_report-false g c =
+pub loop-preserved-then-not-has_report : goal.loop-preserved-then-not-has_report
+loop-preserved-then-not-has_report g c =
     let name = λ (s : StreamMailbox). s.name in
     let at_fault = c.args.mailboxes.now.at_fault in
     let still = map name c.loop.mailboxes.streams.items in
@@ -66,3 +66,23 @@ returns-in_err-run_round-clause-runs g c =
     let told = more_told at_fault names c.args.live.now (map name streams) c.loop.live c.obey_all.new.live so_far.so_far (c.obey_all.ensures.told at_fault (map name streams)) in
     as_fault at_fault names c.args.live.now c.run_round.new.live fault c.from_residual-in_err-run_round.result c.from_residual-in_err-run_round.ensures.1
     (round_stopped at_fault names c.args.live.now (map name streams) c.obey_all.new.live input left c.run_round.new.live fault told run)
+
+pub returns-then-is_some-clause-runs : goal.returns-then-is_some-clause-runs
+returns-then-is_some-clause-runs g c =
+    let name = λ (s : StreamMailbox). s.name in
+    ran_on c.args.mailboxes.now.at_fault (map name c.args.mailboxes.now.streams.items) c.args.live.now (map name c.loop.mailboxes.streams.items) c.loop.live c.loop.invariant.so_far
+
+pub returns-then-is_empty-clause-runs : goal.returns-then-is_empty-clause-runs
+returns-then-is_empty-clause-runs g c =
+    let name = λ (s : StreamMailbox). s.name in
+    ran_on c.args.mailboxes.now.at_fault (map name c.args.mailboxes.now.streams.items) c.args.live.now (map name c.loop.mailboxes.streams.items) c.loop.live c.loop.invariant.so_far
+
+pub returns-in_err-input-clause-runs : goal.returns-in_err-input-clause-runs
+returns-in_err-input-clause-runs g c =
+    let name = λ (s : StreamMailbox). s.name in
+    let at_fault = c.args.mailboxes.now.at_fault in
+    let names = map name c.args.mailboxes.now.streams.items in
+    let still = map name c.loop.mailboxes.streams.items in
+    let told = more_told at_fault names c.args.live.now still c.loop.live c.obey_all.new.live c.loop.invariant.so_far (c.obey_all.ensures.told at_fault still) in
+    as_fault at_fault names c.args.live.now c.obey_all.new.live c.in_err-input.field-0.0 c.from_residual.result c.from_residual.ensures.1
+    (not_begun at_fault names c.args.live.now still c.obey_all.new.live c.in_err-input.field-0.0 told c.in_err-input.ensures.fault)
