@@ -17,13 +17,13 @@ FENCE, AT_FENCE = b" " * 65_537 + b"\n", b'{"error":"too-long"}\n'
 # What a program may say, and still go on; and why it may not start.
 ROUND_FAILED = b"pnuts: round failed"
 GOES_ON = (ROUND_FAILED, b"pnuts: stream east failed", b"pnuts: stream east ended", b"pnuts: stream east begins again",
-           b"pnuts: cannot accept")
+           b"pnuts: cannot accept", b"pnuts: 1 lines were dropped")
 STARTS_NOT = (b"pnuts: memory", b"pnuts: cannot start", b"pnuts: cannot listen", b"pnuts: cannot open east")
 KEYS = ("a", "b", "x", "y")
 MESSAGES = b"".join(b'{"at":%d,"image":{"fields":{"v":"1"},"key":"%b","master":"w","version":[1,0]}}\n' % (at, key.encode())
                     for at, key in enumerate(KEYS, 1))
-# How often something is asked again.
-TIMES = 20
+# How often something is asked again, and how long a writer waits for a line of the region.
+TIMES, PATIENCE = 20, 1.0
 
 
 class Ended(Exception):
@@ -79,20 +79,21 @@ class Asking:
         return json.loads(self.ask(json.dumps(command).encode() + b"\n"))
 
 
-def give(region: Staying, path: str, mark: str, asking: Asking) -> bool:
+def give(region: Staying, path: str, asking: Asking) -> bool:
     """Has the region take the messages, by writer after writer. Whether it has them; else memory was refused, and it reads no stream."""
     last = time.monotonic() + SECONDS
-    while time.monotonic() < last:
+    while time.monotonic() < last and region.is_running():
         with contextlib.suppress(OSError, ValueError), Writer(path) as writer:
-            while not writer.is_taken(0.2):
-                if os.path.exists(mark) and ROUND_FAILED in region.said():
-                    return False
-            writer.begin()
+            writer.socket.settimeout(PATIENCE)
+            if writer.begin() == len(KEYS):
+                same("marks", asking.told(do="marks"), {"marks": {"east": len(KEYS)}})
+                return True
             writer.send(MESSAGES)
             while line := writer.line():
                 if json.loads(line) == {"taken": len(KEYS)}:
-                    same("marks", asking.told(do="marks"), {"marks": {"east": len(KEYS)}})
-                    return True
+                    break
+        if ROUND_FAILED in region.said():
+            return False
     raise AssertionError("the messages are not taken")
 
 
@@ -132,7 +133,7 @@ def run_fault(program: str, folder: str, given: dict[str, str]) -> str | None:
     try:
         with region:
             try:
-                talk(region, control, path, mark)
+                talk(region, control, path)
             finally:
                 with contextlib.suppress(subprocess.TimeoutExpired):
                     region.process.wait(1)
@@ -145,10 +146,10 @@ def run_fault(program: str, folder: str, given: dict[str, str]) -> str | None:
         os.remove(region.errors)
 
 
-def talk(region: Staying, control: str, path: str, mark: str) -> None:
+def talk(region: Staying, control: str, path: str) -> None:
     """What is asked of a region, up to its end."""
     asking = Asking(control)
-    recover(asking, give(region, path, mark, asking))
+    recover(asking, give(region, path, asking))
     asking.stop()
     same("its status", region.process.wait(timeout=SECONDS), 0)
     same("its sockets", [os.path.exists(it) for it in (control, path)], [False, False])

@@ -2,6 +2,7 @@
 
 ghost use Rattle.std.specs.Prelude.{◌≡◌};
 
+use crate::memory::MemoryMeter;
 use crate::streams::status::StreamStatus;
 use pn_join::Name;
 use pn_line::{LineBuffer, Piece, Source};
@@ -43,7 +44,7 @@ pub struct StreamCounters {
     pub input: Arc<InputCounters>,
     /// The position up to which rounds have taken it, where they note that.
     pub taken: Option<Arc<Counter>>,
-    /// The position that its writer was told last, where it is told.
+    /// The position that its writer was sent last, if its writers are sent positions.
     pub told: Option<Arc<Counter>>,
     /// How it goes, where that is noted.
     pub status: Option<Arc<StreamStatus>>,
@@ -56,9 +57,9 @@ pub struct StreamCounters {
 pub struct ConnectionCounters {
     pub open: Counter,
     pub accepted: Counter,
-    /// Those that ended because their clients were idle.
+    /// How many ended because their clients were idle.
     pub idle: Counter,
-    /// Those for which the system had no socket or no memory, each time that it was asked.
+    /// How often the system refused a socket, or memory for one.
     pub refused: Counter,
 }
 
@@ -93,10 +94,11 @@ pub struct Counters {
     pub refused: Counter,
     pub connections: ConnectionCounters,
     pub streams: Vec<StreamCounters>,
+    pub memory: MemoryMeter,
 }
 
 impl Counters {
-    /// Those of a server that has done nothing so far.
+    /// The counters of a server that has done nothing so far.
     pub fn new(alloc: Global, streams: Vec<StreamCounters>) -> Result<Counters, AllocError> {
         Ok(Counters {
             rounds: Arc::new(alloc, Counter::new())?,
@@ -104,6 +106,7 @@ impl Counters {
             refused: Counter::new(),
             connections: ConnectionCounters::new(),
             streams,
+            memory: MemoryMeter::new(),
         })
     }
 }

@@ -1,17 +1,15 @@
-//! What a server has done so far, as control sessions are told.
+//! The counts that a control session shows: what a server has done so far.
 
 use crate::counters::{Counters, StreamCounters};
-use crate::progress::memory_bytes;
 use crate::socket::Socket;
 use crate::streams::status::StreamStatus;
 use pn_join::NoMemory;
 use pn_serve::{ConnectionStats, LineStats, Stats, StatsSource, StreamStats, VERSION};
 use std::alloc::{AllocError, Global};
-use std::fs::{File, Files};
-use std::sync::{Arc, Wait};
+use std::sync::Wait;
 use std::time::{Clock, Instant};
 
-/// The counters of a server, when it began, and the client who may ask for them.
+/// The counters of a server, when the server began, and the client that asks for them.
 #[derive(Drop)]
 pub(crate) struct CurrentStats<'a, R> {
     pub(crate) rt: &'a R,
@@ -20,11 +18,11 @@ pub(crate) struct CurrentStats<'a, R> {
     pub(crate) client: &'a Socket,
 }
 
-impl<R: Wait + Clock + Files<File = File>> StatsSource for CurrentStats<'_, R> {
+impl<R: Wait + Clock> StatsSource for CurrentStats<'_, R> {
     fn stats(&self, alloc: Global) -> Result<Stats, NoMemory> {
         let counters = self.counters;
         Ok(Stats {
-            bytes: memory_bytes(self.rt),
+            bytes: counters.memory.bytes(),
             connections: ConnectionStats {
                 accepted: counters.connections.accepted.get(),
                 open: counters.connections.open.get(),

@@ -1,6 +1,6 @@
 //! The event loop of a session thread: its connections have their turns one after another.
 
-ghost use Rattle.std.specs.Prelude.{◌≡◌, ◌≢◌, ◌+◌, ◌≤◌, ◌↔◌, ℕ, None, OnErr, OnOk, IsTrue, vec_len};
+ghost use Rattle.std.specs.Prelude.{◌≡◌, ◌≢◌, ◌+◌, ◌↔◌, ℕ, None, OnErr, OnOk, IsTrue, vec_len};
 ghost use Rattle.pn_serve.specs.Session.Knowing.{KnowsNoLess};
 ghost use Rattle.pn_stay.specs.Loops.{idle_at, quarter_later, EndsQuarter, IsIdleFor};
 ghost use Rattle.slab.specs.Slab.{slab_len, Updates};
@@ -48,7 +48,7 @@ pub(crate) struct EventLoop {
 }
 
 impl EventLoop {
-    /// A loop with no connection. A client may be idle for this many seconds.
+    /// A loop with no connection. Clients may be idle for `idle` seconds.
     pub(crate) fn new(
         alloc: Global,
         poll: Poll,

@@ -1,6 +1,6 @@
 //! What a whole connection comes to, however its input comes and its replies are taken.
 
-ghost use Rattle.std.specs.Prelude.{◌≡◌, ℕ, List, [], Some, IfOk, IfSome, map};
+ghost use Rattle.std.specs.Prelude.{ℕ, List, [], Some, IfOk, IfSome, map};
 ghost use Rattle.std.specs.Io.KnownBytes.{prepend_known};
 ghost use Rattle.pn_serve.specs.Lines.Ends.{EndsBy};
 ghost use Rattle.pn_stay.specs.Scripted.{bytes_of, begin_with};
@@ -13,8 +13,8 @@ use pn_serve::{Counts, LineHandler, RunFault};
 use std::alloc::Global;
 use std::io::Read;
 
-/// Answers a connection that has its handler alone, until it ends or this many turns are over. It ends as a session
-/// of its whole input ends. None where the turns were over.
+/// Answers a connection that has its handler alone, until it ends or all `turns` are over. It ends as a session of its
+/// whole input ends. None where the turns were over.
 pub fn answer_in_turns<M: LineHandler, R: Read, W: Sink>(
     alloc: Global,
     machine: &mut M,

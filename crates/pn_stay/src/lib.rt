@@ -12,6 +12,7 @@ mod input_buffer;
 mod laws;
 mod lingering;
 mod listener;
+mod memory;
 mod messages;
 mod output_buffer;
 mod progress;
@@ -34,6 +35,7 @@ pub use counters::{ConnectionCounters, Counters, CountingSource, InputCounters, 
 pub use input_buffer::{INPUT_CAPACITY, InputBuffer, READ_SIZE};
 pub use laws::{answer_in_turns, every_way_of_coming_and_going};
 pub use listener::Listener;
+pub use memory::MemoryMeter;
 pub use messages::{MAX_WAITING, MessagePrinter, Messages, WaitingLines};
 pub use output_buffer::{OutputBuffer, SendOutcome};
 pub use progress::{message_prefix, tell_progress};

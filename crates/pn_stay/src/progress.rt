@@ -3,8 +3,6 @@
 use crate::counters::{Counters, StreamCounters};
 use libc::{STDERR_FILENO, isatty};
 use std::alloc::{AllocError, Global};
-use std::fs::{File, Files};
-use std::io::Read;
 use std::sync::Wait;
 use std::time::{Clock, Duration};
 use std::{io, thread};
@@ -20,12 +18,6 @@ const CUT: &str = "\x1b[K\x1b[?7h";
 
 /// What takes such a line away.
 const AWAY: &str = "\r\x1b[K";
-
-/// Where the system says how many pages this process has.
-const PAGES: &str = "/proc/self/statm";
-
-/// How many bytes a page has.
-const PAGE: u64 = 4_096;
 
 // What the counters show at one moment.
 #[derive(Drop)]
@@ -59,7 +51,7 @@ impl Totals {
         })
     }
 
-    // The position of a stream, or 0 where none was read so far.
+    // The position of a stream, or 0 where nothing of it was read.
     fn position(&self, at: usize) -> u64 {
         match self.positions.get(at) {
             Some(position) => *position,
@@ -102,10 +94,7 @@ pub fn message_prefix(is_progress_told: bool) -> &'static str {
 }
 
 /// Tells for as long as the program runs.
-pub fn tell_progress<R>(rt: &R, alloc: Global, counters: &Counters)
-where
-    R: Wait + Clock + Files<File = File> + Eprint,
-{
+pub fn tell_progress<R: Wait + Clock + Eprint>(rt: &R, alloc: Global, counters: &Counters) {
     let is_terminal = is_terminal();
     let mut told = Totals::new(alloc);
     for _ in rt.forever() {
@@ -120,7 +109,7 @@ where
 }
 
 // Prints the totals, and how many messages of each stream came since those of a second before.
-fn print_totals<R: Files<File = File> + Eprint>(
+fn print_totals<R: Eprint>(
     rt: &R,
     alloc: Global,
     counters: &Counters,
@@ -129,7 +118,7 @@ fn print_totals<R: Files<File = File> + Eprint>(
 ) -> io::Result<()> {
     let (before, now) = totals;
     let mut text = format_streams(alloc, counters, before, now, is_terminal)?;
-    let bytes = memory_bytes(rt);
+    let bytes = counters.memory.bytes();
     text.push_str(format!(in alloc;
         "{} rounds, {} connections, {} lines, {bytes} bytes",
         now.rounds, now.connections, now.lines
@@ -182,32 +171,4 @@ fn scale(whole: u64, done: u64, all: u64) -> u64 {
         Some(part) => part,
         None => whole,
     }
-}
-
-/// How many bytes of memory this process has, or 0 where the system does not say.
-pub(crate) fn memory_bytes<R: Files<File = File>>(rt: &R) -> u64 {
-    count_pages(rt).unwrap_or(0).saturating_mul(PAGE)
-}
-
-fn count_pages<R: Files<File = File>>(rt: &R) -> io::Result<u64> {
-    let mut file = File::open(rt, PAGES)?;
-    let mut text = [0u8; 128];
-    let count = file.read(&mut text)?;
-    Ok(parse_second_number(&text[..count]))
-}
-
-// The second of the numbers that a text has, with spaces between.
-fn parse_second_number(text: &[u8]) -> u64 {
-    let mut spaces = 0u32;
-    let mut number = 0u64;
-    for byte in text {
-        if *byte == b' ' {
-            spaces = spaces.saturating_add(1);
-        } else if spaces == 1 && byte.is_ascii_digit() {
-            number = number
-                .saturating_mul(10)
-                .saturating_add((*byte - b'0') as u64);
-        }
-    }
-    number
 }

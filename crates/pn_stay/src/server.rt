@@ -25,7 +25,6 @@ use pn_serve::{
 };
 use pn_tablet::Layout;
 use std::alloc::{AllocError, Global};
-use std::fs::{File, Files};
 use std::io::ErrorKind;
 use std::marker::Model;
 use std::net::Net;
@@ -65,8 +64,8 @@ impl Model for StayingServer {
 }
 
 impl StayingServer {
-    /// Opens a new live region, and begins to accept connections, at most this many at once. They are answered by 1 to 16
-    /// threads, and control sessions by threads of their own.
+    /// Opens a new live region, and begins to accept connections, of which at most `connections` are open at once. 1 to 16
+    /// threads answer them, and threads of their own answer control sessions.
     pub fn start<R>(
         rt: &R,
         alloc: Global,
@@ -76,7 +75,7 @@ impl StayingServer {
         connections: usize,
     ) -> io::Result<StayingServer>
     where
-        R: Threads + Wait + Net + Clock + Files<File = File> + Sync + Copy + Send + Drop + 'static,
+        R: Threads + Wait + Net + Clock + Sync + Copy + Send + Drop + 'static,
         requires { (1 ≤ threads) × (threads ≤ MAX_SESSIONS) }
         ensures is_new { IfOk result (λ server. IsNewLive settings.layout server.live) }
         ensures threads { IfOk result (λ server. server.threads ≡ threads) }
@@ -130,8 +129,8 @@ impl StayingServer {
         read
     }
 
-    /// With control sessions, does what they ask for until one asks the server to stop, and stops it. Without, it waits for
-    /// the threads that answer connections. Whether it was stopped.
+    /// Does what control sessions ask for until one asks the server to stop, and stops it. Without a control socket it waits
+    /// for the threads that answer connections. Answers whether the server was stopped.
     pub fn wait<R: Threads + Wait + Clock>(self, rt: &R, alloc: Global) -> bool {
         let mut server = self;
         match &server.watchers.controls {
@@ -164,7 +163,7 @@ impl StayingServer {
         }
     }
 
-    // Waits for the threads, which end where the system tells nothing more of sockets, and closes the region.
+    // Waits for the threads, which end where the system's wait for sockets fails, and closes the region.
     fn join<R: Threads + Wait>(self, rt: &R) {
         let StayingServer {
             live,
@@ -205,7 +204,7 @@ fn start_threads<R>(
     readers: &mut Vec<LiveReader>,
 ) -> io::Result<Started>
 where
-    R: Threads + Wait + Net + Clock + Files<File = File> + Copy + Send + Drop + 'static,
+    R: Threads + Wait + Net + Clock + Copy + Send + Drop + 'static,
     requires readers { AllRead (tablets_in live.now) readers.old.items }
     requires threads { sizes.threads ≤ vec_len readers.old }
     ensures running { IfOk result (λ started. All (λ session. tablets_of session.promise.0.value ≡ tablets_in live.now) started.running.items) }
@@ -236,7 +235,7 @@ where
     })
 }
 
-// Takes the readers beside those of this many threads.
+// Takes out the readers that are left over once each of the threads has one.
 fn take_beside(
     alloc: Global,
     live: &LiveRegion,

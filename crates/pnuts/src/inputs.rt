@@ -5,8 +5,8 @@ use crate::failures::{fail_serving, is_explained, refuse_streams};
 use pn_join::Name;
 use pn_serve::{FaultLog, ServeFault, Service, Stream, StreamPath};
 use pn_stay::{
-    Counters, FileSource, Messages, OpenFault, SocketAcceptor, StreamCounters, StreamOrigin,
-    StreamSetting, open_files, open_origins, remove_sockets, share,
+    Counters, FileSource, MemoryMeter, Messages, OpenFault, SocketAcceptor, StreamCounters,
+    StreamOrigin, StreamSetting, open_files, open_origins, remove_sockets, share,
 };
 use pn_stream::StreamReader;
 use std::alloc::{AllocError, Global};
@@ -22,17 +22,17 @@ use std::time::Clock;
 pub(crate) enum Streams<R: Drop> {
     /// Files, which are read to their ends.
     Files(Vec<StreamReader<FileSource>>),
-    /// Those of a server that stays, and how many connections of it may be open.
+    /// The streams of a server that stays, and how many of its connections may be open.
     Staying(Vec<Stream<StreamOrigin<R>>>, u32),
 }
 
-/// What is counted and told of the streams, and the paths of their sockets.
+/// The counters of a server, where faults and messages of its streams go, and the paths of its sockets.
 #[derive(Drop)]
 pub(crate) struct Notes {
     pub(crate) counters: Arc<Counters>,
     /// Where the faults of streams are noted, if somebody looks at them.
     pub(crate) faults: Option<Arc<FaultLog>>,
-    /// Where it is told how the streams of a server that stays go.
+    /// Where messages about the streams of a server that stays go.
     pub(crate) messages: Option<Arc<Messages>>,
     pub(crate) sockets: Vec<String>,
 }
@@ -68,7 +68,7 @@ where
     let faults = new_fault_log(alloc, service, streams.len())?;
     let opened = open_files(rt, alloc, streams, service.is_progress_told)?;
     let notes = Notes {
-        counters: new_counters(alloc, opened.counters)?,
+        counters: new_counters(rt, opened.counters)?,
         faults,
         messages: None,
         sockets: Vec::new(alloc),
@@ -94,7 +94,7 @@ where
         is_counted: service.is_progress_told || service.control.is_some(),
     };
     let opened = open_origins(&setting, streams)?;
-    let counters = match new_counters(alloc, opened.counters) {
+    let counters = match new_counters(rt, opened.counters) {
         Ok(counters) => counters,
         Err(_) => {
             remove_sockets(rt, &opened.sockets);
@@ -114,8 +114,13 @@ fn new_messages(alloc: Global) -> Result<Arc<Messages>, AllocError> {
     Ok(Arc::new(alloc, Messages::new(alloc)?)?)
 }
 
-fn new_counters(alloc: Global, streams: Vec<StreamCounters>) -> Result<Arc<Counters>, AllocError> {
-    Ok(Arc::new(alloc, Counters::new(alloc, streams)?)?)
+fn new_counters<R>(rt: &R, streams: Vec<StreamCounters>) -> Result<Arc<Counters>, AllocError>
+where
+    R: AllocGlobal + Files<File = File>,
+{
+    let mut counters = Counters::new(rt.alloc(), streams)?;
+    counters.memory = MemoryMeter::open(rt);
+    Ok(Arc::new(rt.alloc(), counters)?)
 }
 
 fn new_fault_log(
@@ -130,7 +135,7 @@ fn new_fault_log(
     }
 }
 
-/// What accepts clients where they are listened for. Else the streams' sockets are removed.
+/// What accepts clients at the listening sockets. Where there are none, the files of the other sockets are removed.
 pub(crate) fn open_acceptor(
     rt: &(impl Files + Eprint),
     service: &Service,

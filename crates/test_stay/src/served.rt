@@ -8,7 +8,7 @@ use pn_serve::{Counter, Origin, Settings, Stream, WriterEnd, serve};
 use pn_stay::{Counters, Listener, SocketAcceptor, StayingServer};
 use pn_stream::StreamReader;
 use std::alloc::{AllocError, Global};
-use std::fs::{File, Files};
+use std::fs::Files;
 use std::net::{IpAddr, Ipv4Addr, Net, TcpListener, TcpStream};
 use std::sync::{Arc, Wait};
 use std::test::Fail;
@@ -93,7 +93,7 @@ fn new_acceptor(
     })
 }
 
-/// Serves one session: what its client was told, what was written, whether rounds and lines were counted, and how many
+/// Serves one session: what its client has read, what was written, whether rounds and lines were counted, and how many
 /// clients are left.
 pub(crate) fn serve_session<R>(rt: &R, alloc: Global, at: &str) -> Result<String, Fail>
 where
@@ -127,11 +127,11 @@ where
     }
 }
 
-/// Answers a client of a server that stays, until it is idle for too long: what it was told, and whether the server has read
+/// Answers a client of a server that stays, until it is idle for too long: what it has read, and whether the server has read
 /// all streams to their ends.
 pub(crate) fn stay_until_idle<R>(rt: &R, alloc: Global, at: &str) -> Result<String, Fail>
 where
-    R: Files<File = File>
+    R: Files
         + Net<Listener = TcpListener, Stream = TcpStream>
         + Threads
         + Wait
@@ -160,7 +160,7 @@ where
 /// How many replies are whole that a server sends to a client which asks very often, and reads late.
 pub(crate) fn answer_flood<R>(rt: &R, alloc: Global) -> Result<String, Fail>
 where
-    R: Files<File = File>
+    R: Files
         + Net<Listener = TcpListener, Stream = TcpStream>
         + Threads
         + Wait
@@ -195,7 +195,7 @@ fn wait_for<R: Clock>(rt: &R, number: &Counter) -> bool {
 // A server that stays. None where it does not begin; else it ends only with the program. It counts its end of reading.
 fn stay<R>(rt: &R, alloc: Global, listener: Listener, ended: &Counter) -> Option<()>
 where
-    R: Files<File = File> + Threads + Wait + Net + Clock + Sync + Copy + Send + Drop + 'static,
+    R: Threads + Wait + Net + Clock + Sync + Copy + Send + Drop + 'static,
 {
     let acceptor = new_acceptor(alloc, listener, 2).ok()?;
     let mut streams = Vec::with_capacity(alloc, 1).ok()?;

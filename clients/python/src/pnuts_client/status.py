@@ -16,7 +16,7 @@ def shown_status(stats: Stats, tablets: Sequence[Tablet]) -> str:
     shown = [
         f"pnuts {stats.version}, up {shown_seconds(stats.uptime)}, {shown_bytes(stats.bytes)} of memory, {stats.rounds} rounds",
         f"connections: {connections.open} open, {connections.accepted} accepted, {connections.refused} refused, "
-        f"{connections.idle} ended as they were idle",
+        f"{connections.idle} ended because they were idle",
         f"lines: {lines.answered} answered, {lines.refused} of them refused",
         "",
         *table([STREAMS, *(_stream(it) for it in stats.streams)]),

@@ -8,7 +8,6 @@ use crate::socket::{Socket, TrackedSocket};
 use pn_live::LiveReader;
 use pn_serve::{ControlMailboxes, ControlSession, MAX_CONTROLS};
 use std::alloc::Global;
-use std::fs::{File, Files};
 use std::io::BufReader;
 use std::sync::{Arc, Wait};
 use std::thread::Threads;
@@ -18,7 +17,7 @@ use std::{io, thread};
 /// How many bytes of a control session are read at a time.
 const CONTROL_READ_SIZE: usize = 65_536;
 
-/// For how many seconds a control client is waited for that writes nothing, or takes nothing.
+/// For how many seconds a control client may write nothing, or take nothing, before its session ends.
 const PATIENCE: u64 = 300;
 
 /// For how many milliseconds nobody is accepted after the system refused a socket.
@@ -27,13 +26,13 @@ const RETRY: u64 = 10;
 /// What is started for control sessions.
 #[derive(Drop)]
 pub(super) struct Controls {
-    /// Their socket, and the mailboxes in which they leave commands, where there may be some.
+    /// Their socket, and the mailboxes in which they leave commands, if there is a control socket.
     pub(super) listener: Option<Listener>,
     pub(super) mailboxes: Option<Arc<ControlMailboxes>>,
     pub(super) clients: Vec<Arc<ControlClient>>,
 }
 
-/// Starts a thread for each reader, where there may be control sessions.
+/// Starts a thread for each reader, if there is a control socket.
 pub(super) fn start_controls<R>(
     rt: &R,
     alloc: Global,
@@ -42,7 +41,7 @@ pub(super) fn start_controls<R>(
     readers: Vec<LiveReader>,
 ) -> io::Result<Controls>
 where
-    R: Threads + Wait + Clock + Files<File = File> + Copy + Send + Drop + 'static,
+    R: Threads + Wait + Clock + Copy + Send + Drop + 'static,
 {
     let Some(listener) = listener else {
         return Ok(Controls {
@@ -94,7 +93,7 @@ fn start_threads<R>(
     readers: Vec<LiveReader>,
 ) -> io::Result<Vec<Arc<ControlClient>>>
 where
-    R: Threads + Wait + Clock + Files<File = File> + Copy + Send + Drop + 'static,
+    R: Threads + Wait + Clock + Copy + Send + Drop + 'static,
 {
     let mut clients = Vec::with_capacity(setting.alloc, readers.len())?;
     for reader in readers {
@@ -122,7 +121,7 @@ struct ControlThread {
 // Answers one client after another until the server is to stop.
 fn answer_clients<R>(rt: &R, thread: &ControlThread, reader: LiveReader)
 where
-    R: Wait + Clock + Files<File = File> + Drop,
+    R: Wait + Clock + Drop,
 {
     let mut reader = reader;
     for _ in rt.forever() {
@@ -141,7 +140,7 @@ where
     }
 }
 
-// The socket of a client who is to be answered. It is waited for no longer than is bearable.
+// The socket of a client that is to be answered. No read and no write of it waits longer than `PATIENCE`.
 fn begin<R: Wait>(
     rt: &R,
     thread: &ControlThread,
@@ -157,7 +156,7 @@ fn begin<R: Wait>(
 // Answers a client to its end. Out of memory it is not answered.
 fn answer<R>(rt: &R, thread: &ControlThread, reader: LiveReader, socket: &Socket) -> LiveReader
 where
-    R: Wait + Clock + Files<File = File> + Drop,
+    R: Wait + Clock + Drop,
 {
     let setting = &thread.setting;
     let alloc = setting.alloc;

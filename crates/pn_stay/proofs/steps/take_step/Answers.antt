@@ -1,7 +1,7 @@
 -- A line is answered, a part is read, or a line has no end.
 use Rattle.std.proofs.Common.{ℕ, false, List, ◌++◌, sym, ap, subst, arith}
 use Rattle.pn_serve.specs.declared.script.Counts.{Counts}
-use Rattle.pn_stay.specs.Turns.{in_buffers, loop_in}
+use Rattle.pn_stay.specs.Turns.{in_buffers}
 use Rattle.pn_stay.proofs.Stepping.{Steps-line, Steps-line_cut, Steps-part, Steps-endless}
 use Rattle.pn_stay.specs.Connections.{IsLine}
 use Rattle.pn_stay.proofs.Passing.{IsLine-taken, IsLine-none}
