@@ -5,10 +5,10 @@ use Rattle.pn_serve.specs.Server.Sessions.{AllRead}
 use Rattle.pn_stay.proofs.server.take_beside.Given as goal
 
 abbrev pub invariant-loop-readers : goal.invariant-loop-readers
-invariant-loop-readers g l = record {
+invariant-loop-readers l = record {
   readers : AllRead (tablets_in l.live) l.readers.items;
   threads : l.threads ≤ vec_len l.readers;
 }
 
 abbrev pub decreases-loop-readers : goal.decreases-loop-readers
-decreases-loop-readers g l = vec_len l.readers
+decreases-loop-readers l = vec_len l.readers
