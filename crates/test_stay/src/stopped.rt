@@ -10,12 +10,11 @@ use pn_stay::{
 use std::alloc::Global;
 use std::fs::{File, Files};
 use std::io::{BufRead, BufReader, Read, Write};
-use std::net::{Net, TcpListener, TcpStream};
+use std::net::Net;
 use std::os::unix::net;
 use std::os::unix::net::UnixStream;
 use std::sync::{Arc, Wait};
 use std::test::Fail;
-use std::thread::Threads;
 use std::time::Clock;
 use std::{fs, io, thread};
 use test_kit::layout;
@@ -63,19 +62,7 @@ impl Talk {
 
 /// What writers, control sessions and a client read from a server that is then stopped, whether it ended, and whether a further
 /// client was accepted.
-pub(crate) fn stop_server<R>(rt: &R, alloc: Global) -> Result<String, Fail>
-where
-    R: Files<File = File>
-        + Net<Listener = TcpListener, Stream = TcpStream>
-        + Threads
-        + Wait
-        + Clock
-        + Sync
-        + Copy
-        + Send
-        + Drop
-        + 'static,
-{
+pub(crate) fn stop_server(rt: &HostRuntime, alloc: Global) -> Result<String, Fail> {
     let opened = open_stream(rt, alloc)?;
     let acceptor = SocketAcceptor {
         listener: Listener::bind_path(rt, CLIENTS)?,
