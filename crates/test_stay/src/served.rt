@@ -29,7 +29,7 @@ const PATIENCE: u32 = 10_000;
 
 /// The one writer of a stream, until it is read.
 #[derive(Drop)]
-struct Once(Option<InMemory<'static>>);
+pub(crate) struct Once(Option<InMemory<'static>>);
 
 impl Origin<InMemory<'static>> for Once {
     ghost may_go_on = { Unit {0} };

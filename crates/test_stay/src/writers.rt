@@ -130,8 +130,7 @@ where
     }
 }
 
-/// The message at a position.
-pub(crate) fn message(alloc: Global, at: u64) -> io::Result<String> {
+fn message(alloc: Global, at: u64) -> io::Result<String> {
     Ok(format!(in alloc;
         "{{\"at\":{at},\"image\":{{\"fields\":{{\"v\":\"x\"}},\"key\":\"k\",\"master\":\"w\",\"version\":[1,0]}}}}\n"
     )?)
