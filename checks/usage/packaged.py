@@ -166,6 +166,13 @@ def check_operation(system: System) -> int:
     return len(lines)
 
 
+def check_killed(system: System, unit: str) -> None:
+    """Kills a service, which is started anew."""
+    (starts,) = shown(system, "NRestarts", unit=unit)
+    system.run("systemctl", "kill", "--signal=KILL", unit)
+    system.wait_for(str(int(starts) + 1), "systemctl", "show", unit, "--value", "--property=NRestarts")
+
+
 def check_feed(system: System) -> None:
     """A feed of Redis gives what is added, also once it, the region and both were killed."""
     (system.root / FEED_ENVIRONMENT).write_text(FEED_WORDS, encoding="utf-8")
@@ -176,7 +183,7 @@ def check_feed(system: System) -> None:
     system.run("systemctl", "enable", "--now", FEED)
     for number, killed in enumerate([[], [FEED], ["pnuts"], [FEED, "pnuts"]], 1):
         for unit in killed:
-            system.run("systemctl", "kill", "--signal=KILL", unit)
+            check_killed(system, unit)
         system.run("redis-cli", "XADD", "east", "*", "image", json.dumps(image("k", number, "x")))
         system.wait_for("active", "systemctl", "is-active", "pnuts")
         check_record(system, number, "x")
