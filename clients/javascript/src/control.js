@@ -38,12 +38,11 @@ export class Control extends Client {
     try {
       for (let next = since, tries = 0, sessions = 0; ; ) {
         const found = await client.notices(next, LONGEST_WAIT).catch((fault) => {
-          if (!(fault instanceof ConnectionFailed) || !this.#watching.has(client) || tries === this.#options.retries) {
+          if (!(fault instanceof ConnectionFailed) || !this.#watching.has(client) || (tries += 1) > this.#options.retries) {
             throw fault;
           }
         });
         if (found === undefined) {
-          tries += 1;
           await sleep(pause(tries));
           continue;
         }
@@ -61,8 +60,8 @@ export class Control extends Client {
   }
 
   async close() {
-    const watching = [...this.#watching];
+    const clients = [...this.#watching];
     this.#watching.clear();
-    await Promise.all([super.close(), ...watching.map((client) => client.close())]);
+    await Promise.all([super.close(), ...clients.map((client) => client.close())]);
   }
 }

@@ -1,18 +1,9 @@
-// What a scan asks for: a range of keys, and conditions on fields.
+// What a scan asks for: a range of keys, and conditions on fields, of which index.d.ts says what each is.
 
-/** The field is there. */
 export const has = (field) => ["has", field];
-
-/** The field is this text, or this number. */
 export const eq = (field, value) => ["eq", field, value];
-
-/** The field is a text less than this one, by bytes, or a number less than this one. */
 export const lt = (field, value) => ["lt", field, value];
-
-/** The field is a text greater than this one, by bytes, or a number greater than this one. */
 export const gt = (field, value) => ["gt", field, value];
-
-/** The field is a text that begins with this one. */
 export const prefix = (field, text) => ["prefix", field, text];
 
 /** How two keys are ordered: by their bytes, and not as JavaScript orders texts. */

@@ -1,6 +1,5 @@
-// Records as a region holds them.
+// Records as a region holds them; index.d.ts says more.
 
-/** The greatest version of a record, with every content that came with it, at least one. */
 export class Record {
   constructor({ contents, key, state, version }) {
     this.contents = contents;
@@ -9,13 +8,11 @@ export class Record {
     this.version = version;
   }
 
-  /** The fields of the one content, undefined of a deletion or a conflict: see `state` and `contents`. */
   get fields() {
     return this.state === "one" ? this.contents[0].fields : undefined;
   }
 }
 
-/** Less than 0 where the first version is older, 0 where both are one. The generation is compared first. */
 export function compareVersions([generation, number], [otherGeneration, otherNumber]) {
   return generation - otherGeneration || number - otherNumber;
 }

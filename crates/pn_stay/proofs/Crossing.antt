@@ -1,5 +1,6 @@
 -- What a session thread begins with may go to it, and what it shares with others may be shared.
 use denote.Param.Send.{IsSend, IsSync, sendable}
+use denote.Param.SendFields.{variants_send}
 use Rattle.std.proofs.Crossing.{crosses}
 use Rattle.pn_join.specs.contracts.marks.name.Name as name
 use Rattle.pn_record.specs.contracts.content.Content as content
@@ -8,6 +9,12 @@ use Rattle.pn_record.specs.contracts.cell.Cell as cell
 use Rattle.pn_record.specs.contracts.key.Key as key
 use Rattle.pn_tablet.specs.contracts.copy.TabletCopy as copy
 use Rattle.pn_live.proofs.Crossing.Readers.{reader_send}
+use Rattle.pn_protocol.specs.contracts.reply.Reply as reply
+use Rattle.pn_region.specs.contracts.notices.Since as since
+use Rattle.pn_serve.specs.contracts.control.commands.WriterCommand as command
+use Rattle.pn_serve.specs.contracts.control.answers.GivenAnswer as given
+use Rattle.pn_serve.specs.contracts.control.mailboxes.HeldCommand as held_command
+use Rattle.pn_serve.specs.contracts.control.mailboxes.ControlMailbox as control_mailbox
 use Rattle.pn_serve.specs.contracts.control.mailboxes.ControlMailboxes as controls
 use Rattle.pn_serve.specs.contracts.server.counter.Counter as counter
 use Rattle.pn_serve.specs.contracts.server.fault_log.StreamFailure as failure
@@ -58,11 +65,32 @@ key_sync = search (sendable, crosses) depth 40
 copy_send : IsSend copy.the_row
 copy_send = search (sendable, crosses, key_send, key_sync, cell_send, cell_sync, name_send, name_sync) depth 40 fits 20000
 
+reply_send : IsSend reply.the_row
+reply_send = search (sendable, crosses) depth 60 fits 20000
+
+since_send : IsSend since.the_row
+since_send = search (sendable, crosses, key_send) depth 60 fits 20000
+
+command_send : IsSend command.the_row
+command_send = search (sendable, crosses, copy_send) depth 60 fits 20000
+
+given_send : IsSend given.the_row
+given_send = search (sendable, crosses, reply_send, since_send) depth 60 fits 20000
+
+held_command_send : IsSend held_command.the_row
+held_command_send = variants_send held_command.enum (tt, ((command_send, tt), (tt, ((given_send, tt), (tt, tt)))))
+
+control_mailbox_send : IsSend control_mailbox.the_row
+control_mailbox_send = search (sendable, crosses, held_command_send) depth 60 fits 20000
+
+control_mailbox_sync : IsSync control_mailbox.the_row
+control_mailbox_sync = search (sendable, crosses, held_command_send) depth 60 fits 20000
+
 pub controls_send : IsSend controls.the_row
-controls_send = search (sendable, crosses, copy_send, key_send) depth 40 fits 20000
+controls_send = search (sendable, crosses, control_mailbox_send) depth 60 fits 20000
 
 pub controls_sync : IsSync controls.the_row
-controls_sync = search (sendable, crosses, copy_send, key_send) depth 40 fits 20000
+controls_sync = search (sendable, crosses, control_mailbox_sync) depth 60 fits 20000
 
 counter_send : IsSend counter.the_row
 counter_send = search (sendable, crosses) depth 40

@@ -13,12 +13,12 @@ idle_at connections key = option_map (λ connection. connection.idle) (get conne
 abbrev pub quarter_later : Option IdleTimeoutValue → Option IdleTimeoutValue
 quarter_later = option_map after_quarter
 
--- there is a client, which is idle for so many quarters
+-- there is a client, which is idle for at least `most` quarters
 abbrev pub IsIdleFor : ℕ → Option IdleTimeoutValue → Type 0
 IsIdleFor most None = ⊥
 IsIdleFor most (Some timeout) = most ≤ timeout.quarters
 
--- as a quarter ends, the client is dropped if it is idle for so many, and else is a quarter older
+-- as a quarter ends, a client that is idle for at least `most` quarters is dropped, and another is a quarter older
 pub record EndsQuarter (most : ℕ) (before after : Option IdleTimeoutValue) : Type 0 where
   pub dropped : IsIdleFor most (quarter_later before) → after ≡ None
   pub older : ¬ (IsIdleFor most (quarter_later before)) → after ≡ quarter_later before

@@ -29,7 +29,7 @@ const RETRY: u64 = 10;
 /// How many milliseconds a quarter of a second has.
 const QUARTER: u64 = 250;
 
-/// What is told where as many connections are open as may be.
+/// The message where as many connections are open as may be.
 const LIMIT_TEXT: &str = "cannot accept: all connections are open";
 
 /// A listening socket, for how many seconds its clients may be idle, and where they are counted.
@@ -42,7 +42,7 @@ pub struct SocketAcceptor {
     pub counters: Arc<Counters>,
     /// Where faults of streams are noted, if somebody looks at them.
     pub faults: Option<Arc<FaultLog>>,
-    /// Where a server that stays tells that it accepts nobody for now.
+    /// Where a server that stays leaves the message that it accepts nobody for now.
     pub messages: Option<Arc<Messages>>,
 }
 
@@ -99,7 +99,7 @@ impl Acceptor for SocketAcceptor {
     }
 }
 
-/// Counts what the system refuses, and tells that nobody is accepted for now, once a minute at most.
+/// Counts what the system refuses, and leaves messages that nobody is accepted for now, once a minute at most.
 #[derive(Drop)]
 pub(crate) struct AcceptNotes {
     alloc: Global,
@@ -110,7 +110,7 @@ pub(crate) struct AcceptNotes {
 }
 
 impl AcceptNotes {
-    /// Nothing was told so far.
+    /// No message was left so far.
     pub(crate) fn new(
         alloc: Global,
         counters: Arc<Counters>,
@@ -125,7 +125,7 @@ impl AcceptNotes {
         }
     }
 
-    // Counts that the system refuses a socket, and tells it.
+    // Counts that the system refuses a socket, and leaves a message.
     fn tell_refusal<R: Wait + Clock>(&mut self, rt: &R, error: &io::Error) {
         self.counters.connections.refused.add(1);
         if let Some(messages) = &self.messages {
@@ -135,7 +135,7 @@ impl AcceptNotes {
         }
     }
 
-    // Tells that as many connections are open as may be.
+    // Leaves a message that as many connections are open as may be.
     fn tell_limit<R: Wait + Clock>(&mut self, rt: &R) {
         if let Some(messages) = &self.messages {
             if self.limits.is_due(rt) {
@@ -187,7 +187,7 @@ fn accept_nonblocking(listener: &Listener) -> io::Result<Socket> {
     Ok(socket)
 }
 
-/// Tells the mailboxes of each quarter of a second for as long as the program runs.
+/// Notes each quarter of a second in the mailboxes, for as long as the program runs.
 pub(crate) fn tell_quarters<R: Wait + Clock>(rt: &R, mailboxes: &[Arc<SocketMailbox>]) {
     for _ in rt.forever() {
         thread::sleep(rt, Duration::from_millis(QUARTER));

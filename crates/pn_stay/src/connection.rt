@@ -88,7 +88,7 @@ impl Model for IdleTimeout {
 }
 
 impl IdleTimeout {
-    /// That of a client that has just come.
+    /// The timeout of a client that has just come.
     pub fn new() -> IdleTimeout
         ensures { result ≡ new_idle_timeout }
     {
@@ -117,7 +117,7 @@ impl IdleTimeout {
         self.has_moved = false;
     }
 
-    /// Whether nothing went over the socket for as many whole quarters as this.
+    /// Whether nothing went over the socket for `most` whole quarters.
     pub fn is_over(&self, most: u32) -> bool
         ensures { IsTrue result ↔ (most ≤ self.now.quarters) }
     {

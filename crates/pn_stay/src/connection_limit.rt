@@ -4,7 +4,7 @@ ghost use Rattle.std.specs.Prelude.{◌≡◌, ◌+◌, ◌-◌, ◌^◌, min};
 
 use std::sync::{Condvar, Mutex, Wait};
 
-/// How many connections may still be opened. Who asks for one where none may waits for it.
+/// How many connections may still be opened. Who asks for one where none may be opened waits for it.
 #[derive(Drop)]
 pub(crate) struct ConnectionLimit {
     free: Mutex<usize>,
@@ -12,7 +12,7 @@ pub(crate) struct ConnectionLimit {
 }
 
 impl ConnectionLimit {
-    /// At most this many connections.
+    /// A limit of `most` connections.
     pub(crate) fn new(most: usize) -> ConnectionLimit {
         ConnectionLimit {
             free: Mutex::new(most),

@@ -44,7 +44,7 @@ pub struct StreamCounters {
     pub input: Arc<InputCounters>,
     /// The position up to which rounds have taken it, where they note that.
     pub taken: Option<Arc<Counter>>,
-    /// The position that its writer was told last, where it is told.
+    /// The position that its writer was sent last, if its writers are sent positions.
     pub told: Option<Arc<Counter>>,
     /// How it goes, where that is noted.
     pub status: Option<Arc<StreamStatus>>,
@@ -57,9 +57,9 @@ pub struct StreamCounters {
 pub struct ConnectionCounters {
     pub open: Counter,
     pub accepted: Counter,
-    /// Those that ended because their clients were idle.
+    /// How many ended because their clients were idle.
     pub idle: Counter,
-    /// Those for which the system had no socket or no memory, each time that it was asked.
+    /// How often the system refused a socket, or memory for one.
     pub refused: Counter,
 }
 
@@ -98,7 +98,7 @@ pub struct Counters {
 }
 
 impl Counters {
-    /// Those of a server that has done nothing so far.
+    /// The counters of a server that has done nothing so far.
     pub fn new(alloc: Global, streams: Vec<StreamCounters>) -> Result<Counters, AllocError> {
         Ok(Counters {
             rounds: Arc::new(alloc, Counter::new())?,

@@ -1,4 +1,4 @@
-//! What a server has done so far, as control sessions are told.
+//! The counts that a control session shows: what a server has done so far.
 
 use crate::counters::{Counters, StreamCounters};
 use crate::socket::Socket;
@@ -9,7 +9,7 @@ use std::alloc::{AllocError, Global};
 use std::sync::Wait;
 use std::time::{Clock, Instant};
 
-/// The counters of a server, when it began, and the client who may ask for them.
+/// The counters of a server, when the server began, and the client that asks for them.
 #[derive(Drop)]
 pub(crate) struct CurrentStats<'a, R> {
     pub(crate) rt: &'a R,

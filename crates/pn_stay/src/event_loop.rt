@@ -48,7 +48,7 @@ pub(crate) struct EventLoop {
 }
 
 impl EventLoop {
-    /// A loop with no connection. A client may be idle for this many seconds.
+    /// A loop with no connection. Clients may be idle for `idle` seconds.
     pub(crate) fn new(
         alloc: Global,
         poll: Poll,

@@ -13,8 +13,8 @@ use pn_serve::{Counts, LineHandler, RunFault};
 use std::alloc::Global;
 use std::io::Read;
 
-/// Answers a connection that has its handler alone, until it ends or this many turns are over. It ends as a session
-/// of its whole input ends. None where the turns were over.
+/// Answers a connection that has its handler alone, until it ends or all `turns` are over. It ends as a session of its
+/// whole input ends. None where the turns were over.
 pub fn answer_in_turns<M: LineHandler, R: Read, W: Sink>(
     alloc: Global,
     machine: &mut M,

@@ -13,7 +13,7 @@ use std::{io, mem, thread};
 /// For how many milliseconds more is waited for at a time.
 const STEP: u64 = 10;
 
-/// For how many such steps clients are waited for that do not close their sockets.
+/// For how many such steps at most clients are waited for.
 const STEPS: u32 = 100;
 
 /// How often a socket is read in a step at most.
@@ -38,7 +38,7 @@ impl LingeringSockets {
         }
     }
 
-    /// Tells a client that it gets nothing more. Out of memory, its socket is closed.
+    /// Ends the output to a client, and keeps its socket. Where there is no memory for that the socket is closed.
     pub(crate) fn add(&mut self, socket: Socket) {
         socket.end_output();
         let _ = self.sockets.push(socket);

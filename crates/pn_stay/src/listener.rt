@@ -51,7 +51,7 @@ impl Listener {
         }
     }
 
-    /// From now on nobody is accepted, and who waits for a client is told so.
+    /// From now on nobody is accepted, and an `accept` that waits for a client fails.
     pub(crate) fn stop(&self) {
         let _ = shutdown(
             match self {

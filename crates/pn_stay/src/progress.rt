@@ -51,7 +51,7 @@ impl Totals {
         })
     }
 
-    // The position of a stream, or 0 where none was read so far.
+    // The position of a stream, or 0 where nothing of it was read.
     fn position(&self, at: usize) -> u64 {
         match self.positions.get(at) {
             Some(position) => *position,

@@ -43,7 +43,7 @@ pub fn format_refusal(
     }
 }
 
-/// What standard error says of a stream that failed, as `stream east failed at 5 (line 3): not-json`.
+/// The message of a stream that failed, as `stream east failed at 5 (line 3): not-json`.
 pub fn format_failure(
     alloc: Global,
     name: &Name,

@@ -1,4 +1,4 @@
-//! A source and a sink whose answers are told, so that every list of answers can be spoken of.
+//! A source and a sink that answer from lists, so that a law can speak of every list of answers.
 
 ghost use Rattle.std.specs.Prelude.{◌≡◌, [], ◌++◌, length, map, IfOk, OnErr};
 ghost use Rattle.pn_stay.specs.Scripted.{bytes_of};
@@ -58,7 +58,7 @@ impl Read for ScriptedSource<'_> {
     }
 }
 
-/// A sink of which each call takes at most a told number of bytes. A call that takes none is a wait.
+/// A sink of which each call takes at most as many bytes as its list says. A call that takes none is a wait.
 #[derive(Drop)]
 pub struct ScriptedSink<'a> {
     bytes: Vec<u8>,

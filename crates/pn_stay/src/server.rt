@@ -64,8 +64,8 @@ impl Model for StayingServer {
 }
 
 impl StayingServer {
-    /// Opens a new live region, and begins to accept connections, at most this many at once. They are answered by 1 to 16
-    /// threads, and control sessions by threads of their own.
+    /// Opens a new live region, and begins to accept connections, of which at most `connections` are open at once. 1 to 16
+    /// threads answer them, and threads of their own answer control sessions.
     pub fn start<R>(
         rt: &R,
         alloc: Global,
@@ -129,8 +129,8 @@ impl StayingServer {
         read
     }
 
-    /// With control sessions, does what they ask for until one asks the server to stop, and stops it. Without, it waits for
-    /// the threads that answer connections. Whether it was stopped.
+    /// Does what control sessions ask for until one asks the server to stop, and stops it. Without a control socket it waits
+    /// for the threads that answer connections. Answers whether the server was stopped.
     pub fn wait<R: Threads + Wait + Clock>(self, rt: &R, alloc: Global) -> bool {
         let mut server = self;
         match &server.watchers.controls {
@@ -163,7 +163,7 @@ impl StayingServer {
         }
     }
 
-    // Waits for the threads, which end where the system tells nothing more of sockets, and closes the region.
+    // Waits for the threads, which end where the system's wait for sockets fails, and closes the region.
     fn join<R: Threads + Wait>(self, rt: &R) {
         let StayingServer {
             live,
@@ -235,7 +235,7 @@ where
     })
 }
 
-// Takes the readers beside those of this many threads.
+// Takes out the readers that are left over once each of the threads has one.
 fn take_beside(
     alloc: Global,
     live: &LiveRegion,

@@ -45,12 +45,12 @@ impl Socket {
         }
     }
 
-    /// The client's input ends after what has come of it, also for who waits for it.
+    /// The client's input ends after what has come of it. A read that waits for more ends, too.
     pub(crate) fn end_input(&self) {
         self.shut(Shutdown::Read);
     }
 
-    /// The client is told that it gets nothing after what was written.
+    /// The output to the client ends after what was written.
     pub(crate) fn end_output(&self) {
         self.shut(Shutdown::Write);
     }
@@ -128,7 +128,7 @@ impl<'a> TrackedSocket<'a> {
         }
     }
 
-    /// From now on its input is at its end where a read would wait for more, if so.
+    /// From now on its input is at its end where a read would wait for more, if `is_ending`.
     pub(crate) fn end_input_if(&mut self, is_ending: bool) {
         self.is_ending = is_ending;
     }

@@ -1,4 +1,4 @@
-//! Streams: where their writers come from, and what is told of them.
+//! Streams: where their writers come from, and the messages and counts of how they go.
 
 pub(crate) mod fifo;
 pub(crate) mod files;

@@ -8,7 +8,7 @@ use std::io;
 use std::process::ExitCode;
 use std::sync::{Arc, Wait};
 
-/// Why no reading begins, where that is explained.
+/// What is printed where the thread of a stream is refused, if faults are explained.
 const NO_THREAD: &str = "out of memory, of threads or of descriptors";
 
 /// Whether faults are explained.

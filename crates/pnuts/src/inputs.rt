@@ -22,17 +22,17 @@ use std::time::Clock;
 pub(crate) enum Streams<R: Drop> {
     /// Files, which are read to their ends.
     Files(Vec<StreamReader<FileSource>>),
-    /// Those of a server that stays, and how many connections of it may be open.
+    /// The streams of a server that stays, and how many of its connections may be open.
     Staying(Vec<Stream<StreamOrigin<R>>>, u32),
 }
 
-/// What is counted and told of the streams, and the paths of their sockets.
+/// The counters of a server, where faults and messages of its streams go, and the paths of its sockets.
 #[derive(Drop)]
 pub(crate) struct Notes {
     pub(crate) counters: Arc<Counters>,
     /// Where the faults of streams are noted, if somebody looks at them.
     pub(crate) faults: Option<Arc<FaultLog>>,
-    /// Where it is told how the streams of a server that stays go.
+    /// Where messages about the streams of a server that stays go.
     pub(crate) messages: Option<Arc<Messages>>,
     pub(crate) sockets: Vec<String>,
 }
@@ -135,7 +135,7 @@ fn new_fault_log(
     }
 }
 
-/// What accepts clients where they are listened for. Else the streams' sockets are removed.
+/// What accepts clients at the listening sockets. Where there are none, the files of the other sockets are removed.
 pub(crate) fn open_acceptor(
     rt: &(impl Files + Eprint),
     service: &Service,

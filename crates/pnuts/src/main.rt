@@ -101,7 +101,8 @@ struct Prepared<R: Drop> {
     notes: Notes,
 }
 
-// Opens what the words ask to be served. Else all is done, or refused, and the program ends with this status.
+// Opens what the arguments ask to be served. The error is the status with which the program ends: it has done all that it
+// was asked, or something is refused.
 fn prepare<R>(rt: &R) -> Result<Prepared<R>, ExitCode>
 where
     R: AllocGlobal

@@ -26,7 +26,8 @@ pub(crate) fn fail_to_stay(
     }
 }
 
-/// Prints a fault of the reading. Where a stream's thread was refused the program ends; otherwise it answers until it is stopped or a signal ends it.
+/// Prints a fault of the reading. Where the thread of a stream was refused the program ends. Otherwise it answers until it is
+/// stopped, or until a signal ends it.
 pub(crate) fn answer_on<R: AllocGlobal + Threads + Wait + Clock + Eprint + Files>(
     rt: &R,
     service: &Service,

@@ -93,7 +93,7 @@ fn new_acceptor(
     })
 }
 
-/// Serves one session: what its client was told, what was written, whether rounds and lines were counted, and how many
+/// Serves one session: what its client has read, what was written, whether rounds and lines were counted, and how many
 /// clients are left.
 pub(crate) fn serve_session<R>(rt: &R, alloc: Global, at: &str) -> Result<String, Fail>
 where
@@ -127,7 +127,7 @@ where
     }
 }
 
-/// Answers a client of a server that stays, until it is idle for too long: what it was told, and whether the server has read
+/// Answers a client of a server that stays, until it is idle for too long: what it has read, and whether the server has read
 /// all streams to their ends.
 pub(crate) fn stay_until_idle<R>(rt: &R, alloc: Global, at: &str) -> Result<String, Fail>
 where

@@ -61,8 +61,8 @@ impl Talk {
     }
 }
 
-/// What writers, control sessions and a client are told of a server, which is stopped then; whether it ended, and whether a further
-/// client is accepted.
+/// What writers, control sessions and a client read from a server that is then stopped, whether it ended, and whether a further
+/// client was accepted.
 pub(crate) fn stop_server<R>(rt: &R, alloc: Global) -> Result<String, Fail>
 where
     R: Files<File = File>
@@ -119,7 +119,7 @@ where
     }
 }
 
-// Asks, and stops the server, also where something was told otherwise. A bar is a newline.
+// Asks, and stops the server, even where a question failed. A bar is a newline.
 fn ask_and_stop<R: Net>(rt: &R, alloc: Global) -> io::Result<String> {
     let mut told = String::new(alloc);
     let asked = ask_all(rt, alloc, &mut told);

@@ -30,7 +30,7 @@ pub(crate) enum At {
     Path(&'static str),
 }
 
-/// What a client was told.
+/// What a client has read.
 #[derive(Clone, Copy, Debug, PartialEq, Eq)]
 pub(crate) enum Told {
     /// The record.

@@ -32,7 +32,7 @@ const CALLS: u32 = 100;
 /// How many lines are left for standard error.
 const LINES: u32 = 1_030;
 
-/// A stream, what is told of it, and the paths of its sockets.
+/// A stream, the messages about it, and the paths of its sockets.
 #[derive(Drop)]
 struct Opened<R: Drop> {
     stream: Stream<StreamOrigin<R>>,
@@ -119,7 +119,7 @@ fn end_of(fault: ResumeFault, last: u64, line: u64) -> WriterEnd {
     }
 }
 
-// All up to a position was handed on, and taken.
+// Notes that all up to a position was handed on and taken.
 fn note<R>(stream: &mut Stream<StreamOrigin<R>>, position: u64)
 where
     R: Files<File = File> + Net + Wait + Clock + Copy + Drop,
@@ -149,8 +149,8 @@ fn show_messages<R: Wait>(rt: &R, alloc: Global, messages: &Messages) -> Result<
     Ok(text)
 }
 
-/// What two writers at a socket are told, of which the first leaves out two messages and the second begins too late, and what is told
-/// of them.
+/// What two writers at a socket read, and the messages about them. The first leaves out two messages of the stream, and the
+/// second begins too late.
 pub(crate) fn read_socket<R>(rt: &R, alloc: Global) -> Result<String, Fail>
 where
     R: Files<File = File> + Net + Threads + Wait + Clock + Copy + Drop,
@@ -173,7 +173,7 @@ fn connect<R: Net>(rt: &R) -> io::Result<UnixStream> {
     rt.connect_unix(&net::SocketAddr::from_pathname(STREAM_PATH)?)
 }
 
-// Two writers: what both were told.
+// Two writers: what both have read.
 fn write_twice(alloc: Global, writers: (UnixStream, UnixStream)) -> io::Result<String> {
     let (first, second) = writers;
     let mut told = String::new(alloc);
@@ -182,7 +182,7 @@ fn write_twice(alloc: Global, writers: (UnixStream, UnixStream)) -> io::Result<S
     Ok(told)
 }
 
-// Writes a message, and once something is told another one.
+// Writes a message, and another one once something has come back.
 fn write_once(
     alloc: Global,
     stream: UnixStream,
@@ -203,7 +203,7 @@ fn send(stream: &UnixStream, line: String) -> io::Result<()> {
     stream.write_all(line.as_bytes())
 }
 
-/// What is told of two writers of a FIFO, of which the first leaves half a line, and up to which position it was read.
+/// The messages about two writers of a FIFO, of which the first leaves half a line, and up to which position the FIFO was read.
 pub(crate) fn read_fifo<R>(rt: &R, alloc: Global) -> Result<String, Fail>
 where
     R: Files<File = File> + Net + Wait + Clock + Copy + Drop,

@@ -1,4 +1,4 @@
-//! The client whom a control thread answers, for who stops the server.
+//! The client of a control thread, which a stop looks for to end its input.
 
 ghost use Rattle.std.specs.Prelude.{◌≡◌, Some, false, true, IsOk};
 
@@ -28,12 +28,12 @@ impl ControlClient {
         }))
     }
 
-    /// A client has come. The error says that the thread is to end: then it is not answered.
+    /// A client has come. Where the thread is to end this is an error, and the client is not answered.
     pub(super) fn begin<R: Wait>(&self, rt: &R, socket: Arc<Socket>) -> io::Result<()> {
         self.0.lock(rt).begin(socket)
     }
 
-    /// It was answered.
+    /// The client was answered to its end.
     pub(super) fn end<R: Wait>(&self, rt: &R) {
         self.0.lock(rt).socket = None;
     }

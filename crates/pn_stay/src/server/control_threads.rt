@@ -17,7 +17,7 @@ use std::{io, thread};
 /// How many bytes of a control session are read at a time.
 const CONTROL_READ_SIZE: usize = 65_536;
 
-/// For how many seconds a control client is waited for that writes nothing, or takes nothing.
+/// For how many seconds a control client may write nothing, or take nothing, before its session ends.
 const PATIENCE: u64 = 300;
 
 /// For how many milliseconds nobody is accepted after the system refused a socket.
@@ -26,13 +26,13 @@ const RETRY: u64 = 10;
 /// What is started for control sessions.
 #[derive(Drop)]
 pub(super) struct Controls {
-    /// Their socket, and the mailboxes in which they leave commands, where there may be some.
+    /// Their socket, and the mailboxes in which they leave commands, if there is a control socket.
     pub(super) listener: Option<Listener>,
     pub(super) mailboxes: Option<Arc<ControlMailboxes>>,
     pub(super) clients: Vec<Arc<ControlClient>>,
 }
 
-/// Starts a thread for each reader, where there may be control sessions.
+/// Starts a thread for each reader, if there is a control socket.
 pub(super) fn start_controls<R>(
     rt: &R,
     alloc: Global,
@@ -140,7 +140,7 @@ where
     }
 }
 
-// The socket of a client who is to be answered. It is waited for no longer than is bearable.
+// The socket of a client that is to be answered. No read and no write of it waits longer than `PATIENCE`.
 fn begin<R: Wait>(
     rt: &R,
     thread: &ControlThread,

@@ -14,10 +14,10 @@ const STEP: u64 = 10;
 /// How many such steps a second has.
 const STEPS: u64 = 100;
 
-/// For how many steps the writers of streams are waited for that are told what was taken.
+/// For how many steps at most a stop waits until each writer of a stream was sent the position that was taken.
 const TELLING_STEPS: u64 = 20;
 
-/// What a server listens on, what the threads that answer its clients look at, and how far its streams are.
+/// What a stop needs of a server: its listening sockets, the mailboxes and clients of its threads, and its counters.
 #[derive(Drop)]
 pub(super) struct Stopping {
     pub(super) listener: Listener,
@@ -28,8 +28,8 @@ pub(super) struct Stopping {
 }
 
 impl Stopping {
-    /// Accepts nobody from now on, and waits so many seconds at most until the lines that have come are answered, and
-    /// writers are told what was taken.
+    /// Accepts nobody from now on. Waits until the lines that have come are answered and each writer was sent the position
+    /// that was taken, but no longer than `seconds`.
     pub(super) fn run<R: Wait + Clock>(&self, rt: &R, seconds: u64) {
         let began = Instant::now(rt).ok();
         self.tell_all(rt);
@@ -42,7 +42,7 @@ impl Stopping {
         }
     }
 
-    // Threads learn of the stop before nobody is accepted any more, so that none takes that for a fault.
+    // The threads learn of the stop first. Otherwise the one that accepts would take the end of its socket for a fault.
     fn tell_all<R: Wait>(&self, rt: &R) {
         for mailbox in self.mailboxes.iter() {
             let _ = mailbox.tell_stop(rt);
@@ -64,7 +64,7 @@ impl Stopping {
         have_clients_ended(rt, &self.clients)
     }
 
-    // Whether each writer is told what was taken of its stream.
+    // Whether each writer was sent the position that was taken of its stream.
     fn are_told<R: Wait>(&self, rt: &R) -> bool {
         for stream in self.counters.streams.iter() {
             if is_behind(rt, stream) {
@@ -75,7 +75,7 @@ impl Stopping {
     }
 }
 
-// Whether the writer of a stream is still to be told what was taken.
+// Whether the writer of a stream was not yet sent the position that was taken.
 fn is_behind<R: Wait>(rt: &R, stream: &StreamCounters) -> bool {
     match (&stream.taken, &stream.told, &stream.status) {
         (Some(taken), Some(told), Some(status)) => told.get() < taken.get() && status.is_open(rt),
@@ -83,7 +83,7 @@ fn is_behind<R: Wait>(rt: &R, stream: &StreamCounters) -> bool {
     }
 }
 
-// Whether so many seconds are over since then. Where the clock does not say it, steps are counted alone.
+// Whether `seconds` have passed since `then`. Where the clock fails they have not, and the steps alone bound the wait.
 fn is_over<R: Clock>(rt: &R, then: &Option<Instant>, seconds: u64) -> bool {
     let Some(then) = then else { return false };
     match then.elapsed(rt) {

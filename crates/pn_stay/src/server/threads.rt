@@ -29,7 +29,7 @@ pub(super) struct Answering {
     pub(super) mailboxes: Arc<Vec<Arc<SocketMailbox>>>,
 }
 
-/// Starts a thread for each reader, and one that accepts connections, at most this many at once.
+/// Starts a thread for each reader, and one that accepts connections, of which at most `connections` are open at once.
 pub(super) fn start_answering<R>(
     rt: &R,
     alloc: Global,

@@ -70,7 +70,7 @@ impl<R> FifoWriters<R>
 where
     R: Files<File = File> + Net + Wait + Clock + Copy + Drop,
 {
-    /// Those of the FIFO at a path, which is not opened so far.
+    /// The writers of the FIFO at a path, which is not opened so far.
     pub(crate) fn new(path: String, poll: FifoPoll) -> FifoWriters<R> {
         FifoWriters {
             path,

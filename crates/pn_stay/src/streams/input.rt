@@ -37,7 +37,7 @@ impl<R: Clock + Drop> Read for StreamInput<R> {
     }
 }
 
-/// Begins to read an input, so many bytes at a time.
+/// Begins to read an input, `size` bytes at a time.
 pub(crate) fn open_source<I: Read + Drop>(
     alloc: Global,
     input: I,

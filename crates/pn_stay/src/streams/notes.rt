@@ -1,4 +1,4 @@
-//! What is told of a stream on standard error.
+//! What a stream's thread notes of it: messages for standard error, and its status.
 
 use crate::counters::InputCounters;
 use crate::messages::Messages;
@@ -13,14 +13,14 @@ use std::io;
 use std::sync::{Arc, Wait};
 use std::time::Clock;
 
-/// The name of a stream, and where it is told and counted how it goes.
+/// The name of a stream, and where messages about it, its counts and its status go.
 #[derive(Drop)]
 pub(crate) struct StreamNotes<R> {
     pub(crate) rt: R,
     pub(crate) alloc: Global,
     pub(crate) name: Name,
     pub(crate) messages: Arc<Messages>,
-    /// The counters of what is read, and where it is noted how the stream goes, where somebody looks at them.
+    /// The counters of what is read, and the status of the stream, if somebody looks at them.
     pub(crate) counters: Option<Arc<InputCounters>>,
     pub(crate) status: Option<Arc<StreamStatus>>,
     pub(crate) progress: Progress,
@@ -37,14 +37,14 @@ impl<R: Wait + Clock + Drop> StreamNotes<R> {
 }
 
 impl<R: Wait + Drop> StreamNotes<R> {
-    /// Notes whether a writer is read, where somebody looks at that.
+    /// Notes whether a writer is read, if somebody looks at that.
     pub(crate) fn set_state(&self, state: StreamState) {
         if let Some(status) = &self.status {
             status.set_state(&self.rt, state);
         }
     }
 
-    /// Tells how a writer's input ended.
+    /// Notes how a writer's input ended, and leaves a message.
     pub(crate) fn tell_end(&self, end: &WriterEnd) {
         match end {
             WriterEnd::End => {
@@ -63,7 +63,7 @@ impl<R: Wait + Drop> StreamNotes<R> {
         }
     }
 
-    // Notes a fault, where somebody looks at that. Out of memory it has no reason.
+    // Notes a fault, if somebody looks at that. Its reason is empty where there is no memory for it.
     fn note_fault(&self, fault: &ResumeFault, line: u64) {
         if let Some(status) = &self.status {
             let reason = describe_fault(self.alloc, fault).unwrap_or(String::new(self.alloc));
@@ -71,12 +71,12 @@ impl<R: Wait + Drop> StreamNotes<R> {
         }
     }
 
-    /// Tells that another writer has begun.
+    /// Leaves a message that another writer has begun.
     pub(crate) fn begin_again(&self) {
         self.tell("begins again");
     }
 
-    /// Tells what the system refuses for now, as `cannot open east: ./east: Permission denied`.
+    /// Leaves a message of what the system refuses for now, as `cannot open east: ./east: Permission denied`.
     pub(crate) fn tell_error(&self, verb: &str, path: &str, error: &io::Error) {
         let text = self.format_error(verb, path, error);
         self.messages.leave(&self.rt, text);

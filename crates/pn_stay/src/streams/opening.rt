@@ -37,7 +37,7 @@ pub struct OpenedStreams<R: Drop> {
 // The writers of a stream, and how many bytes its file has, where it ends.
 type OpenedWriters<R> = Result<(Writers<R>, Option<u64>), OpenFault>;
 
-/// Where it is told how streams go, and whether what is read of them is counted.
+/// Where messages about streams go, and whether what is read of them is counted.
 #[derive(Drop)]
 pub struct StreamSetting<R> {
     pub rt: R,
@@ -143,7 +143,7 @@ fn new_notes<R: Copy>(
     })
 }
 
-// Where it is noted how a stream goes, where somebody is to look at it.
+// The status of a stream, if somebody is to look at it.
 fn new_status(
     alloc: Global,
     path: &StreamPath,

@@ -26,7 +26,7 @@ pub(crate) struct SocketWriters {
 }
 
 impl SocketWriters {
-    /// Those who come to the socket at a path.
+    /// The writers that come to the socket at a path.
     pub(crate) fn new(listener: StreamListener, path: String) -> SocketWriters {
         SocketWriters {
             listener,
@@ -36,7 +36,7 @@ impl SocketWriters {
         }
     }
 
-    /// Waits for the next writer that writes anything. It is told after which position it goes on.
+    /// Waits for the next writer that writes anything. It is sent the position after which the stream goes on.
     pub(crate) fn next_writer<R>(&mut self, notes: &StreamNotes<R>, last: u64) -> StreamSource<R>
     where
         R: Wait + Clock + Copy + Drop,
@@ -90,7 +90,7 @@ impl SocketWriters {
     }
 }
 
-/// Tells a writer how its input ended, and closes its socket.
+/// Sends a writer how its input ended, and closes its socket.
 pub(crate) fn end_socket<R: Clock + Drop>(source: StreamSource<R>, end: &WriterEnd) {
     let (reader, _) = source.into_parts();
     if let StreamInput::Socket(socket) = reader.into_inner() {

@@ -1,4 +1,4 @@
-//! How a stream goes, for whoever asks: its state, when its last message came, and its last fault.
+//! The status of a stream: its state, when its last message came, and its last fault.
 
 ghost use Rattle.std.specs.Prelude.{◌≡◌, None, Some, string_bytes, IfOk};
 
@@ -7,7 +7,7 @@ use std::alloc::{AllocError, Global};
 use std::sync::{Mutex, Wait};
 use std::time::{Clock, Instant};
 
-/// How a stream goes. Its thread notes that, and others read it at any time.
+/// The status of a stream. The stream's thread notes it, and others read it at any time.
 #[derive(Drop)]
 pub struct StreamStatus {
     path: String,
@@ -23,7 +23,7 @@ struct StatusNow {
     fault: Option<StreamFaultStats>,
 }
 
-/// What a stream's status was at one moment.
+/// The status of a stream at one moment.
 #[derive(Drop)]
 pub(crate) struct StatusThen {
     pub(crate) path: String,
@@ -33,7 +33,7 @@ pub(crate) struct StatusThen {
 }
 
 impl StreamStatus {
-    /// That of a stream whose writers come to a path, before the first.
+    /// The status of a stream whose writers come to a path, before the first one.
     pub(crate) fn new(path: String) -> StreamStatus {
         StreamStatus {
             path,

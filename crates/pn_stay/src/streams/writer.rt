@@ -1,4 +1,4 @@
-//! The socket of a stream's writer. While it is read, the writer is told what is taken.
+//! The socket of a stream's writer. While it is read, the writer is sent the positions that rounds have taken.
 
 ghost use Rattle.std.specs.Prelude.{◌≡◌, ◌≢◌, ◌*◌, ◌≤◌, ◌↔◌, ◌⊎◌, true, Ok, Err, IfOk, IsTrue, OnErr};
 ghost use Rattle.std.specs.Duration.{as_nanos};
@@ -15,13 +15,13 @@ use std::os::unix::net::UnixStream;
 use std::sync::Arc;
 use std::time::{Clock, Duration, Instant};
 
-/// How many milliseconds lie between two lines that tell what is taken, at least.
+/// How many milliseconds lie between two such lines, at least.
 const PAUSE: u64 = 100;
 
-/// For how many milliseconds a writer is waited for that takes nothing.
+/// For how many milliseconds a write waits for a writer that takes nothing.
 const PATIENCE: u64 = 1;
 
-/// Up to which positions a stream was handed to rounds, was taken by them, and its writer was told so.
+/// The positions up to which a stream was handed to rounds and was taken by them, and the last one that its writer was sent.
 #[derive(Drop)]
 pub(crate) struct Progress {
     pub(crate) handed: Arc<Counter>,
@@ -30,7 +30,7 @@ pub(crate) struct Progress {
 }
 
 impl Progress {
-    /// That of a stream of which nothing was handed to rounds.
+    /// The progress of a stream of which nothing was handed to rounds.
     pub(crate) fn new(alloc: Global) -> Result<Progress, AllocError> {
         Ok(Progress {
             handed: Arc::new(alloc, Counter::new())?,
@@ -56,7 +56,7 @@ pub struct WriterSocket<R> {
     alloc: Global,
     stream: UnixStream,
     progress: Progress,
-    // When the writer was told a position last.
+    // When the writer was sent a position last.
     told_at: Option<Instant>,
     // Whether a read ends after a tenth of a second.
     is_timed: bool,
@@ -65,7 +65,7 @@ pub struct WriterSocket<R> {
 }
 
 impl<R: Clock + Drop> WriterSocket<R> {
-    /// Tells a writer after which position the stream goes on.
+    /// Sends a writer the position after which the stream goes on.
     pub(crate) fn begin(
         rt: R,
         alloc: Global,
@@ -88,7 +88,7 @@ impl<R: Clock + Drop> WriterSocket<R> {
         Ok(socket)
     }
 
-    /// Tells the writer what is taken, where it was not told.
+    /// Sends the writer the position that was taken, unless it was sent.
     pub(crate) fn tell_taken(&mut self) {
         let taken = self.progress.taken.get();
         if taken > self.progress.told.get() {
@@ -99,7 +99,7 @@ impl<R: Clock + Drop> WriterSocket<R> {
         }
     }
 
-    /// Tells the writer why it is read no further.
+    /// Sends the writer why it is read no further.
     pub(crate) fn tell_fault(&mut self, fault: &ResumeFault, position: u64) {
         let _ = self.tell(format_refusal(self.alloc, fault, position));
     }
@@ -120,7 +120,7 @@ impl<R: Clock + Drop> WriterSocket<R> {
         self.is_told
     }
 
-    // Tells what is taken, ten times a second at most.
+    // Sends the position that was taken, ten times a second at most.
     fn tell_in_time(&mut self) {
         if self.progress.taken.get() > self.progress.told.get()
             && is_over(&self.rt, &self.told_at)
@@ -129,13 +129,13 @@ impl<R: Clock + Drop> WriterSocket<R> {
         }
     }
 
-    // Whether rounds are still to take what was handed to them, or the writer is to be told so.
+    // Whether rounds have not taken all that was handed to them, or the writer was not sent what they took.
     fn is_behind(&self) -> bool {
         let told = self.progress.told.get();
         told < self.progress.handed.get() || told < self.progress.taken.get()
     }
 
-    // A read ends after a tenth of a second where there may be something to tell then.
+    // A read ends after a tenth of a second where there may be a position to send then.
     fn set_timeout(&mut self) {
         let is_timed = self.is_told && self.is_behind();
         if is_timed == self.is_timed {
@@ -186,7 +186,7 @@ impl<R: Clock + Drop> Read for WriterSocket<R> {
     }
 }
 
-// Whether an error says that the call is to be made again: it would have waited, or the program was stopped meanwhile.
+// Whether an error says that the call is to be made again: it would have waited, or a signal interrupted it.
 fn passes(error: &io::Error) -> bool
     ensures { IsTrue result ↔ ((error_kind error.now ≡ ErrorKind.WouldBlock) ⊎ (error_kind error.now ≡ ErrorKind.Interrupted)) }
 {

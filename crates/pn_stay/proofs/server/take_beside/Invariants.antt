@@ -4,11 +4,11 @@ use Rattle.pn_live.specs.LiveRegions.{tablets_in}
 use Rattle.pn_serve.specs.Server.Sessions.{AllRead}
 use Rattle.pn_stay.proofs.server.take_beside.Given as goal
 
-abbrev pub invariant-loop : goal.invariant-loop
-invariant-loop g l = record {
+abbrev pub invariant-loop-readers : goal.invariant-loop-readers
+invariant-loop-readers l = record {
   readers : AllRead (tablets_in l.live) l.readers.items;
   threads : l.threads ≤ vec_len l.readers;
 }
 
-abbrev pub decreases-loop : goal.decreases-loop
-decreases-loop g l = vec_len l.readers
+abbrev pub decreases-loop-readers : goal.decreases-loop-readers
+decreases-loop-readers l = vec_len l.readers

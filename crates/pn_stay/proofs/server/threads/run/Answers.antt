@@ -2,5 +2,5 @@
 use Rattle.pn_serve.proofs.Knowing.{knows_itself}
 use Rattle.pn_stay.proofs.server.threads.run.Goals as goal
 
-pub returns-in_err-begun : goal.returns-in_err-begun
-returns-in_err-begun g c = knows_itself _
+pub returns-in_err-events : goal.returns-in_err-events
+returns-in_err-events g c = knows_itself _
