@@ -27,7 +27,7 @@ const MAX_TURNS: u64 = 100_000;
 
 const TURNS_AFTER: u64 = 1_000;
 
-/// What a client has read.
+/// What a client was told.
 #[derive(Clone, Copy, Debug, PartialEq, Eq)]
 enum Told {
     /// The record, and it stayed there.
@@ -66,7 +66,7 @@ impl Acceptor for Logged {
     }
 }
 
-// Asks for the record until it is there, at most `most` times, and then some times more.
+// Asks for the record until it is there, at most this often, and then some times more.
 fn talk<R: Net<Listener = TcpListener, Stream = TcpStream>>(
     rt: &R,
     alloc: Global,
@@ -99,8 +99,8 @@ fn stays(
     Ok(Told::Row)
 }
 
-/// Serves one session over a stream whose first message is at this position: how serving ended, what was written, and what the
-/// client has read.
+/// Serves one session over a stream whose first message is at this position: how serving ended, what was written, and what the client
+/// was told.
 pub(crate) fn serve_stream<R>(rt: &R, alloc: Global, position: &str) -> Result<String, Fail>
 where
     R: Net<Listener = TcpListener, Stream = TcpStream>

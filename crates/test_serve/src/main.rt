@@ -1,8 +1,7 @@
 //! Cases of `pn_serve`, a line each, of what the stored scripts of `test_rows` cannot say; `stdout` has what must be answered.
 //!
 //! `plan` and `says` read words; `run`, `blocks`, `writes` and `sessions` meet slow and failing readers and writers; `session` and
-//! `serve` answer sessions, and `control` a control session; `read` reads streams, and `writers` one whose writers come one
-//! after another. A bar is a newline.
+//! `serve` answer sessions, and `control` a control session; `read` reads streams, and `writers` one whose writers come one after another. A bar is a newline.
 #![tactic(auto)]
 
 mod control;

@@ -138,7 +138,7 @@ fn over_endless_source(alloc: Global, reader: &mut LiveReader) -> Result<String,
     Ok(format!(in alloc; "{fault}")?)
 }
 
-// A session over a text that comes again and again: there is too much of it, or memory ran out before the first look.
+// A session over a text that is said again and again: there is too much of it, or memory ran out before the first look.
 fn endless_session(alloc: Global, reader: &mut LiveReader, text: &[u8]) -> RunFault
     requires { 0 < length text.now }
     ensures { (result ≡ RunFault.TooManyTurns) ⊎ (result ≡ RunFault.Memory) }
