@@ -192,8 +192,9 @@ fn write_once(
     lines.read_line(told)?;
     send(&stream, message(alloc, positions.0)?)?;
     lines.read_line(told)?;
+    // (the socket may have been closed after the reason was read)
     let _ = send(&stream, message(alloc, positions.1)?);
-    lines.read_line(told)?;
+    let _ = lines.read_line(told);
     Ok(())
 }
 
