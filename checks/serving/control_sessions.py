@@ -134,7 +134,7 @@ def check_sessions_that_do_not_read(program: str, folder: str) -> None:
 
 
 def cut_at(control: str, lines: bytes, chance: random.Random) -> None:
-    """A session that goes in the middle of what it sends, or of what it is told."""
+    """A session that goes in the middle of what it sends, or of what it reads."""
     with Session(control) as session:
         session.send(lines[: chance.randrange(1, len(lines))])
         if chance.random() < 0.5:

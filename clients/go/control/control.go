@@ -67,7 +67,7 @@ func StatsOf(ctx context.Context, region *pnuts.Client) (stats Stats, err error)
 	return stats, err
 }
 
-// NoticesAfter gives what changed after a number. Where that is nothing, it waits for it so many seconds, at most 60. Lines on the
+// NoticesAfter gives what changed after a number. Where that is nothing, it waits for it for up to `wait` seconds, at most 60. Lines on the
 // same connection wait too, and a client's timeout has to be longer.
 func NoticesAfter(ctx context.Context, region *pnuts.Client, since, wait int64) (found Notices, err error) {
 	command := map[string]any{"do": "notices", "since": since, "wait": wait}

@@ -69,7 +69,7 @@ class Control(Client):
         return self.ask(asked.stats())
 
     def notices(self, since: int, wait: int = 0) -> Notices:
-        """What changed after a number. Where that is nothing, it waits for it so many seconds at most."""
+        """What changed after a number. Where that is nothing, it waits for it, for `wait` seconds at most."""
         if not wait:
             return self.ask(asked.notices(since))
         with self._waiting(self._retries) as session:
@@ -106,7 +106,7 @@ class Control(Client):
         return self.ask(asked.adopt(copy if isinstance(copy, bytes) else Path(copy).read_bytes()))
 
     def stop(self, seconds: int = 10) -> int:
-        """Ends the region, once the lines that have come are answered, or after so many seconds."""
+        """Ends the region, once the lines that have come are answered, or after `seconds`."""
         return self.ask(asked.stop(seconds))
 
     def __enter__(self) -> Control:
