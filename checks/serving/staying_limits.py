@@ -100,5 +100,4 @@ def check_ended_thread(program: str, folder: str) -> None:
         given = environment(library, "epoll_wait", 1, 1, once=True, pause=pause)
         with Staying(program, folder, none(folder), "--connections", "2", threads=2, environment=given) as region:
             answers = [reply_or_end(region.port) for _ in range(10)]
-            same("whether some are answered", NO_ROW in answers, True)
-            same("what else they are sent", set(answers) - {NO_ROW, b""}, set())
+            same("what they are sent, of which the thread may have ended one", answers.count(NO_ROW) >= 9 and {*answers} <= {NO_ROW, b""}, True)
