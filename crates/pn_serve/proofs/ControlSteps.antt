@@ -32,6 +32,7 @@ use Rattle.pn_serve.specs.Session.Lines.{LooksUp}
 use Rattle.pn_serve.specs.declared.control.steps.Step.{Step}
 use Rattle.pn_serve.specs.declared.control.steps.Step.TheVariants.{Replies, Announces, Stops, Ends}
 use Rattle.pn_serve.proofs.Knowing.{command_knows, knows_same}
+use Rattle.pn_serve.proofs.TabletCounts.{tablets_know}
 
 -- a line that was written says so, or memory ran out
 pub says_line : (line : List ℕ) (written : Result (Vec ℕ Global) NoMemory) (shown : Reply) → IfOk written (λ text. text.items ≡ line)
@@ -145,7 +146,7 @@ asked_knows : (old new : LiveReaderValue) (asked : ControlValue) (step : Step) �
 asked_knows old new (script asked) step obeys = script_knows old new asked step obeys
 asked_knows old new (notices since wait) step obeys = knows_same old new obeys.0
 asked_knows old new advance step obeys = knows_same old new obeys.0
-asked_knows old new stats step obeys = knows_same old new obeys.0
+asked_knows old new stats step obeys = tablets_know old new obeys.answer obeys.counts
 asked_knows old new (stop seconds) step obeys = knows_same old new obeys.0
 
 as_knows : (old new : LiveReaderValue) (said : Result ControlValue Refusal) (step : Step) → StepsAs old said new step → KnowsNoLess old new

@@ -1,5 +1,5 @@
 -- How many cells are deleted once a join's changes are put.
-use Rattle.std.proofs.Common.{◌≡◌, ℕ, ◌+◌, ◌≤◌, Bool, true, false, not, cond, T, List, [], ◌∷◌, length, count_by, Option, Some, None, Ordering, Less, Equal, Greater, is_eq, refl, sym, ap, ◌∙◌, subst, arith}
+use Rattle.std.proofs.Common.{◌≡◌, ℕ, suc, ◌+◌, ◌≤◌, Bool, true, false, not, cond, T, List, [], ◌∷◌, length, count_by, Option, Some, None, Ordering, Less, Equal, Greater, is_eq, refl, sym, ap, ◌∙◌, subst, arith}
 use Rattle.std.specs.List.{AllByRecursion, AllZip}
 use Rattle.std.specs.FinMap.{find, put, is_sorted}
 use Rattle.std.specs.FinMap.Entries.{by_order, find-put, same_entries}
@@ -44,7 +44,7 @@ one_of_both : (t : Bool) → one t + one (not t) ≡ 1
 one_of_both true = refl
 one_of_both false = refl
 
-one_more : (a b n m l x y : ℕ) → a + b ≡ 1 → n + m ≡ l → x ≡ a + n → y ≡ b + m → x + y ≡ l + 1
+one_more : (a b n m l x y : ℕ) → a + b ≡ 1 → n + m ≡ l → x ≡ a + n → y ≡ b + m → x + y ≡ suc l
 one_more a b n m l x y s t p q = omega arith
 
 -- those that are deleted, and those that are not, are all

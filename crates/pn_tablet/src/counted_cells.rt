@@ -1,6 +1,6 @@
 //! The cells of a tablet, and how many of them are deleted.
 
-ghost use Rattle.std.specs.Prelude.{◌≡◌, [], ◌++◌, ℕ, count_by, IfOk, OnOk, OnErr, IsTrue};
+ghost use Rattle.std.specs.Prelude.{◌≡◌, ◌+◌, ◌≤◌, [], ◌++◌, ℕ, List, count_by, IfOk, OnOk, OnErr, IsTrue};
 ghost use Rattle.std.specs.FinMap.{find, is_sorted};
 ghost use Rattle.pn_join.specs.Prelude.{AreChanges, optional_joined};
 ghost use Rattle.pn_record.specs.Cells.{Holds};
@@ -29,6 +29,7 @@ pub(crate) struct CountedCells {
 }
 
 impl Model for CountedCells {
+    ghost use Rattle.std.specs.Prelude.{◌≡◌};
     ghost use Rattle.pn_record.specs.CellMap.{Entries};
     ghost use Rattle.pn_tablet.specs.Counting.{deleted_in};
     ghost use Rattle.pn_tablet.specs.Proofs.Coding.{entries_code};
@@ -116,18 +117,26 @@ fn count_after(most: usize, before: usize, come: usize, gone: usize) -> usize
 fn count_come(told: &[TableChange<Key, Cell>]) -> usize
     ensures { result ≡ count_by (λ change. deletes change.after) told.now }
 {
-    told.iter()
-        .filter(|change| is_deleted(&change.after))
-        .count()
+    let mut count = 0;
+    for change in told {
+        if is_deleted(&change.after) {
+            count += 1;
+        }
+    }
+    count
 }
 
 // How many changes take a deleted cell away.
 fn count_gone(told: &[TableChange<Key, Cell>]) -> usize
     ensures { result ≡ count_by (λ change. deleted_before change.before) told.now }
 {
-    told.iter()
-        .filter(|change| was_deleted(&change.before))
-        .count()
+    let mut count = 0;
+    for change in told {
+        if was_deleted(&change.before) {
+            count += 1;
+        }
+    }
+    count
 }
 
 // How many of the cells are deleted.

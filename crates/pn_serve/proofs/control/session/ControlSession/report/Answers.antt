@@ -1,6 +1,0 @@
--- The statistics are shown.
-use Rattle.pn_serve.proofs.ControlSteps.{says_line}
-use Rattle.pn_serve.proofs.control.session.ControlSession.report.Goals as goal
-
-pub returns-in-Ok : goal.returns-in-Ok
-returns-in-Ok g c = (c.in-Ok.stats, says_line _ _ _ c.stats_reply.ensures c.answer_text.ensures)
