@@ -9,6 +9,9 @@ use std::process::ExitCode;
 use std::rt::Files;
 use std::{fs, io};
 
+/// The permissions of the socket of control sessions: only its owner may connect.
+const CONTROL_MODE: u32 = 0o600;
+
 /// What is listened on.
 #[derive(Drop)]
 pub(crate) struct Listeners {
@@ -27,7 +30,7 @@ where
         + Eprint,
 {
     let control = listen_for_control(rt, service)?;
-    let clients = match bind(rt, &service.address) {
+    let clients = match bind(rt, service) {
         Ok(clients) => clients,
         Err(error) => {
             remove_control(rt, service);
@@ -49,19 +52,19 @@ fn listen_for_control(
     let Some(path) = &service.control else {
         return Ok(None);
     };
-    match Listener::bind_path(rt, path.as_str()) {
+    match Listener::bind_path(rt, path.as_str(), CONTROL_MODE) {
         Ok(listener) => Ok(Some(listener)),
         Err(error) => Err(fail_at(rt, "cannot listen", path.as_str(), &error, true)),
     }
 }
 
-fn bind<R>(rt: &R, address: &Address) -> io::Result<Listener>
+fn bind<R>(rt: &R, service: &Service) -> io::Result<Listener>
 where
     R: Files<File = File> + Net<Listener = TcpListener, Stream = TcpStream>,
 {
-    match address {
+    match &service.address {
         Address::Port(host, port) => Listener::bind_port(rt, *host, *port),
-        Address::Path(path) => Listener::bind_path(rt, path.as_str()),
+        Address::Path(path) => Listener::bind_path(rt, path.as_str(), service.socket_mode),
     }
 }
 

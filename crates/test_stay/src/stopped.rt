@@ -58,7 +58,7 @@ impl Talk {
     }
 }
 
-/// What a client and a control session are told by a server, which is stopped then; whether it ended, and whether a further client is
+/// What a client and a control session read of a server until it is stopped; whether it ended, and whether a further client is
 /// accepted.
 pub(crate) fn stop_server<R>(rt: &R, alloc: Global) -> Result<String, Fail>
 where
@@ -96,7 +96,7 @@ where
     Ok(format!(in alloc; "{told}{read} {is_stopped} {is_accepted}")?)
 }
 
-// Asks, and stops the server, also where something was told otherwise. A bar is a newline.
+// Asks, and stops the server, also where a reply is missing. A bar is a newline.
 fn ask_and_stop<R: Net>(rt: &R, alloc: Global) -> io::Result<String> {
     let mut told = String::new(alloc);
     let asked = ask_all(rt, alloc, &mut told);
@@ -121,7 +121,7 @@ fn ask_all<R: Net>(rt: &R, alloc: Global, told: &mut String) -> io::Result<()> {
     client.read_to_end(told)
 }
 
-// The reply to stats once the client's two lines were counted.
+// The reply to `stats` once the client's two lines were counted.
 fn ask_for_stats(alloc: Global, control: &mut Talk) -> io::Result<String> {
     for _ in 0..MAX_TURNS {
         let mut stats = String::new(alloc);
@@ -134,7 +134,7 @@ fn ask_for_stats(alloc: Global, control: &mut Talk) -> io::Result<String> {
     Ok(String::new(alloc))
 }
 
-// Adds what stats says of connections and of the stream, without what is a matter of time.
+// Adds what `stats` says of connections, without what is a matter of time.
 fn push_stats(told: &mut String, stats: &str) -> io::Result<()> {
     for part in stats.split(",\"") {
         let is_timed = part.starts_with("since")

@@ -5,7 +5,7 @@ use Rattle.pn_serve.specs.Control.Commands.{Asked, adopt, advance, lose, marks, 
 use Rattle.pn_serve.specs.declared.control.answers.Question.{Question}
 use Rattle.pn_serve.specs.declared.control.answers.Question.TheVariants as question
 
--- what is asked for, but for a copy
+-- what the writer is asked for; of an adoption the copy is left out
 abbrev pub question_of : Asked → Question
 question_of (adopt copy) = question.Adopt
 question_of advance = question.Advance
@@ -14,7 +14,7 @@ question_of marks = question.Marks
 question_of (notices since) = question.Notices since
 question_of tablets = question.Tablets
 
--- the writer did what this asks for, of an adoption with some copy, and said so of the live region as it was then
+-- the writer did what this asks for over the live region as it was then, and said so; it adopted some copy
 pub record Gives (question : Question) (said : Said) : Type 0 where
   pub told : Asked
   pub is : question_of told ≡ question
@@ -22,6 +22,6 @@ pub record Gives (question : Question) (said : Said) : Type 0 where
   pub new : LiveRegionValue
   pub obeyed : ObeysLive old told new said
 
--- so it was at some time
+-- the writer did what this asks for at some time, and said so
 abbrev pub IsGiven : Question → Said → Type 0
 IsGiven question said = ∥ Gives question said ∥₁

@@ -23,12 +23,12 @@ use Rattle.pn_serve.specs.Session.Lines.{LooksUp}
 use Rattle.pn_serve.specs.declared.control.steps.Step.{Step}
 use Rattle.pn_serve.specs.declared.control.steps.Step.TheVariants.{Replies, Announces, Stops, Ends}
 
--- it came to a reply of which this holds
+-- the line came to a reply of which this holds
 abbrev pub RepliesWith : (Reply → Type 0) → Step → Type 0
 RepliesWith holds (Replies shown) = holds shown
 RepliesWith holds step = ⊥
 
--- the reply says so, or that memory ran out
+-- the reply says what was said, or that memory ran out
 abbrev pub Says : Said → Reply → Type 0
 Says said shown = (said_by shown ≡ said) ⊎ (shown ≡ Refused Memory)
 
@@ -49,7 +49,7 @@ abbrev pub AdoptsRead : Result TabletCopyValue CopyTextFault → Step → Type 0
 AdoptsRead (Ok copy) step = Asks (control.adopt copy) step
 AdoptsRead (Err fault) step = RepliesWith (Refuses (CopyText fault)) step
 
--- so for an announced text, unless memory ran out
+-- the writer was asked to adopt the copy of an announced text, unless memory ran out
 abbrev pub AdoptsText : Option (List ℕ) → Step → Type 0
 AdoptsText None step = step ≡ Replies (Refused Memory)
 AdoptsText (Some came) step = AdoptsRead (copy_at came) step ⊎ (step ≡ Replies (Refused Memory))
@@ -88,7 +88,7 @@ abbrev pub Lasts : Step → Step → Type 0
 Lasts (Announces lines) step = AdoptsText (Some []) step
 Lasts first step = step ≡ first
 
--- so the last line, which has no newline
+-- the last line, which has no newline, was answered; where it announces lines, none comes
 pub record StepsLast (old : LiveReaderValue) (part : List ℕ) (new : LiveReaderValue) (step : Step) : Type 0 where
   pub first : Step
   pub steps : StepsBy old part new first

@@ -10,7 +10,7 @@ use pn_live::LiveRegion;
 use std::alloc::Global;
 use std::sync::Wait;
 
-/// What the writer is asked for, but for a copy.
+/// What a command asks the writer for. Of an adoption the copy is left out.
 #[derive(Clone, Copy, PartialEq, Eq)]
 pub(crate) enum Question {
     Adopt,

@@ -63,7 +63,7 @@ impl ShownTablets for LiveTablets<'_> {
     }
 }
 
-// There is one tablet more than bounds.
+// A region has one tablet more than its layout has bounds.
 fn recall_tablet_count(live: &LiveRegion)
     ensures { length (core live.now).tablets ≡ length live.now.layout + 1 }
 {
@@ -114,7 +114,7 @@ fn advance(alloc: Global, live: &mut LiveRegion) -> Reply
     }
 }
 
-// Advances to these marks. The reply is written before, so that no marks advance without one.
+// Advances the region to `marks`. The reply is written first: where there is no memory for it, the marks stay.
 fn advance_to(alloc: Global, live: &mut LiveRegion, marks: &Marks) -> Reply
     requires { after_advance (core live.old) ≡ Ok (with_marks (core live.old) marks.now) }
     ensures obeys { ObeysLive live.old control.advance live.new (said_by result) }

@@ -23,9 +23,9 @@ use std::time::Clock;
 pub(crate) enum Step {
     /// A reply.
     Replies(Reply),
-    /// So many lines are to come.
+    /// This many lines are to come.
     Announces(u64),
-    /// The server is asked to end after so many seconds at most.
+    /// The server is asked to end within this many seconds.
     Stops(u64),
     /// Nothing: the writer takes no command any more.
     Ends,
@@ -140,8 +140,7 @@ impl<C: StatsSource + Drop> ControlSession<C> {
         }
     }
 
-    // Waits for so many seconds at most while the last number of the log is this one and the client is there, a second at
-    // a time.
+    // Waits, a second at a time, for `seconds` at most while the last number of the log is `number` and the client is there.
     fn wait_past<R: Wait + Clock>(&self, rt: &R, number: u64, seconds: u64) {
         for _ in 0..seconds {
             let is_past = self.mailboxes.wait_past(rt, number, 1);

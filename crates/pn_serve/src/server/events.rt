@@ -71,7 +71,7 @@ fn run_events<R: Threads + Wait + Sync>(
     unreachable!()
 }
 
-/// Does what control sessions ask for, until one asks the server to stop. Answers in how many seconds at most it is to end.
+/// Does what control sessions ask for, until one asks the server to stop. Answers within how many seconds it is to end.
 pub fn take_commands<R: Wait>(
     rt: &R,
     alloc: Global,

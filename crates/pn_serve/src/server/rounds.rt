@@ -180,7 +180,7 @@ fn apply_deliveries<R: Threads + Wait + Sync>(
     live.round(rt, deliveries, workers, &Open)
 }
 
-// That the round went well, unless a stream has a fault that stops them, which outranks the round's.
+// Answers how the round went, or the fault of a stream that stops all streams.
 fn conclude_round(
     fault: Option<StreamName>,
     round: Result<(Round, Front), RoundFault>,

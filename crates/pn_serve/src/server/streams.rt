@@ -33,7 +33,7 @@ pub struct Watchers {
 
 /// Reads streams into a live region until all have ended, or a control session asks the server to stop, at most 1,000 messages
 /// of each a round. Between two rounds it does what control sessions ask for. A stream's fault ends that stream alone. The
-/// fault is `Start`, or `Round`, after which no stream is read. Rounds are counted where somebody looks at it.
+/// fault is `Start`, or `Round`, after which no stream is read. Rounds are counted where somebody looks at the count.
 pub fn read_streams<R, S, O>(
     rt: &R,
     alloc: Global,

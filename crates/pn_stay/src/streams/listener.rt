@@ -11,9 +11,9 @@ use std::os::unix::net::{UnixListener, UnixStream};
 pub struct StreamListener(UnixListener);
 
 impl StreamListener {
-    /// Listens at a path. A socket there is replaced where nobody listens on it.
-    pub fn bind<R: Files + Net>(rt: &R, path: &str) -> io::Result<StreamListener> {
-        Ok(StreamListener(bind_socket(rt, path)?))
+    /// Listens at a path, whose file has these permissions. A socket there is replaced where nobody listens on it.
+    pub fn bind<R: Files + Net>(rt: &R, path: &str, permissions: u32) -> io::Result<StreamListener> {
+        Ok(StreamListener(bind_socket(rt, path, permissions)?))
     }
 
     /// Waits for a writer.
