@@ -1,28 +1,24 @@
 //! A server that stays, with a control socket and no stream, until a control session stops it.
 
-use crate::served::Once;
-use pn_join::NoMemory;
-use pn_serve::{Settings, Stream};
-use pn_stay::{Counters, Listener, SocketAcceptor, StayingServer};
+use crate::served::{OWNER, Once, new_acceptor, new_settings};
+use pn_serve::Stream;
+use pn_stay::{Listener, StayingServer};
 use std::alloc::Global;
 use std::fs::Files;
 use std::io::{BufRead, BufReader, Read, Write};
 use std::net::{Net, TcpListener, TcpStream};
 use std::os::unix::net;
 use std::os::unix::net::UnixStream;
-use std::sync::{Arc, Wait};
+use std::sync::Wait;
 use std::test::Fail;
 use std::thread::Threads;
 use std::time::Clock;
 use std::{fs, io, thread};
-use test_kit::layout;
 
-/// Where clients, control sessions and writers come.
+/// Where clients and control sessions come.
 const CLIENTS: &str = "clients-of-stopped";
 
 const CONTROL: &str = "control-of-stopped";
-
-const STREAM: &str = "stream-of-stopped";
 
 /// How often it is asked at most whether the lines of a client were counted.
 const MAX_TURNS: u32 = 100_000;
@@ -73,16 +69,10 @@ where
         + Drop
         + 'static,
 {
-    let acceptor = SocketAcceptor {
-        listener: Listener::bind_path(rt, CLIENTS)?,
-        control: Some(Listener::bind_path(rt, CONTROL)?),
-        idle: None,
-        counters: Arc::new(alloc, Counters::new(alloc, Vec::new(alloc))?)?,
-        faults: None,
-        messages: None,
-    };
-    let layout = layout(alloc, "").ok_or(NoMemory)?;
-    let settings = Settings::new(layout, 1).ok_or(NoMemory)?;
+    let clients = Listener::bind_path(rt, CLIENTS, OWNER)?;
+    let control = Listener::bind_path(rt, CONTROL, OWNER)?;
+    let acceptor = new_acceptor(alloc, clients, Some(control), None)?;
+    let settings = new_settings(alloc)?;
     let host = *rt;
     let asking = thread::spawn(rt, move || ask_and_stop(&host, alloc))?;
     let streams: Vec<Stream<Once>> = Vec::new(alloc);

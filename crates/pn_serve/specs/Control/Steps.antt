@@ -17,9 +17,10 @@ use Rattle.pn_protocol.specs.declared.reply.Reply.TheVariants.{Refused}
 use Rattle.pn_protocol.specs.declared.reply.refusals.CommandFault.TheVariants.{CopyText}
 use Rattle.pn_protocol.specs.declared.reply.stats.Stats.{Stats}
 use Rattle.pn_serve.specs.Control.Answers.{IsGiven, question_of}
-use Rattle.pn_serve.specs.Control.Commands as control
-use Rattle.pn_serve.specs.Control.Commands.{Asked, Said, said_by}
+use Rattle.pn_serve.specs.Control.Commands.{Said, said_by}
 use Rattle.pn_serve.specs.Session.Lines.{LooksUp}
+use Rattle.pn_serve.specs.declared.control.commands.WriterCommand.{WriterCommand}
+use Rattle.pn_serve.specs.declared.control.commands.WriterCommand.TheVariants as commands
 use Rattle.pn_serve.specs.declared.control.steps.Step.{Step}
 use Rattle.pn_serve.specs.declared.control.steps.Step.TheVariants.{Replies, Announces, Stops, Ends}
 
@@ -33,20 +34,20 @@ abbrev pub Says : Said → Reply → Type 0
 Says said shown = (said_by shown ≡ said) ⊎ (shown ≡ Refused Memory)
 
 -- the writer answered so
-pub record IsShown (asked : Asked) (shown : Reply) : Type 0 where
+pub record IsShown (asked : WriterCommand) (shown : Reply) : Type 0 where
   pub said : Said
   pub given : IsGiven (question_of asked) said
   pub says : Says said shown
 
 -- the writer answered, or takes no command any more
-abbrev pub Asks : Asked → Step → Type 0
+abbrev pub Asks : WriterCommand → Step → Type 0
 Asks asked (Replies shown) = IsShown asked shown
 Asks asked Ends = Unit {0}
 Asks asked step = ⊥
 
 -- the writer was asked to adopt the copy that a text is; or it is no copy
 abbrev pub AdoptsRead : Result TabletCopyValue CopyTextFault → Step → Type 0
-AdoptsRead (Ok copy) step = Asks (control.adopt copy) step
+AdoptsRead (Ok copy) step = Asks (commands.Adopt copy) step
 AdoptsRead (Err fault) step = RepliesWith (Refuses (CopyText fault)) step
 
 -- the writer was asked to adopt the copy of an announced text, unless memory ran out
@@ -57,9 +58,9 @@ AdoptsText (Some came) step = AdoptsRead (copy_at came) step ⊎ (step ≡ Repli
 -- a command of scripts was done by the reader, or by the writer; or it announces lines
 abbrev pub ObeysScript : LiveReaderValue → command.CommandValue → LiveReaderValue → Step → Type 0
 ObeysScript old (command.adopt lines) new step = (new ≡ old) × (step ≡ Announces lines)
-ObeysScript old (command.lose tablet) new step = (new ≡ old) × Asks (control.lose tablet) step
-ObeysScript old command.marks new step = (new ≡ old) × Asks control.marks step
-ObeysScript old command.tablets new step = (new ≡ old) × Asks control.tablets step
+ObeysScript old (command.lose tablet) new step = (new ≡ old) × Asks (commands.Lose tablet) step
+ObeysScript old command.marks new step = (new ≡ old) × Asks commands.Marks step
+ObeysScript old command.tablets new step = (new ≡ old) × Asks commands.Tablets step
 ObeysScript old asked new step = RepliesWith (λ shown. LooksUp old asked new shown) step
 
 -- the reply shows what some server has done so far
@@ -69,8 +70,8 @@ ShowsStats shown = (done : Stats) × Says (record { text = line_of (stats_data d
 -- a command was done
 abbrev pub ObeysControl : LiveReaderValue → ControlValue → LiveReaderValue → Step → Type 0
 ObeysControl old (script asked) new step = ObeysScript old asked new step
-ObeysControl old (notices since wait) new step = (new ≡ old) × Asks (control.notices since) step
-ObeysControl old advance new step = (new ≡ old) × Asks control.advance step
+ObeysControl old (notices since wait) new step = (new ≡ old) × Asks (commands.Notices since) step
+ObeysControl old advance new step = (new ≡ old) × Asks commands.Advance step
 ObeysControl old stats new step = (new ≡ old) × RepliesWith ShowsStats step
 ObeysControl old (stop seconds) new step = (new ≡ old) × (step ≡ Stops seconds)
 

@@ -63,10 +63,10 @@ const LISTEN_HELP: &str = "The address that is listened at, of IPv4 or IPv6, whi
 
 const PORT_HELP: &str = "The port that is listened on";
 
-const SOCKET_HELP: &str =
-    "A Unix socket that is listened on in place of a port";
+const SOCKET_HELP: &str = "A Unix socket that is listened on in place of a port";
 
-const SOCKET_MODE_HELP: &str = "The permissions of the Unix sockets that are listened on, but for that of --control, in octal: \
+const SOCKET_MODE_HELP: &str =
+    "The permissions of the Unix sockets that are listened on, but for that of --control, in octal: \
      up to 0777";
 
 const CONTROL_HELP: &str =

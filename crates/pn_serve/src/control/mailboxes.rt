@@ -3,7 +3,7 @@
 ghost use Rattle.std.specs.Prelude.{◌≡◌, ◌≢◌, ℕ, List, None, IfSome, MatchBool, MatchOption};
 ghost use Rattle.pn_live.specs.Prelude.{tablets_in};
 ghost use Rattle.pn_serve.specs.Control.Answers.{IsGiven, question_of};
-ghost use Rattle.pn_serve.specs.Control.Commands.{answer_of, asked};
+ghost use Rattle.pn_serve.specs.Control.Commands.{answer_of};
 ghost use Rattle.pn_serve.specs.Server.Events.{ToldAll};
 ghost use Rattle.pn_serve.specs.declared.control.mailboxes.HeldCommand.TheVariants.{Nothing, Asked, Taken, Answered, Closed};
 ghost use Rattle.pn_serve.specs.declared.server.mailboxes.AtFault.{AtFault};
@@ -74,7 +74,7 @@ impl ControlMailboxes {
         session: usize,
         command: WriterCommand,
     ) -> Option<WriterAnswer>
-        ensures { IfSome result (λ answer. IsGiven (question_of (asked command)) (answer_of answer)) }
+        ensures { IfSome result (λ answer. IsGiven (question_of command) (answer_of answer)) }
     {
         let mailbox = self.mailboxes.get(session)?;
         let question = Question::of(&command);

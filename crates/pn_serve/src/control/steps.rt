@@ -1,7 +1,6 @@
 //! What a line of a control session comes to: its reader looks up, and the writer is asked for the rest.
 
 ghost use Rattle.pn_protocol.specs.Prelude.{command_value, control_value};
-ghost use Rattle.pn_serve.specs.Control.Commands.{asked};
 ghost use Rattle.pn_serve.specs.Control.Steps.{AdoptsText, Asks, ObeysControl, ObeysScript, RepliesWith, ShowsStats, StepsBy, StepsLast};
 ghost use Rattle.pn_serve.specs.Machine.Modes.{bytes_of};
 
@@ -119,7 +118,7 @@ impl<C: StatsSource + Drop> ControlSession<C> {
 
     // What the writer answers, if it still takes commands.
     fn ask<R: Wait>(&self, rt: &R, alloc: Global, command: WriterCommand) -> Step
-        ensures { Asks (asked command) result }
+        ensures { Asks command result }
     {
         match self.mailboxes.ask(rt, self.number, command) {
             Some(WriterAnswer::Reply(reply)) => Step::Replies(reply),

@@ -10,7 +10,7 @@ ghost use Rattle.pn_serve.specs.declared.server.mailboxes.AtFault.TheVariants.{G
 use crate::ServeFault;
 use crate::control::mailboxes::ControlMailboxes;
 use crate::server::counter::Counter;
-use crate::server::events::run_beside;
+use crate::server::events::run_rounds;
 use crate::server::mailboxes::{AtFault, Reporter, StreamMailboxes, Wakeup};
 use crate::server::reporting::{next_input, report_stream};
 use crate::server::reports::Report;
@@ -52,7 +52,7 @@ where
     ensures same { tablets_in live.new ≡ tablets_in live.old }
 {
     let mut mailboxes = start_threads::<R, S, O>(rt, alloc, streams, watchers)?;
-    let read = run_beside(rt, alloc, live, workers, &mut mailboxes, &watchers.controls);
+    let read = run_rounds(rt, alloc, live, workers, &mut mailboxes, &watchers.controls);
     mailboxes.close(rt);
     read
 }

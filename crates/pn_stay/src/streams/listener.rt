@@ -12,7 +12,11 @@ pub struct StreamListener(UnixListener);
 
 impl StreamListener {
     /// Listens at a path, whose file has these permissions. A socket there is replaced where nobody listens on it.
-    pub fn bind<R: Files + Net>(rt: &R, path: &str, permissions: u32) -> io::Result<StreamListener> {
+    pub fn bind<R: Files + Net>(
+        rt: &R,
+        path: &str,
+        permissions: u32,
+    ) -> io::Result<StreamListener> {
         Ok(StreamListener(bind_socket(rt, path, permissions)?))
     }
 
