@@ -15,6 +15,9 @@ use std::os::unix::net;
 use std::os::unix::net::UnixListener;
 use std::{fs, io};
 
+/// The permissions of a Unix socket that its owner alone may use.
+pub const OWNER_ALONE: u32 = 0o600;
+
 /// As many clients may wait as the system allows.
 const BACKLOG: i32 = -1;
 

@@ -2,15 +2,12 @@
 
 use crate::failures::{fail, fail_at, is_explained};
 use pn_serve::{Address, Service};
-use pn_stay::{Listener, remove_sockets};
+use pn_stay::{Listener, OWNER_ALONE, remove_sockets};
 use std::fs::File;
 use std::net::{Net, SocketAddr, TcpListener, TcpStream};
 use std::process::ExitCode;
 use std::rt::Files;
 use std::{fs, io};
-
-/// The permissions of the socket of control sessions: only its owner may connect.
-const CONTROL_MODE: u32 = 0o600;
 
 /// What is listened on.
 #[derive(Drop)]
@@ -52,7 +49,7 @@ fn listen_for_control(
     let Some(path) = &service.control else {
         return Ok(None);
     };
-    match Listener::bind_path(rt, path.as_str(), CONTROL_MODE) {
+    match Listener::bind_path(rt, path.as_str(), OWNER_ALONE) {
         Ok(listener) => Ok(Some(listener)),
         Err(error) => Err(fail_at(rt, "cannot listen", path.as_str(), &error, true)),
     }

@@ -5,7 +5,7 @@ use crate::talks::{At, flood, talk};
 use pn_join::{BadName, Name, NoMemory};
 use pn_line::InMemory;
 use pn_serve::{Counter, Origin, Settings, Stream, WriterEnd, serve};
-use pn_stay::{Counters, Listener, SocketAcceptor, StayingServer};
+use pn_stay::{Counters, Listener, OWNER_ALONE, SocketAcceptor, StayingServer};
 use pn_stream::StreamReader;
 use std::alloc::{AllocError, Global};
 use std::fs::Files;
@@ -25,9 +25,7 @@ const FIRST: &str =
 /// The name of a socket's file.
 const PATH: &str = "socket-of-test";
 
-/// The permissions of a socket that only its owner may use, and of one that a group may use, too.
-pub(crate) const OWNER: u32 = 0o600;
-
+/// The permissions of a socket that a group may use, too.
 const GROUP: u32 = 0o660;
 
 /// All permissions.
@@ -71,7 +69,7 @@ where
     R: Files + Net<Listener = TcpListener, Stream = TcpStream>,
 {
     if at == "path" {
-        return Ok((Listener::bind_path(rt, PATH, OWNER)?, At::Path(PATH)));
+        return Ok((Listener::bind_path(rt, PATH, OWNER_ALONE)?, At::Path(PATH)));
     }
     let listener = Listener::bind_port(rt, IpAddr::V4(Ipv4Addr::LOCALHOST), 0)?;
     let at = match &listener {
@@ -230,10 +228,10 @@ where
 /// Listens at a path where nobody listens any more, and not where somebody does; and the permissions of its file.
 pub(crate) fn listen_twice<R: Files + Net>(rt: &R, alloc: Global) -> Result<String, Fail> {
     let first = Listener::bind_path(rt, PATH, GROUP)?;
-    let beside = Listener::bind_path(rt, PATH, OWNER).is_ok();
+    let beside = Listener::bind_path(rt, PATH, OWNER_ALONE).is_ok();
     let shared = fs::metadata(rt, PATH)?.permissions().mode() & ALL;
     drop(first);
-    let later = Listener::bind_path(rt, PATH, OWNER).is_ok();
+    let later = Listener::bind_path(rt, PATH, OWNER_ALONE).is_ok();
     let owned = fs::metadata(rt, PATH)?.permissions().mode() & ALL;
     fs::remove_file(rt, PATH)?;
     Ok(format!(in alloc; "{beside} {later} {shared} {owned}")?)

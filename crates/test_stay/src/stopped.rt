@@ -1,8 +1,8 @@
 //! A server that stays, with a control socket and no stream, until a control session stops it.
 
-use crate::served::{OWNER, Once, new_acceptor, new_settings};
+use crate::served::{Once, new_acceptor, new_settings};
 use pn_serve::Stream;
-use pn_stay::{Listener, StayingServer};
+use pn_stay::{Listener, OWNER_ALONE, StayingServer};
 use std::alloc::Global;
 use std::fs::Files;
 use std::io::{BufRead, BufReader, Read, Write};
@@ -69,8 +69,8 @@ where
         + Drop
         + 'static,
 {
-    let clients = Listener::bind_path(rt, CLIENTS, OWNER)?;
-    let control = Listener::bind_path(rt, CONTROL, OWNER)?;
+    let clients = Listener::bind_path(rt, CLIENTS, OWNER_ALONE)?;
+    let control = Listener::bind_path(rt, CONTROL, OWNER_ALONE)?;
     let acceptor = new_acceptor(alloc, clients, Some(control), None)?;
     let settings = new_settings(alloc)?;
     let host = *rt;

@@ -1,6 +1,5 @@
 //! Writers of a stream, one after another: at a socket, and at a FIFO. And lines for standard error.
 
-use crate::served::OWNER;
 use crate::show;
 use pn_join::{LAST_POSITION, Name};
 use pn_serve::{Origin, Stream, StreamPath, WriterEnd};
@@ -51,7 +50,6 @@ where
         alloc,
         messages: Arc::try_clone(&messages)?,
         is_counted: false,
-        socket_mode: OWNER,
     };
     let mut streams = Vec::with_capacity(alloc, 1)?;
     streams.push((Name::read(b"east")?, path))?;

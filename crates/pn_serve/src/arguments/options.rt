@@ -65,9 +65,7 @@ const PORT_HELP: &str = "The port that is listened on";
 
 const SOCKET_HELP: &str = "A Unix socket that is listened on in place of a port";
 
-const SOCKET_MODE_HELP: &str =
-    "The permissions of the Unix sockets that are listened on, but for that of --control, in octal: \
-     up to 0777";
+const SOCKET_MODE_HELP: &str = "The permissions of --socket in octal, up to 0777; with 0660 its group may connect";
 
 const CONTROL_HELP: &str =
     "With --stay: a Unix socket for those who run the region; only its owner may connect";
