@@ -49,7 +49,7 @@ impl ThreadBuffers {
         })
     }
 
-    /// How many lines were answered since this was asked last, and how many of them were refused.
+    /// How many lines were answered since the last call, and how many of them were refused.
     pub fn take_line_counts(&mut self) -> LineStats {
         mem::replace(&mut self.answered, NO_LINES)
     }
@@ -137,7 +137,7 @@ impl ConnectionState {
 
     /// Sends what waits, answers at most 64 lines that are at hand, and sends their replies.
     ///
-    /// Where the socket leaves replies, nothing is read: at most an outbox and a reply wait.
+    /// Where the socket leaves replies, nothing is read: what waits is an outbox and a reply at most, and the input of one read.
     pub fn turn<M: LineHandler, R: Read, W: Sink>(
         self,
         buffers: &mut ThreadBuffers,

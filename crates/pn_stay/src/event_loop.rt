@@ -179,8 +179,11 @@ impl EventLoop {
         }
     }
 
-    /// Closes the sockets of connections that a stop has ended.
-    pub(crate) fn close<R: Clock>(&mut self, rt: &R) {
+    /// Ends the connections that are left where the wait has failed, and closes the sockets of those that a stop has ended.
+    pub(crate) fn close<R: Wait + Clock>(&mut self, rt: &R, mailbox: &SocketMailbox) {
+        for key in 0..self.connections.capacity() {
+            self.remove(rt, mailbox, key);
+        }
         self.lingering.close(rt);
     }
 

@@ -98,7 +98,7 @@ impl Origin<InMemory<'static>> for Once {
     fn stop_writer(&mut self, _source: InMemory<'static>) {}
 }
 
-/// The replies of a control session over a region of two tablets that has taken so many messages. A bar is a newline.
+/// The replies of a control session over a region of two tablets that has taken this many messages. A bar is a newline.
 pub(crate) fn answer_control<R>(rt: &R, alloc: Global, line: &str) -> Result<String, Fail>
 where
     R: Threads + Wait + Clock + Sync + Copy + Send + Drop + 'static,
@@ -178,7 +178,7 @@ fn answer<R: Wait + Clock>(
     written
 }
 
-// One stream of so many messages, of a key each; none where it has no message.
+// One stream of this many messages, of a key each; no stream where there is no message.
 fn streams_of(alloc: Global, count: u64) -> Result<Vec<Stream<Once>>, Fail> {
     let mut streams = Vec::with_capacity(alloc, 1)?;
     if count == 0 {

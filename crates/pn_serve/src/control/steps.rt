@@ -1,7 +1,6 @@
 //! What a line of a control session comes to: its reader looks up, and the writer is asked for the rest.
 
 ghost use Rattle.pn_protocol.specs.Prelude.{command_value, control_value};
-ghost use Rattle.pn_serve.specs.Control.Commands.{asked};
 ghost use Rattle.pn_serve.specs.Control.Steps.{AdoptsText, Asks, ObeysControl, ObeysScript, RepliesWith, Reports, ShowsStats, StepsBy, StepsLast};
 ghost use Rattle.pn_serve.specs.Machine.Modes.{bytes_of};
 
@@ -24,9 +23,9 @@ use std::time::Clock;
 pub(crate) enum Step {
     /// A reply.
     Replies(Reply),
-    /// So many lines are to come.
+    /// This many lines are to come.
     Announces(u64),
-    /// The server is asked to end after so many seconds at most.
+    /// The server is asked to end within this many seconds.
     Stops(u64),
     /// Nothing: the writer takes no command any more.
     Ends,
@@ -120,7 +119,7 @@ impl<C: StatsSource + Drop> ControlSession<C> {
 
     // What the writer answers, if it still takes commands.
     fn ask<R: Wait>(&self, rt: &R, alloc: Global, command: WriterCommand) -> Step
-        ensures { Asks (asked command) result }
+        ensures { Asks command result }
     {
         match self.mailboxes.ask(rt, self.number, command) {
             Some(WriterAnswer::Reply(reply)) => Step::Replies(reply),
@@ -150,8 +149,7 @@ impl<C: StatsSource + Drop> ControlSession<C> {
         }
     }
 
-    // Waits for so many seconds at most while the last number of the log is this one and the client is there, a second at
-    // a time.
+    // Waits, a second at a time, for `seconds` at most while the last number of the log is `number` and the client is there.
     fn wait_past<R: Wait + Clock>(&self, rt: &R, number: u64, seconds: u64) {
         for _ in 0..seconds {
             let is_past = self.mailboxes.wait_past(rt, number, 1);

@@ -1,4 +1,5 @@
-//! The threads of a server that stays: those that answer connections, one that accepts them, and one that tells the time.
+//! The threads of a server that stays: those that answer connections, one that accepts them, and one that notes each quarter of
+//! a second.
 
 ghost use Rattle.std.specs.Prelude.{◌≡◌, ◌+◌, ◌≤◌, vec_len, vec_capacity, All, IfOk};
 ghost use Rattle.pn_live.specs.Prelude.{tablets_in, tablets_of};
@@ -76,7 +77,7 @@ struct Shared {
     counters: Arc<Counters>,
 }
 
-// Starts the thread that accepts connections, and where clients may not be idle the one that tells the time.
+// Starts the thread that accepts connections, and where clients may not be idle for long the one that notes each quarter.
 fn start_accepting<R>(
     rt: &R,
     shared: Shared,
@@ -168,7 +169,7 @@ struct LoopThread {
     reader: LiveReader,
 }
 
-// What it ends with: its reader, once its mailbox takes no sockets any more.
+// What the thread of an event loop ends with: its reader, once its mailbox takes no sockets any more.
 #[derive(Drop)]
 struct EndedThread {
     reader: LiveReader,
@@ -243,6 +244,6 @@ fn run<R: Wait + Clock>(
 {
     let mut events = begun?;
     let ended = events.run(rt, mailbox, reader);
-    events.close(rt);
+    events.close(rt, mailbox);
     ended
 }

@@ -1,4 +1,5 @@
--- What control sessions and the writer share may go to another thread, and may be shared.
+-- What threads share of a server may go to another thread, and may be shared: what control sessions and the writer leave for each
+-- other, counters, and faults of streams.
 use denote.Param.Send.{IsSend, IsSync, sendable}
 use denote.Param.SendFields.{variants_send}
 use Rattle.std.proofs.Crossing.{crosses}
@@ -15,11 +16,14 @@ use Rattle.pn_serve.specs.contracts.control.answers.GivenAnswer as given
 use Rattle.pn_serve.specs.contracts.control.mailboxes.HeldCommand as held_command
 use Rattle.pn_serve.specs.contracts.control.mailboxes.ControlMailbox as control_mailbox
 use Rattle.pn_serve.specs.contracts.control.mailboxes.ControlMailboxes as controls
+use Rattle.pn_serve.specs.contracts.server.counter.Counter as counter
+use Rattle.pn_serve.specs.contracts.server.fault_log.StreamFailure as failure
+use Rattle.pn_serve.specs.contracts.server.fault_log.FaultLog as faults
 
-name_send : IsSend name.the_row
+pub name_send : IsSend name.the_row
 name_send = search (sendable, crosses) depth 40
 
-name_sync : IsSync name.the_row
+pub name_sync : IsSync name.the_row
 name_sync = search (sendable, crosses) depth 40
 
 content_send : IsSend content.the_row
@@ -75,3 +79,21 @@ controls_send = search (sendable, crosses, control_mailbox_send) depth 60 fits 2
 
 pub controls_sync : IsSync controls.the_row
 controls_sync = search (sendable, crosses, control_mailbox_sync) depth 60 fits 20000
+
+pub counter_send : IsSend counter.the_row
+counter_send = search (sendable, crosses) depth 40
+
+pub counter_sync : IsSync counter.the_row
+counter_sync = search (sendable, crosses) depth 40
+
+failure_send : IsSend failure.the_row
+failure_send = search (sendable, crosses, name_send) depth 40 fits 20000
+
+failure_sync : IsSync failure.the_row
+failure_sync = search (sendable, crosses, name_sync) depth 40 fits 20000
+
+pub faults_send : IsSend faults.the_row
+faults_send = search (sendable, crosses, failure_send) depth 40 fits 20000
+
+pub faults_sync : IsSync faults.the_row
+faults_sync = search (sendable, crosses, failure_send, failure_sync) depth 40 fits 20000
