@@ -1,11 +1,11 @@
 -- Tablets that are counted one after another.
-use Rattle.std.proofs.Common.{◌≡◌, ℕ, suc, ◌+◌, List, [], ◌∷◌, ◌++◌, length, Option, Some, None, Result, Ok, Err, Vec, Global, refl, sym, subst, arith}
+use Rattle.std.proofs.Common.{◌≡◌, ℕ, suc, ◌+◌, List, [], ◌∷◌, ◌++◌, length, Option, Some, None, Result, Ok, Err, Vec, Global, refl, ap, subst, arith}
 use Rattle.pn_tablet.specs.Tablets.{TabletStateValue}
 use Rattle.pn_tablet.specs.declared.counted_cells.RecordCounts.{RecordCounts}
 use Rattle.pn_scan.specs.declared.fault.ScanFault.{ScanFault}
 use Rattle.pn_scan.specs.declared.fault.ScanFault.TheVariants as fault
 use Rattle.pn_live.specs.Counting.{IsCounted}
-use Rattle.pn_live.specs.Readers.{LiveReaderValue}
+use Rattle.pn_live.specs.Readers.{LiveReaderValue, Tablets}
 use Rattle.pn_protocol.specs.declared.reply.stats.TabletStats.{TabletStats}
 use Rattle.pn_serve.specs.Control.TabletCounts.{AreCounted, CountsTablets, stats_of}
 use Rattle.pn_serve.specs.Session.Knowing.{KnowsNoLess}
@@ -48,3 +48,7 @@ tablets_know old new (Err fault.NoEntry) ends = knows_on old ends.between new (c
 tablets_know old new (Err fault.Memory) same = knows_same old new same
 tablets_know old new (Err (fault.Recovering tablet)) never = absurd never
 tablets_know old new (Err (fault.Behind has)) never = absurd never
+
+-- the layout stays
+pub counted_layout : (first : ℕ) (stats : List TabletStats) (old new : LiveReaderValue) → AreCounted old first stats new → new.layout ≡ old.layout
+counted_layout first stats old new are = ap (λ (t : Tablets). t.layout) (counted_knows first stats old new are).tablets

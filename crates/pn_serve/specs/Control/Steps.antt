@@ -67,9 +67,11 @@ ObeysScript old command.marks new step = (new ≡ old) × Asks commands.Marks st
 ObeysScript old command.tablets new step = (new ≡ old) × Asks commands.Tablets step
 ObeysScript old asked new step = RepliesWith (λ shown. LooksUp old asked new shown) step
 
--- the reply shows what some server with these counts of its tablets has done so far
+-- the reply shows what some server with these counts of its tablets has done so far, or that memory ran out
 abbrev pub ShowsStats : Vec TabletStats Global → Reply → Type 0
-ShowsStats tablets shown = (done : Stats) × (done.tablets ≡ tablets) × Says (record { text = line_of (stats_data done); refused = false }) shown
+ShowsStats tablets shown =
+    ((done : Stats) × (done.tablets ≡ tablets) × (said_by shown ≡ record { text = line_of (stats_data done); refused = false }))
+    ⊎ (shown ≡ Refused Memory)
 
 -- the counts of the tablets are shown with what the server has done, or why there are none
 abbrev pub ShowsCounts : Result (Vec TabletStats Global) ScanFault → Reply → Type 0

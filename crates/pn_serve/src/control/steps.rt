@@ -1,7 +1,8 @@
 //! What a line of a control session comes to: its reader looks up, and the writer is asked for the rest.
 
+ghost use Rattle.std.specs.Prelude.{Ok};
 ghost use Rattle.pn_protocol.specs.Prelude.{command_value, control_value};
-ghost use Rattle.pn_serve.specs.Control.Steps.{AdoptsText, Asks, ObeysControl, ObeysScript, RepliesWith, Reports, ShowsStats, StepsBy, StepsLast};
+ghost use Rattle.pn_serve.specs.Control.Steps.{AdoptsText, Asks, ObeysControl, ObeysScript, RepliesWith, Reports, ShowsCounts, StepsBy, StepsLast};
 ghost use Rattle.pn_serve.specs.Machine.Modes.{bytes_of};
 
 use crate::control::commands::{WriterAnswer, WriterCommand};
@@ -141,7 +142,7 @@ impl<C: StatsSource + Drop> ControlSession<C> {
     }
 
     fn show_stats(&self, alloc: Global, tablets: Vec<TabletStats>) -> Step
-        ensures { RepliesWith (ShowsStats tablets) result }
+        ensures { RepliesWith (ShowsCounts (Ok tablets)) result }
     {
         match self.stats.stats(alloc, tablets) {
             Ok(stats) => Step::Replies(answer_text(stats_reply(alloc, &stats))),
