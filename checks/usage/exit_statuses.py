@@ -60,7 +60,7 @@ WORDS: dict[str, tuple[list[str], End]] = {
         ["serve", "--stay", "--bounds", "[7]", "east"],
         (2, b"", b"pnuts: bounds: [7]: an item that is no key of 1 to 256 bytes"),
     ),
-    "no address of a server that stays": (["serve", "--stay", "--listen", "x", "east"], (2, b"", b"pnuts: address: x: no address of IPv4 or IPv6")),
+    "no address of a server that stays": (["serve", "--stay", "--listen", "x", "east"], (2, b"", b"pnuts: address: x: no address of IPv4 or IPv6, and host names are not looked up")),
     "no path of a server that stays": (["serve", "--stay", "west=/none", "east="], (2, b"", b"pnuts: stream: east=: no path")),
     "no path of a socket": (["serve", "--stay", "east=listen:"], (2, b"", b"pnuts: stream: east=listen:: no path")),
     "no path, and a line end": (["serve", "--stay", "ea\nst"], (2, b"", b'pnuts: stream: "ea\\nst": no =')),
@@ -68,6 +68,16 @@ WORDS: dict[str, tuple[list[str], End]] = {
         ["serve", "--stay", "--socket", LONG, "east"],
         (2, b"", f"pnuts: address: {LONG}: a path of more than 107 bytes".encode()),
     ),
+    "permissions of a socket that are no octal number": (["serve", "--socket-mode", "0608", "east"], (2, b"", b"pnuts: address")),
+    "permissions of a socket that are too great": (
+        ["serve", "--stay", "--socket", "/none/socket", "--socket-mode", "1777", "east"],
+        (2, b"", b"pnuts: address: 1777: no octal number up to 777"),
+    ),
+    "permissions of a socket for its group": (
+        ["serve", "--stay", "--socket", "/none/socket", "--socket-mode", "660", "east=/dev/null"],
+        (1, b"", b"pnuts: cannot listen: /none/socket: No such file or directory"),
+    ),
+    "help of no command": (["help", "steal"], (2, b"", b"error: unrecognized subcommand 'steal'")),
     "a control socket without a path": (
         ["serve", "--stay", "--control=", "--listen", "x", "east"],
         (2, b"", b"error: a value is required for '--control <PATH>' but none was supplied"),
@@ -181,6 +191,9 @@ def ends(program: str) -> Iterator[tuple[str, End, End]]:
         yield name, end_of_words(program, *words), wanted
     yield "help", end_of_help(program, "--help"), (0, True, b"")
     yield "help on a command", end_of_help(program, "serve", "--help"), (0, True, b"")
+    for words in (["--help"], ["serve", "--help"], ["replay", "--help"]):
+        name = " ".join(["help", *words[:-1]])
+        yield name, end_of_words(program, *name.split()), end_of_words(program, *words)
 
 
 def main(words: list[str]) -> int:

@@ -53,7 +53,7 @@ COMPLETIONS = {
     "pnuts serve --b": {"--bounds"},
     "pnuts serve --co": {"--connections", "--control"},
     "pnuts serve --stay --control m": {"messages"},
-    "pnuts serve --s": {"--sessions", "--socket", "--stay"},
+    "pnuts serve --s": {"--sessions", "--socket", "--socket-mode", "--stay"},
     "pnuts serve --socket m": {"messages"},
     "pnuts serve --stay --idle ": set(),
     "pnuts replay --w": {"--workers"},

@@ -2,7 +2,7 @@
 
   checks/run random-words PROGRAM [--runs N] [--seed S]
 
-Bounds, an address, the paths of sockets and streams are drawn from small pools, half of the time with `--stay`. Words that are
+Bounds, an address, the paths and permissions of sockets and streams are drawn from small pools, half of the time with `--stay`. Words that are
 refused have to end with status 2 and that fault, with `--stay`, and of `--control`, of which text, and why. No path is there, so all
 others have to end with status 1 and the first stream, with `--stay` and its path. Exit status 0 only where all agree and, of 1,000
 runs or more, each fault occurs.
@@ -21,10 +21,12 @@ from common.tried import program_parser
 
 SECONDS = 60
 MANY = 1_000
-# Fifteen faults and none, each with and without --stay, but for three of paths that are too long, and a control socket without it.
-ALL_KINDS = 28
+# Sixteen faults and none, each with and without --stay, but for three of paths that are too long, and a control socket without it.
+ALL_KINDS = 30
 MOST_STREAMS = 16
 MOST_OF_SOCKET = 107
+MOST_OF_MODE = 0o777
+MODE = re.compile(r"\+?[0-7]+", re.ASCII)
 NAME = re.compile(r"[a-z0-9-]{1,32}", re.ASCII)
 KEYS = ["a", "b", "c", "k" * 256, "\u00e9"]
 NO_KEYS: list[object] = ["", "k" * 257, "\u00e9" * 129, 7, None, ["a"], {"a": "b"}]
@@ -33,6 +35,8 @@ NO_ARRAYS = ["7", "{}", "null", '"a"', " true "]
 ADDRESSES = ["127.0.0.1", "192.0.2.1", "::1", "2001:db8::7", "::ffff:192.0.2.1"]
 NO_ADDRESSES = ["", "x", "localhost", "127.0.0", "127.0.0.256", "127.0.0.01", "127.0.0.1:80", "[::1]", ":::", "1::2::3", " ::1", "::1\n", "127.1"]
 PATHS = ["/none/p", "/none/=", "/none/" + "p" * 101, "/none/" + "p" * 102, "/none/" + "\u00e9" * 51, "/none/" + "\u00e9" * 50 + "p"]
+MODES = ["0600", "660", "0", "0777", "000000644", "+700"]
+NO_MODES = ["", " 600", "0o600", "-600", "608", "1000", "0x1f", "rw-", "6e2", "\u0666"]
 NAMES = ["east", "west", "e", "0", "-", "a-b", "n" * 32]
 NO_NAMES = ["", "East", "a_b", "n" * 33, "\u00e9", "a b", "a\n", "\x1b", 'a"\\', "listen:"]
 NO_STREAMS = ["", "east", "-x", "listen:/none/p", "a\nb", "\u0085", 'a\tb"\\c', "--stay"]
@@ -50,11 +54,13 @@ class Words(NamedTuple):
     bounds: str
     listen: str
     socket: str | None
+    mode: str | None
     control: str | None
     streams: list[str]
 
     def line(self) -> list[str]:
-        sockets = [f"--{name}={path}" for name, path in (("socket", self.socket), ("control", self.control)) if path is not None]
+        told = (("socket", self.socket), ("socket-mode", self.mode), ("control", self.control))
+        sockets = [f"--{name}={text}" for name, text in told if text is not None]
         return ["serve", *["--stay"] * self.stays, f"--bounds={self.bounds}", f"--listen={self.listen}", *sockets, "--", *self.streams]
 
 
@@ -78,9 +84,10 @@ def drawn_stream(rng: random.Random) -> str:
 def drawn(rng: random.Random) -> Words:
     listen = rng.choice(NO_ADDRESSES) if rng.random() < 0.2 else rng.choice(ADDRESSES)
     socket = rng.choice([None, *PATHS]) if rng.random() < 0.5 else "/none/p"
+    mode = rng.choice([None, None, None, rng.choice(MODES), rng.choice(MODES), rng.choice(NO_MODES)])
     control = rng.choice(PATHS) if rng.random() < 0.2 else None
     count = rng.choice([1, 1, 2, 3, 15, 16, 17])
-    return Words(rng.random() < 0.5, drawn_bounds(rng), listen, socket, control, [drawn_stream(rng) for _ in range(count)])
+    return Words(rng.random() < 0.5, drawn_bounds(rng), listen, socket, mode, control, [drawn_stream(rng) for _ in range(count)])
 
 
 def no_constant(text: str) -> None:
@@ -106,9 +113,11 @@ def fault_of_address(words: Words) -> Refused | None:
     try:
         ipaddress.ip_address(words.listen)
     except ValueError:
-        return words.listen, "no address of IPv4 or IPv6"
-    is_long = words.stays and words.socket is not None and len(words.socket.encode()) > MOST_OF_SOCKET
-    return (words.socket, "a path of more than 107 bytes") if is_long else None
+        return words.listen, "no address of IPv4 or IPv6, and host names are not looked up"
+    if words.stays and words.socket is not None and len(words.socket.encode()) > MOST_OF_SOCKET:
+        return words.socket, "a path of more than 107 bytes"
+    is_mode = words.mode is None or MODE.fullmatch(words.mode) and int(words.mode, 8) <= MOST_OF_MODE
+    return None if is_mode else (words.mode, "no octal number up to 777")
 
 
 def fault_of_control(words: Words) -> Refused | None:

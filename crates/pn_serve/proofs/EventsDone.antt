@@ -17,9 +17,11 @@ use Rattle.pn_region.proofs.EventImages.{taken_together}
 use Rattle.pn_region.proofs.ServedRecords.{events_record}
 use Rattle.pn_live.specs.LiveRegions.{LiveRegionValue, core}
 use Rattle.pn_live.proofs.Events.{new_core}
-use Rattle.pn_serve.specs.Control.Commands.{Asked, adopt, advance, lose, marks, notices, tablets, event_by, with_event}
+use Rattle.pn_serve.specs.Control.Commands.{event_by, with_event}
 use Rattle.pn_serve.specs.Server.Events.{AllDone, WriterEvent, taken, told}
 use Rattle.pn_serve.specs.Server.HonestEvents.{DidHonestly, region_events}
+use Rattle.pn_serve.specs.declared.control.commands.WriterCommand.{WriterCommand}
+use Rattle.pn_serve.specs.declared.control.commands.WriterCommand.TheVariants as commands
 use Rattle.pn_serve.specs.declared.server.mailboxes.AtFault.{AtFault}
 use Rattle.pn_serve.proofs.Obeying.{leads_first}
 
@@ -32,14 +34,14 @@ done_leads at_fault names old (told asked said ∷ later) left new all =
     leads_first (event_by asked said) old all.0 (region_events later) (core new) all.1.left (done_leads at_fault names all.0 later left new all.2)
 
 -- none of them left images in some tablets
-none_left_by : (asked : Asked) (text : List ℕ) (refused : Bool) (later : List RegionEvent) → all_left later ≡ [] → all_left (with_event (event_by asked (record { text = text; refused = refused })) later) ≡ []
+none_left_by : (asked : WriterCommand) (text : List ℕ) (refused : Bool) (later : List RegionEvent) → all_left later ≡ [] → all_left (with_event (event_by asked (record { text = text; refused = refused })) later) ≡ []
 none_left_by asked text true later none = none
-none_left_by (adopt copy) text false later none = none
-none_left_by advance text false later none = none
-none_left_by (lose tablet) text false later none = none
-none_left_by marks text false later none = none
-none_left_by (notices since) text false later none = none
-none_left_by tablets text false later none = none
+none_left_by (commands.Adopt copy) text false later none = none
+none_left_by commands.Advance text false later none = none
+none_left_by (commands.Lose tablet) text false later none = none
+none_left_by commands.Marks text false later none = none
+none_left_by (commands.Notices since) text false later none = none
+none_left_by commands.Tablets text false later none = none
 
 none_left : (events : List WriterEvent) → all_left (region_events events) ≡ []
 none_left [] = refl

@@ -3,9 +3,10 @@ use Rattle.std.proofs.Common.{◌≡◌, ◌≢◌, ℕ, List, [], ◌∷◌, �
 use Rattle.std.specs.Prelude.{Result, Ok, Err, IsErrAnd, ◌↔◌}
 use Rattle.std.proofs.lemmas.Result.{err_from_is_err_and}
 use Rattle.pn_live.specs.LiveRegions.{LiveRegionValue}
-use Rattle.pn_serve.specs.Control.Commands.{Asked, ObeysLive, Said}
+use Rattle.pn_serve.specs.Control.Commands.{ObeysLive, Said}
+use Rattle.pn_serve.specs.declared.control.commands.WriterCommand.{WriterCommand}
 use Rattle.pn_serve.specs.Server.Events.{AllDone, ReadsBesides, RunsEvents, RunsOn, RunsUpTo, ToldAll, WriterEvent, taken, told}
-use Rattle.pn_serve.specs.Server.Reading.{AllTaken, RunsRound, RunsRounds, StopsAt}
+use Rattle.pn_serve.specs.Server.Reading.{AllTaken, RunsRound, StopsAt}
 use Rattle.pn_serve.specs.Server.Rounds.{RoundInputValue}
 use Rattle.pn_serve.specs.declared.server.fault.ServeFault.{ServeFault}
 use Rattle.pn_serve.specs.declared.server.fault.ServeFault.TheVariants.{Start, Stream, Round, Close, Write}
@@ -37,17 +38,6 @@ pub rounds_alone : (at_fault : AtFault) (names : List (List ℕ)) (old : LiveReg
     → AllDone at_fault names old (map taken rounds) left new ↔ AllTaken at_fault names old rounds left new
 rounds_alone at_fault names old rounds left new = (done_rounds at_fault names old rounds left new, rounds_done at_fault names old rounds left new)
 
--- a reading without commands is one beside none
-pub runs_beside : {T : Type 0} (at_fault : AtFault) (names : List (List ℕ)) (old new : LiveRegionValue) (read : Result T ServeFault) → RunsRounds at_fault names old new read → RunsEvents at_fault names old new read
-runs_beside at_fault names old new (Ok done) read = record { events = map taken read.rounds; left = []; done = rounds_done at_fault names old read.rounds [] new read.taken }
-runs_beside at_fault names old new (Err fault) read = record {
-  events = map taken read.rounds;
-  last = read.last;
-  still = read.still;
-  done = rounds_done at_fault names old read.rounds read.still read.last read.taken;
-  stops = read.stops;
-}
-
 -- the events so far, and the streams that are still read
 pub record DoneSoFar (at_fault : AtFault) (names : List (List ℕ)) (old : LiveRegionValue) (still : List (List ℕ)) (new : LiveRegionValue) : Type 0 where
   pub events : List WriterEvent
@@ -75,13 +65,8 @@ module _ (at_fault : AtFault) (names : List (List ℕ)) (old : LiveRegionValue) 
   pub ran_on : (still : List (List ℕ)) (new : LiveRegionValue) → DoneSoFar at_fault names old still new → RunsOn at_fault names old new
   ran_on still new so = record { events = so.events; left = still; done = so.done }
 
-  pub round_stopped : (still : List (List ℕ)) (between : LiveRegionValue) (input : RoundInputValue) (left : List (List ℕ)) (new : LiveRegionValue) (fault : ServeFault) → DoneSoFar at_fault names old still between
-      → RunsRound at_fault still between input left new (Err fault) → RunsUpTo at_fault names old new fault
-  round_stopped still between input left new fault so run =
-      record { events = so.events; last = between; still = still; done = so.done; stops = inl (input, left, run) }
-
-  pub not_begun : (still : List (List ℕ)) (new : LiveRegionValue) (fault : ServeFault) → DoneSoFar at_fault names old still new → fault ≡ Round → RunsUpTo at_fault names old new fault
-  not_begun still new fault so is = record { events = so.events; last = new; still = still; done = so.done; stops = inr (is, refl) }
+  pub ran_up_to : (still : List (List ℕ)) (between new : LiveRegionValue) (fault : ServeFault) → DoneSoFar at_fault names old still between → StopsAt at_fault still between new fault → RunsUpTo at_fault names old new fault
+  ran_up_to still between new fault so stops = record { events = so.events; last = between; still = still; done = so.done; stops = stops }
 
   -- a fault as an answer
   pub as_fault : {T : Type 0} (new : LiveRegionValue) (fault : ServeFault) (result : Result T ServeFault) → IsErrAnd result (λ other. other ≡ fault) → RunsUpTo at_fault names old new fault → RunsEvents at_fault names old new result
@@ -90,7 +75,7 @@ module _ (at_fault : AtFault) (names : List (List ℕ)) (old : LiveRegionValue) 
       subst (RunsEvents at_fault names old new) (sym is) (subst (RunsUpTo at_fault names old new) (sym same) ran)
 
 -- one more command was done
-pub one_told : (at_fault : AtFault) (names : List (List ℕ)) (old between new : LiveRegionValue) (asked : Asked) (said : Said) → ToldAll at_fault names old between → ObeysLive between asked new said → ToldAll at_fault names old new
+pub one_told : (at_fault : AtFault) (names : List (List ℕ)) (old between new : LiveRegionValue) (asked : WriterCommand) (said : Said) → ToldAll at_fault names old between → ObeysLive between asked new said → ToldAll at_fault names old new
 one_told at_fault names old between new asked said so obeys = record {
   events = so.events ++ told asked said ∷ [];
   done = done_after at_fault names old so.events names between (told asked said ∷ []) names new so.done (new, obeys, (refl, refl));

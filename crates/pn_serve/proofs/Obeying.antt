@@ -36,13 +36,15 @@ use Rattle.pn_protocol.specs.declared.refusal.Refusal.TheVariants.{OutOfRange, M
 use Rattle.pn_protocol.specs.declared.reply.Reply.{Reply}
 use Rattle.pn_protocol.specs.declared.reply.Reply.TheVariants.{Adopted, Lost, Text, Refused}
 use Rattle.pn_protocol.specs.declared.reply.refusals.CommandFault.TheVariants.{Adoption, Advance}
-use Rattle.pn_serve.specs.Control.Commands.{Asked, adopt, advance, lose, Said, said_by, logged, asked_turn, advance_turn, event_of, event_by, with_event, IsAfter, ObeysLive}
+use Rattle.pn_serve.specs.Control.Commands.{Said, said_by, logged, asked_turn, advance_turn, event_of, event_by, with_event, IsAfter, ObeysLive}
 use Rattle.pn_serve.specs.Machine.Outcomes.{awaits_command, machine_over, reply_turn, Turn}
 use Rattle.pn_serve.specs.Machine.Recovering.{adoption_turn, at_tablet}
+use Rattle.pn_serve.specs.declared.control.commands.WriterCommand.{WriterCommand}
+use Rattle.pn_serve.specs.declared.control.commands.WriterCommand.TheVariants as commands
 use Rattle.pn_serve.proofs.Recovering.{not_memory, no_tablet, tablet_there, telling}
 use Rattle.pn_serve.proofs.Turns.{told_or_out}
 
-module _ (live : LiveRegionValue) (asked : Asked) where
+module _ (live : LiveRegionValue) (asked : WriterCommand) where
   -- memory ran out, and nothing changed
   pub out : ObeysLive live asked live (said_by (Refused Memory))
   out = record { replied = inl refl; left = refl }
@@ -75,13 +77,13 @@ module _ (old : LiveRegionValue) (tablet : ℕ) where
   at found = at_tablet (machine_over (logged old)) found loses
 
   -- there is no such tablet
-  pub lost_none : length old.layout < tablet → IsRegion (core old) → ObeysLive old (lose tablet) old (said_by (Refused (OutOfRange Tablet)))
+  pub lost_none : length old.layout < tablet → IsRegion (core old) → ObeysLive old (commands.Lose tablet) old (said_by (Refused (OutOfRange Tablet)))
   lost_none past is =
       let beyond : length old.layout + 1 ≤ tablet = omega (arith, past) in
       record { replied = inr (ap at (no_tablet (core old) tablet is beyond)); left = refl }
 
   -- the tablet was lost
-  pub lost_it : (new : LiveRegionValue) → tablet ≤ length old.layout → IsRegion (core old) → new ≡ after_op_at old tablet Lose → core new ≡ after_loss (core old) tablet → ObeysLive old (lose tablet) new (said_by (Lost tablet))
+  pub lost_it : (new : LiveRegionValue) → tablet ≤ length old.layout → IsRegion (core old) → new ≡ after_op_at old tablet Lose → core new ≡ after_loss (core old) tablet → ObeysLive old (commands.Lose tablet) new (said_by (Lost tablet))
   lost_it new within is did becomes =
       let (state, there) = tablet_there (core old) tablet is within in
       let noted : new.log ≡ with_break old.log = ap (λ (l : LiveRegionValue). l.log) did in
@@ -108,7 +110,7 @@ for_copy {copy = copy} live found copied is =
 
 module _ (old : LiveRegionValue) (copy : TabletCopyValue) where
   -- the tablet of the copy's range took it
-  pub adopted_it : (new : LiveRegionValue) (number : ℕ) → IsCopy copy.range copy.marks copy.cells → tablet_for (core old) copy ≡ Some number → Adopts copy old new → ObeysLive old (adopt copy) new (said_by (Adopted number))
+  pub adopted_it : (new : LiveRegionValue) (number : ℕ) → IsCopy copy.range copy.marks copy.cells → tablet_for (core old) copy ≡ Some number → Adopts copy old new → ObeysLive old (commands.Adopt copy) new (said_by (Adopted number))
   adopted_it new number lawful found did =
       let same = taken_by (core old) (core new) copy number did.tablet (lacks (core old) copy number) (ap (after_adoption_by (core old) copy) (sym found) ∙ did.adopted) in
       let noted : new.log ≡ with_break old.log = ap (λ (l : LiveRegionValue). l.log) did.published in
@@ -119,14 +121,14 @@ module _ (old : LiveRegionValue) (copy : TabletCopyValue) where
       }
 
   -- no tablet has its range
-  pub adopted_by_none : (reply : Reply) → tablet_for (core old) copy ≡ None → RefusesBy (Adoption adoption.WrongRange) reply → ObeysLive old (adopt copy) old (said_by reply)
+  pub adopted_by_none : (reply : Reply) → tablet_for (core old) copy ≡ None → RefusesBy (Adoption adoption.WrongRange) reply → ObeysLive old (commands.Adopt copy) old (said_by reply)
   adopted_by_none reply none tells =
-      refuses old (adopt copy) (adoption.WrongRange ≢ adoption.Memory) (adopt_fault_data adoption.WrongRange) reply (λ _. ap (λ (found : Option ℕ). adoption_turn (logged old) (after_adoption_by (core old) copy found)) none) tells
+      refuses old (commands.Adopt copy) (adoption.WrongRange ≢ adoption.Memory) (adopt_fault_data adoption.WrongRange) reply (λ _. ap (λ (found : Option ℕ). adoption_turn (logged old) (after_adoption_by (core old) copy found)) none) tells
 
   -- it was refused
-  pub adopted_not : (fault : AdoptFault) (reply : Reply) → Refuses steps.is_memory fault (after_adoption (core old) copy) → RefusesBy (Adoption fault) reply → ObeysLive old (adopt copy) old (said_by reply)
+  pub adopted_not : (fault : AdoptFault) (reply : Reply) → Refuses steps.is_memory fault (after_adoption (core old) copy) → RefusesBy (Adoption fault) reply → ObeysLive old (commands.Adopt copy) old (said_by reply)
   adopted_not fault reply right tells =
-      refuses old (adopt copy) (fault ≢ adoption.Memory) (adopt_fault_data fault) reply (λ other. ap (adoption_turn (logged old)) (not_memory fault (after_adoption (core old) copy) right other)) tells
+      refuses old (commands.Adopt copy) (fault ≢ adoption.Memory) (adopt_fault_data fault) reply (λ other. ap (adoption_turn (logged old)) (not_memory fault (after_adoption (core old) copy) right other)) tells
 
 -- ---- marks that advance
 
@@ -142,7 +144,7 @@ no_memory advancing.Memory right is other = absurd (other refl)
 module _ (old : LiveRegionValue) where
   -- the marks are those that were shown
   pub advanced_to : (new : LiveRegionValue) (marks : Positions) (text : Vec ℕ Global) → after_advance (core old) ≡ Ok (with_marks (core old) marks) → text.items ≡ line_of (marks_reply_data marks) → Advances old new
-      → ObeysLive old advance new (said_by (Text text))
+      → ObeysLive old commands.Advance new (said_by (Text text))
   advanced_to new marks text found shown did =
       let same : marks ≡ new.marks = ap marks_in (sym found ∙ did.advanced) in
       let kept : new.log ≡ old.log = ap (λ (l : LiveRegionValue). l.log) did.rest in
@@ -154,9 +156,9 @@ module _ (old : LiveRegionValue) where
       }
 
   -- it was refused
-  pub advanced_not : (fault : AdvanceFault) (reply : Reply) → Refuses is_memory fault (after_advance (core old)) → RefusesBy (Advance fault) reply → ObeysLive old advance old (said_by reply)
+  pub advanced_not : (fault : AdvanceFault) (reply : Reply) → Refuses is_memory fault (after_advance (core old)) → RefusesBy (Advance fault) reply → ObeysLive old commands.Advance old (said_by reply)
   advanced_not fault reply right tells =
-      refuses old advance (fault ≢ advancing.Memory) (advance_fault_data fault) reply (λ other. ap (advance_turn (logged old)) (no_memory fault (after_advance (core old)) right other)) tells
+      refuses old commands.Advance (fault ≢ advancing.Memory) (advance_fault_data fault) reply (λ other. ap (advance_turn (logged old)) (no_memory fault (after_advance (core old)) right other)) tells
 
 -- ---- events
 
@@ -167,5 +169,5 @@ leads_first (Some event) old between later new did lead =
     let (next, leads, is) = all_lead (event ∷ []) old between (old, between, refl, did, refl) in
     (next, leads, subst (λ (r : RegionValue). AllLeadTo later r new) is lead)
 
-pub command_leads : (old new : LiveRegionValue) (asked : Asked) (said : Said) → ObeysLive old asked new said → AllLeadTo (with_event (event_by asked said) []) (core old) (core new)
+pub command_leads : (old new : LiveRegionValue) (asked : WriterCommand) (said : Said) → ObeysLive old asked new said → AllLeadTo (with_event (event_by asked said) []) (core old) (core new)
 command_leads old new asked said obeys = leads_first (event_by asked said) old new [] (core new) obeys.left refl

@@ -13,9 +13,10 @@ use Rattle.clap.specs.Walk.{Row, Text, Walk, finished, nothing_held, settled, wa
 use Rattle.pn_json.proofs.Inverses.{bind_ok}
 use Rattle.pn_serve.specs.Arguments.Options.{program}
 use Rattle.pn_serve.specs.Arguments.Plans.{Answers, HasSessions, IsTold, Plans, Says, Tells}
-use Rattle.pn_serve.specs.Arguments.Commands.{address_in, control_in, number_at, plan_in, replay_in, serve_in, service_in, settings_in}
+use Rattle.pn_serve.specs.Arguments.Commands.{address_in, control_in, number_at, plan_in, replay_in, serve_in, service_in, settings_in, text_at}
 use Rattle.pn_serve.specs.Arguments.Faults.{FaultValue, told_fault}
 use Rattle.pn_serve.specs.Arguments.Faults as faults
+use Rattle.pn_serve.specs.Arguments.Permissions.{permissions_in}
 use Rattle.pn_serve.specs.Arguments.PlanValues.{PlanValue, ServiceValue, help, plan_value, replay, serve, version}
 use Rattle.pn_serve.specs.Arguments.Streams.{streams_in}
 use Rattle.pn_serve.specs.declared.arguments.options.TheConstants.{MAX_SESSIONS}
@@ -104,7 +105,8 @@ service_plans : (host : IpAddr) (options : List Row) (service : ServiceValue) �
     → (1 ≤ service.sessions) × (service.sessions ≤ MAX_SESSIONS)
 service_plans host options service e =
     let placed = bind_ok (address_in host options) _ service e in
-    let controlled = bind_ok (control_in options) _ service placed.2 in
+    let moded = bind_ok (permissions_in (text_at (codes "socket-mode") options)) _ service placed.2 in
+    let controlled = bind_ok (control_in options) _ service moded.2 in
     let last = controlled.2 in
     let same : number_at (codes "sessions") MAX_SESSIONS options ≡ service.sessions = cc in
     subst (λ n. (1 ≤ n) × (n ≤ MAX_SESSIONS)) same (in_range _)
@@ -147,6 +149,7 @@ no_words : (options : List Row) (first : OptionFault) → told_fault options fir
 no_words options (option.Bounds why) e = absurd (cc)
 no_words options option.Listen e = absurd (cc)
 no_words options option.Socket e = absurd (cc)
+no_words options option.SocketMode e = absurd (cc)
 no_words options (option.Control why) e = absurd (cc)
 no_words options (option.Stream index why) e = absurd (cc)
 no_words options option.Memory e = absurd (cc)

@@ -17,7 +17,7 @@ use Rattle.pn_region.specs.declared.fault.RoundFault.TheVariants.{Gap, TooManySt
 use Rattle.pn_region.proofs.GapLaws.{gap_is_missing}
 use Rattle.pn_live.specs.LiveRegions.{LiveRegionValue, core, LeavesLive}
 use Rattle.pn_serve.specs.Server.Faults.{IsOfRounds}
-use Rattle.pn_serve.specs.Server.Reading.{AllTaken, ReadToEnds, ReadUpTo, RunsRound, RunsRounds}
+use Rattle.pn_serve.specs.Server.Reading.{AllTaken, ReadToEnds, ReadUpTo, RunsRound, RunsRounds, StopsAt, TakesRound}
 use Rattle.pn_serve.specs.Server.Gathering.{IsInputOf}
 use Rattle.pn_serve.specs.Server.Rounds.{RoundInputValue, CanBeTaken, Continues, IsNoGap, IsRoundTaken, IsRoundRefused, TakesInput, stopping}
 use Rattle.pn_serve.specs.declared.server.fault.ServeFault.{ServeFault}
@@ -87,6 +87,13 @@ ran name streams at_fault given marks old new input left run same fault gathered
   takes = subst (λ (a : AtFault). TakesInput a input old new run) fault takes;
 }
 
+-- a fault of a round as an answer
+pub as_stop : (at_fault : AtFault) (names : List (List ℕ)) (old : LiveRegionValue) (left : List (List ℕ)) (new : LiveRegionValue) (fault : ServeFault) (result : Result (Unit {0}) ServeFault)
+    → IsErrAnd result (λ other. other ≡ fault) → StopsAt at_fault names old new fault → TakesRound at_fault names old left new result
+as_stop at_fault names old left new fault result answered stops =
+    let (other, is, same) = err_from_is_err_and result answered in
+    subst (TakesRound at_fault names old left new) (sym is) (subst (StopsAt at_fault names old new) (sym same) stops)
+
 -- names of no streams
 pub no_names : {P : Type 0} (name : P → List ℕ) (streams : List P) → map name streams ≡ [] → length streams ≡ 0
 no_names name [] none = refl
@@ -123,13 +130,8 @@ module _ (at_fault : AtFault) (names : List (List ℕ)) (old : LiveRegionValue) 
   all_read still new so none =
       record { rounds = so.rounds; taken = subst (λ (ns : List (List ℕ)). AllTaken at_fault names old so.rounds ns new) none so.taken }
 
-  pub stopped : (still : List (List ℕ)) (between : LiveRegionValue) (input : RoundInputValue) (left : List (List ℕ)) (new : LiveRegionValue) (fault : ServeFault) → SoFar at_fault names old still between
-      → RunsRound at_fault still between input left new (Err fault) → ReadUpTo at_fault names old new fault
-  stopped still between input left new fault so run =
-      record { rounds = so.rounds; last = between; still = still; taken = so.taken; stops = inl (input, left, run) }
-
-  pub not_gathered : (still : List (List ℕ)) (new : LiveRegionValue) (fault : ServeFault) → SoFar at_fault names old still new → fault ≡ Round → ReadUpTo at_fault names old new fault
-  not_gathered still new fault so is = record { rounds = so.rounds; last = new; still = still; taken = so.taken; stops = inr (is, refl) }
+  pub read_up_to : (still : List (List ℕ)) (between new : LiveRegionValue) (fault : ServeFault) → SoFar at_fault names old still between → StopsAt at_fault still between new fault → ReadUpTo at_fault names old new fault
+  read_up_to still between new fault so stops = record { rounds = so.rounds; last = between; still = still; taken = so.taken; stops = stops }
 
   -- a fault as an answer
   pub as_answer : {T : Type 0} (new : LiveRegionValue) (fault : ServeFault) (result : Result T ServeFault) → IsErrAnd result (λ other. other ≡ fault) → ReadUpTo at_fault names old new fault → RunsRounds at_fault names old new result

@@ -11,6 +11,7 @@ ghost use Rattle.pn_serve.specs.Arguments.PlanValues.{address_value, optional_by
 mod bounds;
 pub(crate) mod faults;
 pub(crate) mod options;
+mod permissions;
 pub(crate) mod plans;
 mod refusing;
 mod streams;
@@ -21,6 +22,7 @@ use crate::arguments::options::{
     MAX_CONNECTIONS, MAX_IDLE, MAX_PORT, MAX_SESSIONS, command, is_given, option_number,
     option_text,
 };
+use crate::arguments::permissions::permissions_of;
 use crate::arguments::refusing::told_fault;
 use crate::arguments::streams::{MAX_SOCKET_BYTES, named_streams};
 use crate::{Address, Plan, PlanFault, Service, Settings};
@@ -124,6 +126,7 @@ fn service_of(alloc: Global, host: IpAddr, options: &ArgMatches<'_>) -> Result<S
     Ok(Service {
         sessions: option_number(options, "sessions", MAX_SESSIONS as u32) as usize,
         address: address_of(alloc, host, options)?,
+        socket_mode: permissions_of(option_text(options, "socket-mode"))?,
         stay: stay_of(options),
         control: control_path(alloc, options)?,
         idle: idle_of(options),

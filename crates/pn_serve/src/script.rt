@@ -82,7 +82,8 @@ pub fn run<R: Threads + Sync, S: Source, W: Sink>(
     answer_lines(&mut machine, &mut lines, input, output)
 }
 
-/// [`run`] for a process that ends afterwards: the region's memory goes with the process and is not freed.
+/// Answers a script as [`run`] does, for a process that ends afterwards: the region's memory goes with the process and is not
+/// freed.
 pub fn run_to_exit<R: Threads + Sync, S: Source, W: Sink>(
     rt: &R,
     alloc: Global,

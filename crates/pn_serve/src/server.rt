@@ -6,6 +6,7 @@ ghost use Rattle.pn_apply.specs.declared.reducing.TheConstants.{MAX_WORKERS};
 ghost use Rattle.pn_line.specs.Prelude.{AppendsPrefix};
 ghost use Rattle.pn_live.specs.Prelude.{IsNewLive, tablets_in};
 ghost use Rattle.pn_live.specs.declared.region.opening.TheConstants.{MAX_READERS};
+ghost use Rattle.pn_serve.specs.declared.arguments.options.TheConstants.{MAX_SESSIONS};
 ghost use Rattle.pn_serve.specs.Server.Faults.{NamesOne, names_of};
 ghost use Rattle.pn_serve.specs.Server.Reading.{RunsRounds};
 ghost use Rattle.pn_serve.specs.Server.Served.{EndsReading, EndsRegion, EndsServing};
@@ -29,8 +30,8 @@ mod writer_input;
 mod writers;
 
 use crate::Settings;
+use crate::server::events::run_rounds;
 use crate::server::mailboxes::StreamMailboxes;
-use crate::server::rounds::run_rounds;
 use crate::server::session_threads::{StartedSessions, start_sessions};
 use crate::server::stream_threads::{StartedStreams, StreamThread, join_streams, start_streams};
 pub use counter::Counter;
@@ -76,7 +77,7 @@ where
     L: Acceptor + Drop + Send + 'static,
     S: Source + Drop + Send + 'static,
     W: Sink,
-    requires { (1 ≤ sessions) × (sessions ≤ MAX_READERS) }
+    requires { (1 ≤ sessions) × (sessions ≤ MAX_SESSIONS) }
     ensures ends { EndsServing S.left settings.layout streams.items result }
     ensures served { OnOk result (Appends (W.contents out.old) (W.contents out.new) (served_line sessions)) }
     ensures silent { IfErr result (λ fault. fault ≢ ServeFault.Write → Keeps (W.contents out.old) (W.contents out.new)) }
@@ -116,7 +117,7 @@ where
     R: Threads + Wait + Sync + Copy + Send + 'static,
     L: Acceptor + Drop + Send + 'static,
     S: Source + Drop + Send + 'static,
-    requires { (1 ≤ sessions) × (sessions ≤ MAX_READERS) }
+    requires { (1 ≤ sessions) × (sessions ≤ MAX_SESSIONS) }
     ensures ends { EndsRegion S.left settings.layout streams.items result }
     ensures fault { IfErr result (λ fault. fault ≢ ServeFault.Write) }
     ensures count { IfOk result (λ count. count ≡ sessions) }
@@ -234,7 +235,7 @@ fn run_unless_refused<R: Threads + Wait + Sync>(
     if is_refused {
         return Err(ServeFault::Start);
     }
-    run_rounds(rt, alloc, live, workers, mailboxes)
+    run_rounds(rt, alloc, live, workers, mailboxes, &None)
 }
 
 // Waits for the threads of streams, unless the rounds have a fault, which outranks that of a stream.

@@ -1,24 +1,8 @@
 -- What a session thread begins with may go to it, and what it shares with others may be shared.
 use denote.Param.Send.{IsSend, IsSync, sendable}
-use denote.Param.SendFields.{variants_send}
 use Rattle.std.proofs.Crossing.{crosses}
-use Rattle.pn_join.specs.contracts.marks.name.Name as name
-use Rattle.pn_record.specs.contracts.content.Content as content
-use Rattle.pn_record.specs.contracts.held_contents.HeldContents as held
-use Rattle.pn_record.specs.contracts.cell.Cell as cell
-use Rattle.pn_record.specs.contracts.key.Key as key
-use Rattle.pn_tablet.specs.contracts.copy.TabletCopy as copy
 use Rattle.pn_live.proofs.Crossing.Readers.{reader_send}
-use Rattle.pn_protocol.specs.contracts.reply.Reply as reply
-use Rattle.pn_region.specs.contracts.notices.Since as since
-use Rattle.pn_serve.specs.contracts.control.commands.WriterCommand as command
-use Rattle.pn_serve.specs.contracts.control.answers.GivenAnswer as given
-use Rattle.pn_serve.specs.contracts.control.mailboxes.HeldCommand as held_command
-use Rattle.pn_serve.specs.contracts.control.mailboxes.ControlMailbox as control_mailbox
-use Rattle.pn_serve.specs.contracts.control.mailboxes.ControlMailboxes as controls
-use Rattle.pn_serve.specs.contracts.server.counter.Counter as counter
-use Rattle.pn_serve.specs.contracts.server.fault_log.StreamFailure as failure
-use Rattle.pn_serve.specs.contracts.server.fault_log.FaultLog as faults
+use Rattle.pn_serve.proofs.Crossing.{controls_send, controls_sync, counter_send, counter_sync, faults_send, faults_sync, name_send, name_sync}
 use Rattle.pn_stay.specs.contracts.acceptor.SocketAcceptor as acceptor
 use Rattle.pn_stay.specs.contracts.socket_mailbox.SocketMailbox as mailbox
 use Rattle.pn_stay.specs.contracts.server.threads.LoopThread as loop
@@ -31,72 +15,6 @@ use Rattle.pn_stay.specs.contracts.server.control_threads.ControlThread as contr
 use Rattle.pn_stay.specs.contracts.streams.status.StreamStatus as status
 use Rattle.pn_stay.specs.contracts.messages.Messages as messages
 use Rattle.pn_stay.specs.contracts.acceptor.AcceptNotes as notes
-
-name_send : IsSend name.the_row
-name_send = search (sendable, crosses) depth 40
-
-name_sync : IsSync name.the_row
-name_sync = search (sendable, crosses) depth 40
-
-content_send : IsSend content.the_row
-content_send = search (sendable, crosses) depth 40
-
-content_sync : IsSync content.the_row
-content_sync = search (sendable, crosses) depth 40
-
-held_send : IsSend held.the_row
-held_send = search (sendable, crosses, content_send) depth 40
-
-held_sync : IsSync held.the_row
-held_sync = search (sendable, crosses, content_sync) depth 40
-
-cell_send : IsSend cell.the_row
-cell_send = search (sendable, crosses, held_send, held_sync) depth 40
-
-cell_sync : IsSync cell.the_row
-cell_sync = search (sendable, crosses, held_send, held_sync) depth 40
-
-key_send : IsSend key.the_row
-key_send = search (sendable, crosses) depth 40
-
-key_sync : IsSync key.the_row
-key_sync = search (sendable, crosses) depth 40
-
-copy_send : IsSend copy.the_row
-copy_send = search (sendable, crosses, key_send, key_sync, cell_send, cell_sync, name_send, name_sync) depth 40 fits 20000
-
-reply_send : IsSend reply.the_row
-reply_send = search (sendable, crosses) depth 60 fits 20000
-
-since_send : IsSend since.the_row
-since_send = search (sendable, crosses, key_send) depth 60 fits 20000
-
-command_send : IsSend command.the_row
-command_send = search (sendable, crosses, copy_send) depth 60 fits 20000
-
-given_send : IsSend given.the_row
-given_send = search (sendable, crosses, reply_send, since_send) depth 60 fits 20000
-
-held_command_send : IsSend held_command.the_row
-held_command_send = variants_send held_command.enum (tt, ((command_send, tt), (tt, ((given_send, tt), (tt, tt)))))
-
-control_mailbox_send : IsSend control_mailbox.the_row
-control_mailbox_send = search (sendable, crosses, held_command_send) depth 60 fits 20000
-
-control_mailbox_sync : IsSync control_mailbox.the_row
-control_mailbox_sync = search (sendable, crosses, held_command_send) depth 60 fits 20000
-
-pub controls_send : IsSend controls.the_row
-controls_send = search (sendable, crosses, control_mailbox_send) depth 60 fits 20000
-
-pub controls_sync : IsSync controls.the_row
-controls_sync = search (sendable, crosses, control_mailbox_sync) depth 60 fits 20000
-
-counter_send : IsSend counter.the_row
-counter_send = search (sendable, crosses) depth 40
-
-counter_sync : IsSync counter.the_row
-counter_sync = search (sendable, crosses) depth 40
 
 pub input_send : IsSend input.the_row
 input_send = search (sendable, crosses) depth 40 fits 20000
@@ -133,18 +51,6 @@ messages_send = search (sendable, crosses) depth 40 fits 20000
 
 pub messages_sync : IsSync messages.the_row
 messages_sync = search (sendable, crosses) depth 40 fits 20000
-
-failure_send : IsSend failure.the_row
-failure_send = search (sendable, crosses, name_send) depth 40 fits 20000
-
-failure_sync : IsSync failure.the_row
-failure_sync = search (sendable, crosses, name_sync) depth 40 fits 20000
-
-pub faults_send : IsSend faults.the_row
-faults_send = search (sendable, crosses, failure_send) depth 40 fits 20000
-
-pub faults_sync : IsSync faults.the_row
-faults_sync = search (sendable, crosses, failure_send, failure_sync) depth 40 fits 20000
 
 pub notes_send : IsSend notes.the_row
 notes_send = search (sendable, crosses, counters_send, counters_sync, messages_send, messages_sync) depth 40 fits 20000

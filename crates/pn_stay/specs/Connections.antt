@@ -17,7 +17,7 @@ pub record ConnectionValue : Type 0 where
 abbrev pub new_connection : ConnectionValue
 new_connection = record { line = so_far []; held = []; waits = []; counts = record { lines = 0; refused = 0 } }
 
--- how that is stored in a proof: as a line loop and the input that is held
+-- how a connection is stored in a proof: as a line loop and the input that is held
 abbrev pub connection_code : Coded ConnectionValue
 connection_code =
     code_by (LineLoopValue × List ℕ) (coded× line_loop_code (coded_list coded_ℕ))
@@ -38,6 +38,6 @@ line_in (Some line) = line
 abbrev pub SameInput : LineBufferValue → List ℕ → LineBufferValue → List ℕ → Type 0
 SameInput line held new_line new_held = ((new_line ≡ line) × (new_held ≡ held)) ⊎ ((line.count ≤ max_line_bytes) × (new_line ≡ so_far []) × (new_held ≡ line.bytes ++ held))
 
--- as much is kept of a line as fits
+-- a line of which as much is kept as fits
 abbrev pub IsLine : LineBufferValue → Type 0
 IsLine line = length line.bytes ≡ min line.count max_kept

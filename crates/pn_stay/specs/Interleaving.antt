@@ -23,7 +23,7 @@ module _ {V : Type 0} (makes ends : V → List ℕ → V → Reply → Type 0) w
   Moves false was now = now ≡ was
   Moves true was now = Passes was now
 
-  -- this came after what came between
+  -- this came after lines of others
   pub record After (shared : Bool) (does : V → List ℕ → V → Reply → Type 0) (was : V) (text : List ℕ) (now : V) (reply : Reply) : Type 0 where
     pub between : V
     pub moved : Moves shared was between

@@ -9,11 +9,11 @@ use Rattle.pn_stay.specs.declared.connection.Connection.{Connection}
 abbrev pub idle_at : Slab Connection → ℕ → Option IdleTimeoutValue
 idle_at connections key = option_map (λ connection. connection.idle) (get connections key)
 
--- the same once a quarter of a second is over
+-- the idle time of a client, if there is one, once a quarter of a second more is over
 abbrev pub quarter_later : Option IdleTimeoutValue → Option IdleTimeoutValue
 quarter_later = option_map after_quarter
 
--- there is a client, which is idle for at least `most` quarters
+-- there is a client that is idle for at least `most` quarters
 abbrev pub IsIdleFor : ℕ → Option IdleTimeoutValue → Type 0
 IsIdleFor most None = ⊥
 IsIdleFor most (Some timeout) = most ≤ timeout.quarters

@@ -2,7 +2,7 @@
 use Rattle.std.specs.Prelude.{ℕ, ◌+◌, ◌-◌, ◌^◌, List, String, min}
 use Rattle.std.specs.declared.alloc.Global.{Global}
 
--- the lines in their order, and how many were dropped beside them
+-- the lines that wait, in their order, and how many were dropped
 abbrev pub Waiting : Type 0
 Waiting = List (String Global) × ℕ
 

@@ -33,7 +33,7 @@ member_detail no_memory = []
 member_detail (BadShape part) = codes ",\"member\":\"" ++ (word_of part ++ codes "\"")
 member_detail (OutOfRange part) = codes ",\"member\":\"" ++ (word_of part ++ codes "\"")
 
--- what else that line says
+-- what the line for the writer says beside the word
 abbrev pub stream_detail : StreamFault → List ℕ
 stream_detail Read = []
 stream_detail LineTooLong = []
@@ -64,7 +64,7 @@ stream_words (OutOfStep wanted got) = codes "out-of-step, got " ++ decimal got
 stream_words Memory = stream_word Memory
 stream_words Failed = stream_word Failed
 
--- the fault in words
+-- the fault of a writer in words
 abbrev pub reason_words : ResumeFault → List ℕ
 reason_words (Gap got wanted) = codes "gap, got " ++ (decimal got ++ (codes ", wanted " ++ decimal wanted))
 reason_words (Stream fault) = stream_words fault

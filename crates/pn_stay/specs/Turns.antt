@@ -18,11 +18,11 @@ use Rattle.pn_stay.specs.declared.connection_state.Pause.TheVariants.{Turn, Inpu
 use Rattle.pn_stay.specs.declared.connection_state.TurnOutcome.{TurnOutcome}
 use Rattle.pn_stay.specs.declared.connection_state.TurnOutcome.TheVariants.{Goes, Ended}
 
--- what the connection at a buffers keeps: replies wait in its replies and in the buffers's outbox
+-- what the connection whose buffers these are keeps: its replies wait, and those in the outbox of the buffers
 abbrev pub in_buffers : ThreadBuffers → List ℕ → ConnectionValue
 in_buffers buffers replies = record { line = buffers.lines.line; held = buffers.input; waits = replies ++ buffers.lines.waits; counts = buffers.lines.counts }
 
--- its line loop with these replies
+-- the line loop of the buffers, with these replies
 abbrev pub loop_in : ThreadBuffers → List ℕ → LineLoopValue
 loop_in buffers replies = record { line = buffers.lines.line; waits = replies ++ buffers.lines.waits; more = false; counts = buffers.lines.counts }
 
@@ -33,7 +33,7 @@ GoesOn Waits = Unit {0}
 GoesOn (Ends ended) = ⊥
 GoesOn OutOfMemory = ⊥
 
--- it waits for its socket where replies wait, and for input where none does; one whose end is decided waits for no input
+-- a connection waits for its socket where replies wait, and for input where none does; one whose end is decided waits for no input
 abbrev pub Pauses : ConnectionState → Pause → Type 0
 Pauses (Answering kept) Turn = kept.waits ≡ []
 Pauses (Answering kept) Input = kept.waits ≡ []
@@ -42,7 +42,7 @@ Pauses (Closing closing) Turn = Unit {0}
 Pauses (Closing closing) Input = ⊥
 Pauses (Closing closing) Output = closing.replies ≢ []
 
--- where it goes on it pauses so
+-- where a connection goes on, it pauses as it should
 abbrev pub PausesWell : TurnOutcome → Type 0
 PausesWell (Goes connection pause) = Pauses connection pause
 PausesWell (Ended ended) = Unit {0}

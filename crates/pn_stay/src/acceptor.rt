@@ -11,7 +11,7 @@ use crate::reasons::describe_error;
 use crate::seldom::Seldom;
 use crate::shared::share;
 use crate::socket::{Socket, TrackedSocket};
-use crate::socket_mailbox::SocketMailbox;
+use crate::socket_mailbox::{SocketMailbox, have_ended};
 use pn_live::LiveReader;
 use pn_serve::{Acceptor, Counter, FaultLog, session};
 use std::alloc::{AllocError, Global};
@@ -150,7 +150,8 @@ fn refusal_text(alloc: Global, error: &io::Error) -> Result<String, AllocError> 
     format!(in alloc; "cannot accept: {reason}")
 }
 
-/// Accepts sockets for as long as the program runs, each once the limit allows one more. They go to the mailboxes in turn.
+/// Accepts sockets for as long as the program runs, each once the limit allows one more. They go in turn to the mailboxes
+/// whose threads have not ended.
 pub(crate) fn accept_all<R: Wait + Clock>(
     rt: &R,
     listener: &Listener,
@@ -161,6 +162,9 @@ pub(crate) fn accept_all<R: Wait + Clock>(
     let mut notes = notes;
     for _ in rt.forever() {
         for mailbox in mailboxes.iter() {
+            if mailbox.has_ended(rt) && !have_ended(rt, mailboxes) {
+                continue;
+            }
             if limit.is_reached(rt) {
                 notes.tell_limit(rt);
             }

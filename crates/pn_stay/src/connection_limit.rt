@@ -4,7 +4,7 @@ ghost use Rattle.std.specs.Prelude.{◌≡◌, ◌+◌, ◌-◌, ◌^◌, min};
 
 use std::sync::{Condvar, Mutex, Wait};
 
-/// How many connections may still be opened. Who asks for one where none may be opened waits for it.
+/// How many connections may still be opened. Where none may, a thread that is to open one waits.
 #[derive(Drop)]
 pub(crate) struct ConnectionLimit {
     free: Mutex<usize>,

@@ -2,6 +2,7 @@
 
 ghost use Rattle.std.specs.Prelude.{◌≡◌};
 
+use crate::line_counters::KindCounters;
 use crate::memory::MemoryMeter;
 use crate::streams::status::StreamStatus;
 use pn_join::Name;
@@ -19,7 +20,7 @@ pub struct InputCounters {
 }
 
 impl InputCounters {
-    /// All are zero.
+    /// Counters that are zero.
     pub fn new() -> InputCounters {
         InputCounters {
             lines: Counter::new(),
@@ -42,13 +43,13 @@ impl InputCounters {
 pub struct StreamCounters {
     pub name: Name,
     pub input: Arc<InputCounters>,
-    /// The position up to which rounds have taken it, where they note that.
+    /// The position up to which rounds have taken the stream, where they note that.
     pub taken: Option<Arc<Counter>>,
     /// The position that its writer was sent last, if its writers are sent positions.
     pub told: Option<Arc<Counter>>,
-    /// How it goes, where that is noted.
+    /// The status of the stream, where it is noted.
     pub status: Option<Arc<StreamStatus>>,
-    /// How many bytes its file has, where it is one that ends.
+    /// How many bytes the stream's file has, if it is one that ends.
     pub size: Option<u64>,
 }
 
@@ -79,7 +80,7 @@ impl ConnectionCounters {
         self.accepted.add(1);
     }
 
-    /// Counts the end of one.
+    /// Counts the end of a connection.
     pub(crate) fn end(&self) {
         self.open.subtract(1);
     }
@@ -92,6 +93,8 @@ pub struct Counters {
     /// What was read from all clients, and how many of their lines were refused.
     pub clients: Arc<InputCounters>,
     pub refused: Counter,
+    /// Their lines by what they ask for.
+    pub(crate) kinds: KindCounters,
     pub connections: ConnectionCounters,
     pub streams: Vec<StreamCounters>,
     pub memory: MemoryMeter,
@@ -104,6 +107,7 @@ impl Counters {
             rounds: Arc::new(alloc, Counter::new())?,
             clients: Arc::new(alloc, InputCounters::new())?,
             refused: Counter::new(),
+            kinds: KindCounters::new(),
             connections: ConnectionCounters::new(),
             streams,
             memory: MemoryMeter::new(),

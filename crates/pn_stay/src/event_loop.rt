@@ -179,8 +179,11 @@ impl EventLoop {
         }
     }
 
-    /// Closes the sockets of connections that a stop has ended.
-    pub(crate) fn close<R: Clock>(&mut self, rt: &R) {
+    /// Ends the connections that are left where the wait has failed, and closes the sockets of those that a stop has ended.
+    pub(crate) fn close<R: Wait + Clock>(&mut self, rt: &R, mailbox: &SocketMailbox) {
+        for key in 0..self.connections.capacity() {
+            self.remove(rt, mailbox, key);
+        }
         self.lingering.close(rt);
     }
 
@@ -249,6 +252,7 @@ impl EventLoop {
         let counts = self.buffers.take_line_counts();
         self.counters.clients.lines.add(counts.answered);
         self.counters.refused.add(counts.refused);
+        self.counters.kinds.add(machine.take_kinds());
     }
 
     // One turn of the connection of a key. Where it is gone, nothing is at hand.

@@ -10,6 +10,7 @@ mod current_stats;
 mod event_loop;
 mod input_buffer;
 mod laws;
+mod line_counters;
 mod lingering;
 mod listener;
 mod memory;
@@ -34,7 +35,7 @@ pub use connection_state::{
 pub use counters::{ConnectionCounters, Counters, CountingSource, InputCounters, StreamCounters};
 pub use input_buffer::{INPUT_CAPACITY, InputBuffer, READ_SIZE};
 pub use laws::{answer_in_turns, every_way_of_coming_and_going};
-pub use listener::Listener;
+pub use listener::{Listener, OWNER_ALONE};
 pub use memory::MemoryMeter;
 pub use messages::{MAX_WAITING, MessagePrinter, Messages, WaitingLines};
 pub use output_buffer::{OutputBuffer, SendOutcome};

@@ -10,13 +10,13 @@ use std::io::ErrorKind;
 use std::time::{Clock, Duration};
 use std::{io, mem, thread};
 
-/// For how many milliseconds more is waited for at a time.
+/// How many milliseconds a wait for clients takes.
 const STEP: u64 = 10;
 
-/// For how many such steps at most clients are waited for.
+/// For how many waits at most clients are waited for: a second.
 const STEPS: u32 = 100;
 
-/// How often a socket is read in a step at most.
+/// How often a socket is read at most between two waits.
 const READS: u32 = 64;
 
 /// How many bytes are read at a time.
@@ -30,7 +30,7 @@ pub(crate) struct LingeringSockets {
 }
 
 impl LingeringSockets {
-    /// None so far.
+    /// No socket so far.
     pub(crate) fn new(alloc: Global) -> LingeringSockets {
         LingeringSockets {
             alloc,

@@ -15,8 +15,8 @@ use std::os::unix::net;
 use std::os::unix::net::UnixListener;
 use std::{fs, io};
 
-/// Who may use the file of a Unix socket: its owner alone.
-const MODE: u32 = 0o600;
+/// The permissions of a Unix socket that its owner alone may use.
+pub const OWNER_ALONE: u32 = 0o600;
 
 /// As many clients may wait as the system allows.
 const BACKLOG: i32 = -1;
@@ -38,9 +38,9 @@ impl Listener {
         Ok(Listener::Tcp(TcpListener::bind(rt, SocketAddr::from((address, port)))?))
     }
 
-    /// Listens at a path. A socket there is replaced where nobody listens on it.
-    pub fn bind_path<R: Files + Net>(rt: &R, path: &str) -> io::Result<Listener> {
-        Ok(Listener::Unix(bind_socket(rt, path)?))
+    /// Listens at a path, whose file has these permissions. A socket there is replaced where nobody listens on it.
+    pub fn bind_path<R: Files + Net>(rt: &R, path: &str, permissions: u32) -> io::Result<Listener> {
+        Ok(Listener::Unix(bind_socket(rt, path, permissions)?))
     }
 
     /// Another handle of the same socket.
@@ -78,25 +78,29 @@ impl Listener {
     }
 }
 
-/// Listens at a path. A socket there is replaced where nobody listens on it.
-pub(crate) fn bind_socket<R: Files + Net>(rt: &R, path: &str) -> io::Result<UnixListener> {
-    match bind(rt, path) {
+/// Listens at a path, whose file has these permissions. A socket there is replaced where nobody listens on it.
+pub(crate) fn bind_socket<R: Files + Net>(
+    rt: &R,
+    path: &str,
+    permissions: u32,
+) -> io::Result<UnixListener> {
+    match bind(rt, path, permissions) {
         Ok(listener) => Ok(listener),
         Err(error) => {
             if error.kind() != ErrorKind::AddrInUse || !is_stale(rt, path)? {
                 return Err(error);
             }
             fs::remove_file(rt, path)?;
-            bind(rt, path)
+            bind(rt, path, permissions)
         }
     }
 }
 
-// Nobody connects before the file has its mode, since the socket listens only then.
-fn bind<R: Files + Net>(rt: &R, path: &str) -> io::Result<UnixListener> {
+// Nobody connects before the file has its permissions, since the socket listens only then.
+fn bind<R: Files + Net>(rt: &R, path: &str, permissions: u32) -> io::Result<UnixListener> {
     let socket = rt.unix_socket()?;
     rt.bind_unix(socket.as_fd(), &net::SocketAddr::from_pathname(path)?)?;
-    match begin_to_listen(rt, path, socket) {
+    match begin_to_listen(rt, path, permissions, socket) {
         Ok(listener) => Ok(listener),
         Err(error) => {
             let _ = fs::remove_file(rt, path);
@@ -105,8 +109,13 @@ fn bind<R: Files + Net>(rt: &R, path: &str) -> io::Result<UnixListener> {
     }
 }
 
-fn begin_to_listen<R: Files>(rt: &R, path: &str, socket: OwnedFd) -> io::Result<UnixListener> {
-    fs::set_permissions(rt, path, Permissions::from_mode(MODE))?;
+fn begin_to_listen<R: Files>(
+    rt: &R,
+    path: &str,
+    permissions: u32,
+    socket: OwnedFd,
+) -> io::Result<UnixListener> {
+    fs::set_permissions(rt, path, Permissions::from_mode(permissions))?;
     if listen(socket.as_raw_fd(), BACKLOG) != 0 {
         return Err(io::Error::from(ErrorKind::AddrInUse));
     }

@@ -10,7 +10,7 @@ const PAGES: &str = "/proc/self/statm";
 /// How many bytes a page has.
 const PAGE: u64 = 4_096;
 
-/// How many bytes of that text are read.
+/// How many bytes of the system's text are read.
 const TEXT_SIZE: usize = 128;
 
 /// Asks the system how much memory this process has, without opening a file for it each time.
@@ -18,12 +18,12 @@ const TEXT_SIZE: usize = 128;
 pub struct MemoryMeter(Option<File>);
 
 impl MemoryMeter {
-    /// One that asks nobody.
+    /// A meter that does not ask the system.
     pub fn new() -> MemoryMeter {
         MemoryMeter(None)
     }
 
-    /// One that asks the system, where it answers.
+    /// A meter that asks the system, where it answers.
     pub fn open<R: Files<File = File>>(rt: &R) -> MemoryMeter {
         MemoryMeter(File::open(rt, PAGES).ok())
     }

@@ -11,7 +11,8 @@ use std::alloc::Global;
 use std::io;
 use std::marker::Model;
 
-/// Bytes that wait for a writer. They take as much memory as they are long, and none while there are none.
+/// Bytes that wait for a writer. Where there is memory they take twice as much as they are long at most, and none while there
+/// are none.
 #[derive(Drop)]
 pub struct OutputBuffer {
     alloc: Global,
@@ -75,11 +76,26 @@ impl OutputBuffer {
     {
         'writes: while !self.is_empty() {
             if let Err(fault) = self.send_once(writer) {
+                self.shrink();
                 return wait_or_fail(fault);
             }
         }
         self.clear();
         Ok(SendOutcome::All)
+    }
+
+    // Lets go of the bytes that were taken, where they are half of all or more, and there is memory for the others.
+    fn shrink(&mut self)
+        ensures { self.new ≡ self.old }
+    {
+        let rest = &self.bytes[self.start..];
+        if rest.len() > self.start {
+            return;
+        }
+        if let Ok(rest) = Vec::from_slice(self.alloc, rest) {
+            self.bytes = rest;
+            self.start = 0;
+        }
     }
 
     // Adds bytes after those that wait.

@@ -13,10 +13,10 @@ const BAR: u64 = 20;
 /// What begins a line on a terminal: it takes the place of the one before, and is cut at the margin.
 const OVER: &str = "\r\x1b[?7l";
 
-/// What ends such a line.
+/// What ends a line on a terminal.
 const CUT: &str = "\x1b[K\x1b[?7h";
 
-/// What takes such a line away.
+/// What takes a line on a terminal away.
 const AWAY: &str = "\r\x1b[K";
 
 // What the counters show at one moment.

@@ -1,4 +1,4 @@
-//! What is said once a minute at most.
+//! Lines that are written once a minute at most.
 
 ghost use Rattle.std.specs.Prelude.{◌≡◌, ◌*◌, ◌<◌, ◌↔◌, false, IfOk, IsTrue, OnErr};
 ghost use Rattle.std.specs.Duration.{as_nanos};
@@ -10,19 +10,19 @@ use std::time::{Clock, Duration, Instant};
 /// How many seconds lie between two lines at least.
 const PAUSE: u64 = 60;
 
-/// When something was said last.
+/// When a line was written last that is written seldom.
 #[derive(Drop)]
 pub(crate) struct Seldom {
     last: Option<Instant>,
 }
 
 impl Seldom {
-    /// It was never said.
+    /// The line was never written.
     pub(crate) fn new() -> Seldom {
         Seldom { last: None }
     }
 
-    /// Whether it is time to say it again. Then it is taken to be said now.
+    /// Whether the line is due again. Then it is taken to be written now.
     pub(crate) fn is_due<R: Clock>(&mut self, rt: &R) -> bool {
         if let Some(last) = self.last {
             if is_recent(last.elapsed(rt)) {

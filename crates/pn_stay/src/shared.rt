@@ -5,7 +5,7 @@ ghost use Rattle.std.specs.Prelude.{◌↔◌, IfOk, IsSome};
 use std::alloc::AllocError;
 use std::sync::Arc;
 
-/// Another handle of what is shared, where there is any.
+/// Another handle of a shared value, if there is one.
 pub fn share<T: Drop>(shared: &Option<Arc<T>>) -> Result<Option<Arc<T>>, AllocError>
     ensures { IfOk result (λ again. IsSome again ↔ IsSome shared.now) }
 {

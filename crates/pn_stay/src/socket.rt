@@ -133,7 +133,7 @@ impl<'a> TrackedSocket<'a> {
         self.is_ending = is_ending;
     }
 
-    // Answers what a read or a write answered. Where it succeeded, bytes went over the socket, or its end.
+    // Answers what a read or a write answered, and notes whether it succeeded: then bytes went over the socket, or its end.
     fn note(&mut self, moved: io::Result<usize>) -> io::Result<usize>
         ensures same { result ≡ moved }
         ensures noted { OnOk moved (self.new.has_moved ≡ true) }

@@ -116,14 +116,19 @@ impl SocketMailbox {
         self.state.lock(rt).has_ended
     }
 
-    /// Whether a quarter of a second is over since this was asked last.
+    /// Whether a quarter of a second is over since the last call.
     pub(crate) fn take_quarter<R: Wait>(&self, rt: &R) -> bool {
         mem::replace(&mut self.state.lock(rt).is_quarter_over, false)
     }
 
-    /// The thread has ended: from now on it takes no socket.
+    /// The thread has ended: from now on it takes no socket. Those that it did not take are closed.
     pub(crate) fn close<R: Wait>(&self, rt: &R) -> Closed {
-        self.state.lock(rt).end()
+        let closed = self.state.lock(rt).end();
+        for socket in self.take(rt) {
+            drop(socket);
+            self.release(rt);
+        }
+        closed
     }
 
     /// Whether it takes no socket any more, and all were taken from it.
@@ -136,4 +141,14 @@ impl SocketMailbox {
     pub(crate) fn release<R: Wait>(&self, rt: &R) {
         self.limit.release(rt);
     }
+}
+
+/// Whether the threads of all mailboxes have ended.
+pub(crate) fn have_ended<R: Wait>(rt: &R, mailboxes: &[Arc<SocketMailbox>]) -> bool {
+    for mailbox in mailboxes.iter() {
+        if !mailbox.has_ended(rt) {
+            return false;
+        }
+    }
+    true
 }

@@ -2,7 +2,7 @@
 
 use crate::failures::{fail, fail_at, is_explained};
 use pn_serve::{Address, Service};
-use pn_stay::{Listener, remove_sockets};
+use pn_stay::{Listener, OWNER_ALONE, remove_sockets};
 use std::fs::File;
 use std::net::{Net, SocketAddr, TcpListener, TcpStream};
 use std::process::ExitCode;
@@ -27,7 +27,7 @@ where
         + Eprint,
 {
     let control = listen_for_control(rt, service)?;
-    let clients = match bind(rt, &service.address) {
+    let clients = match bind(rt, service) {
         Ok(clients) => clients,
         Err(error) => {
             remove_control(rt, service);
@@ -49,19 +49,19 @@ fn listen_for_control(
     let Some(path) = &service.control else {
         return Ok(None);
     };
-    match Listener::bind_path(rt, path.as_str()) {
+    match Listener::bind_path(rt, path.as_str(), OWNER_ALONE) {
         Ok(listener) => Ok(Some(listener)),
         Err(error) => Err(fail_at(rt, "cannot listen", path.as_str(), &error, true)),
     }
 }
 
-fn bind<R>(rt: &R, address: &Address) -> io::Result<Listener>
+fn bind<R>(rt: &R, service: &Service) -> io::Result<Listener>
 where
     R: Files<File = File> + Net<Listener = TcpListener, Stream = TcpStream>,
 {
-    match address {
+    match &service.address {
         Address::Port(host, port) => Listener::bind_port(rt, *host, *port),
-        Address::Path(path) => Listener::bind_path(rt, path.as_str()),
+        Address::Path(path) => Listener::bind_path(rt, path.as_str(), service.socket_mode),
     }
 }
 

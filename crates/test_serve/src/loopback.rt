@@ -27,12 +27,12 @@ const MAX_TURNS: u64 = 100_000;
 
 const TURNS_AFTER: u64 = 1_000;
 
-/// What a client was told.
+/// What a client has read.
 #[derive(Clone, Copy, Debug, PartialEq, Eq)]
 enum Told {
     /// The record, and it stayed there.
     Row,
-    /// That there is no record, to the last turn.
+    /// In each reply that there is no record.
     NoRow,
     /// Anything else.
     Other,
@@ -100,7 +100,7 @@ fn stays(
 }
 
 /// Serves one session over a stream whose first message is at this position: how serving ended, what was written, and what the client
-/// was told.
+/// has read.
 pub(crate) fn serve_stream<R>(rt: &R, alloc: Global, position: &str) -> Result<String, Fail>
 where
     R: Net<Listener = TcpListener, Stream = TcpStream>

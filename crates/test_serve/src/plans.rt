@@ -5,6 +5,9 @@ use std::alloc::{AllocError, Global};
 use std::test::Fail;
 use test_kit::spell_out;
 
+/// The permissions of sockets where the words say nothing of them.
+const SOCKET_MODE: u32 = 0o600;
+
 // The program's name and the words of a line.
 fn words(alloc: Global, line: &str) -> Result<Vec<String>, Fail> {
     let line = spell_out(alloc, line)?;
@@ -46,6 +49,9 @@ fn write_service(text: &mut String, service: &Service) -> Result<(), AllocError>
     match &service.address {
         Address::Port(host, port) => write!(text, ", {sessions} sessions at {host} {port}")?,
         Address::Path(path) => write!(text, ", {sessions} sessions at {path}")?,
+    }
+    if service.socket_mode != SOCKET_MODE {
+        write!(text, " of mode {}", service.socket_mode)?;
     }
     if let Some(connections) = service.stay {
         write!(text, " for {connections} connections")?;

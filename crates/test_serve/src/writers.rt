@@ -16,7 +16,7 @@ use std::test::Fail;
 use std::thread::Threads;
 use test_kit::{keys, layout};
 
-/// Gives one writer after another, and notes what it is told.
+/// Gives one writer after another, and notes each call.
 #[derive(Drop)]
 struct Script<R: Wait + Copy> {
     rt: R,

@@ -5,11 +5,12 @@ use crate::talks::{At, flood, talk};
 use pn_join::{BadName, Name, NoMemory};
 use pn_line::InMemory;
 use pn_serve::{Counter, Origin, Settings, Stream, WriterEnd, serve};
-use pn_stay::{Counters, Listener, SocketAcceptor, StayingServer};
+use pn_stay::{Counters, Listener, OWNER_ALONE, SocketAcceptor, StayingServer};
 use pn_stream::StreamReader;
 use std::alloc::{AllocError, Global};
 use std::fs::Files;
 use std::net::{IpAddr, Ipv4Addr, Net, TcpListener, TcpStream};
+use std::os::unix::fs::PermissionsExt;
 use std::sync::{Arc, Wait};
 use std::test::Fail;
 use std::thread::Threads;
@@ -23,6 +24,12 @@ const FIRST: &str =
 
 /// The name of a socket's file.
 const PATH: &str = "socket-of-test";
+
+/// The permissions of a socket that a group may use, too.
+const GROUP: u32 = 0o660;
+
+/// All permissions.
+const ALL: u32 = 0o777;
 
 /// For how many milliseconds at most it waits for a server to have read its stream.
 const PATIENCE: u32 = 10_000;
@@ -45,7 +52,8 @@ impl Origin<InMemory<'static>> for Once {
     fn stop_writer(&mut self, _source: InMemory<'static>) {}
 }
 
-fn new_settings(alloc: Global) -> Result<Settings, NoMemory> {
+/// One worker, and one tablet for all keys.
+pub(crate) fn new_settings(alloc: Global) -> Result<Settings, NoMemory> {
     let layout = layout(alloc, "").ok_or(NoMemory)?;
     Settings::new(layout, 1).ok_or(NoMemory)
 }
@@ -61,7 +69,7 @@ where
     R: Files + Net<Listener = TcpListener, Stream = TcpStream>,
 {
     if at == "path" {
-        return Ok((Listener::bind_path(rt, PATH)?, At::Path(PATH)));
+        return Ok((Listener::bind_path(rt, PATH, OWNER_ALONE)?, At::Path(PATH)));
     }
     let listener = Listener::bind_port(rt, IpAddr::V4(Ipv4Addr::LOCALHOST), 0)?;
     let at = match &listener {
@@ -78,15 +86,17 @@ fn remove_socket<R: Files>(rt: &R, at: &str) -> io::Result<()> {
     Ok(())
 }
 
-fn new_acceptor(
+/// Accepts clients at a socket, and control sessions at another one if there is one.
+pub(crate) fn new_acceptor(
     alloc: Global,
     listener: Listener,
-    idle: u32,
+    control: Option<Listener>,
+    idle: Option<u32>,
 ) -> Result<SocketAcceptor, AllocError> {
     Ok(SocketAcceptor {
-        control: None,
+        control,
         listener,
-        idle: Some(idle),
+        idle,
         counters: Arc::new(alloc, Counters::new(alloc, Vec::new(alloc))?)?,
         faults: None,
         messages: None,
@@ -107,7 +117,7 @@ where
         + 'static,
 {
     let (listener, to) = listen(rt, at)?;
-    let acceptor = new_acceptor(alloc, listener, 60)?;
+    let acceptor = new_acceptor(alloc, listener, None, Some(60))?;
     let settings = new_settings(alloc)?;
     let mut readers = Vec::with_capacity(alloc, 1)?;
     readers.push(new_reader(alloc)?)?;
@@ -197,7 +207,7 @@ fn stay<R>(rt: &R, alloc: Global, listener: Listener, ended: &Counter) -> Option
 where
     R: Threads + Wait + Net + Clock + Sync + Copy + Send + Drop + 'static,
 {
-    let acceptor = new_acceptor(alloc, listener, 2).ok()?;
+    let acceptor = new_acceptor(alloc, listener, None, Some(2)).ok()?;
     let mut streams = Vec::with_capacity(alloc, 1).ok()?;
     streams
         .push(Stream {
@@ -215,12 +225,14 @@ where
     read
 }
 
-/// Listens at a path where nobody listens any more, and not where somebody does.
+/// Listens at a path where nobody listens any more, and not where somebody does; and the permissions of its file.
 pub(crate) fn listen_twice<R: Files + Net>(rt: &R, alloc: Global) -> Result<String, Fail> {
-    let first = Listener::bind_path(rt, PATH)?;
-    let beside = Listener::bind_path(rt, PATH).is_ok();
+    let first = Listener::bind_path(rt, PATH, GROUP)?;
+    let beside = Listener::bind_path(rt, PATH, OWNER_ALONE).is_ok();
+    let shared = fs::metadata(rt, PATH)?.permissions().mode() & ALL;
     drop(first);
-    let later = Listener::bind_path(rt, PATH).is_ok();
+    let later = Listener::bind_path(rt, PATH, OWNER_ALONE).is_ok();
+    let owned = fs::metadata(rt, PATH)?.permissions().mode() & ALL;
     fs::remove_file(rt, PATH)?;
-    Ok(format!(in alloc; "{beside} {later}")?)
+    Ok(format!(in alloc; "{beside} {later} {shared} {owned}")?)
 }

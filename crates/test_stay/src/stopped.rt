@@ -1,28 +1,24 @@
 //! A server that stays, with a control socket and no stream, until a control session stops it.
 
-use crate::served::Once;
-use pn_join::NoMemory;
-use pn_serve::{Settings, Stream};
-use pn_stay::{Counters, Listener, SocketAcceptor, StayingServer};
+use crate::served::{Once, new_acceptor, new_settings};
+use pn_serve::Stream;
+use pn_stay::{Listener, OWNER_ALONE, StayingServer};
 use std::alloc::Global;
 use std::fs::Files;
 use std::io::{BufRead, BufReader, Read, Write};
 use std::net::{Net, TcpListener, TcpStream};
 use std::os::unix::net;
 use std::os::unix::net::UnixStream;
-use std::sync::{Arc, Wait};
+use std::sync::Wait;
 use std::test::Fail;
 use std::thread::Threads;
 use std::time::Clock;
 use std::{fs, io, thread};
-use test_kit::layout;
 
-/// Where clients, control sessions and writers come.
+/// Where clients and control sessions come.
 const CLIENTS: &str = "clients-of-stopped";
 
 const CONTROL: &str = "control-of-stopped";
-
-const STREAM: &str = "stream-of-stopped";
 
 /// How often it is asked at most whether the lines of a client were counted.
 const MAX_TURNS: u32 = 100_000;
@@ -58,7 +54,7 @@ impl Talk {
     }
 }
 
-/// What a client and a control session are told by a server, which is stopped then; whether it ended, and whether a further client is
+/// What a client and a control session read of a server until it is stopped; whether it ended, and whether a further client is
 /// accepted.
 pub(crate) fn stop_server<R>(rt: &R, alloc: Global) -> Result<String, Fail>
 where
@@ -73,16 +69,10 @@ where
         + Drop
         + 'static,
 {
-    let acceptor = SocketAcceptor {
-        listener: Listener::bind_path(rt, CLIENTS)?,
-        control: Some(Listener::bind_path(rt, CONTROL)?),
-        idle: None,
-        counters: Arc::new(alloc, Counters::new(alloc, Vec::new(alloc))?)?,
-        faults: None,
-        messages: None,
-    };
-    let layout = layout(alloc, "").ok_or(NoMemory)?;
-    let settings = Settings::new(layout, 1).ok_or(NoMemory)?;
+    let clients = Listener::bind_path(rt, CLIENTS, OWNER_ALONE)?;
+    let control = Listener::bind_path(rt, CONTROL, OWNER_ALONE)?;
+    let acceptor = new_acceptor(alloc, clients, Some(control), None)?;
+    let settings = new_settings(alloc)?;
     let host = *rt;
     let asking = thread::spawn(rt, move || ask_and_stop(&host, alloc))?;
     let streams: Vec<Stream<Once>> = Vec::new(alloc);
@@ -96,7 +86,7 @@ where
     Ok(format!(in alloc; "{told}{read} {is_stopped} {is_accepted}")?)
 }
 
-// Asks, and stops the server, also where something was told otherwise. A bar is a newline.
+// Asks, and stops the server, also where a reply is missing. A bar is a newline.
 fn ask_and_stop<R: Net>(rt: &R, alloc: Global) -> io::Result<String> {
     let mut told = String::new(alloc);
     let asked = ask_all(rt, alloc, &mut told);
@@ -121,7 +111,7 @@ fn ask_all<R: Net>(rt: &R, alloc: Global, told: &mut String) -> io::Result<()> {
     client.read_to_end(told)
 }
 
-// The reply to stats once the client's two lines were counted.
+// The reply to `stats` once the client's two lines were counted.
 fn ask_for_stats(alloc: Global, control: &mut Talk) -> io::Result<String> {
     for _ in 0..MAX_TURNS {
         let mut stats = String::new(alloc);
@@ -134,7 +124,7 @@ fn ask_for_stats(alloc: Global, control: &mut Talk) -> io::Result<String> {
     Ok(String::new(alloc))
 }
 
-// Adds what stats says of connections and of the stream, without what is a matter of time.
+// Adds what `stats` says of connections, without what is a matter of time.
 fn push_stats(told: &mut String, stats: &str) -> io::Result<()> {
     for part in stats.split(",\"") {
         let is_timed = part.starts_with("since")

@@ -17,7 +17,7 @@ const MAX_TURNS: u64 = 100_000;
 /// What is asked very often.
 const QUESTION: &[u8] = b"{\"do\":\"read\",\"key\":\"k\"}\n";
 
-/// How often it is asked: the replies are more than a socket takes.
+/// How often the same is asked: the replies are more than a socket takes.
 const FLOOD: u32 = 20_000;
 
 /// For how many milliseconds nothing is read meanwhile.
@@ -37,7 +37,7 @@ pub(crate) enum Told {
     Row,
     /// The record, and then the end for a client that is idle.
     RowAndEnd,
-    /// That there is no record, to the last turn.
+    /// In each reply that there is no record.
     NoRow,
     /// Anything else.
     Other,

@@ -12,6 +12,7 @@ use Rattle.pn_apply.specs.declared.reducing.TheConstants.{MAX_WORKERS}
 use Rattle.pn_serve.specs.declared.arguments.options.TheConstants.{MAX_CONNECTIONS, MAX_IDLE, MAX_PORT, MAX_SESSIONS}
 use Rattle.pn_serve.specs.Settings.{SettingsValue}
 use Rattle.pn_serve.specs.Arguments.Bounds.{bounds_in}
+use Rattle.pn_serve.specs.Arguments.Permissions.{permissions_in}
 use Rattle.pn_serve.specs.Arguments.Streams.{streams_in}
 use Rattle.pn_serve.specs.declared.arguments.faults.OptionFault.{OptionFault}
 use Rattle.pn_serve.specs.declared.arguments.faults.OptionFault.TheVariants as fault
@@ -71,10 +72,12 @@ control_in options =
 abbrev pub service_in : IpAddr → List Row → Result ServiceValue OptionFault
 service_in host options = do
   address ← address_in host options
+  mode ← permissions_in (text_at (codes "socket-mode") options)
   control ← control_in options
   Ok (record {
     sessions = number_at (codes "sessions") MAX_SESSIONS options;
     address = address;
+    socket_mode = mode;
     stay = stay_in options;
     control = control;
     idle = idle_in options;

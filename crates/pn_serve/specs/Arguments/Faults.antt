@@ -1,4 +1,4 @@
--- Faults as the program tells them.
+-- Faults as the program prints them.
 use Rattle.std.specs.Prelude.{ℕ, if◌then◌else◌, List, [], get_or, codes, Option, Some, None, option_map}
 use Rattle.clap.specs.Words.{Row, Text}
 use Rattle.pn_serve.specs.declared.arguments.faults.OptionFault.{OptionFault}
@@ -7,7 +7,7 @@ use Rattle.pn_serve.specs.declared.arguments.faults.PlanFault.{PlanFault}
 use Rattle.pn_serve.specs.declared.arguments.faults.PlanFault.TheVariants as plan
 use Rattle.pn_serve.specs.declared.arguments.faults.Refused.{Refused}
 use Rattle.pn_serve.specs.declared.arguments.faults.Why.{Why}
-use Rattle.pn_serve.specs.declared.arguments.faults.Why.TheVariants.{LongPath, NoAddress}
+use Rattle.pn_serve.specs.declared.arguments.faults.Why.TheVariants.{LongPath, NoAddress, NoPermissions}
 use Rattle.pn_serve.specs.Arguments.Commands.{is_set, stream_words, text_at}
 
 -- a text that is refused, and why
@@ -15,8 +15,8 @@ pub record RefusedValue : Type 0 where
   pub text : Text
   pub why : Why
 
--- what `clap` refuses; or bounds, an address, the socket of control sessions or a stream, each with what is told of it; or no
--- memory
+-- what `clap` refuses; or bounds, an address, the socket of control sessions or a stream, each with the text and the reason that
+-- are printed; or no memory
 pub data FaultValue : Type 0 where
   words : FaultValue
   bounds : Option RefusedValue → FaultValue
@@ -46,11 +46,12 @@ word_at options index = get_or (stream_words options) index []
 abbrev pub reason_in : List Row → Text → Why → Option RefusedValue
 reason_in options text why = if is_set (codes "stay") options then Some (record { text = text; why = why }) else None
 
--- what is told of a fault of what a command is given
+-- a fault of what a command is given, as it is printed
 abbrev pub told_fault : List Row → OptionFault → FaultValue
 told_fault options (fault.Bounds why) = bounds (reason_in options (text_at (codes "bounds") options) why)
 told_fault options fault.Listen = address (reason_in options (text_at (codes "listen") options) NoAddress)
 told_fault options fault.Socket = address (reason_in options (text_at (codes "socket") options) LongPath)
+told_fault options fault.SocketMode = address (reason_in options (text_at (codes "socket-mode") options) NoPermissions)
 told_fault options (fault.Control why) = control (record { text = text_at (codes "control") options; why = why })
 told_fault options (fault.Stream index why) = stream (reason_in options (word_at options index) why)
 told_fault options fault.Memory = memory

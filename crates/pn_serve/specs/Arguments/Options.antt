@@ -55,6 +55,10 @@ listen_option = option_of (codes "listen") (codes "127.0.0.1")
 abbrev pub socket_option : Rule
 socket_option = plain_option (codes "socket") values.NonEmptyString
 
+-- the permissions of the Unix socket
+abbrev pub socket_mode_option : Rule
+socket_mode_option = option_of (codes "socket-mode") (codes "0600")
+
 -- after how many seconds an idle client is ended
 abbrev pub idle_option : Rule
 idle_option = plain_option (codes "idle") (values.Signed (pos 1) (pos MAX_IDLE))
@@ -78,7 +82,7 @@ replay = with_rule (with_rule (new_app (codes "replay")) bounds_option) workers_
 -- where and how long sessions are served
 abbrev pub with_service : App → App
 with_service app =
-    with_rule (with_rule (with_rule (with_rule (with_rule (with_rule (with_rule (with_rule (with_rule app sessions_option) listen_option) port_option) socket_option) stay_flag) control_option) connections_option) idle_option) progress_flag
+    with_rule (with_rule (with_rule (with_rule (with_rule (with_rule (with_rule (with_rule (with_rule (with_rule app sessions_option) listen_option) port_option) socket_option) socket_mode_option) stay_flag) control_option) connections_option) idle_option) progress_flag
 
 -- streams are read while sessions are served
 abbrev pub serve : App
@@ -87,7 +91,7 @@ serve = with_rule (with_service (with_rule (with_rule (new_app (codes "serve")) 
 -- the program, which needs a command, and has a version
 abbrev pub named_program : App
 named_program = record (new_app (codes "pnuts")) {
-  top = record (new_app (codes "pnuts")).top { has_version = true; subcommand_required = true; disable_help_subcommand = true };
+  top = record (new_app (codes "pnuts")).top { has_version = true; subcommand_required = true };
 }
 
 -- the program with its commands

@@ -15,11 +15,12 @@ pub data AddressValue : Type 0 where
   port : IpAddr → ℕ → AddressValue
   path : List ℕ → AddressValue
 
--- the sessions, where the server listens, the connections of a server that stays, the socket of its control sessions, the seconds
--- of a client that is idle, and whether progress is told
+-- the sessions, where the server listens, the permissions of its Unix socket, the connections of a server that stays, the socket of
+-- its control sessions, the seconds of a client that is idle, and whether progress is written
 pub record ServiceValue : Type 0 where
   pub sessions : ℕ
   pub address : AddressValue
+  pub socket_mode : ℕ
   pub stay : Option ℕ
   pub control : Option (List ℕ)
   pub idle : Option ℕ
@@ -46,6 +47,7 @@ abbrev pub service_value : Service → ServiceValue
 service_value service = record {
   sessions = service.sessions;
   address = address_value service.address;
+  socket_mode = service.socket_mode;
   stay = service.stay;
   control = optional_bytes service.control;
   idle = service.idle;

@@ -27,13 +27,13 @@ pub record Gives (command : Text × List Row) (result : Result Plan OptionFault)
   pub reads : Reads command written
   pub shows : ShowsUnless Memory plan_value result (plan_in written command)
 
--- what options say is this plan, or a fault that is told as this one
+-- what options say is this plan, or a fault that is printed as this one
 abbrev pub Shown : List Row → Result Plan PlanFault → Result PlanValue OptionFault → Type 0
 Shown options (Ok planned) said = said ≡ Ok (plan_value planned)
 Shown options (Err fault.Memory) said = ⊤
 Shown options (Err found) said = (first : OptionFault) × (said ≡ Err first) × (told_fault options first ≡ fault_value found)
 
--- a command and its options give this plan, or their first fault is told
+-- a command and its options give this plan, or their first fault, which is printed
 pub record Tells (command : Text × List Row) (result : Result Plan PlanFault) : Type 0 where
   pub written : Option IpAddr
   pub reads : Reads command written
@@ -48,7 +48,7 @@ pub record Says (words : List Text) (said : Result PlanValue OptionFault) : Type
   pub reads : Reads command written
   pub means : plan_in written command ≡ said
 
--- `clap` accepts the arguments, and the first fault of their command is told as this one
+-- `clap` accepts the arguments, and the first fault of their command is printed as this one
 pub record IsTold (words : List Text) (told : FaultValue) : Type 0 where
   pub first : OptionFault
   pub says : Says words (Err first)

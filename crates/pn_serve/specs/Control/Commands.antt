@@ -1,7 +1,6 @@
 -- What the writer of a live region does for control sessions.
 use Rattle.std.specs.Prelude.{◌≡◌, ◌⊎◌, ℕ, Bool, true, false, if◌then◌else◌, List, ◌∷◌, Option, None, Some, Result, Ok, Err}
 use Rattle.pn_json.specs.Lines.{line_of}
-use Rattle.pn_tablet.specs.Copies.{TabletCopyValue}
 use Rattle.pn_region.specs.Advancing.{after_advance}
 use Rattle.pn_region.specs.Events as events
 use Rattle.pn_region.specs.Events.{RegionEvent}
@@ -27,25 +26,6 @@ use Rattle.pn_serve.specs.declared.control.commands.WriterAnswer.TheVariants as 
 use Rattle.pn_serve.specs.declared.control.commands.WriterCommand.{WriterCommand}
 use Rattle.pn_serve.specs.declared.control.commands.WriterCommand.TheVariants as commands
 
--- what the writer is asked for: to adopt a copy, to advance the marks, to lose a tablet, or to show the marks, what changed
--- after a number, or the tablets
-pub data Asked : Type 0 where
-  adopt : TabletCopyValue → Asked
-  advance : Asked
-  lose : ℕ → Asked
-  marks : Asked
-  notices : ℕ → Asked
-  tablets : Asked
-
--- what a command of the program asks for
-abbrev pub asked : WriterCommand → Asked
-asked (commands.Adopt copy) = adopt copy
-asked commands.Advance = advance
-asked (commands.Lose tablet) = lose tablet
-asked commands.Marks = marks
-asked (commands.Notices since) = notices since
-asked commands.Tablets = tablets
-
 -- what an answer says: the bytes of the reply, and whether that is a refusal
 pub record Said : Type 0 where
   pub text : List ℕ
@@ -70,27 +50,27 @@ advance_turn old (Ok after) = record { machine = machine_over (record old { stat
 advance_turn old (Err fault) = record { machine = machine_over old; reply = line_of (advance_fault_data fault); refused = true }
 
 -- what the machine of a script would do over the region
-abbrev pub asked_turn : LoggedRegion → Asked → Turn
-asked_turn old (adopt copy) = adoption_turn old (after_adoption old.state copy)
-asked_turn old advance = advance_turn old (after_advance old.state)
-asked_turn old (lose tablet) = plain_turn (machine_over old) (command.lose tablet)
-asked_turn old marks = plain_turn (machine_over old) command.marks
-asked_turn old (notices since) = plain_turn (machine_over old) (command.notices since)
-asked_turn old tablets = plain_turn (machine_over old) command.tablets
+abbrev pub asked_turn : LoggedRegion → WriterCommand → Turn
+asked_turn old (commands.Adopt copy) = adoption_turn old (after_adoption old.state copy)
+asked_turn old commands.Advance = advance_turn old (after_advance old.state)
+asked_turn old (commands.Lose tablet) = plain_turn (machine_over old) (command.lose tablet)
+asked_turn old commands.Marks = plain_turn (machine_over old) command.marks
+asked_turn old (commands.Notices since) = plain_turn (machine_over old) (command.notices since)
+asked_turn old commands.Tablets = plain_turn (machine_over old) command.tablets
 
 -- the turn that leaves this region and says this
 abbrev pub turn_to : LoggedRegion → Said → Turn
 turn_to new said = record { machine = machine_over new; reply = said.text; refused = said.refused }
 
 -- the event that a command is; a question is none
-abbrev pub event_of : Asked → Option RegionEvent
-event_of (adopt copy) = Some (events.adoption copy)
-event_of advance = Some events.advance
-event_of (lose tablet) = Some (events.loss tablet)
+abbrev pub event_of : WriterCommand → Option RegionEvent
+event_of (commands.Adopt copy) = Some (events.adoption copy)
+event_of commands.Advance = Some events.advance
+event_of (commands.Lose tablet) = Some (events.loss tablet)
 event_of asked = None
 
 -- the event that came about; a refused command is none
-abbrev pub event_by : Asked → Said → Option RegionEvent
+abbrev pub event_by : WriterCommand → Said → Option RegionEvent
 event_by asked said = if said.refused then None else event_of asked
 
 -- the event, if there was one, before others
@@ -105,6 +85,6 @@ IsAfter (Some event) old new = LeadsLive event old new
 
 -- a command was answered as a script over the region would answer it, or memory ran out; and what was done and published is its
 -- event, or nothing
-pub record ObeysLive (old : LiveRegionValue) (asked : Asked) (new : LiveRegionValue) (said : Said) : Type 0 where
+pub record ObeysLive (old : LiveRegionValue) (asked : WriterCommand) (new : LiveRegionValue) (said : Said) : Type 0 where
   pub replied : (said ≡ said_by (Refused Memory)) ⊎ (asked_turn (logged old) asked ≡ turn_to (logged new) said)
   pub left : IsAfter (event_by asked said) old new

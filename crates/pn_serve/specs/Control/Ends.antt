@@ -31,11 +31,11 @@ abbrev pub ClosesBy : Start ControlState → Option (List ℕ) → Option (List 
 ClosesBy start left written state (Ok counts) = (is_closed state ≡ true) × IfSome start.left (λ script. AnsweredSome start script left written state counts)
 ClosesBy start left written state (Err fault) = ⊥
 
--- where it ends: as every session does, or once it was closed
+-- where a control session ends: as every session does, or once it was closed
 abbrev pub ControlEnds : Start ControlState → Option (List ℕ) → Option (List ℕ) → ControlState → Result Counts RunFault → Type 0
 ControlEnds start left written state result = EndsBy AnswersControl EndsControl start left written state result ⊎ ClosesBy start left written state result
 
--- so a session from its start on, with the reader that it gives back
+-- where a control session ends from its start on, with the reader that it gives back
 pub record AnswersClient (start : Start ControlState) (left written : Option (List ℕ)) (reader : LiveReaderValue) (result : Result Counts RunFault) : Type 0 where
   pub state : ControlState
   pub is : reader ≡ state.reader

@@ -59,7 +59,7 @@ Stays old new shown = (new ≡ old) × (shown ≡ Silent)
 abbrev pub Adopts : ControlState → Option (List ℕ) → ControlState → Reply → Type 0
 Adopts old came new shown = Comes (λ reader step. (reader ≡ old.reader) × AdoptsText came step) new shown
 
--- an announced line came: the text of the last one is adopted, and another one is waited for
+-- an announced line came: the text of the last one is adopted, and before it the next line is waited for
 abbrev pub TakesLine : Bool → ControlState → ℕ → Option (List ℕ) → ControlState → Reply → Type 0
 TakesLine true old left came new shown = Adopts old came new shown
 TakesLine false old left came new shown = (new ≡ record old { mode = announced (left - 1) came }) × (shown ≡ Silent)
@@ -69,7 +69,7 @@ abbrev pub AnswersIn : Mode → ControlState → List ℕ → ControlState → R
 AnswersIn awaits_command old line new shown = Comes (StepsBy old.reader line) new shown
 AnswersIn (announced left came) old line new shown = (outcome : Outcome) × TakesLine (nat_le left 1) old left (unless_call outcome (with_line came line (10 ∷ []))) new shown
 
--- unless no further line is answered
+-- what a line comes to, unless no further line is answered
 abbrev pub AnswersUnless : Bool → ControlState → List ℕ → ControlState → Reply → Type 0
 AnswersUnless true old line new shown = Stays old new shown
 AnswersUnless false old line new shown = AnswersIn old.mode old line new shown

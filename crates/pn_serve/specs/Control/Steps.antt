@@ -1,9 +1,11 @@
 -- What a line of a control session comes to, by its reader and by what the writer answers.
-use Rattle.std.specs.Prelude.{◌≡◌, ◌⊎◌, ℕ, false, List, [], Option, None, Some, Result, Ok, Err}
+use Rattle.std.specs.Prelude.{◌≡◌, ◌⊎◌, ℕ, false, List, [], Option, None, Some, Result, Ok, Err, Vec}
+use Rattle.std.specs.declared.alloc.Global.{Global}
 use Rattle.pn_json.specs.Lines.{line_of}
 use Rattle.pn_tablet.specs.Copies.{TabletCopyValue}
 use Rattle.pn_tablet.specs.CopyReading.{copy_at}
 use Rattle.pn_tablet.specs.declared.fault.CopyTextFault.{CopyTextFault}
+use Rattle.pn_scan.specs.declared.fault.ScanFault.{ScanFault}
 use Rattle.pn_live.specs.Readers.{LiveReaderValue}
 use Rattle.pn_protocol.specs.Command.Controls.{ControlValue, control_at, script, notices, advance, stats, stop}
 use Rattle.pn_protocol.specs.Command.Lines.{is_too_long}
@@ -14,42 +16,45 @@ use Rattle.pn_protocol.specs.declared.refusal.Refusal.{Refusal}
 use Rattle.pn_protocol.specs.declared.refusal.Refusal.TheVariants.{Memory}
 use Rattle.pn_protocol.specs.declared.reply.Reply.{Reply}
 use Rattle.pn_protocol.specs.declared.reply.Reply.TheVariants.{Refused}
-use Rattle.pn_protocol.specs.declared.reply.refusals.CommandFault.TheVariants.{CopyText}
+use Rattle.pn_protocol.specs.declared.reply.refusals.CommandFault.TheVariants.{CopyText, Lookup}
 use Rattle.pn_protocol.specs.declared.reply.stats.Stats.{Stats}
+use Rattle.pn_protocol.specs.declared.reply.stats.TabletStats.{TabletStats}
 use Rattle.pn_serve.specs.Control.Answers.{IsGiven, question_of}
-use Rattle.pn_serve.specs.Control.Commands as control
-use Rattle.pn_serve.specs.Control.Commands.{Asked, Said, said_by}
+use Rattle.pn_serve.specs.Control.Commands.{Said, said_by}
+use Rattle.pn_serve.specs.Control.TabletCounts.{CountsTablets}
 use Rattle.pn_serve.specs.Session.Lines.{LooksUp}
+use Rattle.pn_serve.specs.declared.control.commands.WriterCommand.{WriterCommand}
+use Rattle.pn_serve.specs.declared.control.commands.WriterCommand.TheVariants as commands
 use Rattle.pn_serve.specs.declared.control.steps.Step.{Step}
 use Rattle.pn_serve.specs.declared.control.steps.Step.TheVariants.{Replies, Announces, Stops, Ends}
 
--- it came to a reply of which this holds
+-- the line came to a reply of which this holds
 abbrev pub RepliesWith : (Reply → Type 0) → Step → Type 0
 RepliesWith holds (Replies shown) = holds shown
 RepliesWith holds step = ⊥
 
--- the reply says so, or that memory ran out
+-- the reply says what was said, or that memory ran out
 abbrev pub Says : Said → Reply → Type 0
 Says said shown = (said_by shown ≡ said) ⊎ (shown ≡ Refused Memory)
 
 -- the writer answered so
-pub record IsShown (asked : Asked) (shown : Reply) : Type 0 where
+pub record IsShown (asked : WriterCommand) (shown : Reply) : Type 0 where
   pub said : Said
   pub given : IsGiven (question_of asked) said
   pub says : Says said shown
 
 -- the writer answered, or takes no command any more
-abbrev pub Asks : Asked → Step → Type 0
+abbrev pub Asks : WriterCommand → Step → Type 0
 Asks asked (Replies shown) = IsShown asked shown
 Asks asked Ends = Unit {0}
 Asks asked step = ⊥
 
 -- the writer was asked to adopt the copy that a text is; or it is no copy
 abbrev pub AdoptsRead : Result TabletCopyValue CopyTextFault → Step → Type 0
-AdoptsRead (Ok copy) step = Asks (control.adopt copy) step
+AdoptsRead (Ok copy) step = Asks (commands.Adopt copy) step
 AdoptsRead (Err fault) step = RepliesWith (Refuses (CopyText fault)) step
 
--- so for an announced text, unless memory ran out
+-- the writer was asked to adopt the copy of an announced text, unless memory ran out
 abbrev pub AdoptsText : Option (List ℕ) → Step → Type 0
 AdoptsText None step = step ≡ Replies (Refused Memory)
 AdoptsText (Some came) step = AdoptsRead (copy_at came) step ⊎ (step ≡ Replies (Refused Memory))
@@ -57,21 +62,34 @@ AdoptsText (Some came) step = AdoptsRead (copy_at came) step ⊎ (step ≡ Repli
 -- a command of scripts was done by the reader, or by the writer; or it announces lines
 abbrev pub ObeysScript : LiveReaderValue → command.CommandValue → LiveReaderValue → Step → Type 0
 ObeysScript old (command.adopt lines) new step = (new ≡ old) × (step ≡ Announces lines)
-ObeysScript old (command.lose tablet) new step = (new ≡ old) × Asks (control.lose tablet) step
-ObeysScript old command.marks new step = (new ≡ old) × Asks control.marks step
-ObeysScript old command.tablets new step = (new ≡ old) × Asks control.tablets step
+ObeysScript old (command.lose tablet) new step = (new ≡ old) × Asks (commands.Lose tablet) step
+ObeysScript old command.marks new step = (new ≡ old) × Asks commands.Marks step
+ObeysScript old command.tablets new step = (new ≡ old) × Asks commands.Tablets step
 ObeysScript old asked new step = RepliesWith (λ shown. LooksUp old asked new shown) step
 
--- the reply shows what some server has done so far
-abbrev pub ShowsStats : Reply → Type 0
-ShowsStats shown = (done : Stats) × Says (record { text = line_of (stats_data done); refused = false }) shown
+-- the reply shows what some server with these counts of its tablets has done so far, or that memory ran out
+abbrev pub ShowsStats : Vec TabletStats Global → Reply → Type 0
+ShowsStats tablets shown =
+    ((done : Stats) × (done.tablets ≡ tablets) × (said_by shown ≡ record { text = line_of (stats_data done); refused = false }))
+    ⊎ (shown ≡ Refused Memory)
+
+-- the counts of the tablets are shown with what the server has done, or why there are none
+abbrev pub ShowsCounts : Result (Vec TabletStats Global) ScanFault → Reply → Type 0
+ShowsCounts (Ok tablets) shown = ShowsStats tablets shown
+ShowsCounts (Err why) shown = Refuses (Lookup why) shown
+
+-- the reader counted the tablets, and the reply shows what came of it
+pub record Reports (old new : LiveReaderValue) (step : Step) : Type 0 where
+  pub answer : Result (Vec TabletStats Global) ScanFault
+  pub counts : CountsTablets old new answer
+  pub shows : RepliesWith (ShowsCounts answer) step
 
 -- a command was done
 abbrev pub ObeysControl : LiveReaderValue → ControlValue → LiveReaderValue → Step → Type 0
 ObeysControl old (script asked) new step = ObeysScript old asked new step
-ObeysControl old (notices since wait) new step = (new ≡ old) × Asks (control.notices since) step
-ObeysControl old advance new step = (new ≡ old) × Asks control.advance step
-ObeysControl old stats new step = (new ≡ old) × RepliesWith ShowsStats step
+ObeysControl old (notices since wait) new step = (new ≡ old) × Asks (commands.Notices since) step
+ObeysControl old advance new step = (new ≡ old) × Asks commands.Advance step
+ObeysControl old stats new step = Reports old new step
 ObeysControl old (stop seconds) new step = (new ≡ old) × (step ≡ Stops seconds)
 
 -- a line that reads as this was answered
@@ -88,7 +106,7 @@ abbrev pub Lasts : Step → Step → Type 0
 Lasts (Announces lines) step = AdoptsText (Some []) step
 Lasts first step = step ≡ first
 
--- so the last line, which has no newline
+-- the last line, which has no newline, was answered; where it announces lines, none comes
 pub record StepsLast (old : LiveReaderValue) (part : List ℕ) (new : LiveReaderValue) (step : Step) : Type 0 where
   pub first : Step
   pub steps : StepsBy old part new first

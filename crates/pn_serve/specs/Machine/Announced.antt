@@ -13,7 +13,7 @@ unless_call outcome text = text
 abbrev pub with_line : Option (List ℕ) → List ℕ → List ℕ → Option (List ℕ)
 with_line text line newline = option_map (λ came. came ++ (kept_bytes line ++ newline)) text
 
--- an announced line came: the last one adopts the text, another one is waited for
+-- an announced line came: the text of the last one is adopted, and before it the next line is waited for
 abbrev pub one_came : Machine → ℕ → Option (List ℕ) → Turn
 one_came machine left text = if nat_le left 1 then text_adoption_turn (logged_region machine) text else silent_turn (record machine { mode = announced (left - 1) text })
 

@@ -24,16 +24,16 @@ events_of_end awaits_command machine outcome [] = []
 events_of_end awaits_command machine outcome (b ∷ part) = events_of_last machine (outcome_at outcome (b ∷ part)) (command_at (b ∷ part))
 events_of_end (announced left came) machine outcome part = events_by_text (logged_region machine) (unless_call outcome (with_line came part []))
 
--- by the end, if it came
+-- what happens by the end of an input, if it came
 abbrev pub events_at_end : Machine → Option InputEnd → List RegionEvent
 events_at_end machine None = []
 events_at_end machine (Some end) = events_of_end machine.mode machine end.outcome end.part
 
--- by an input, from a machine on
+-- what happens by an input, from a machine on
 abbrev pub events_since : Machine → Input → List RegionEvent
 events_since machine input =
     events_from machine input.lines input.outcomes ++ events_at_end (machine_after machine input.lines input.outcomes) input.end
 
--- by an input, from a new region on
+-- what happens by an input, from a new region on
 abbrev pub events_of_input : RegionValue → Input → List RegionEvent
 events_of_input region input = events_since (new_machine region) input

@@ -28,7 +28,7 @@ pub record IsAccepted (machine : Machine) (line : ToldLine) (deliveries : List D
   pub delivers : Delivers machine line.text deliveries
   pub accepted : (turn machine line.outcome line.text).refused ≡ false
 
--- so is the last line, which has no newline
+-- the last line, which has no newline, delivers this and is accepted
 pub record IsAcceptedLast (machine : Machine) (end : InputEnd) (deliveries : List DeliveryValue) : Type 0 where
   pub there : end.part ≢ []
   pub delivers : Delivers machine end.part deliveries
@@ -51,14 +51,14 @@ pub record IsMadeUp (machine : Machine) (line : ToldLine) (later : List ToldLine
   pub refused : IsRefused machine line deliveries
   pub repeated : IsRepeated (after_line machine line) later end deliveries
 
--- the other lines are these, without some refused rounds that are later repeated
+-- the second list is the first without some refused rounds that are later repeated
 abbrev pub AreWithout : Machine → List ToldLine → Option InputEnd → List ToldLine → Type 0
 AreWithout machine [] end others = others ≡ []
 AreWithout machine (line ∷ lines) end others =
     (IsMadeUp machine line lines end × AreWithout (after_line machine line) lines end others)
     ⊎ ((rest : List ToldLine) × (others ≡ line ∷ rest) × AreWithout (after_line machine line) lines end rest)
 
--- both have one layout; the other was told the same, without some refused rounds that are later repeated
+-- both regions have one layout; the other took the same lines, without some refused rounds that are later repeated
 pub record IsToldWithout (one other : Told) : Type 0 where
   pub layout : one.layout ≡ other.layout
   pub lines : AreWithout (new_machine (new_region one.layout)) (told_lines one.input.lines one.input.outcomes) one.input.end (told_lines other.input.lines other.input.outcomes)

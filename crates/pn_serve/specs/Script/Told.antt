@@ -25,15 +25,15 @@ pub record Told : Type 0 where
   pub lawful : IsLayout layout
   pub input : Input
 
--- its machine after the input
+-- the machine of a new region after its input
 abbrev pub machine_of : Told → Machine
 machine_of told = after_input (new_machine (new_region told.layout)) told.input
 
--- the records of all its tablets together
+-- the records of all tablets of the region together
 abbrev pub records_of : Told → Entries
 records_of told = all_cells (machine_of told).region
 
--- the images that it took, in rounds and by copies
+-- the images that a new region took, in rounds and by copies
 abbrev pub images_of : BrokerRecord → Told → List Image
 images_of broker told = images_taken broker (new_region told.layout) told.input
 
@@ -43,11 +43,11 @@ pub record TookTheSame (broker : BrokerRecord) (one other : Told) : Type 0 where
   pub settled_too : Settled broker (new_region other.layout) other.input
   pub same : SameImages (images_of broker one) (images_of broker other)
 
--- it waits for a command
+-- the region waits for a command
 abbrev pub AwaitsCommand : Told → Type 0
 AwaitsCommand told = Waits (new_region told.layout) told.input
 
--- its replies to one more line: with a newline, and without at the end of the input
+-- the replies of the region to one more line: with a newline, and without at the end of the input
 abbrev pub reply_of : Told → Outcome → List ℕ → List ℕ
 reply_of told outcome text = (turn (machine_of told) outcome text).reply
 

@@ -1,7 +1,8 @@
 -- What the writer of a live region does one after another.
 use Rattle.std.specs.Prelude.{◌≡◌, ◌≢◌, ℕ, List, [], ◌∷◌, Result, Ok, Err}
 use Rattle.pn_live.specs.LiveRegions.{LiveRegionValue}
-use Rattle.pn_serve.specs.Control.Commands.{Asked, ObeysLive, Said}
+use Rattle.pn_serve.specs.Control.Commands.{ObeysLive, Said}
+use Rattle.pn_serve.specs.declared.control.commands.WriterCommand.{WriterCommand}
 use Rattle.pn_serve.specs.Server.Reading.{RunsRound, StopsAt}
 use Rattle.pn_serve.specs.Server.Rounds.{RoundInputValue}
 use Rattle.pn_serve.specs.declared.server.fault.ServeFault.{ServeFault}
@@ -12,7 +13,7 @@ use Rattle.pn_serve.specs.declared.server.mailboxes.AtFault.TheVariants.{GoOn}
 -- a round of what streams gave, or a command and its answer
 pub data WriterEvent : Type 0 where
   taken : RoundInputValue → WriterEvent
-  told : Asked → Said → WriterEvent
+  told : WriterCommand → Said → WriterEvent
 
 -- these events came one after another; each round is of the streams that still went on; and these streams go on
 abbrev pub AllDone : AtFault → List (List ℕ) → LiveRegionValue → List WriterEvent → List (List ℕ) → LiveRegionValue → Type 0

@@ -28,7 +28,7 @@ abbrev pub first_fault : Option (List ℕ) → List ℕ → Bool → Option (Lis
 first_fault (Some before) name has_fault = Some before
 first_fault None name has_fault = if has_fault then Some name else None
 
--- with the report of the stream of this name, if there is one
+-- the reports with that of the stream of this name, if it has one
 abbrev pub with_report : Positions → RoundInputValue → List ℕ → Option Report → RoundInputValue
 with_report marks input name None = input
 with_report marks input name (Some report) = record {
@@ -36,7 +36,7 @@ with_report marks input name (Some report) = record {
   fault = first_fault input.fault name (is_fault marks report);
 }
 
--- with all of these notes
+-- the reports with all of these notes
 abbrev pub with_notes : Positions → RoundInputValue → List Note → RoundInputValue
 with_notes marks input [] = input
 with_notes marks input (note ∷ notes) = with_notes marks (with_report marks input note.name note.report) notes
@@ -51,8 +51,8 @@ abbrev pub still_read : Positions → List Note → List (List ℕ)
 still_read marks [] = []
 still_read marks (note ∷ notes) = if goes_on marks note.report then note.name ∷ still_read marks notes else still_read marks notes
 
--- it is what the mailboxes of the streams of these names gave over these marks, each asked once, in order; and these streams go
--- on
+-- the reports are what the mailboxes of the streams of these names gave over these marks, each asked once, in order; and these
+-- streams go on
 pub record IsInputOf (names : List (List ℕ)) (marks : Positions) (input : RoundInputValue) (left : List (List ℕ)) : Type 0 where
   pub notes : List Note
   pub of_streams : map (λ note. note.name) notes ≡ names

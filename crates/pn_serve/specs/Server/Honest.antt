@@ -15,12 +15,12 @@ use Rattle.pn_serve.specs.declared.server.mailboxes.AtFault.{AtFault}
 abbrev pub IsPublished : BrokerRecord → List ℕ → List ℕ → Type 0
 IsPublished broker name line = (message : Message) → IsUnbroken line → IsMessageLine line message → slice_get (broker name) (pred message.0) ≡ Some message.1
 
--- so it is with each of these lines
+-- each of these lines that is a message has an image that was published at its position of the stream
 abbrev pub ArePublished : BrokerRecord → List ℕ → List (List ℕ) → Type 0
 ArePublished broker name [] = Unit {0}
 ArePublished broker name (line ∷ lines) = IsPublished broker name line × ArePublished broker name lines
 
--- a writer of the stream is honest: so it is with each line of its text
+-- a writer of the stream is honest: each message of its text has an image that was published at its position
 abbrev pub IsHonestWriter : BrokerRecord → List ℕ → List ℕ → Type 0
 IsHonestWriter broker name text = (lines : List (List ℕ)) (rest : List ℕ) → text ≡ text_of lines ++ rest → ArePublished broker name lines
 

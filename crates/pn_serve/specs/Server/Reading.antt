@@ -30,6 +30,11 @@ abbrev pub StopsAt : AtFault → List (List ℕ) → LiveRegionValue → LiveReg
 StopsAt at_fault names old new fault =
     ((input : RoundInputValue) × (left : List (List ℕ)) × RunsRound at_fault names old input left new (Err fault)) ⊎ ((fault ≡ Round) × (new ≡ old))
 
+-- the next round went well, and these streams go on; or it has this fault, or there was no memory for its input
+abbrev pub TakesRound : AtFault → List (List ℕ) → LiveRegionValue → List (List ℕ) → LiveRegionValue → Result (Unit {0}) ServeFault → Type 0
+TakesRound at_fault names old left new (Ok done) = (input : RoundInputValue) × RunsRound at_fault names old input left new (Ok tt)
+TakesRound at_fault names old left new (Err fault) = StopsAt at_fault names old new fault
+
 -- some rounds went well, and the next has this fault
 pub record ReadUpTo (at_fault : AtFault) (names : List (List ℕ)) (old new : LiveRegionValue) (fault : ServeFault) : Type 0 where
   pub rounds : List RoundInputValue

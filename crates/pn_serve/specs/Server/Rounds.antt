@@ -42,7 +42,7 @@ IsNoGap (Gap stream wanted got) = ⊥
 IsNoGap TooManyStreams = Unit {0}
 IsNoGap Memory = Unit {0}
 
--- the live region refused the round, for want of memory or since there were too many streams
+-- the live region refused the round: memory ran out, or there were too many streams
 pub record IsRoundRefused (old : LiveRegionValue) (deliveries : List DeliveryValue) (new : LiveRegionValue) : Type 0 where
   pub fault : RoundFault
   pub no_gap : IsNoGap fault

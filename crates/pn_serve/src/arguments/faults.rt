@@ -9,14 +9,14 @@ use std::alloc::AllocError;
 use std::fmt;
 use thiserror::Error;
 
-/// Why arguments are refused. With `--stay`, and of `--control`, it is told of which text, and why.
+/// Why arguments are refused. With `--stay`, and for `--control`, the text that is refused comes with it, and the reason.
 #[derive(Debug, Drop)]
 pub enum PlanFault<'w> {
     /// `clap` refuses them; the text says why.
     Words(String),
     /// The bounds are not a JSON array of rising keys.
     Bounds(Option<Refused<'w>>),
-    /// The address is none of IPv4 or IPv6; or, with `--stay`, the path of the socket is too long.
+    /// The address is none of IPv4 or IPv6; or, with `--stay`, the path of the socket is too long; or its permissions are none.
     Address(Option<Refused<'w>>),
     /// Control sessions are only with `--stay`, and at a path of at most 107 bytes.
     Control(Refused<'w>),
@@ -43,8 +43,10 @@ pub enum Why {
     NoKey,
     #[error("{0}")]
     NoLayout(LayoutFault),
-    #[error("no address of IPv4 or IPv6")]
+    #[error("no address of IPv4 or IPv6, and host names are not looked up")]
     NoAddress,
+    #[error("no octal number up to 777")]
+    NoPermissions,
     #[error("only with --stay")]
     NoStay,
     #[error("no =")]
@@ -69,6 +71,8 @@ pub(crate) enum OptionFault {
     Listen,
     /// With `--stay`, the path of `--socket` is too long.
     Socket,
+    /// The text of `--socket-mode` is no octal number up to 777.
+    SocketMode,
     /// `--control` is without `--stay`, or its path is too long.
     Control(Why),
     /// The stream of this index, from 0, is refused.

@@ -59,12 +59,13 @@ const WORKERS_HELP: &str = "How many threads work a round: 1 to 16";
 
 const SESSIONS_HELP: &str = "How many sessions are served: 1 to 16";
 
-const LISTEN_HELP: &str = "The address that is listened at, of IPv4 or IPv6";
+const LISTEN_HELP: &str = "The address that is listened at, of IPv4 or IPv6, which is no host name";
 
 const PORT_HELP: &str = "The port that is listened on";
 
-const SOCKET_HELP: &str =
-    "A Unix socket that is listened on in place of a port; only its owner may connect";
+const SOCKET_HELP: &str = "A Unix socket that is listened on in place of a port";
+
+const SOCKET_MODE_HELP: &str = "The permissions of --socket in octal, up to 0777; with 0660 its group may connect";
 
 const CONTROL_HELP: &str =
     "With --stay: a Unix socket for those who run the region; only its owner may connect";
@@ -91,8 +92,7 @@ pub(crate) fn command<'w>(alloc: Global) -> Result<Command<'w>, AllocError>
         .about("A read region of a replicated record store")
         .version(VERSION)
         .after_help(EXAMPLES)
-        .subcommand_required(true)
-        .disable_help_subcommand(true);
+        .subcommand_required(true);
     let replay = over_region(alloc, "replay", REPLAY_ABOUT, REPLAY_EXAMPLES)?;
     command.subcommand(replay)?.subcommand(serve(alloc)?)
 }
@@ -113,6 +113,7 @@ fn serve<'w>(alloc: Global) -> Result<Command<'w>, AllocError>
         .arg(option(alloc, "listen", "ADDRESS", "127.0.0.1", LISTEN_HELP))?
         .arg(number(alloc, "port", "P", "7070", MAX_PORT, PORT_HELP))?
         .arg(path(alloc, "socket", SOCKET_HELP))?
+        .arg(option(alloc, "socket-mode", "MODE", "0600", SOCKET_MODE_HELP))?
         .arg(flag(alloc, "stay", STAY_HELP))?
         .arg(path(alloc, "control", CONTROL_HELP))?
         .arg(number(
@@ -260,8 +261,8 @@ pub(crate) fn is_given(options: &ArgMatches<'_>, name: &str) -> bool
     option_text(options, name) == "true"
 }
 
-/// A number among the arguments is as written where it is from 1 to the option's most, 1 where none is written, and in
-/// this range in any case.
+/// The number of an option is as written where it is from 1 to the option's most, and 1 where none is written. It is never less
+/// than 1 nor greater than the most.
 pub fn numbers_are_as_written()
     ensures written { (name text : Text) (number most : ℕ) (options : List Row) → one_of name options ≡ Some text → number_in text ≡ Some number
         → 1 ≤ number → number ≤ most → number_at name most options ≡ number }

@@ -24,6 +24,13 @@ pub(crate) fn told_fault<'w>(options: &ArgMatches<'w>, fault: OptionFault) -> Pl
         OptionFault::Socket => {
             PlanFault::Address(reason_of(options, option_text(options, "socket"), Why::LongPath))
         }
+        OptionFault::SocketMode => {
+            PlanFault::Address(reason_of(
+                options,
+                option_text(options, "socket-mode"),
+                Why::NoPermissions,
+            ))
+        }
         OptionFault::Control(why) => PlanFault::Control(Refused {
             text: option_text(options, "control"),
             why,

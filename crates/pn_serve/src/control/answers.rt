@@ -3,14 +3,14 @@
 ghost use Rattle.std.specs.Prelude.{◌≡◌, IfSome};
 ghost use Rattle.pn_live.specs.Prelude.{tablets_in};
 ghost use Rattle.pn_serve.specs.Control.Answers.{IsGiven, question_of};
-ghost use Rattle.pn_serve.specs.Control.Commands.{ObeysLive, answer_of, asked};
+ghost use Rattle.pn_serve.specs.Control.Commands.{ObeysLive, answer_of};
 
 use crate::control::commands::{WriterAnswer, WriterCommand, obey};
 use pn_live::LiveRegion;
 use std::alloc::Global;
 use std::sync::Wait;
 
-/// What the writer is asked for, but for a copy.
+/// What a command asks the writer for. Of an adoption the copy is left out.
 #[derive(Clone, Copy, PartialEq, Eq)]
 pub(crate) enum Question {
     Adopt,
@@ -32,7 +32,7 @@ pub(crate) struct GivenAnswer {
 impl Question {
     /// What a command asks for.
     pub(crate) fn of(command: &WriterCommand) -> Question
-        ensures { result ≡ question_of (asked command.now) }
+        ensures { result ≡ question_of command.now }
     {
         match command {
             WriterCommand::Adopt(_) => Question::Adopt,
@@ -64,7 +64,7 @@ pub(crate) fn give_answer<R: Wait>(
     live: &mut LiveRegion,
     command: WriterCommand,
 ) -> GivenAnswer
-    ensures obeys { ObeysLive live.old (asked command) live.new (answer_of result.answer) }
+    ensures obeys { ObeysLive live.old command live.new (answer_of result.answer) }
     ensures same { tablets_in live.new ≡ tablets_in live.old }
 {
     let question = Question::of(&command);

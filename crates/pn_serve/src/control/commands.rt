@@ -4,8 +4,8 @@ ghost use Rattle.std.specs.Prelude.{◌≡◌, ◌+◌, length, Ok};
 ghost use Rattle.pn_region.specs.Advancing.{after_advance, with_marks};
 ghost use Rattle.pn_live.specs.LiveRegions.{core};
 ghost use Rattle.pn_live.specs.Prelude.{tablets_in};
-ghost use Rattle.pn_serve.specs.Control.Commands.{ObeysLive, answer_of, asked, said_by};
-ghost use Rattle.pn_serve.specs.Control.Commands as control;
+ghost use Rattle.pn_serve.specs.Control.Commands.{ObeysLive, answer_of, said_by};
+ghost use Rattle.pn_serve.specs.declared.control.commands.WriterCommand.TheVariants as commands;
 
 use pn_join::Marks;
 use pn_live::LiveRegion;
@@ -63,7 +63,7 @@ impl ShownTablets for LiveTablets<'_> {
     }
 }
 
-// There is one tablet more than bounds.
+// A region has one tablet more than its layout has bounds.
 fn recall_tablet_count(live: &LiveRegion)
     ensures { length (core live.now).tablets ≡ length live.now.layout + 1 }
 {
@@ -78,7 +78,7 @@ pub(crate) fn obey<R: Wait>(
     live: &mut LiveRegion,
     command: WriterCommand,
 ) -> WriterAnswer
-    ensures obeys { ObeysLive live.old (asked command) live.new (answer_of result) }
+    ensures obeys { ObeysLive live.old command live.new (answer_of result) }
     ensures same { tablets_in live.new ≡ tablets_in live.old }
 {
     match command {
@@ -92,7 +92,7 @@ pub(crate) fn obey<R: Wait>(
 }
 
 fn adopt<R: Wait>(rt: &R, alloc: Global, live: &mut LiveRegion, copy: TabletCopy) -> Reply
-    ensures obeys { ObeysLive live.old (control.adopt copy) live.new (said_by result) }
+    ensures obeys { ObeysLive live.old (commands.Adopt copy) live.new (said_by result) }
     ensures same { tablets_in live.new ≡ tablets_in live.old }
 {
     let Some(tablet) = live.tablet_for(&copy.range) else {
@@ -105,7 +105,7 @@ fn adopt<R: Wait>(rt: &R, alloc: Global, live: &mut LiveRegion, copy: TabletCopy
 }
 
 fn advance(alloc: Global, live: &mut LiveRegion) -> Reply
-    ensures obeys { ObeysLive live.old control.advance live.new (said_by result) }
+    ensures obeys { ObeysLive live.old commands.Advance live.new (said_by result) }
     ensures same { tablets_in live.new ≡ tablets_in live.old }
 {
     match live.common_marks() {
@@ -114,10 +114,10 @@ fn advance(alloc: Global, live: &mut LiveRegion) -> Reply
     }
 }
 
-// Advances to these marks. The reply is written before, so that no marks advance without one.
+// Advances the region to `marks`. The reply is written first: where there is no memory for it, the marks stay.
 fn advance_to(alloc: Global, live: &mut LiveRegion, marks: &Marks) -> Reply
     requires { after_advance (core live.old) ≡ Ok (with_marks (core live.old) marks.now) }
-    ensures obeys { ObeysLive live.old control.advance live.new (said_by result) }
+    ensures obeys { ObeysLive live.old commands.Advance live.new (said_by result) }
     ensures same { tablets_in live.new ≡ tablets_in live.old }
 {
     let Ok(text) = marks_reply(alloc, marks) else {
@@ -130,7 +130,7 @@ fn advance_to(alloc: Global, live: &mut LiveRegion, marks: &Marks) -> Reply
 }
 
 fn lose<R: Wait>(rt: &R, live: &mut LiveRegion, tablet: u64) -> Reply
-    ensures obeys { ObeysLive live.old (control.lose tablet) live.new (said_by result) }
+    ensures obeys { ObeysLive live.old (commands.Lose tablet) live.new (said_by result) }
     ensures same { tablets_in live.new ≡ tablets_in live.old }
 {
     if tablet >= live.layout().count() as u64 {
@@ -143,13 +143,13 @@ fn lose<R: Wait>(rt: &R, live: &mut LiveRegion, tablet: u64) -> Reply
 }
 
 fn show_marks(alloc: Global, live: &LiveRegion) -> Reply
-    ensures { ObeysLive live.now control.marks live.now (said_by result) }
+    ensures { ObeysLive live.now commands.Marks live.now (said_by result) }
 {
     answer_text(marks_reply(alloc, live.marks()))
 }
 
 fn look_up_notices(live: &LiveRegion, since: u64) -> WriterAnswer
-    ensures { ObeysLive live.now (control.notices since) live.now (answer_of result) }
+    ensures { ObeysLive live.now (commands.Notices since) live.now (answer_of result) }
 {
     match live.notices_since(since) {
         Ok(found) => WriterAnswer::Found(found),
@@ -158,7 +158,7 @@ fn look_up_notices(live: &LiveRegion, since: u64) -> WriterAnswer
 }
 
 fn show_tablets(alloc: Global, live: &LiveRegion) -> Reply
-    ensures { ObeysLive live.now control.tablets live.now (said_by result) }
+    ensures { ObeysLive live.now commands.Tablets live.now (said_by result) }
 {
     answer_text(tablets_reply(alloc, &LiveTablets(live)))
 }

@@ -23,7 +23,7 @@ pub(crate) struct ControlHandler<'a, R, C: Drop> {
     reader: LiveReader,
     // The lines that are still to come. None: the next line is a command.
     announced: Option<Announced>,
-    // After how many seconds at most the server is to end, once that was asked for.
+    // Within how many seconds the server is to end, once the client has asked for that.
     stop: Option<u64>,
     // Whether the writer takes no command any more.
     is_over: bool,
@@ -68,7 +68,7 @@ impl<'a, R, C: Drop> ControlHandler<'a, R, C> {
         self.stop.is_some() || self.is_over
     }
 
-    /// Gives the reader back, and after how many seconds at most the server is to end, once that was asked for.
+    /// Gives the reader back, and within how many seconds the server is to end, if the client has asked for that.
     pub(crate) fn end(self) -> (LiveReader, Option<u64>)
         ensures reader { result.0 ≡ self.entry.reader }
         ensures stop { result.1 ≡ self.entry.stop }

@@ -19,7 +19,7 @@ struct WatchState {
 }
 
 impl LogWatch {
-    /// That of an empty log.
+    /// The watch of an empty log.
     pub(crate) fn new() -> LogWatch {
         LogWatch {
             state: Mutex::new(WatchState {
@@ -37,7 +37,7 @@ impl LogWatch {
         }
     }
 
-    /// Waits for so many seconds at most while the last number is this one. Whether it is another one.
+    /// Waits for `seconds` at most while the last number is `number`. Answers whether it is another one.
     pub(crate) fn wait_past<R: Wait + Clock>(&self, rt: &R, number: u64, seconds: u64) -> bool {
         let most = Duration::from_secs(seconds);
         let guard = self.state.lock(rt);

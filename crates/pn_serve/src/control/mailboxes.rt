@@ -3,7 +3,7 @@
 ghost use Rattle.std.specs.Prelude.{◌≡◌, ◌≢◌, ℕ, List, None, IfSome, MatchBool, MatchOption};
 ghost use Rattle.pn_live.specs.Prelude.{tablets_in};
 ghost use Rattle.pn_serve.specs.Control.Answers.{IsGiven, question_of};
-ghost use Rattle.pn_serve.specs.Control.Commands.{answer_of, asked};
+ghost use Rattle.pn_serve.specs.Control.Commands.{answer_of};
 ghost use Rattle.pn_serve.specs.Server.Events.{ToldAll};
 ghost use Rattle.pn_serve.specs.declared.control.mailboxes.HeldCommand.TheVariants.{Nothing, Asked, Taken, Answered, Closed};
 ghost use Rattle.pn_serve.specs.declared.server.mailboxes.AtFault.{AtFault};
@@ -48,7 +48,7 @@ enum HeldCommand {
     Taken,
     /// The answer, until the session takes it.
     Answered(GivenAnswer),
-    /// Nothing, and no command is taken.
+    /// Nothing: from now on no command is taken.
     Closed,
 }
 
@@ -74,7 +74,7 @@ impl ControlMailboxes {
         session: usize,
         command: WriterCommand,
     ) -> Option<WriterAnswer>
-        ensures { IfSome result (λ answer. IsGiven (question_of (asked command)) (answer_of answer)) }
+        ensures { IfSome result (λ answer. IsGiven (question_of command) (answer_of answer)) }
     {
         let mailbox = self.mailboxes.get(session)?;
         let question = Question::of(&command);
@@ -85,19 +85,19 @@ impl ControlMailboxes {
         mailbox.wait(rt)?.to(question)
     }
 
-    /// Waits for so many seconds at most while the last number of the log is this one. Whether it is another one.
+    /// Waits for `seconds` at most while the last number of the log is `number`. Answers whether it is another one.
     pub(crate) fn wait_past<R: Wait + Clock>(&self, rt: &R, number: u64, seconds: u64) -> bool {
         self.log.wait_past(rt, number, seconds)
     }
 
-    /// Asks the server to end after so many seconds at most.
+    /// Asks the server to end within `seconds`.
     pub fn stop<R: Wait>(&self, rt: &R, seconds: u64) {
         self.stop.ask(rt, seconds);
         self.log.close(rt);
         self.wakeup.notify(rt);
     }
 
-    /// After how many seconds at most the server is to end, once that is asked for.
+    /// Within how many seconds the server is to end, once a session has asked for that.
     pub fn stop_asked<R: Wait>(&self, rt: &R) -> Option<u64> {
         self.stop.asked(rt)
     }

@@ -1,18 +1,19 @@
 //! What a line of a control session comes to: its reader looks up, and the writer is asked for the rest.
 
+ghost use Rattle.std.specs.Prelude.{Ok};
 ghost use Rattle.pn_protocol.specs.Prelude.{command_value, control_value};
-ghost use Rattle.pn_serve.specs.Control.Commands.{asked};
-ghost use Rattle.pn_serve.specs.Control.Steps.{AdoptsText, Asks, ObeysControl, ObeysScript, RepliesWith, ShowsStats, StepsBy, StepsLast};
+ghost use Rattle.pn_serve.specs.Control.Steps.{AdoptsText, Asks, ObeysControl, ObeysScript, RepliesWith, Reports, ShowsCounts, StepsBy, StepsLast};
 ghost use Rattle.pn_serve.specs.Machine.Modes.{bytes_of};
 
 use crate::control::commands::{WriterAnswer, WriterCommand};
 use crate::control::session::{ControlSession, StatsSource};
+use crate::control::tablet_counts::count_tablets;
 use crate::machine::adoption::read_text;
 use crate::sessions::lookups::look_up;
 use pn_live::LiveReader;
 use pn_protocol::{
-    Command, CommandFault, ControlCommand, Refusal, Reply, answer_text, control_of, notices_reply,
-    refuse, stats_reply,
+    Command, CommandFault, ControlCommand, Refusal, Reply, TabletStats, answer_text, control_of,
+    notices_reply, refuse, stats_reply,
 };
 use std::alloc::Global;
 use std::sync::Wait;
@@ -23,9 +24,9 @@ use std::time::Clock;
 pub(crate) enum Step {
     /// A reply.
     Replies(Reply),
-    /// So many lines are to come.
+    /// This many lines are to come.
     Announces(u64),
-    /// The server is asked to end after so many seconds at most.
+    /// The server is asked to end within this many seconds.
     Stops(u64),
     /// Nothing: the writer takes no command any more.
     Ends,
@@ -93,7 +94,7 @@ impl<C: StatsSource + Drop> ControlSession<C> {
                 self.ask(rt, alloc, WriterCommand::Notices { since })
             }
             ControlCommand::Advance => self.ask(rt, alloc, WriterCommand::Advance),
-            ControlCommand::Stats => self.report(alloc),
+            ControlCommand::Stats => self.report(alloc, reader),
             ControlCommand::Stop { seconds } => Step::Stops(seconds),
         }
     }
@@ -119,7 +120,7 @@ impl<C: StatsSource + Drop> ControlSession<C> {
 
     // What the writer answers, if it still takes commands.
     fn ask<R: Wait>(&self, rt: &R, alloc: Global, command: WriterCommand) -> Step
-        ensures { Asks (asked command) result }
+        ensures { Asks command result }
     {
         match self.mailboxes.ask(rt, self.number, command) {
             Some(WriterAnswer::Reply(reply)) => Step::Replies(reply),
@@ -130,18 +131,26 @@ impl<C: StatsSource + Drop> ControlSession<C> {
         }
     }
 
-    // Shows what the server has done so far.
-    fn report(&self, alloc: Global) -> Step
-        ensures { RepliesWith ShowsStats result }
+    // Shows what the server has done so far, and what its tablets have.
+    fn report(&self, alloc: Global, reader: &mut LiveReader) -> Step
+        ensures { Reports reader.old reader.new result }
     {
-        match self.stats.stats(alloc) {
+        match count_tablets(alloc, reader) {
+            Ok(tablets) => self.show_stats(alloc, tablets),
+            Err(fault) => Step::Replies(refuse(alloc, CommandFault::Lookup(fault))),
+        }
+    }
+
+    fn show_stats(&self, alloc: Global, tablets: Vec<TabletStats>) -> Step
+        ensures { RepliesWith (ShowsCounts (Ok tablets)) result }
+    {
+        match self.stats.stats(alloc, tablets) {
             Ok(stats) => Step::Replies(answer_text(stats_reply(alloc, &stats))),
             Err(_) => Step::Replies(Reply::Refused(Refusal::Memory)),
         }
     }
 
-    // Waits for so many seconds at most while the last number of the log is this one and the client is there, a second at
-    // a time.
+    // Waits, a second at a time, for `seconds` at most while the last number of the log is `number` and the client is there.
     fn wait_past<R: Wait + Clock>(&self, rt: &R, number: u64, seconds: u64) {
         for _ in 0..seconds {
             let is_past = self.mailboxes.wait_past(rt, number, 1);

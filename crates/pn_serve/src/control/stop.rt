@@ -4,29 +4,29 @@ ghost use Rattle.std.specs.Prelude.{◌≡◌, Some, MatchOption};
 
 use std::sync::{Mutex, Wait};
 
-/// After how many seconds at most the server is to end, once somebody asked for that.
+/// Within how many seconds the server is to end, once a control session has asked for that.
 #[derive(Drop)]
 pub(crate) struct StopRequest(Mutex<Option<u64>>);
 
 impl StopRequest {
-    /// Nobody has asked for it.
+    /// No session has asked for a stop.
     pub(crate) fn new() -> StopRequest {
         StopRequest(Mutex::new(None))
     }
 
-    /// Asks for it. Who asked first holds.
+    /// Asks for a stop within `seconds`. The first request holds.
     pub(crate) fn ask<R: Wait>(&self, rt: &R, seconds: u64) {
         let mut asked = self.0.lock(rt);
         keep_first(&mut *asked, seconds);
     }
 
-    /// What was asked for.
+    /// The seconds of the first request.
     pub(crate) fn asked<R: Wait>(&self, rt: &R) -> Option<u64> {
         *self.0.lock(rt)
     }
 }
 
-// Keeps what was asked for first.
+// Keeps the first request.
 fn keep_first(asked: &mut Option<u64>, seconds: u64)
     ensures { MatchOption asked.old (asked.new ≡ Some seconds) (λ first. asked.new ≡ asked.old) }
 {

@@ -1,17 +1,18 @@
 //! What the writer of a live region does one after another: rounds of what streams report, and commands of control
 //! sessions.
 
-ghost use Rattle.std.specs.Prelude.{◌≡◌, ◌≤◌, map, None};
+ghost use Rattle.std.specs.Prelude.{◌≡◌, ◌≤◌, ℕ, List, map, None, false};
 ghost use Rattle.pn_apply.specs.declared.reducing.TheConstants.{MAX_WORKERS};
 ghost use Rattle.pn_live.specs.Prelude.{tablets_in};
-ghost use Rattle.pn_serve.specs.Server.Events.{RunsCommands, RunsEvents};
+ghost use Rattle.pn_serve.specs.Server.Events.{RunsCommands, RunsEvents, ToldAll};
 ghost use Rattle.pn_serve.specs.Server.Reading.{RunsRounds};
+ghost use Rattle.pn_serve.specs.declared.server.mailboxes.AtFault.{AtFault};
 ghost use Rattle.pn_serve.specs.declared.server.mailboxes.AtFault.TheVariants.{GoOn};
 
 use crate::ServeFault;
 use crate::control::mailboxes::ControlMailboxes;
 use crate::server::mailboxes::StreamMailboxes;
-use crate::server::rounds::{gather, run_round, run_rounds};
+use crate::server::rounds::take_round;
 use pn_live::LiveRegion;
 use std::alloc::Global;
 use std::sync::{Arc, Wait};
@@ -19,7 +20,7 @@ use std::thread::Threads;
 
 /// Runs rounds, and does commands between them where there are mailboxes for some, until all streams have ended, or a stop
 /// is asked for, or to the first fault.
-pub(crate) fn run_beside<R: Threads + Wait + Sync>(
+pub(crate) fn run_rounds<R: Threads + Wait + Sync>(
     rt: &R,
     alloc: Global,
     live: &mut LiveRegion,
@@ -32,46 +33,59 @@ pub(crate) fn run_beside<R: Threads + Wait + Sync>(
     ensures runs { RunsEvents mailboxes.old.at_fault (map (λ stream. stream.name) mailboxes.old.streams.items) live.old live.new result }
     ensures same { tablets_in live.new ≡ tablets_in live.old }
 {
-    match controls {
-        Some(controls) => run_events(rt, alloc, live, workers, mailboxes, controls),
-        None => run_rounds(rt, alloc, live, workers, mailboxes),
-    }
-}
-
-// Runs rounds, and does commands between them.
-fn run_events<R: Threads + Wait + Sync>(
-    rt: &R,
-    alloc: Global,
-    live: &mut LiveRegion,
-    workers: usize,
-    mailboxes: &mut StreamMailboxes,
-    controls: &ControlMailboxes,
-) -> Result<(), ServeFault>
-    requires workers { (1 ≤ workers) × (workers ≤ MAX_WORKERS) }
-    ensures runs { RunsEvents mailboxes.old.at_fault (map (λ stream. stream.name) mailboxes.old.streams.items) live.old live.new result }
-    ensures same { tablets_in live.new ≡ tablets_in live.old }
-{
     for _ in rt.forever() {
         if mailboxes.streams.is_empty() {
             return Ok(());
         }
-        if controls.stop_asked(rt).is_some() {
+        if is_stop_asked(rt, controls) {
             return Ok(());
         }
         mailboxes.wait(rt);
-        controls.obey_all(rt, alloc, live);
+        obey_all(rt, alloc, live, controls);
         if !mailboxes.has_report(rt) {
             continue;
         }
-        let input = gather(rt, alloc, mailboxes, live.marks())?;
-        run_round(rt, live, workers, mailboxes.at_fault, input)?;
-        mailboxes.count_round(live.marks());
-        controls.note_log(rt, live);
+        take_round(rt, alloc, live, workers, mailboxes)?;
+        note_log(rt, live, controls);
     }
     unreachable!()
 }
 
-/// Does what control sessions ask for, until one asks the server to stop. Answers in how many seconds at most it is to end.
+// Whether a control session has asked the server to stop.
+fn is_stop_asked<R: Wait>(rt: &R, controls: &Option<Arc<ControlMailboxes>>) -> bool
+    ensures { controls.now ≡ None → result ≡ false }
+{
+    match controls {
+        Some(controls) => controls.stop_asked(rt).is_some(),
+        None => false,
+    }
+}
+
+// Does the commands that control sessions have left.
+fn obey_all<R: Wait>(
+    rt: &R,
+    alloc: Global,
+    live: &mut LiveRegion,
+    controls: &Option<Arc<ControlMailboxes>>,
+)
+    ensures alone { controls.now ≡ None → live.new ≡ live.old }
+    ensures told { (at_fault : AtFault) (names : List (List ℕ)) → ToldAll at_fault names live.old live.new }
+    ensures same { tablets_in live.new ≡ tablets_in live.old }
+{
+    match controls {
+        Some(controls) => controls.obey_all(rt, alloc, live),
+        None => {}
+    }
+}
+
+// Notes the last number of the log where control sessions may wait for it.
+fn note_log<R: Wait>(rt: &R, live: &LiveRegion, controls: &Option<Arc<ControlMailboxes>>) {
+    if let Some(controls) = controls {
+        controls.note_log(rt, live);
+    }
+}
+
+/// Does what control sessions ask for, until one asks the server to stop. Answers within how many seconds it is to end.
 pub fn take_commands<R: Wait>(
     rt: &R,
     alloc: Global,

@@ -7,14 +7,14 @@ use std::alloc::{AllocError, Global};
 use std::mem;
 use std::sync::{Arc, Mutex, Wait};
 
-/// How the input of a stream ended that failed.
+/// A stream that failed, and how its input ended.
 #[derive(Clone, Copy, Debug)]
 pub struct StreamFailure {
     pub name: StreamName,
     pub end: WriterEnd,
 }
 
-/// Collects the faults of streams, for whoever tells them in the end.
+/// Collects the faults of streams, which are printed when the program ends.
 #[derive(Drop)]
 pub struct FaultLog {
     alloc: Global,

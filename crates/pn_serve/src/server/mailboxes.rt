@@ -179,7 +179,7 @@ enum Held {
     Nothing,
     /// A report, until it is taken.
     Left(Report),
-    /// Nothing, and no further report is taken.
+    /// Nothing: from now on no report is taken.
     Closed,
 }
 

@@ -142,7 +142,7 @@ pub(crate) fn next_input<S: Source + Drop, O: Origin<S>>(
     }
 }
 
-// The last report of a stream that ended so.
+// The last report of a stream, by how its input ended.
 fn last_report(ended: &Result<StreamEnd, StreamName>) -> Report
     ensures { MatchResult ended.now (λ end. result ≡ Report.End end.name) (λ name. result ≡ Report.Fault name) }
 {

@@ -6,7 +6,7 @@ ghost use Rattle.pn_live.specs.Prelude.{tablets_in};
 ghost use Rattle.pn_region.specs.Marking.{leaves_gap};
 ghost use Rattle.pn_serve.specs.Server.Gathering.{IsInputOf, first_fault, goes_on, no_input, value_of, with_report};
 ghost use Rattle.pn_serve.specs.Server.Messages.{FitRound};
-ghost use Rattle.pn_serve.specs.Server.Reading.{RunsRounds};
+ghost use Rattle.pn_serve.specs.Server.Reading.{TakesRound};
 ghost use Rattle.pn_serve.specs.Server.Rounds.{CanBeTaken, Continues, IsRoundRefused, IsRoundTaken, TakesInput, stopping};
 
 use crate::ServeFault;
@@ -32,8 +32,8 @@ pub(crate) struct RoundInput {
     pub(crate) fault: Option<StreamName>,
 }
 
-/// Runs rounds until all streams end, or to the first fault.
-pub(crate) fn run_rounds<R: Threads + Wait + Sync>(
+/// Runs one round of what the mailboxes give, and counts it.
+pub(crate) fn take_round<R: Threads + Wait + Sync>(
     rt: &R,
     alloc: Global,
     live: &mut LiveRegion,
@@ -41,24 +41,20 @@ pub(crate) fn run_rounds<R: Threads + Wait + Sync>(
     mailboxes: &mut StreamMailboxes,
 ) -> Result<(), ServeFault>
     requires workers { (1 ≤ workers) × (workers ≤ MAX_WORKERS) }
-    ensures reads { RunsRounds mailboxes.old.at_fault (map (λ stream. stream.name) mailboxes.old.streams.items) live.old live.new result }
+    ensures round { TakesRound mailboxes.old.at_fault (map (λ stream. stream.name) mailboxes.old.streams.items) live.old
+        (map (λ stream. stream.name) mailboxes.new.streams.items) live.new result }
+    ensures at_fault { mailboxes.new.at_fault ≡ mailboxes.old.at_fault }
     ensures same { tablets_in live.new ≡ tablets_in live.old }
 {
-    for _ in rt.forever() {
-        if mailboxes.streams.is_empty() {
-            return Ok(());
-        }
-        mailboxes.wait(rt);
-        let input = gather(rt, alloc, mailboxes, live.marks())?;
-        run_round(rt, live, workers, mailboxes.at_fault, input)?;
-        mailboxes.count_round(live.marks());
-    }
-    unreachable!()
+    let input = gather(rt, alloc, mailboxes, live.marks())?;
+    run_round(rt, live, workers, mailboxes.at_fault, input)?;
+    mailboxes.count_round(live.marks());
+    Ok(())
 }
 
 // Takes one report of each stream that has one. The streams that ended are read no more. The fault is out of memory, before a
 // report is taken.
-pub(crate) fn gather<R: Wait>(
+fn gather<R: Wait>(
     rt: &R,
     alloc: Global,
     mailboxes: &mut StreamMailboxes,
@@ -145,7 +141,7 @@ fn is_gap(marks: &Marks, delivery: &Delivery) -> bool
 }
 
 // Runs one round of what the mailboxes gave, also if a stream has a fault.
-pub(crate) fn run_round<R: Threads + Wait + Sync>(
+fn run_round<R: Threads + Wait + Sync>(
     rt: &R,
     live: &mut LiveRegion,
     workers: usize,
@@ -180,7 +176,7 @@ fn apply_deliveries<R: Threads + Wait + Sync>(
     live.round(rt, deliveries, workers, &Open)
 }
 
-// That the round went well, unless a stream has a fault that stops them, which outranks the round's.
+// Answers how the round went, or the fault of a stream that stops all streams.
 fn conclude_round(
     fault: Option<StreamName>,
     round: Result<(Round, Front), RoundFault>,

@@ -10,7 +10,7 @@ ghost use Rattle.pn_serve.specs.declared.server.mailboxes.AtFault.TheVariants.{G
 use crate::ServeFault;
 use crate::control::mailboxes::ControlMailboxes;
 use crate::server::counter::Counter;
-use crate::server::events::run_beside;
+use crate::server::events::run_rounds;
 use crate::server::mailboxes::{AtFault, Reporter, StreamMailboxes, Wakeup};
 use crate::server::reporting::{next_input, report_stream};
 use crate::server::reports::Report;
@@ -33,7 +33,7 @@ pub struct Watchers {
 
 /// Reads streams into a live region until all have ended, or a control session asks the server to stop, at most 1,000 messages
 /// of each a round. Between two rounds it does what control sessions ask for. A stream's fault ends that stream alone. The
-/// fault is `Start`, or `Round`, after which no stream is read. Rounds are counted where somebody looks at it.
+/// fault is `Start`, or `Round`, after which no stream is read. Rounds are counted where somebody looks at the count.
 pub fn read_streams<R, S, O>(
     rt: &R,
     alloc: Global,
@@ -52,7 +52,7 @@ where
     ensures same { tablets_in live.new ≡ tablets_in live.old }
 {
     let mut mailboxes = start_threads::<R, S, O>(rt, alloc, streams, watchers)?;
-    let read = run_beside(rt, alloc, live, workers, &mut mailboxes, &watchers.controls);
+    let read = run_rounds(rt, alloc, live, workers, &mut mailboxes, &watchers.controls);
     mailboxes.close(rt);
     read
 }

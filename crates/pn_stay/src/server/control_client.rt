@@ -28,7 +28,7 @@ impl ControlClient {
         }))
     }
 
-    /// A client has come. Where the thread is to end this is an error, and the client is not answered.
+    /// A client has come. Where the thread is to end there is an error, and the client is not answered.
     pub(super) fn begin<R: Wait>(&self, rt: &R, socket: Arc<Socket>) -> io::Result<()> {
         self.0.lock(rt).begin(socket)
     }

@@ -3,18 +3,18 @@
 use crate::counters::{Counters, StreamCounters};
 use crate::listener::Listener;
 use crate::server::control_client::ControlClient;
-use crate::socket_mailbox::SocketMailbox;
+use crate::socket_mailbox::{SocketMailbox, have_ended};
 use std::sync::{Arc, Wait};
 use std::thread;
 use std::time::{Clock, Duration, Instant};
 
-/// For how many milliseconds the threads are waited for at a time.
+/// How many milliseconds a wait for the threads takes.
 const STEP: u64 = 10;
 
-/// How many such steps a second has.
+/// How many waits for the threads a second has.
 const STEPS: u64 = 100;
 
-/// For how many steps at most a stop waits until each writer of a stream was sent the position that was taken.
+/// For how many waits at most a stop goes on until each writer of a stream was sent the position that was taken.
 const TELLING_STEPS: u64 = 20;
 
 /// What a stop needs of a server: its listening sockets, the mailboxes and clients of its threads, and its counters.
@@ -56,12 +56,7 @@ impl Stopping {
 
     // Whether all threads that answer clients have ended.
     fn have_ended<R: Wait>(&self, rt: &R) -> bool {
-        for mailbox in self.mailboxes.iter() {
-            if !mailbox.has_ended(rt) {
-                return false;
-            }
-        }
-        have_clients_ended(rt, &self.clients)
+        have_ended(rt, &self.mailboxes) && have_clients_ended(rt, &self.clients)
     }
 
     // Whether each writer was sent the position that was taken of its stream.

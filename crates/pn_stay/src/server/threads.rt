@@ -1,4 +1,5 @@
-//! The threads of a server that stays: those that answer connections, one that accepts them, and one that tells the time.
+//! The threads of a server that stays: those that answer connections, one that accepts them, and one that notes each quarter of
+//! a second.
 
 ghost use Rattle.std.specs.Prelude.{◌≡◌, ◌+◌, ◌≤◌, vec_len, vec_capacity, All, IfOk};
 ghost use Rattle.pn_live.specs.Prelude.{tablets_in, tablets_of};
@@ -13,7 +14,7 @@ use crate::listener::Listener;
 use crate::socket_mailbox::{Closed, SocketMailbox};
 use mio::{Poll, Waker};
 use pn_live::{LiveReader, LiveRegion};
-use pn_serve::{ComesBack, SessionThread};
+use pn_serve::{ComesBack, CountingReader, SessionThread};
 use std::alloc::Global;
 use std::net::Net;
 use std::snapshot::Snapshot;
@@ -76,7 +77,7 @@ struct Shared {
     counters: Arc<Counters>,
 }
 
-// Starts the thread that accepts connections, and where clients may not be idle the one that tells the time.
+// Starts the thread that accepts connections, and where clients may not be idle for long the one that notes each quarter.
 fn start_accepting<R>(
     rt: &R,
     shared: Shared,
@@ -168,7 +169,7 @@ struct LoopThread {
     reader: LiveReader,
 }
 
-// What it ends with: its reader, once its mailbox takes no sockets any more.
+// What the thread of an event loop ends with: its reader, once its mailbox takes no sockets any more.
 #[derive(Drop)]
 struct EndedThread {
     reader: LiveReader,
@@ -220,7 +221,7 @@ fn answer_all<R: Wait + Clock>(rt: &R, body: LoopThread) -> EndedThread
         mailbox,
         reader,
     } = body;
-    let mut reader = reader;
+    let mut reader = CountingReader::new(reader);
     let _ = run(
         rt,
         EventLoop::new(alloc, poll, idle, counters),
@@ -228,7 +229,7 @@ fn answer_all<R: Wait + Clock>(rt: &R, body: LoopThread) -> EndedThread
         &mut reader,
     );
     EndedThread {
-        reader,
+        reader: reader.into_reader(),
         _mailbox: mailbox.close(rt),
     }
 }
@@ -237,12 +238,12 @@ fn run<R: Wait + Clock>(
     rt: &R,
     begun: io::Result<EventLoop>,
     mailbox: &SocketMailbox,
-    reader: &mut LiveReader,
+    reader: &mut CountingReader,
 ) -> io::Result<()>
     ensures { KnowsNoLess reader.old reader.new }
 {
     let mut events = begun?;
     let ended = events.run(rt, mailbox, reader);
-    events.close(rt);
+    events.close(rt, mailbox);
     ended
 }

@@ -34,7 +34,7 @@ pub(crate) struct FifoPoll {
 }
 
 impl FifoPoll {
-    /// It reports of no FIFO so far.
+    /// A poll of no FIFO.
     pub(crate) fn new<R: Net>(rt: &R, alloc: Global) -> io::Result<FifoPoll> {
         Ok(FifoPoll {
             poll: Poll::new(rt)?,

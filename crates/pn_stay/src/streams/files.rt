@@ -13,14 +13,14 @@ use std::io;
 use std::io::BufReader;
 use std::sync::Arc;
 
-/// What a stream is read from that is a file.
+/// What a stream that is a file is read from.
 pub type FileSource = CountingSource<BufReader<File>>;
 
 /// Streams that are files.
 #[derive(Drop)]
 pub struct OpenedFiles {
     pub readers: Vec<StreamReader<FileSource>>,
-    /// The counters of those that are counted.
+    /// The counters of the streams that are counted.
     pub counters: Vec<StreamCounters>,
 }
 

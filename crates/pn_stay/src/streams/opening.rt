@@ -28,7 +28,7 @@ use std::{fs, io};
 #[derive(Drop)]
 pub struct OpenedStreams<R: Drop> {
     pub streams: Vec<Stream<StreamOrigin<R>>>,
-    /// The counters of those that are counted.
+    /// The counters of the streams that are counted.
     pub counters: Vec<StreamCounters>,
     /// The paths of the sockets at which writers come.
     pub sockets: Vec<String>,

@@ -15,7 +15,7 @@ use std::os::unix::net::UnixStream;
 use std::sync::Arc;
 use std::time::{Clock, Duration, Instant};
 
-/// How many milliseconds lie between two such lines, at least.
+/// How many milliseconds lie at least between two lines that send a writer a position.
 const PAUSE: u64 = 100;
 
 /// For how many milliseconds a write waits for a writer that takes nothing.
@@ -39,7 +39,7 @@ impl Progress {
         })
     }
 
-    /// Another handle of the same.
+    /// Another handle of the same progress.
     pub(crate) fn try_clone(&self) -> Result<Progress, AllocError> {
         Ok(Progress {
             handed: Arc::try_clone(&self.handed)?,

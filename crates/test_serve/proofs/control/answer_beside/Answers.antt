@@ -2,7 +2,7 @@
 use denote.Param.Send.{sendable}
 use Rattle.std.proofs.Crossing.{crosses}
 use Rattle.pn_live.proofs.Crossing.Readers.{reader_send}
-use Rattle.test_serve.proofs.Crossing.{controls_send, controls_sync}
+use Rattle.pn_serve.proofs.Crossing.{controls_send, controls_sync}
 use Rattle.test_serve.proofs.control.answer_beside.Goals as goal
 
 pub spawn-requires-send-F : goal.spawn-requires-send-F

@@ -9,7 +9,7 @@ use Rattle.pn_serve.proofs.arguments.options.command.Goals as goal
 
 -- a program that needs a command
 abbrev wanted : App → App
-wanted app = record app { top = record app.top { subcommand_required = true; disable_help_subcommand = true } }
+wanted app = record app { top = record app.top { subcommand_required = true } }
 
 -- and has a version
 abbrev versioned : App → App
@@ -17,12 +17,11 @@ versioned app = wanted (record app { top = record app.top { has_version = true }
 
 pub returns : goal.returns
 returns c =
-    let own : app_of c.disable_help_subcommand-command.result ≡ named_program =
-    ap app_of_fields c.disable_help_subcommand-command.ensures
-    ∙ (ap (λ (f : Command-F Command). app_of_fields (record f { disable_help_subcommand = true })) c.subcommand_required.ensures
-    ∙ (ap (λ (f : Command-F Command). app_of_fields (record f { disable_help_subcommand = true; subcommand_required = true })) c.after_help.ensures
+    let own : app_of c.subcommand_required-command.result ≡ named_program =
+    ap app_of_fields c.subcommand_required-command.ensures
+    ∙ (ap (λ (f : Command-F Command). app_of_fields (record f { subcommand_required = true })) c.after_help.ensures
     ∙ (ap (λ (f : Command-F Command). wanted (app_of_fields f)) c.version.ensures
     ∙ (ap (λ (f : Command-F Command). versioned (app_of_fields f)) c.about.ensures
-    ∙ ap versioned c.new.ensures.app)))) in
+    ∙ ap versioned c.new.ensures.app))) in
     let one = c.in_ok-subcommand.ensures.shape c.in_ok-replay.ensures.local ∙ ap₂ with_subcommand own (ap (λ (app : App). app.top) c.in_ok-replay.ensures.app) in
     IfOk-weaker c.subcommand-2.result _ _ (λ r adds. adds.shape c.in_ok-serve.ensures.local ∙ ap₂ with_subcommand one (ap (λ (app : App). app.top) c.in_ok-serve.ensures.app)) c.subcommand-2.ensures

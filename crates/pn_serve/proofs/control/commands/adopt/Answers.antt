@@ -1,7 +1,7 @@
 -- The copy's tablet took it, or says why not.
 use Rattle.std.proofs.Common.{None, Some, subst}
 use Rattle.pn_tablet.specs.Copies.{TabletCopyValue, IsCopy}
-use Rattle.pn_serve.specs.Control.Commands.{adopt}
+use Rattle.pn_serve.specs.declared.control.commands.WriterCommand.TheVariants as commands
 use Rattle.pn_serve.proofs.Obeying.{still, for_copy, adopted_it, adopted_by_none, adopted_not}
 use Rattle.pn_serve.proofs.control.commands.adopt.Goals as goal
 
@@ -15,4 +15,4 @@ returns-in-Ok-clause-obeys g c =
 
 pub returns-in-Err-clause-obeys : goal.returns-in-Err-clause-obeys
 returns-in-Err-clause-obeys g c =
-    still c.args.live.now (adopt c.args.copy) c.adopt.new.self _ c.in-Err.ensures.err (adopted_not c.args.live.now c.args.copy c.in-Err.fault c.refuse-in-Err.result c.in-Err.ensures.refused c.refuse-in-Err.ensures)
+    still c.args.live.now (commands.Adopt c.args.copy) c.adopt.new.self _ c.in-Err.ensures.err (adopted_not c.args.live.now c.args.copy c.in-Err.fault c.refuse-in-Err.result c.in-Err.ensures.refused c.refuse-in-Err.ensures)

@@ -1,6 +1,6 @@
 -- A number of no tablet, or the loss of one.
 use Rattle.std.proofs.Common.{◌<◌, ◌≤◌, length, ap, arith}
-use Rattle.pn_serve.specs.Control.Commands.{lose}
+use Rattle.pn_serve.specs.declared.control.commands.WriterCommand.TheVariants as commands
 use Rattle.pn_serve.proofs.Obeying.{out, still, lost_none, lost_it}
 use Rattle.pn_serve.proofs.control.commands.lose.Goals as goal
 
@@ -20,4 +20,4 @@ returns-in-Ok-clause-obeys g c =
     lost_it live c.args.tablet c.lose.new.self within c.layout.ensures.region c.in-Ok.ensures.ok c.in-Ok.ensures.state
 
 pub returns-in-Err-clause-obeys : goal.returns-in-Err-clause-obeys
-returns-in-Err-clause-obeys g c = still c.args.live.now (lose c.args.tablet) c.lose.new.self _ c.in-Err.ensures.err (out c.args.live.now (lose c.args.tablet))
+returns-in-Err-clause-obeys g c = still c.args.live.now (commands.Lose c.args.tablet) c.lose.new.self _ c.in-Err.ensures.err (out c.args.live.now (commands.Lose c.args.tablet))

@@ -44,11 +44,11 @@ module _ (at_fault : AtFault) (given names : List (List ℕ)) (old new : LiveReg
 
 pub returns-clause-alone : goal.returns-clause-alone
 returns-clause-alone g c = λ none.
-    alone c.in_ok-mailboxes.mailboxes.at_fault _ _ c.args.live.now c.run_beside-read.new.live c.run_beside-read.result c.in_ok-mailboxes.ensures.names c.in_ok-mailboxes.ensures.at_fault (c.run_beside-read.ensures.alone none)
+    alone c.in_ok-mailboxes.mailboxes.at_fault _ _ c.args.live.now c.run_rounds-read.new.live c.run_rounds-read.result c.in_ok-mailboxes.ensures.names c.in_ok-mailboxes.ensures.at_fault (c.run_rounds-read.ensures.alone none)
 
 pub returns-clause-reads : goal.returns-clause-reads
 returns-clause-reads g c =
-    besides c.in_ok-mailboxes.mailboxes.at_fault _ _ c.args.live.now c.run_beside-read.new.live c.run_beside-read.result c.in_ok-mailboxes.ensures.names c.in_ok-mailboxes.ensures.at_fault c.run_beside-read.ensures.runs
+    besides c.in_ok-mailboxes.mailboxes.at_fault _ _ c.args.live.now c.run_rounds-read.new.live c.run_rounds-read.result c.in_ok-mailboxes.ensures.names c.in_ok-mailboxes.ensures.at_fault c.run_rounds-read.ensures.runs
 
 pub returns-in_err-mailboxes-clause-alone : goal.returns-in_err-mailboxes-clause-alone
 returns-in_err-mailboxes-clause-alone g c = λ none.

@@ -1,6 +1,6 @@
 -- One more command was done.
 use Rattle.std.proofs.Common.{refl, ◌∙◌}
-use Rattle.pn_serve.specs.Control.Commands.{answer_of, asked}
+use Rattle.pn_serve.specs.Control.Commands.{answer_of}
 use Rattle.pn_serve.proofs.EventsRead.{none_told, one_told}
 use Rattle.pn_serve.proofs.control.mailboxes.ControlMailboxes.obey_all.Goals as goal
 
@@ -9,7 +9,7 @@ loop-mailbox-init g c = record { told = λ at_fault names. none_told at_fault na
 
 pub loop-mailbox-preserved : goal.loop-mailbox-preserved
 loop-mailbox-preserved g c = record {
-  told = λ at_fault names. one_told at_fault names c.args.live.now c.loop-mailbox.live c.give_answer.new.live (asked c.in-Some.command) (answer_of c.give_answer.result.answer)
+  told = λ at_fault names. one_told at_fault names c.args.live.now c.loop-mailbox.live c.give_answer.new.live c.in-Some.command (answer_of c.give_answer.result.answer)
       (c.loop-mailbox.invariant.told at_fault names) c.give_answer.ensures.obeys;
   same = c.give_answer.ensures.same ∙ c.loop-mailbox.invariant.same;
 }
