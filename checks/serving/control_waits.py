@@ -22,8 +22,8 @@ REFUSED = {
     b'{"do":"advance","seconds":1}': b'{"error":"bad-shape","member":"other"}\n',
     b"x": b'{"error":"not-json"}\n', b"x" * 65_537: b'{"error":"too-long"}\n',
 }
-STATS = ["bytes", "connections", "lines", "rounds", "streams", "uptime", "version"]
-CONNECTIONS, LINES = ["accepted", "idle", "open", "refused"], ["answered", "refused"]
+STATS = ["bytes", "connections", "lines", "rounds", "streams", "tablets", "uptime", "version"]
+CONNECTIONS, LINES = ["accepted", "idle", "open", "refused"], ["answered", "kinds", "refused"]
 STREAM = ["bytes", "line", "messages", "name", "path", "position", "reason", "since", "state"]
 
 
@@ -62,7 +62,8 @@ def check_stats(program: str, folder: str) -> None:
             writer.last_lines()
         (stream,) = other.told(do="stats")["streams"]
         same("its fault", [stream["line"], stream["reason"]], [2, "not-json"])
-        same("what counts only clients", other.told(do="stats")["lines"], {"answered": 0, "refused": 0})
+        lines = other.told(do="stats")["lines"]
+        same("what counts only clients", [lines["answered"], lines["refused"]], [0, 0])
 
 
 def check_stats_of_connections(program: str, folder: str) -> None:
@@ -76,7 +77,7 @@ def check_stats_of_connections(program: str, folder: str) -> None:
         until("none is open", lambda: session.told(do="stats")["connections"]["open"] == 0)
         stats = session.told(do="stats")
         same("connections", stats["connections"], {"accepted": 3, "idle": 3, "open": 0, "refused": 0})
-        same("lines", stats["lines"], {"answered": 6, "refused": 3})
+        same("lines", [stats["lines"]["answered"], stats["lines"]["refused"]], [6, 3])
 
 
 def check_waits(program: str, folder: str) -> None:

@@ -10,6 +10,7 @@ use Rattle.pn_tablet.specs.Copies.{TabletCopyValue}
 use Rattle.pn_tablet.specs.Layouts.{Bounds, tablet_ends}
 use Rattle.pn_tablet.specs.Ranges.{Ends}
 use Rattle.pn_tablet.specs.Tablets.{TabletStateValue, empty_tablet}
+use Rattle.pn_tablet.specs.declared.counted_cells.RecordCounts.{RecordCounts}
 use Rattle.pn_tablet.specs.declared.fault.CopyFault.{CopyFault}
 use Rattle.pn_apply.proofs.Prefixes.{mapped_at}
 use Rattle.pn_scan.specs.Candidates.{Look}
@@ -17,6 +18,7 @@ use Rattle.pn_scan.specs.Views.{LooksOnce, IsFoundIn}
 use Rattle.pn_scan.specs.declared.fault.ScanFault.{ScanFault}
 use Rattle.pn_region.specs.Regions.{IsSound}
 use Rattle.pn_live.specs.Copying.{IsOneCopy, IsCopied}
+use Rattle.pn_live.specs.Counting.{IsOneCount, IsCounted}
 use Rattle.pn_live.specs.Looks.{IsOneLook, left_by}
 use Rattle.pn_live.specs.Published.{found_by}
 use Rattle.pn_live.specs.Readers.{AreTabletReadersOf, LooksLive}
@@ -82,4 +84,13 @@ module _ (layout : Bounds) (readers : List TabletReaderValue) (n : ℕ) (was now
     looked = (was, now, slice_get_read readers (length readers) n was refl within at, look.sees, refl);
     found = is_found found look.sees look.sound;
     answers = look.answers;
+  }
+
+  -- the counts of one tablet
+  pub counted_once : (answer : Option RecordCounts) (found : Option TabletStateValue) → IsOneCount was now answer found
+      → IsCounted (record { layout = layout; tablet_readers = readers }) (record { layout = layout; tablet_readers = set readers n now }) answer (n, found)
+  counted_once answer found look = record {
+    looked = (was, now, slice_get_read readers (length readers) n was refl within at, look.sees, refl);
+    found = is_found found look.sees look.sound;
+    counts = look.counts;
   }

@@ -2,6 +2,7 @@ pub mod Attempts
 pub mod Closing
 pub mod Books
 pub mod Copying
+pub mod Counting
 pub mod Drafts
 pub mod Events
 pub mod Honest

@@ -5,6 +5,7 @@ ghost use Rattle.pn_tablet.specs.Prelude.{tablet_of, TabletStateValue};
 ghost use Rattle.pn_scan.specs.Prelude.{Look, first_page, IsRead, IsGet, IsScan};
 ghost use Rattle.pn_scan.specs.Views.{is_memory};
 ghost use Rattle.pn_live.specs.Copying.{IsCopied};
+ghost use Rattle.pn_live.specs.Counting.{IsCounted};
 ghost use Rattle.pn_live.specs.Readers.{LooksLive, IsFrontFor, AreTabletReadersOf, tablets_of};
 ghost use Rattle.pn_live.specs.TabletReaders.{AllLearn};
 
@@ -13,7 +14,7 @@ use crate::tablet_reader::TabletReader;
 use pn_join::Marks;
 use pn_record::{Cell, Key, Version};
 use pn_scan::{Page, PartResult, Query, ScanFault, View, page, read_at_least};
-use pn_tablet::{CopyFault, Layout, TabletCopy};
+use pn_tablet::{CopyFault, Layout, RecordCounts, TabletCopy};
 use std::alloc::Global;
 use std::marker::Model;
 
@@ -126,6 +127,16 @@ impl LiveReader {
         ensures same { tablets_of self.new ≡ tablets_of self.old }
     {
         self.tablet_readers[tablet].copy(need)
+    }
+
+    /// How many records a tablet has, whose number is below the layout's count, and how many deleted ones it keeps, in
+    /// the state that one entry finds. Both are kept counts. None: the entry is refused.
+    pub fn counts(&mut self, tablet: usize) -> Option<RecordCounts>
+        requires { tablet ≤ length self.old.layout }
+        ensures counts { (found : Option TabletStateValue) × IsCounted self.old self.new result (tablet, found) }
+        ensures same { tablets_of self.new ≡ tablets_of self.old }
+    {
+        self.tablet_readers[tablet].counts()
     }
 }
 

@@ -4,6 +4,7 @@ ghost use Rattle.std.specs.Prelude.{◌≡◌, MatchResult, Option};
 ghost use Rattle.pn_tablet.specs.Prelude.{TabletStateValue};
 ghost use Rattle.pn_scan.specs.Prelude.{rows_at, cell_at};
 ghost use Rattle.pn_live.specs.Copying.{IsOneCopy};
+ghost use Rattle.pn_live.specs.Counting.{IsOneCount};
 ghost use Rattle.pn_live.specs.Looks.{IsOneLook, left_by};
 ghost use Rattle.pn_live.specs.Published.{seen_by, told_to, range_of, found_by};
 ghost use Rattle.pn_live.specs.TabletReaders.{Finds, Learns};
@@ -15,7 +16,7 @@ use core::mem::replace_with;
 use pn_join::Marks;
 use pn_record::{Cell, Key};
 use pn_scan::{PartResult, Query, ScanFault, cell_of, part_of};
-use pn_tablet::{CopyFault, TabletCopy};
+use pn_tablet::{CopyFault, RecordCounts, TabletCopy};
 use std::alloc::Global;
 use std::marker::Model;
 
@@ -152,6 +153,24 @@ impl TabletReader {
                 (TabletReader::leave(guard), answer)
             }
             Err(reader) => (reader, Err(CopyFault::NoEntry)),
+        }
+    }
+    /// The counts of the state that one entry finds; none where the entry is refused.
+    pub fn counts(&mut self) -> Option<RecordCounts>
+        ensures { (found : Option TabletStateValue) × IsOneCount self.old self.new result found }
+    {
+        replace_with(self, (), |reader, _| reader.count_state())
+    }
+
+    fn count_state(self) -> (TabletReader, Option<RecordCounts>)
+        ensures { (found : Option TabletStateValue) × IsOneCount self result.0 result.1 found }
+    {
+        match self.enter() {
+            Ok(guard) => {
+                let counts = guard.state().counts();
+                (TabletReader::leave(guard), Some(counts))
+            }
+            Err(reader) => (reader, None),
         }
     }
 }

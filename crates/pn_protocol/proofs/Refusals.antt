@@ -1,4 +1,4 @@
--- A refusal with the line that says why, or for want of memory.
+-- A refusal with the line that says why, or one that memory ran out.
 use Rattle.std.proofs.Common.{◌≢◌, ℕ, Option, Some, None, Result, Ok, Err, refl, sym, subst}
 use Rattle.std.specs.Prelude.{Vec}
 use Rattle.std.specs.declared.alloc.Global.{Global}

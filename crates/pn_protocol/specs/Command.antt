@@ -4,6 +4,7 @@ pub mod Controls
 pub mod Deliveries
 pub mod Grammar
 pub mod Json
+pub mod Kinds
 pub mod Limits
 pub mod Lines
 pub mod Lookups

@@ -2,6 +2,7 @@
 
 mod build;
 pub(crate) mod control;
+pub(crate) mod kind;
 mod lookups;
 mod members;
 pub(crate) mod parse;

@@ -3,6 +3,7 @@
 pub(crate) mod answers;
 mod capacity;
 mod errors;
+pub(crate) mod line_stats;
 pub(crate) mod notices;
 mod record;
 pub(crate) mod refusals;

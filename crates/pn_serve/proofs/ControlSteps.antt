@@ -11,6 +11,7 @@ use Rattle.pn_tablet.specs.Copies.{TabletCopyValue}
 use Rattle.pn_tablet.specs.CopyReading.{copy_at}
 use Rattle.pn_tablet.specs.declared.fault.CopyTextFault.{CopyTextFault}
 use Rattle.pn_tablet.specs.declared.fault.CopyTextFault.TheVariants as fault
+use Rattle.pn_json.specs.Lines.{line_of}
 use Rattle.pn_live.specs.Readers.{LiveReaderValue}
 use Rattle.pn_protocol.proofs.ControlLines.{too_long}
 use Rattle.pn_protocol.specs.Command.Controls.{ControlValue, control_at, script, notices, advance, stats, stop}
@@ -18,6 +19,9 @@ use Rattle.pn_protocol.specs.Command.Lines.{is_too_long}
 use Rattle.pn_protocol.specs.Command.Meaning.{command_value}
 use Rattle.pn_protocol.specs.Command.Meaning as command
 use Rattle.pn_protocol.specs.Reply.Refusals.{Refuses}
+use Rattle.pn_protocol.specs.Reply.Stats.{stats_data}
+use Rattle.pn_protocol.specs.declared.reply.stats.Stats.{Stats}
+use Rattle.pn_protocol.specs.declared.reply.stats.TabletStats.{TabletStats}
 use Rattle.pn_protocol.specs.declared.command.Command.{Command}
 use Rattle.pn_protocol.specs.declared.command.Command.TheVariants as words
 use Rattle.pn_protocol.specs.declared.refusal.Refusal.{Refusal}
@@ -26,18 +30,25 @@ use Rattle.pn_protocol.specs.declared.reply.Reply.{Reply}
 use Rattle.pn_protocol.specs.declared.reply.Reply.TheVariants.{Adopted, Changed, Copied, Lost, Relaid, Stopping, Silent, Text, Refused, NotTaken}
 use Rattle.pn_protocol.specs.declared.reply.refusals.CommandFault.TheVariants.{CopyText}
 use Rattle.pn_serve.specs.Control.Commands.{said_by}
-use Rattle.pn_serve.specs.Control.Steps.{AdoptsRead, ObeysControl, ObeysScript, RepliesWith, Says, StepsAs, StepsBy, StepsLast, Lasts}
+use Rattle.pn_serve.specs.Control.Steps.{AdoptsRead, ObeysControl, ObeysScript, RepliesWith, Says, ShowsCounts, StepsAs, StepsBy, StepsLast, Lasts}
 use Rattle.pn_serve.specs.Session.Knowing.{KnowsNoLess}
 use Rattle.pn_serve.specs.Session.Lines.{LooksUp}
 use Rattle.pn_serve.specs.declared.control.steps.Step.{Step}
 use Rattle.pn_serve.specs.declared.control.steps.Step.TheVariants.{Replies, Announces, Stops, Ends}
 use Rattle.pn_serve.proofs.Knowing.{command_knows, knows_same}
+use Rattle.pn_serve.proofs.TabletCounts.{tablets_know}
 
 -- a line that was written says so, or memory ran out
 pub says_line : (line : List ℕ) (written : Result (Vec ℕ Global) NoMemory) (shown : Reply) → IfOk written (λ text. text.items ≡ line)
     → MatchResult written (λ text. shown ≡ Text text) (λ _. shown ≡ Refused Memory) → Says (record { text = line; refused = false }) shown
 says_line line (Ok text) shown is shows = inl (ap said_by shows ∙ (λ i. record { text = is i; refused = false }))
 says_line line (Err none) shown is shows = inr shows
+
+-- so what a server has done
+pub shows_done : (done : Stats) (tablets : Vec TabletStats Global) (shown : Reply) → done.tablets ≡ tablets → Says (record { text = line_of (stats_data done); refused = false }) shown
+    → ShowsCounts (Ok tablets) shown
+shows_done done tablets shown same (inl said) = inl (done, same, said)
+shows_done done tablets shown same (inr none) = inr none
 
 -- a text that is a copy
 pub read_copy : (text : List ℕ) (copy : TabletCopyValue) (step : Step) → copy_at text ≡ Ok copy → AdoptsRead (Ok copy) step → AdoptsRead (copy_at text) step ⊎ (step ≡ Replies (Refused Memory))
@@ -145,7 +156,7 @@ asked_knows : (old new : LiveReaderValue) (asked : ControlValue) (step : Step) �
 asked_knows old new (script asked) step obeys = script_knows old new asked step obeys
 asked_knows old new (notices since wait) step obeys = knows_same old new obeys.0
 asked_knows old new advance step obeys = knows_same old new obeys.0
-asked_knows old new stats step obeys = knows_same old new obeys.0
+asked_knows old new stats step obeys = tablets_know old new obeys.answer obeys.counts
 asked_knows old new (stop seconds) step obeys = knows_same old new obeys.0
 
 as_knows : (old new : LiveReaderValue) (said : Result ControlValue Refusal) (step : Step) → StepsAs old said new step → KnowsNoLess old new

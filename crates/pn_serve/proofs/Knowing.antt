@@ -25,7 +25,7 @@ knows_on a b c p q = record {
 pub knows_same : (old new : LiveReaderValue) → new ≡ old → KnowsNoLess old new
 knows_same old new same = subst (KnowsNoLess old) (sym same) (knows_itself old)
 
-look_knows : (old new : LiveReaderValue) (look : Look) → LooksLive old look new → KnowsNoLess old new
+pub look_knows : (old new : LiveReaderValue) (look : Look) → LooksLive old look new → KnowsNoLess old new
 look_knows old new look looked = record { tablets = looks_same old new look looked; known = looks_know old new look looked }
 
 looks_all_know : (old new : LiveReaderValue) (seen : List Look) → Looks LooksLive old seen new → KnowsNoLess old new

@@ -5,3 +5,4 @@ pub mod Commands
 pub mod Ends
 pub mod Lines
 pub mod Steps
+pub mod TabletCounts

@@ -1,4 +1,5 @@
 -- Sessions.
+pub mod Counting
 pub mod Knowing
 pub mod Lines
 pub mod Lookups

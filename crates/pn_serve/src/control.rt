@@ -9,3 +9,4 @@ pub(crate) mod mailboxes;
 pub(crate) mod session;
 pub(crate) mod steps;
 pub(crate) mod stop;
+pub(crate) mod tablet_counts;

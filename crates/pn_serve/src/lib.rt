@@ -27,10 +27,10 @@ pub use page_laws::{
     pages_of_a_script_are_together_its_rows,
 };
 pub use pn_protocol::{
-    Command, CommandFault, ConnectionStats, ControlCommand, LineStats, NumberName, Part, Refusal,
-    Reply, ShortReply, Stats, StreamFaultStats, StreamState, StreamStats,
-    a_control_line_is_one_command, a_line_is_one_command, command_of, control_of, number_reply,
-    refusal_reply, refuse, scan_reply,
+    Command, CommandFault, ConnectionStats, ControlCommand, LineCounts, LineKinds, LineStats,
+    NumberName, Part, Refusal, Reply, ShortReply, Stats, StreamFaultStats, StreamState,
+    StreamStats, TabletStats, a_control_line_is_one_command, a_line_is_one_command, command_of,
+    control_of, number_reply, refusal_reply, refuse, scan_reply,
 };
 pub use repeat_laws::{
     a_repeated_deliver_leaves_no_trace_of_a_refused_one, repeated_delivers_leave_the_same_region,
@@ -42,6 +42,7 @@ pub use server::{
     StreamFailure, Watchers, WriterEnd, close_region, join_sessions, open_region, read_streams,
     serve, take_commands,
 };
+pub use sessions::counting_reader::CountingReader;
 pub use sessions::session;
 pub use settings::Settings;
 pub use stream_laws::{

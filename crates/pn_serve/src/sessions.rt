@@ -6,6 +6,8 @@ ghost use Rattle.pn_serve.specs.Lines.Waiting.{HandsOn, looks_of_input};
 ghost use Rattle.pn_serve.specs.Session.Knowing.{KnowsNoLess};
 ghost use Rattle.pn_serve.specs.Session.Lines.{AnswersLine, EndsLines, session_start};
 
+pub(crate) mod counting_reader;
+pub(crate) mod kinds;
 pub(crate) mod lookups;
 
 use crate::machine::line_handler::LineHandler;

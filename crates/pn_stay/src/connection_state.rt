@@ -19,14 +19,14 @@ use crate::output_buffer::{OutputBuffer, SendOutcome};
 use crate::steps::{Step, take_steps};
 use pn_join::NoMemory;
 use pn_line::{LineBuffer, Sink, WriteFault};
-use pn_serve::{Counts, LineHandler, LineLoop, LineStats, RunFault};
+use pn_serve::{Counts, LineCounts, LineHandler, LineLoop, RunFault};
 use std::alloc::Global;
 use std::io::Read;
 use std::marker::Model;
 use std::mem;
 
 /// No line was answered.
-const NO_LINES: LineStats = LineStats {
+const NO_LINES: LineCounts = LineCounts {
     answered: 0,
     refused: 0,
 };
@@ -36,7 +36,7 @@ const NO_LINES: LineStats = LineStats {
 pub struct ThreadBuffers {
     pub(crate) lines: LineLoop,
     pub(crate) input: InputBuffer,
-    pub(crate) answered: LineStats,
+    pub(crate) answered: LineCounts,
 }
 
 impl ThreadBuffers {
@@ -50,7 +50,7 @@ impl ThreadBuffers {
     }
 
     /// How many lines were answered since the last call, and how many of them were refused.
-    pub fn take_line_counts(&mut self) -> LineStats {
+    pub fn take_line_counts(&mut self) -> LineCounts {
         mem::replace(&mut self.answered, NO_LINES)
     }
 }
@@ -256,7 +256,7 @@ fn counts_after(step: &Step, counts: Counts) -> Counts {
 }
 
 // Adds the lines that were answered between two counts.
-fn add_lines(lines: &mut LineStats, before: Counts, after: Counts)
+fn add_lines(lines: &mut LineCounts, before: Counts, after: Counts)
     ensures answered { lines.new.answered ≡ min (lines.old.answered + (after.lines - before.lines)) (2 ^ 64 - 1) }
     ensures refused { lines.new.refused ≡ min (lines.old.refused + (after.refused - before.refused)) (2 ^ 64 - 1) }
 {

@@ -2,6 +2,7 @@
 
 ghost use Rattle.std.specs.Prelude.{◌≡◌};
 
+use crate::line_counters::KindCounters;
 use crate::memory::MemoryMeter;
 use crate::streams::status::StreamStatus;
 use pn_join::Name;
@@ -92,6 +93,8 @@ pub struct Counters {
     /// What was read from all clients, and how many of their lines were refused.
     pub clients: Arc<InputCounters>,
     pub refused: Counter,
+    /// Their lines by what they ask for.
+    pub(crate) kinds: KindCounters,
     pub connections: ConnectionCounters,
     pub streams: Vec<StreamCounters>,
     pub memory: MemoryMeter,
@@ -104,6 +107,7 @@ impl Counters {
             rounds: Arc::new(alloc, Counter::new())?,
             clients: Arc::new(alloc, InputCounters::new())?,
             refused: Counter::new(),
+            kinds: KindCounters::new(),
             connections: ConnectionCounters::new(),
             streams,
             memory: MemoryMeter::new(),

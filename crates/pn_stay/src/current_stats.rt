@@ -4,7 +4,9 @@ use crate::counters::{Counters, StreamCounters};
 use crate::socket::Socket;
 use crate::streams::status::StreamStatus;
 use pn_join::NoMemory;
-use pn_serve::{ConnectionStats, LineStats, Stats, StatsSource, StreamStats, VERSION};
+use pn_serve::{
+    ConnectionStats, LineCounts, LineStats, Stats, StatsSource, StreamStats, TabletStats, VERSION,
+};
 use std::alloc::{AllocError, Global};
 use std::sync::Wait;
 use std::time::{Clock, Instant};
@@ -19,7 +21,7 @@ pub(crate) struct CurrentStats<'a, R> {
 }
 
 impl<R: Wait + Clock> StatsSource for CurrentStats<'_, R> {
-    fn stats(&self, alloc: Global) -> Result<Stats, NoMemory> {
+    fn stats(&self, alloc: Global, tablets: Vec<TabletStats>) -> Result<Stats, NoMemory> {
         let counters = self.counters;
         Ok(Stats {
             bytes: counters.memory.bytes(),
@@ -30,11 +32,15 @@ impl<R: Wait + Clock> StatsSource for CurrentStats<'_, R> {
                 refused: counters.connections.refused.get(),
             },
             lines: LineStats {
-                answered: counters.clients.lines.get(),
-                refused: counters.refused.get(),
+                all: LineCounts {
+                    answered: counters.clients.lines.get(),
+                    refused: counters.refused.get(),
+                },
+                kinds: counters.kinds.lines(),
             },
             rounds: counters.rounds.get(),
             streams: stats_of_streams(self.rt, alloc, &counters.streams)?,
+            tablets,
             uptime: seconds_since(self.rt, self.started).unwrap_or(0),
             version: VERSION,
         })

@@ -252,6 +252,7 @@ impl EventLoop {
         let counts = self.buffers.take_line_counts();
         self.counters.clients.lines.add(counts.answered);
         self.counters.refused.add(counts.refused);
+        self.counters.kinds.add(machine.take_kinds());
     }
 
     // One turn of the connection of a key. Where it is gone, nothing is at hand.

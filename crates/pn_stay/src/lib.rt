@@ -10,6 +10,7 @@ mod current_stats;
 mod event_loop;
 mod input_buffer;
 mod laws;
+mod line_counters;
 mod lingering;
 mod listener;
 mod memory;

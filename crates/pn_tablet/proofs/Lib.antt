@@ -12,6 +12,7 @@ pub mod CopyTextFacts
 pub mod CopyValueTexts
 pub mod CopyValues
 pub mod CopyWritten
+pub mod Counting
 pub mod Counts
 pub mod Drafting
 pub mod FaultCases

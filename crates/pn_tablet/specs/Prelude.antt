@@ -3,6 +3,7 @@ pub use Rattle.pn_tablet.specs.Changes.{answer, changes, version_at}
 pub use Rattle.pn_tablet.specs.Copies.{IsCopy, TabletCopyValue}
 pub use Rattle.pn_tablet.specs.CopyReading.{copy_at}
 pub use Rattle.pn_tablet.specs.Copying.{copy_of}
+pub use Rattle.pn_tablet.specs.Counting.{counts_of, deleted_in, is_deleted}
 pub use Rattle.pn_tablet.specs.Laws.{AreJoins, IsSpelled}
 pub use Rattle.pn_tablet.specs.Layouts.{Bounds, IsLayout, tablet_ends, tablet_of}
 pub use Rattle.pn_tablet.specs.Needs.{need_shortfall}

@@ -13,12 +13,13 @@ ghost use Rattle.pn_tablet.specs.declared.state.TabletOp.TheVariants.{Join, Lose
 mod parts;
 
 use crate::change::{add_changes, reserve_changes};
+use crate::counted_cells::CountedCells;
 use crate::coverage::Coverage;
 use crate::fault::{Shortfall, first_shortfall};
 use crate::inside::lie_in;
 use crate::{Change, OpFault, Range, TabletCopy};
 use pn_join::{Dup, Marks, NoMemory};
-use pn_record::{Records, join_and_tell, join_records};
+use pn_record::Records;
 use std::alloc::Global;
 use std::marker::Model;
 
@@ -45,7 +46,7 @@ pub enum TabletOp {
 #[derive(Drop)]
 pub struct TabletState {
     range: Range,
-    cells: Records,
+    cells: CountedCells,
     coverage: Coverage,
     status: Status,
     spare: Option<Marks>,
@@ -75,7 +76,7 @@ impl TabletState {
     {
         TabletState {
             range,
-            cells: Records::new(alloc),
+            cells: CountedCells::new(alloc),
             coverage: Coverage::new(alloc),
             status: Status::Serving,
             spare: Some(Marks::new(alloc)),
@@ -125,7 +126,7 @@ impl TabletState {
         }
         let mut changes = reserve_changes(self.alloc, cells.len())?;
         let (coverage, spare) = raise_coverage(&self.coverage, marks)?;
-        let told = join_and_tell(&mut self.cells, cells)?;
+        let told = self.cells.join_and_tell(cells)?;
         add_changes(&mut changes, told);
         self.coverage = coverage;
         self.spare = Some(spare);
@@ -136,7 +137,7 @@ impl TabletState {
         ensures { self.new ≡ recovering_tablet self.old }
     {
         self.coverage.recall_positions();
-        self.cells = Records::new(self.alloc);
+        self.cells = CountedCells::new(self.alloc);
         if let Some(need) = self.spare.take() {
             self.status = Status::Recovering { need };
         }
@@ -158,7 +159,7 @@ impl TabletState {
             });
         }
         let (coverage, spare) = raise_coverage(&self.coverage, &copy.marks)?;
-        join_records(&mut self.cells, &copy.cells)?;
+        self.cells.join_and_count(&copy.cells)?;
         self.coverage = coverage;
         self.spare = Some(spare);
         self.status = Status::Serving;

@@ -16,7 +16,7 @@ const KEYS: [&str; 3] = ["a", "n", "z"];
 
 const BOUNDS: &str = "m t";
 
-// A copy of the tablet of a region that took three messages, and then one of a key so many times.
+// A copy of the tablet of a region that took three messages, and then this number of messages of one key.
 fn copy_of<R: Threads + Sync>(
     rt: &R,
     alloc: Global,

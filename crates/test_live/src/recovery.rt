@@ -14,13 +14,15 @@ use test_kit::{deliveries, keys, layout};
 use test_kit_live::{end, open_one};
 
 /// What is asked, and the answer. The reader has entered the tablet before each change, and finds it in each kind of call.
-const STEPS: [(&str, &str); 21] = [
+const STEPS: [(&str, &str); 24] = [
     ("get a", "none"),
     ("take 1 a b c d e", "5 changed"),
     ("get a", "0"),
+    ("counts", "5, 0 deleted"),
     ("scan", "a0 b0 c0 d0 e0"),
     ("copy 5", "5 records, 1 mark"),
     ("lose", "lost"),
+    ("counts", "0, 0 deleted"),
     ("scan", "tablet 0 is recovering"),
     ("copy 5", "recovering"),
     ("get a", "tablet 0 is recovering"),
@@ -42,6 +44,7 @@ const STEPS: [(&str, &str); 21] = [
     ("notices 9", "0 notices, next 9"),
     ("last", "9"),
     ("tablet", "6 records"),
+    ("counts", "6, 0 deleted"),
 ];
 
 fn answer<R: Threads + Wait + Sync>(
@@ -59,10 +62,16 @@ fn answer<R: Threads + Wait + Sync>(
         "notices" => notices(alloc, live, rest),
         "last" => format!(in alloc; "{}", live.last_number()).ok(),
         "tablet" => format!(in alloc; "{} records", live.tablet(0).cells().len()).ok(),
+        "counts" => counts(alloc, reader),
         "get" => get(alloc, reader, rest),
         "scan" => scan(alloc, reader),
         _ => copy(alloc, reader, rest),
     }
+}
+
+fn counts(alloc: Global, reader: &mut LiveReader) -> Option<String> {
+    let counts = reader.counts(0)?;
+    format!(in alloc; "{}, {} deleted", counts.records, counts.deleted).ok()
 }
 
 // Takes a round from a position on.

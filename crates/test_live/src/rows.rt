@@ -43,7 +43,7 @@ impl Learner {
     }
 }
 
-// Whether the reader gets the key where it asks for the last version, and is told of that one where it asks for a later one.
+// Whether the reader gets the key at the last version, and, at a later one, the refusal that names the last.
 fn is_behind(reader: &mut LiveReader, key: &Key) -> bool
     ensures { tablets_of reader.new ≡ tablets_of reader.old }
 {

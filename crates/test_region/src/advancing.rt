@@ -13,7 +13,7 @@ use test_kit::{deliveries, image, layout};
 // The bounds of three tablets.
 const BOUNDS: &str = "c f";
 
-/// Adopts into each tablet a copy of one that took so many messages, and advances. The mark, the round that begins past
+/// Adopts into each tablet a copy that took this number of messages, and advances. The mark, the round that begins past
 /// the next message, and the one that begins at it.
 pub(crate) fn advance<R: Threads + Sync>(rt: &R, alloc: Global, counts: &str) -> Option<String> {
     let mut region = Region::new(alloc, layout(alloc, BOUNDS)?).ok()?;

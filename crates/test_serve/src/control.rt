@@ -21,7 +21,7 @@ use test_kit::layout;
 struct SomeStats;
 
 impl StatsSource for SomeStats {
-    fn stats(&self, alloc: Global) -> Result<Stats, NoMemory> {
+    fn stats(&self, alloc: Global, tablets: Vec<TabletStats>) -> Result<Stats, NoMemory> {
         let mut streams = Vec::with_capacity(alloc, 2)?;
         streams.push(failed_stream(alloc)?)?;
         streams.push(new_stream(alloc)?)?;
@@ -34,11 +34,18 @@ impl StatsSource for SomeStats {
                 refused: 5,
             },
             lines: LineStats {
-                answered: 6,
-                refused: 7,
+                all: lines(6, 7),
+                kinds: LineKinds {
+                    copy: lines(10, 11),
+                    get: lines(12, 13),
+                    other: lines(14, 15),
+                    read: lines(16, 17),
+                    scan: lines(18, 19),
+                },
             },
             rounds: 8,
             streams,
+            tablets,
             uptime: 9,
             version: "0",
         })
@@ -47,6 +54,10 @@ impl StatsSource for SomeStats {
     fn has_client_gone(&self) -> bool {
         false
     }
+}
+
+fn lines(answered: u64, refused: u64) -> LineCounts {
+    LineCounts { answered, refused }
 }
 
 // A stream whose last writer had a fault.

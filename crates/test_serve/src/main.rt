@@ -1,10 +1,11 @@
 //! Cases of `pn_serve`, a line each, of what the stored scripts of `test_rows` cannot say; `stdout` has what must be answered.
 //!
 //! `plan` and `says` read words; `run`, `blocks`, `writes` and `sessions` meet slow and failing readers and writers; `session` and
-//! `serve` answer sessions, and `control` a control session; `read` reads streams, and `writers` one whose writers come one after another. A bar is a newline.
+//! `serve` answer sessions, `kinds` counts lines of one, and `control` answers a control session; `read` reads streams, and `writers` one whose writers come one after another. A bar is a newline.
 #![tactic(auto)]
 
 mod control;
+mod kinds;
 mod loopback;
 mod plans;
 mod rounds;
@@ -14,6 +15,7 @@ mod talk;
 mod writers;
 
 use control::answer_control;
+use kinds::count_kinds;
 use loopback::serve_stream;
 use plans::{plan_reply, says};
 use rounds::few_rounds;
@@ -33,6 +35,7 @@ fn main(rt: HostRuntime) -> Result<(), Fail> {
         Some(("session", lines)) => answer_session(&rt, alloc, lines),
         Some(("sessions", how)) => fail_sessions(&rt, alloc, how),
         Some(("control", lines)) => answer_control(&rt, alloc, lines),
+        Some(("kinds", lines)) => count_kinds(&rt, alloc, lines),
         Some(("serve", position)) => serve_stream(&rt, alloc, position),
         Some(("read", _)) => few_rounds(&rt, alloc),
         Some(("writers", line)) => read_writers(&rt, alloc, line),

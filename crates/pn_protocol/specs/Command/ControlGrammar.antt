@@ -10,7 +10,7 @@ use Rattle.pn_protocol.specs.Command.Meaning.{CommandValue, deliver, relayout}
 use Rattle.pn_protocol.specs.Command.Meaning as meaning
 use Rattle.pn_protocol.specs.declared.command.control.TheConstants.{STOP_SECONDS}
 
--- a member that says so many seconds; the usual ones may also be missing or null
+-- a member that says this number of seconds; the usual number may also be absent or null
 abbrev pub AreSeconds : ℕ → Option Data → ℕ → Type 0
 AreSeconds usual None seconds = seconds ≡ usual
 AreSeconds usual (Some d) seconds = ((d ≡ null) × (seconds ≡ usual)) ⊎ (d ≡ number (unsigned seconds))

@@ -25,8 +25,8 @@ use Rattle.pn_protocol.specs.declared.refusal.Part.TheVariants.{Seconds, Since, 
 use Rattle.pn_protocol.specs.declared.refusal.Refusal.{Refusal}
 use Rattle.pn_protocol.specs.declared.refusal.Refusal.TheVariants.{BadShape}
 
--- a command of scripts; notices, with the number after which they are wanted and the seconds that are waited for them; marks
--- that advance; what the server has done; or its end, after so many seconds at most
+-- a command of scripts; notices, with the number after which they are wanted and the seconds to wait for them; an advance of
+-- the marks; what the server has done; or its end, with the most seconds that it may take
 pub data ControlValue : Type 0 where
   script : CommandValue → ControlValue
   notices : ℕ → ℕ → ControlValue
@@ -54,7 +54,7 @@ control_word_of text =
 abbrev pub control_word_in : Option Data → Option ControlWord
 control_word_in d = option_and_then control_word_of (option_and_then as_str d)
 
--- so many seconds may be asked for
+-- this number of seconds may be asked for
 abbrev pub are_seconds : ℕ → Bool
 are_seconds seconds = nat_le seconds MAX_SECONDS
 

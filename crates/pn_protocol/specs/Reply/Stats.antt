@@ -2,17 +2,14 @@
 use Rattle.std.specs.Prelude.{ℕ, List, map, codes, Option, Some, None, string_bytes}
 use Rattle.serde_json.specs.Data.{Data, null, number, string, array, object, unsigned, Members, no_members, member}
 use Rattle.serde_json.specs.View.{items_of}
+use Rattle.pn_protocol.specs.Reply.LineStats.{count, lines_data}
 use Rattle.pn_protocol.specs.declared.reply.stats.ConnectionStats.{ConnectionStats}
-use Rattle.pn_protocol.specs.declared.reply.stats.LineStats.{LineStats}
 use Rattle.pn_protocol.specs.declared.reply.stats.Stats.{Stats}
 use Rattle.pn_protocol.specs.declared.reply.stats.StreamFaultStats.{StreamFaultStats}
 use Rattle.pn_protocol.specs.declared.reply.stats.StreamState.{StreamState}
 use Rattle.pn_protocol.specs.declared.reply.stats.StreamState.TheVariants.{Waiting, Open, Ended, Failed}
 use Rattle.pn_protocol.specs.declared.reply.stats.StreamStats.{StreamStats}
-
--- a number, before the other members
-abbrev pub count : List ℕ → ℕ → Members → Members
-count name value others = member name (number (unsigned value)) others
+use Rattle.pn_protocol.specs.declared.reply.stats.TabletStats.{TabletStats}
 
 -- the word of a stream's state
 abbrev pub state_word : StreamState → List ℕ
@@ -44,10 +41,6 @@ connections_data connections =
     (count (codes "open") connections.open
     (count (codes "refused") connections.refused no_members))))
 
--- the lines of its clients
-unfoldable pub lines_data : LineStats → Data
-lines_data lines = object (count (codes "answered") lines.answered (count (codes "refused") lines.refused no_members))
-
 -- a stream of it
 unfoldable pub stream_data : StreamStats → Data
 stream_data stream =
@@ -61,6 +54,10 @@ stream_data stream =
     (member (codes "since") (number_or_null stream.since)
     (member (codes "state") (string (state_word stream.state)) no_members)))))))))
 
+-- the records of a tablet
+unfoldable pub tablet_data : TabletStats → Data
+tablet_data tablet = object (count (codes "deleted") tablet.deleted (count (codes "records") tablet.records no_members))
+
 -- what a server has done so far
 unfoldable pub stats_data : Stats → Data
 stats_data stats =
@@ -69,5 +66,6 @@ stats_data stats =
     (member (codes "lines") (lines_data stats.lines)
     (count (codes "rounds") stats.rounds
     (member (codes "streams") (array (items_of (map stream_data stats.streams.items)))
+    (member (codes "tablets") (array (items_of (map tablet_data stats.tablets.items)))
     (count (codes "uptime") stats.uptime
-    (member (codes "version") (string stats.version.now) no_members)))))))
+    (member (codes "version") (string stats.version.now) no_members))))))))

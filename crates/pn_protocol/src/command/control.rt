@@ -26,13 +26,13 @@ const STOP_SECONDS: u64 = 10;
 pub enum ControlCommand {
     /// A command of scripts: `adopt`, `copy`, `get`, `lose`, `marks`, `read`, `scan` or `tablets`.
     Script(Command),
-    /// Show what changed after this number, and wait for it so many seconds at most.
+    /// Show what changed after the number `since`, and wait for it at most `wait` seconds.
     Notices { since: u64, wait: u64 },
     /// Take as marks what all tablets have taken.
     Advance,
     /// Show what the server has done so far.
     Stats,
-    /// End the server after so many seconds at most.
+    /// End the server after at most `seconds` seconds.
     Stop { seconds: u64 },
 }
 

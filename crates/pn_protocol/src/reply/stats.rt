@@ -2,8 +2,9 @@
 
 ghost use Rattle.std.specs.Prelude.{◌≡◌, codes, IfOk, OnOk};
 ghost use Rattle.pn_json.specs.Prelude.{line_of, member_tokens, Appends, value_tokens};
-ghost use Rattle.pn_protocol.specs.Reply.Stats.{connections_data, fault_line, fault_reason, lines_data, number_or_null, state_word as word_of_state, stats_data};
+ghost use Rattle.pn_protocol.specs.Reply.Stats.{connections_data, fault_line, fault_reason, number_or_null, state_word as word_of_state, stats_data};
 
+use crate::reply::line_stats::LineStats;
 use crate::reply::shown::{Shown, shown_line, write_array};
 use json::Writer;
 use pn_join::{NoMemory, StreamName};
@@ -19,6 +20,8 @@ pub struct Stats {
     pub lines: LineStats,
     pub rounds: u64,
     pub streams: Vec<StreamStats>,
+    /// The tablets, in their order.
+    pub tablets: Vec<TabletStats>,
     /// For how many seconds the server runs.
     pub uptime: u64,
     pub version: &'static str,
@@ -36,12 +39,13 @@ pub struct ConnectionStats {
     pub refused: u64,
 }
 
-/// The lines of clients.
-#[derive(Clone, Copy, Debug)]
-pub struct LineStats {
-    /// How many were answered, and how many of these answers are refusals.
-    pub answered: u64,
-    pub refused: u64,
+/// The records of a tablet.
+#[derive(Clone, Copy, Debug, PartialEq, Eq)]
+pub struct TabletStats {
+    /// How many it has.
+    pub records: u64,
+    /// How many deleted ones it keeps.
+    pub deleted: u64,
 }
 
 /// What was read of a stream.
@@ -105,6 +109,8 @@ impl Shown for Stats {
         write_number_member(writer, "rounds", self.rounds)?;
         writer.key("streams")?;
         write_array(writer, &self.streams)?;
+        writer.key("tablets")?;
+        write_array(writer, &self.tablets)?;
         write_number_member(writer, "uptime", self.uptime)?;
         write_text_member(writer, "version", self.version)?;
         writer.end_object()?;
@@ -127,14 +133,16 @@ impl ConnectionStats {
     }
 }
 
-impl LineStats {
-    #[tactic(auto, unfolding(crate::specs::Reply::Stats::lines_data))]
-    fn write(&self, writer: &mut Writer) -> Result<(), NoMemory>
-        ensures { OnOk result (Appends writer.old writer.new (value_tokens (lines_data self.now))) }
-    {
+impl Shown for TabletStats {
+    ghost use Rattle.pn_protocol.specs.Reply.Stats.{tablet_data};
+
+    ghost value = { λ tablet. tablet_data tablet };
+
+    #[tactic(auto, unfolding(crate::specs::Reply::Stats::tablet_data))]
+    fn write(&self, writer: &mut Writer) -> Result<(), NoMemory> {
         writer.begin_object()?;
-        write_number_member(writer, "answered", self.answered)?;
-        write_number_member(writer, "refused", self.refused)?;
+        write_number_member(writer, "deleted", self.deleted)?;
+        write_number_member(writer, "records", self.records)?;
         writer.end_object()?;
         Ok(())
     }

@@ -1,9 +1,11 @@
 -- What a line of a control session comes to, by its reader and by what the writer answers.
-use Rattle.std.specs.Prelude.{◌≡◌, ◌⊎◌, ℕ, false, List, [], Option, None, Some, Result, Ok, Err}
+use Rattle.std.specs.Prelude.{◌≡◌, ◌⊎◌, ℕ, false, List, [], Option, None, Some, Result, Ok, Err, Vec}
+use Rattle.std.specs.declared.alloc.Global.{Global}
 use Rattle.pn_json.specs.Lines.{line_of}
 use Rattle.pn_tablet.specs.Copies.{TabletCopyValue}
 use Rattle.pn_tablet.specs.CopyReading.{copy_at}
 use Rattle.pn_tablet.specs.declared.fault.CopyTextFault.{CopyTextFault}
+use Rattle.pn_scan.specs.declared.fault.ScanFault.{ScanFault}
 use Rattle.pn_live.specs.Readers.{LiveReaderValue}
 use Rattle.pn_protocol.specs.Command.Controls.{ControlValue, control_at, script, notices, advance, stats, stop}
 use Rattle.pn_protocol.specs.Command.Lines.{is_too_long}
@@ -14,10 +16,12 @@ use Rattle.pn_protocol.specs.declared.refusal.Refusal.{Refusal}
 use Rattle.pn_protocol.specs.declared.refusal.Refusal.TheVariants.{Memory}
 use Rattle.pn_protocol.specs.declared.reply.Reply.{Reply}
 use Rattle.pn_protocol.specs.declared.reply.Reply.TheVariants.{Refused}
-use Rattle.pn_protocol.specs.declared.reply.refusals.CommandFault.TheVariants.{CopyText}
+use Rattle.pn_protocol.specs.declared.reply.refusals.CommandFault.TheVariants.{CopyText, Lookup}
 use Rattle.pn_protocol.specs.declared.reply.stats.Stats.{Stats}
+use Rattle.pn_protocol.specs.declared.reply.stats.TabletStats.{TabletStats}
 use Rattle.pn_serve.specs.Control.Answers.{IsGiven, question_of}
 use Rattle.pn_serve.specs.Control.Commands.{Said, said_by}
+use Rattle.pn_serve.specs.Control.TabletCounts.{CountsTablets}
 use Rattle.pn_serve.specs.Session.Lines.{LooksUp}
 use Rattle.pn_serve.specs.declared.control.commands.WriterCommand.{WriterCommand}
 use Rattle.pn_serve.specs.declared.control.commands.WriterCommand.TheVariants as commands
@@ -63,16 +67,29 @@ ObeysScript old command.marks new step = (new ≡ old) × Asks commands.Marks st
 ObeysScript old command.tablets new step = (new ≡ old) × Asks commands.Tablets step
 ObeysScript old asked new step = RepliesWith (λ shown. LooksUp old asked new shown) step
 
--- the reply shows what some server has done so far
-abbrev pub ShowsStats : Reply → Type 0
-ShowsStats shown = (done : Stats) × Says (record { text = line_of (stats_data done); refused = false }) shown
+-- the reply shows what some server with these counts of its tablets has done so far, or that memory ran out
+abbrev pub ShowsStats : Vec TabletStats Global → Reply → Type 0
+ShowsStats tablets shown =
+    ((done : Stats) × (done.tablets ≡ tablets) × (said_by shown ≡ record { text = line_of (stats_data done); refused = false }))
+    ⊎ (shown ≡ Refused Memory)
+
+-- the counts of the tablets are shown with what the server has done, or why there are none
+abbrev pub ShowsCounts : Result (Vec TabletStats Global) ScanFault → Reply → Type 0
+ShowsCounts (Ok tablets) shown = ShowsStats tablets shown
+ShowsCounts (Err why) shown = Refuses (Lookup why) shown
+
+-- the reader counted the tablets, and the reply shows what came of it
+pub record Reports (old new : LiveReaderValue) (step : Step) : Type 0 where
+  pub answer : Result (Vec TabletStats Global) ScanFault
+  pub counts : CountsTablets old new answer
+  pub shows : RepliesWith (ShowsCounts answer) step
 
 -- a command was done
 abbrev pub ObeysControl : LiveReaderValue → ControlValue → LiveReaderValue → Step → Type 0
 ObeysControl old (script asked) new step = ObeysScript old asked new step
 ObeysControl old (notices since wait) new step = (new ≡ old) × Asks (commands.Notices since) step
 ObeysControl old advance new step = (new ≡ old) × Asks commands.Advance step
-ObeysControl old stats new step = (new ≡ old) × RepliesWith ShowsStats step
+ObeysControl old stats new step = Reports old new step
 ObeysControl old (stop seconds) new step = (new ≡ old) × (step ≡ Stops seconds)
 
 -- a line that reads as this was answered

@@ -16,15 +16,18 @@ use crate::{Counts, RunFault};
 use pn_join::NoMemory;
 use pn_line::{Sink, Source};
 use pn_live::LiveReader;
-use pn_protocol::Stats;
+use pn_protocol::{Stats, TabletStats};
 use std::alloc::Global;
 use std::sync::{Arc, Wait};
 use std::time::Clock;
 
 /// Says what a server has done so far, and whether the client of a session is still there.
 pub trait StatsSource {
-    /// What it has done so far.
-    fn stats(&self, alloc: Global) -> Result<Stats, NoMemory>;
+    ghost use Rattle.std.specs.Prelude.{◌≡◌, IfOk};
+
+    /// What it has done so far, with these counts of its tablets.
+    fn stats(&self, alloc: Global, tablets: Vec<TabletStats>) -> Result<Stats, NoMemory>
+        ensures { IfOk result (λ stats. stats.tablets ≡ tablets) };
 
     /// Whether the client has gone, so that nobody takes what it waits for.
     fn has_client_gone(&self) -> bool;

@@ -1,17 +1,19 @@
 //! What a line of a control session comes to: its reader looks up, and the writer is asked for the rest.
 
+ghost use Rattle.std.specs.Prelude.{Ok};
 ghost use Rattle.pn_protocol.specs.Prelude.{command_value, control_value};
-ghost use Rattle.pn_serve.specs.Control.Steps.{AdoptsText, Asks, ObeysControl, ObeysScript, RepliesWith, ShowsStats, StepsBy, StepsLast};
+ghost use Rattle.pn_serve.specs.Control.Steps.{AdoptsText, Asks, ObeysControl, ObeysScript, RepliesWith, Reports, ShowsCounts, StepsBy, StepsLast};
 ghost use Rattle.pn_serve.specs.Machine.Modes.{bytes_of};
 
 use crate::control::commands::{WriterAnswer, WriterCommand};
 use crate::control::session::{ControlSession, StatsSource};
+use crate::control::tablet_counts::count_tablets;
 use crate::machine::adoption::read_text;
 use crate::sessions::lookups::look_up;
 use pn_live::LiveReader;
 use pn_protocol::{
-    Command, CommandFault, ControlCommand, Refusal, Reply, answer_text, control_of, notices_reply,
-    refuse, stats_reply,
+    Command, CommandFault, ControlCommand, Refusal, Reply, TabletStats, answer_text, control_of,
+    notices_reply, refuse, stats_reply,
 };
 use std::alloc::Global;
 use std::sync::Wait;
@@ -92,7 +94,7 @@ impl<C: StatsSource + Drop> ControlSession<C> {
                 self.ask(rt, alloc, WriterCommand::Notices { since })
             }
             ControlCommand::Advance => self.ask(rt, alloc, WriterCommand::Advance),
-            ControlCommand::Stats => self.report(alloc),
+            ControlCommand::Stats => self.report(alloc, reader),
             ControlCommand::Stop { seconds } => Step::Stops(seconds),
         }
     }
@@ -129,11 +131,20 @@ impl<C: StatsSource + Drop> ControlSession<C> {
         }
     }
 
-    // Shows what the server has done so far.
-    fn report(&self, alloc: Global) -> Step
-        ensures { RepliesWith ShowsStats result }
+    // Shows what the server has done so far, and what its tablets have.
+    fn report(&self, alloc: Global, reader: &mut LiveReader) -> Step
+        ensures { Reports reader.old reader.new result }
     {
-        match self.stats.stats(alloc) {
+        match count_tablets(alloc, reader) {
+            Ok(tablets) => self.show_stats(alloc, tablets),
+            Err(fault) => Step::Replies(refuse(alloc, CommandFault::Lookup(fault))),
+        }
+    }
+
+    fn show_stats(&self, alloc: Global, tablets: Vec<TabletStats>) -> Step
+        ensures { RepliesWith (ShowsCounts (Ok tablets)) result }
+    {
+        match self.stats.stats(alloc, tablets) {
             Ok(stats) => Step::Replies(answer_text(stats_reply(alloc, &stats))),
             Err(_) => Step::Replies(Reply::Refused(Refusal::Memory)),
         }

@@ -5,8 +5,9 @@ ghost use Rattle.pn_line.specs.Prelude.{so_far};
 ghost use Rattle.pn_live.specs.Prelude.{LiveReaderValue};
 ghost use Rattle.pn_serve.specs.Session.Knowing.{KnowsNoLess};
 
+use crate::sessions::kinds::NO_LINES;
 use pn_line::LineBuffer;
-use pn_protocol::Reply;
+use pn_protocol::{LineKinds, Reply};
 use std::alloc::Global;
 
 /// Answers lines one after another.
@@ -36,4 +37,11 @@ pub trait LineHandler {
         requires { ready }
         ensures ends { (text : List ℕ) → part.now ≡ so_far text → ends self.old text self.new result }
         ensures knows { KnowsNoLess (reader self.old) (reader self.new) };
+
+    /// How many lines of each kind it answered since this was asked last, where it counts them.
+    fn take_kinds(&mut self) -> LineKinds
+        ensures kept { self.new ≡ self.old }
+    {
+        NO_LINES
+    }
 }

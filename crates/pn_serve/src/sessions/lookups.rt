@@ -1,15 +1,18 @@
 //! Answers to the lookups of a session.
 
-ghost use Rattle.std.specs.Prelude.{◌≡◌};
+ghost use Rattle.std.specs.Prelude.{◌≡◌, ◌⊎◌};
 ghost use Rattle.pn_live.specs.Prelude.{tablets_of};
-ghost use Rattle.pn_protocol.specs.Prelude.{command_value};
+ghost use Rattle.pn_protocol.specs.Prelude.{command_value, kind_at};
+ghost use Rattle.pn_protocol.specs.declared.refusal.Refusal.TheVariants.{Memory as no_memory};
+ghost use Rattle.pn_protocol.specs.declared.reply.Reply.TheVariants.{Refused};
 ghost use Rattle.pn_serve.specs.Session.Lines.{AnswersLine, LooksUp};
 ghost use Rattle.pn_serve.specs.Session.Lookups.{LooksUpKey, LooksUpKeys, LooksUpPage, LooksUpCopy};
 
 use pn_join::Marks;
 use pn_live::LiveReader;
 use pn_protocol::{
-    Command, Part, Refusal, Reply, answer_copy, answer_get, answer_read, answer_scan, lookup_of,
+    Command, LineKind, Part, Refusal, Reply, answer_copy, answer_get, answer_read, answer_scan,
+    kind_and_lookup_of, lookup_of,
 };
 use pn_record::{Key, Version};
 use pn_scan::{Query, View};
@@ -23,6 +26,23 @@ pub(super) fn answer_line(alloc: Global, reader: &mut LiveReader, line: &[u8]) -
     match lookup_of(alloc, line) {
         Ok(command) => look_up(alloc, reader, command),
         Err(refusal) => Reply::Refused(refusal),
+    }
+}
+
+/// Answers a line as `answer_line` does, and says of which kind it is.
+pub(super) fn answer_with_kind(
+    alloc: Global,
+    reader: &mut LiveReader,
+    line: &[u8],
+) -> (LineKind, Reply)
+    ensures kind { (result.0 ≡ kind_at line.now) ⊎ (result.1 ≡ Refused no_memory) }
+    ensures answers { AnswersLine reader.old line.now reader.new result.1 }
+    ensures same { tablets_of reader.new ≡ tablets_of reader.old }
+{
+    let (kind, command) = kind_and_lookup_of(alloc, line);
+    match command {
+        Ok(command) => (kind, look_up(alloc, reader, command)),
+        Err(refusal) => (kind, Reply::Refused(refusal)),
     }
 }
 

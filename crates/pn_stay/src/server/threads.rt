@@ -14,7 +14,7 @@ use crate::listener::Listener;
 use crate::socket_mailbox::{Closed, SocketMailbox};
 use mio::{Poll, Waker};
 use pn_live::{LiveReader, LiveRegion};
-use pn_serve::{ComesBack, SessionThread};
+use pn_serve::{ComesBack, CountingReader, SessionThread};
 use std::alloc::Global;
 use std::net::Net;
 use std::snapshot::Snapshot;
@@ -221,7 +221,7 @@ fn answer_all<R: Wait + Clock>(rt: &R, body: LoopThread) -> EndedThread
         mailbox,
         reader,
     } = body;
-    let mut reader = reader;
+    let mut reader = CountingReader::new(reader);
     let _ = run(
         rt,
         EventLoop::new(alloc, poll, idle, counters),
@@ -229,7 +229,7 @@ fn answer_all<R: Wait + Clock>(rt: &R, body: LoopThread) -> EndedThread
         &mut reader,
     );
     EndedThread {
-        reader,
+        reader: reader.into_reader(),
         _mailbox: mailbox.close(rt),
     }
 }
@@ -238,7 +238,7 @@ fn run<R: Wait + Clock>(
     rt: &R,
     begun: io::Result<EventLoop>,
     mailbox: &SocketMailbox,
-    reader: &mut LiveReader,
+    reader: &mut CountingReader,
 ) -> io::Result<()>
     ensures { KnowsNoLess reader.old reader.new }
 {

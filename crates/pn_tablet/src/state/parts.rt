@@ -3,13 +3,15 @@
 ghost use Rattle.std.specs.Prelude.{◌≡◌, IsTrue, IfOk};
 ghost use Rattle.pn_record.specs.Prelude.{spell, table_of};
 ghost use Rattle.pn_join.specs.Prelude.{Reaches, are_positions};
+ghost use Rattle.pn_tablet.specs.Counting.{counts_of};
 ghost use Rattle.pn_tablet.specs.Needs.{needed};
 ghost use Rattle.pn_tablet.specs.Tablets.{lie_in};
 ghost use Rattle.pn_tablet.specs.declared.state.Status.TheVariants.{Serving};
 
 use super::{Status, TabletState};
-use crate::Range;
+use crate::counted_cells::CountedCells;
 use crate::coverage::Coverage;
+use crate::{Range, RecordCounts};
 use pn_join::{Dup, Marks, NoMemory};
 use pn_record::Records;
 use std::alloc::Global;
@@ -34,7 +36,7 @@ impl TabletState {
         let spare = reach.dup()?;
         Ok(TabletState {
             range,
-            cells,
+            cells: CountedCells::of(cells),
             coverage: Coverage::of_parts(cover, reach),
             status: Status::Serving,
             spare: Some(spare),
@@ -55,7 +57,14 @@ impl TabletState {
         ensures cells { result.now ≡ self.now.cells }
         ensures spelled { self.now.cells ≡ table_of (spell self.now.cells) }
     {
-        &self.cells
+        self.cells.records()
+    }
+
+    /// How many records it has, and how many deleted ones it keeps. Both are kept, so no record is looked at.
+    pub fn counts(&self) -> RecordCounts
+        ensures { result ≡ counts_of self.now.cells }
+    {
+        self.cells.counts()
     }
 
     /// The positions up to which all cells took streams.

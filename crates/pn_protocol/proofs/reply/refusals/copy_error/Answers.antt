@@ -1,4 +1,4 @@
--- The error of each fault, but for want of memory.
+-- The error of each fault, unless memory runs out.
 use Rattle.pn_protocol.proofs.reply.refusals.copy_error.Goals as goal
 
 pub returns-in-Recovering : goal.returns-in-Recovering

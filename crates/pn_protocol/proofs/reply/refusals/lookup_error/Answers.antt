@@ -1,4 +1,4 @@
--- The error of each fault, but for want of memory.
+-- The error of each fault, unless memory runs out.
 use Rattle.pn_protocol.specs.Reply.Faults.{lookup_fault_data}
 use Rattle.pn_protocol.proofs.reply.refusals.lookup_error.Goals as goal
 

@@ -1,4 +1,4 @@
--- Each fault is told, but for want of memory.
+-- The line names each fault, unless memory runs out.
 use Rattle.pn_protocol.proofs.Refusals.{told}
 use Rattle.pn_protocol.proofs.reply.refusals.refuse.Goals as goal
 

@@ -1,4 +1,4 @@
--- The error of each fault, but for want of memory.
+-- The error of each fault, unless memory runs out.
 use Rattle.pn_protocol.specs.Reply.Faults.{round_fault_data}
 use Rattle.pn_protocol.proofs.reply.refusals.round_error.Goals as goal
 

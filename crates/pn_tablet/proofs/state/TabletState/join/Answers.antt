@@ -18,7 +18,7 @@ invariant_of-self-2 c =
     kept c.self.invariant
     (sym c.lie_in.ensures ∙ c.if-not-lie_in.false)
     (record { rises = joins.rising.1; rising = joins.rising.0; joined = joins.joined })
-    (held_adds c.self.inside.cells c.join_and_tell.new.records (spell c.args.cells.now) joins.rising.0 joins.spelled)
+    (held_adds c.self.inside.cells c.join_and_tell.new.self (spell c.args.cells.now) joins.rising.0 joins.spelled)
     c.in_ok-coverage.ensures.1.1
     c.self.invariant.needed_positions
 
@@ -27,9 +27,9 @@ returns-clause-ok c =
     let joins = c.in_ok-told.ensures in
     let tablet : TabletStateValue = record { range = c.self.inside.range; cells = c.self.inside.cells; cover = c.self.inside.coverage.cover; reach = c.self.inside.coverage.reach; status = c.self.inside.status } in
     ap (λ (t : TabletStateValue). step t (Join c.args.cells.now c.args.marks.now)) (sym c.self.view_is)
-    ∙ join_step tablet c.args.cells.now c.join_and_tell.new.records c.args.marks.now c.in_ok-coverage.coverage.cover c.in_ok-coverage.coverage.reach
+    ∙ join_step tablet c.args.cells.now c.join_and_tell.new.self c.args.marks.now c.in_ok-coverage.coverage.cover c.in_ok-coverage.coverage.reach
     (sym c.lie_in.ensures ∙ c.if-not-lie_in.false)
-    (held_adds c.self.inside.cells c.join_and_tell.new.records (spell c.args.cells.now) joins.rising.0 joins.spelled)
+    (held_adds c.self.inside.cells c.join_and_tell.new.self (spell c.args.cells.now) joins.rising.0 joins.spelled)
     c.in_ok-coverage.ensures.0
     c.in_ok-coverage.ensures.1.0
 
@@ -38,8 +38,8 @@ returns-clause-changes c =
     let joins = c.in_ok-told.ensures in
     c.add_changes.ensures
     ∙ told_changes c.self.inside.cells c.args.cells.now c.in_ok-told.told.items joins.changes
-    ∙ joined_changes c.self.inside.cells c.args.cells.now c.join_and_tell.new.records (record { rises = joins.rising.1; rising = joins.rising.0; joined = joins.joined })
-    ∙ ap (λ (t : TabletStateValue). changes t.cells c.join_and_tell.new.records) c.self.view_is
+    ∙ joined_changes c.self.inside.cells c.args.cells.now c.join_and_tell.new.self (record { rises = joins.rising.1; rising = joins.rising.0; joined = joins.joined })
+    ∙ ap (λ (t : TabletStateValue). changes t.cells c.join_and_tell.new.self) c.self.view_is
 
 pub add_changes-requires-clause-capacity : goal.add_changes-requires-clause-capacity
 add_changes-requires-clause-capacity c =

@@ -4,26 +4,29 @@ use Rattle.serde_json.specs.Data.{Data, array, object, string, member, no_member
 use Rattle.serde_json.specs.View.{items_of}
 use Rattle.pn_protocol.specs.declared.reply.stats.Stats.{Stats}
 use Rattle.pn_protocol.specs.declared.reply.stats.StreamStats.{StreamStats}
-use Rattle.pn_protocol.specs.Reply.Stats.{connections_data, count, lines_data, stats_data, stream_data}
+use Rattle.pn_protocol.specs.declared.reply.stats.TabletStats.{TabletStats}
+use Rattle.pn_protocol.specs.Reply.LineStats.{count, lines_data}
+use Rattle.pn_protocol.specs.Reply.Stats.{connections_data, stats_data, stream_data, tablet_data}
 use Rattle.pn_json.specs.Tokens.{value_tokens}
 use Rattle.pn_json.proofs.TokenLists.{appends_token, appends_both, appends_as}
 use Rattle.pn_protocol.proofs.reply.stats.StatsShown.write.Goals as goal
 
--- what a server has done so far, with these streams
-abbrev stats_of : Stats → List StreamStats → Data
-stats_of stats streams =
+-- what a server has done so far, with these streams and tablets
+abbrev stats_of : Stats → List StreamStats → List TabletStats → Data
+stats_of stats streams tablets =
     object (count (codes "bytes") stats.bytes
     (member (codes "connections") (connections_data stats.connections)
     (member (codes "lines") (lines_data stats.lines)
     (count (codes "rounds") stats.rounds
     (member (codes "streams") (array (items_of (map stream_data streams)))
+    (member (codes "tablets") (array (items_of (map tablet_data tablets)))
     (count (codes "uptime") stats.uptime
-    (member (codes "version") (string stats.version.now) no_members)))))))
+    (member (codes "version") (string stats.version.now) no_members))))))))
 
 pub returns : goal.returns
 unfolding stats_data connections_data lines_data
 returns c =
-    appends_as (λ i. value_tokens (stats_of c.args.self.now (c.deref.ensures.value i)))
+    appends_as (λ i. value_tokens (stats_of c.args.self.now (c.deref.ensures.value i) (c.deref-2.ensures.value i)))
     (appends_both (appends_token c.in_ok-begin_object.ensures)
     (appends_both c.in_ok-write_number_member.ensures
     (appends_both (appends_token c.in_ok-key.ensures)
@@ -33,5 +36,7 @@ returns c =
     (appends_both c.in_ok-write_number_member-2.ensures
     (appends_both (appends_token c.in_ok-key-3.ensures)
     (appends_both c.in_ok-write_array.ensures
+    (appends_both (appends_token c.in_ok-key-4.ensures)
+    (appends_both c.in_ok-write_array-2.ensures
     (appends_both c.in_ok-write_number_member-3.ensures
-    (appends_both c.in_ok-write_text_member.ensures (appends_token c.in_ok-end_object.ensures))))))))))))
+    (appends_both c.in_ok-write_text_member.ensures (appends_token c.in_ok-end_object.ensures))))))))))))))

@@ -2,7 +2,8 @@
 use Rattle.std.proofs.Common.{ℕ, List, Option, codes}
 use Rattle.serde_json.specs.Data.{Data, object, string, member, no_members}
 use Rattle.pn_protocol.specs.declared.reply.stats.StreamFaultStats.{StreamFaultStats}
-use Rattle.pn_protocol.specs.Reply.Stats.{count, fault_line, fault_reason, number_or_null, stream_data}
+use Rattle.pn_protocol.specs.Reply.LineStats.{count}
+use Rattle.pn_protocol.specs.Reply.Stats.{fault_line, fault_reason, number_or_null, stream_data}
 use Rattle.pn_json.specs.Tokens.{value_tokens}
 use Rattle.pn_json.proofs.TokenLists.{appends_token, appends_both, appends_as}
 use Rattle.pn_protocol.proofs.reply.stats.StreamStatsShown.write.Goals as goal

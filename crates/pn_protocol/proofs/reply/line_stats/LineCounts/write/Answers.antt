@@ -1,10 +1,10 @@
--- The members of the lines follow one another.
-use Rattle.pn_protocol.specs.Reply.Stats.{lines_data}
+-- The members of the counts follow one another.
+use Rattle.pn_protocol.specs.Reply.LineStats.{line_counts_data}
 use Rattle.pn_json.proofs.TokenLists.{appends_token, appends_both}
-use Rattle.pn_protocol.proofs.reply.stats.LineStats.write.Goals as goal
+use Rattle.pn_protocol.proofs.reply.line_stats.LineCounts.write.Goals as goal
 
 pub returns : goal.returns
-unfolding lines_data
+unfolding line_counts_data
 returns c =
     appends_both (appends_token c.in_ok-begin_object.ensures)
     (appends_both c.in_ok-write_number_member.ensures

@@ -1,0 +1,14 @@
+-- What the entry found.
+use Rattle.std.proofs.Common.{Some, ap}
+use Rattle.pn_live.proofs.Entering.{finds_left}
+use Rattle.pn_live.proofs.tablet_reader.TabletReader.count_state.Goals as goal
+
+pub returns-in-Ok : goal.returns-in-Ok
+returns-in-Ok c = (
+  Some c.state.result.now,
+  record {
+    sees = finds_left c.args.self c.in-Ok.guard c.in-Ok.ensures c.state.result.now c.leave.result c.state.ensures.found c.leave.ensures;
+    sound = c.state.ensures.sound;
+    counts = ap Some c.counts-counts.ensures;
+  },
+)

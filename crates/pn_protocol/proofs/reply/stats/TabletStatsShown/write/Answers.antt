@@ -1,0 +1,11 @@
+-- The members of a tablet follow one another.
+use Rattle.pn_protocol.specs.Reply.Stats.{tablet_data}
+use Rattle.pn_json.proofs.TokenLists.{appends_token, appends_both}
+use Rattle.pn_protocol.proofs.reply.stats.TabletStatsShown.write.Goals as goal
+
+pub returns : goal.returns
+unfolding tablet_data
+returns c =
+    appends_both (appends_token c.in_ok-begin_object.ensures)
+    (appends_both c.in_ok-write_number_member.ensures
+    (appends_both c.in_ok-write_number_member-2.ensures (appends_token c.in_ok-end_object.ensures)))

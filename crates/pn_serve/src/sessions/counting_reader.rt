@@ -1,0 +1,105 @@
+//! A session's reader that counts the lines which it answers.
+
+ghost use Rattle.std.specs.Prelude.{◌≡◌};
+ghost use Rattle.pn_protocol.specs.Prelude.{is_refusal as refuses};
+ghost use Rattle.pn_serve.specs.Session.Lines.{AnswersLine};
+
+use crate::machine::line_handler::LineHandler;
+use crate::sessions::kinds::{NO_LINES, count_line};
+use crate::sessions::lookups::answer_with_kind;
+use pn_line::LineBuffer;
+use pn_live::LiveReader;
+use pn_protocol::{LineKinds, Reply};
+use std::alloc::Global;
+use std::marker::Model;
+use std::mem;
+
+/// A reader, and the lines that it answered since they were asked for last.
+#[derive(Drop)]
+pub struct CountingReader {
+    reader: LiveReader,
+    kinds: LineKinds,
+}
+
+impl Model for CountingReader {
+    ghost use Rattle.pn_live.specs.Readers.{LiveReaderValue};
+
+    ghost Value = { LiveReaderValue };
+
+    ghost use Rattle.pn_live.specs.Proofs.Coding.{reader_code};
+
+    ghost coded = { reader_code };
+
+    ghost view = { λ counting. counting.reader };
+}
+
+impl CountingReader {
+    /// A reader that has answered no line.
+    pub fn new(reader: LiveReader) -> CountingReader
+        ensures { result ≡ reader }
+    {
+        CountingReader {
+            reader,
+            kinds: NO_LINES,
+        }
+    }
+
+    /// The reader.
+    pub fn into_reader(self) -> LiveReader
+        ensures { result ≡ self.entry }
+    {
+        let CountingReader {
+            reader,
+            kinds: _kinds,
+        } = self;
+        reader
+    }
+
+    // Answers a line, and counts it.
+    fn answer_line(&mut self, alloc: Global, line: &[u8]) -> Reply
+        ensures { AnswersLine self.old line.now self.new result }
+    {
+        let (kind, reply) = answer_with_kind(alloc, &mut self.reader, line);
+        count_line(&mut self.kinds, kind, is_refusal(&reply));
+        reply
+    }
+}
+
+fn is_refusal(reply: &Reply) -> bool
+    ensures { result ≡ refuses reply.now }
+{
+    match reply {
+        Reply::Refused(_) => true,
+        Reply::NotTaken(_) => true,
+        _ => false,
+    }
+}
+
+impl LineHandler for CountingReader {
+    ghost use Rattle.pn_serve.specs.Session.Knowing.{KnowsNoLess};
+    ghost use Rattle.pn_serve.specs.Session.Lines.{AnswersLine, EndsLines};
+    ghost use Rattle.std.specs.Prelude.{⊤};
+
+    ghost ready = { ⊤ };
+
+    ghost makes = { AnswersLine };
+
+    ghost ends = { EndsLines };
+
+    ghost reader = { λ reader. reader };
+
+    fn answer(&mut self, alloc: Global, line: &LineBuffer) -> Reply {
+        self.answer_line(alloc, line.bytes())
+    }
+
+    fn answer_end(&mut self, alloc: Global, part: &LineBuffer) -> Reply {
+        if part.is_empty() {
+            return Reply::Silent;
+        }
+        self.answer_line(alloc, part.bytes())
+    }
+
+    fn take_kinds(&mut self) -> LineKinds {
+        mem::replace(&mut self.kinds, NO_LINES)
+    }
+}

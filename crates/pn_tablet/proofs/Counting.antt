@@ -1,0 +1,144 @@
+-- How many cells are deleted once a join's changes are put.
+use Rattle.std.proofs.Common.{◌≡◌, ℕ, suc, ◌+◌, ◌≤◌, Bool, true, false, not, cond, T, List, [], ◌∷◌, length, count_by, Option, Some, None, Less, Equal, Greater, is_eq, refl, sym, ap, ◌∙◌, subst, arith}
+use Rattle.std.specs.List.{AllByRecursion, AllZip}
+use Rattle.std.specs.FinMap.{find, put, is_sorted}
+use Rattle.std.specs.FinMap.Entries.{by_order, find-put, same_entries}
+use Rattle.std.proofs.lemmas.Cmp.{nat_list_cmp_total}
+use Rattle.std.proofs.lemmas.List.Sums.{sum_by-cons, count_by-le-length}
+use Rattle.std.proofs.lemmas.Map.Lookups.{exact_bytes}
+use Rattle.pn_join.specs.TableChanges.{Changes, AreChanges, AreValid, those_there, puts}
+use Rattle.pn_join.specs.Tables.{IsTable, optional_joined}
+use Rattle.pn_join.specs.declared.table.change.TableChange.{TableChange}
+use Rattle.pn_join.proofs.Changing.{puts_joined, valid_changes}
+use Rattle.pn_join.proofs.Puts.{IsTable-put}
+use Rattle.pn_join.proofs.Rising.{Below, Rising, Rising-from_sorted, flipped}
+use Rattle.pn_record.specs.CellMap.{Entries}
+use Rattle.pn_record.specs.Laws.JoinedCells.{cell_joined-laws}
+use Rattle.pn_record.specs.Order.{bytes_cmp}
+use Rattle.pn_record.specs.Sets.{CellValue, HasContents, cell_joined}
+use Rattle.pn_record.proofs.HeldRecords.{find-joined}
+use Rattle.pn_tablet.specs.Counting.{is_deleted, was_deleted, deleted_in}
+
+abbrev Told : Type 0
+Told = List (TableChange (List ℕ) CellValue)
+
+-- one if so
+abbrev pub one : Bool → ℕ
+one t = cond t 1 0
+
+-- how many changes bring a deleted cell, and how many take one away
+abbrev pub come : Told → ℕ
+come told = count_by (λ change. is_deleted change.after) told
+
+abbrev pub gone : Told → ℕ
+gone told = count_by (λ change. was_deleted change.before) told
+
+-- the first cell, and those after it
+pub first_counted : (e : List ℕ × CellValue) (es : Entries) → deleted_in (e ∷ es) ≡ one (is_deleted e.1) + deleted_in es
+first_counted e es = sum_by-cons (λ f. one (is_deleted f.1)) e es
+
+pub few_deleted : (es : Entries) → deleted_in es ≤ length es
+few_deleted es = count_by-le-length (λ e. is_deleted e.1) es
+
+one_of_both : (t : Bool) → one t + one (not t) ≡ 1
+one_of_both true = refl
+one_of_both false = refl
+
+one_more : (a b n m l x y : ℕ) → a + b ≡ 1 → n + m ≡ l → x ≡ a + n → y ≡ b + m → x + y ≡ suc l
+one_more a b n m l x y s t p q = omega arith
+
+-- those that are deleted, and those that are not, are all
+pub both_counted : (es : Entries) → deleted_in es + count_by (λ e. not (is_deleted e.1)) es ≡ length es
+both_counted [] = refl
+both_counted (e ∷ es) =
+    one_more (one (is_deleted e.1)) (one (not (is_deleted e.1))) (deleted_in es) (count_by (λ e. not (is_deleted e.1)) es) (length es) (deleted_in (e ∷ es)) (count_by (λ e. not (is_deleted e.1)) (e ∷ es))
+    (one_of_both (is_deleted e.1)) (both_counted es) (first_counted e es) (sum_by-cons (λ f. one (not (is_deleted f.1))) e es)
+
+-- a key below others is not found among them
+missing : (key first : List ℕ) (es : Entries) → bytes_cmp key first ≡ Less → Below bytes_cmp first es → find bytes_cmp key es ≡ None
+missing key first [] less below = refl
+missing key first (e ∷ es) less below =
+    ap (λ r. cond (is_eq r) (Some e.1) (find bytes_cmp key es)) (nat_list_cmp_total.trans key first e.0 less below.0) ∙ missing key first es less below.1
+
+in_front : (c n x : ℕ) → x ≡ c + n → 0 + x ≡ c + n
+in_front c n x p = omega arith
+
+in_place : (a c n x y : ℕ) → x ≡ c + n → y ≡ a + n → a + x ≡ c + y
+in_place a c n x y p q = omega arith
+
+behind : (a w c n m x y : ℕ) → w + m ≡ c + n → x ≡ a + m → y ≡ a + n → w + x ≡ c + y
+behind a w c n m x y s p q = omega arith
+
+-- a put replaces the cell that was at the key
+put_counted : (key : List ℕ) (cell : CellValue) (es : Entries) → Rising bytes_cmp es → one (was_deleted (find bytes_cmp key es)) + deleted_in (put bytes_cmp key cell es) ≡ one (is_deleted cell) + deleted_in es
+put_counted key cell [] rising = in_front (one (is_deleted cell)) (deleted_in []) (deleted_in ((key, cell) ∷ [])) (first_counted (key, cell) [])
+put_counted key cell (e ∷ es) rising =
+    elim (bytes_cmp key e.0) as (λ r. bytes_cmp key e.0 ≡ r → one (was_deleted (cond (is_eq r) (Some e.1) (find bytes_cmp key es))) + deleted_in (by_order r ((key, cell) ∷ e ∷ es) ((e.0, cell) ∷ es) (e ∷ put bytes_cmp key cell es)) ≡ one (is_deleted cell) + deleted_in (e ∷ es)) [
+      | Less ↦ λ p. subst (λ (o : Option CellValue). one (was_deleted o) + deleted_in ((key, cell) ∷ e ∷ es) ≡ one (is_deleted cell) + deleted_in (e ∷ es)) (sym (missing key e.0 es p rising.0))
+          (in_front (one (is_deleted cell)) (deleted_in (e ∷ es)) (deleted_in ((key, cell) ∷ e ∷ es)) (first_counted (key, cell) (e ∷ es)))
+      | Equal ↦ λ p. in_place (one (is_deleted e.1)) (one (is_deleted cell)) (deleted_in es) (deleted_in ((e.0, cell) ∷ es)) (deleted_in (e ∷ es)) (first_counted (e.0, cell) es) (first_counted e es)
+      | Greater ↦ λ p. behind (one (is_deleted e.1)) (one (was_deleted (find bytes_cmp key es))) (one (is_deleted cell)) (deleted_in es) (deleted_in (put bytes_cmp key cell es)) (deleted_in (e ∷ put bytes_cmp key cell es)) (deleted_in (e ∷ es))
+          (put_counted key cell es rising.1) (first_counted e (put bytes_cmp key cell es)) (first_counted e es)
+    ] refl
+
+-- what a table has at the keys of entries is what another has there
+abbrev SameAt : Entries → Entries → Entries → Type 0
+SameAt old now es = AllByRecursion (λ e. find bytes_cmp e.0 now ≡ find bytes_cmp e.0 old) es
+
+same_itself : (old es : Entries) → SameAt old old es
+same_itself old [] = tt
+same_itself old (e ∷ es) = (refl, same_itself old es)
+
+-- a put alters nothing at greater keys
+same_later : (key : List ℕ) (cell : CellValue) (old now es : Entries) → Below bytes_cmp key es → SameAt old now es → SameAt old (put bytes_cmp key cell now) es
+same_later key cell old now [] below same = tt
+same_later key cell old now (e ∷ es) below same = (
+  find-put bytes_cmp nat_list_cmp_total e.0 key cell now
+      ∙ ap (λ r. cond (is_eq r) (Some cell) (find bytes_cmp e.0 now)) (flipped nat_list_cmp_total key e.0 below.0)
+      ∙ same.0,
+  same_later key cell old now es below.1 same.1,
+)
+
+abbrev Each : Entries → Entries → List (Option (TableChange (List ℕ) CellValue)) → Type 0
+Each old es made = AllZip (Changes bytes_cmp (λ cell. cell) cell_joined HasContents old) es made
+
+one_change : (w c g k n before after x y : ℕ) → w + after ≡ c + before → g + n ≡ k + after → x ≡ w + g → y ≡ c + k → x + n ≡ y + before
+one_change w c g k n before after x y s t p q = omega arith
+
+-- the changes that bring a deleted cell and those that take one away are all that the count changes by
+puts_counted : (old now es : Entries) (made : List (Option (TableChange (List ℕ) CellValue))) → IsTable bytes_cmp HasContents now → Rising bytes_cmp es → SameAt old now es → Each old es made
+    → gone (those_there made) + deleted_in (puts bytes_cmp now (those_there made)) ≡ come (those_there made) + deleted_in now
+puts_counted old now [] [] table rising same all = refl
+puts_counted old now [] (m ∷ ms) table rising same all = absurd all
+puts_counted old now (e ∷ es) [] table rising same all = absurd all
+puts_counted old now (e ∷ es) (None ∷ ms) table rising same all = puts_counted old now es ms table rising.1 same.1 all.1
+puts_counted old now (e ∷ es) (Some change ∷ ms) table rising same all =
+    let next : Entries = put bytes_cmp change.key change.after now in
+    let told : Told = those_there ms in
+    let before : find bytes_cmp change.key now ≡ change.before = ap (λ (key : List ℕ). find bytes_cmp key now) all.0.key ∙ same.0 ∙ sym all.0.before in
+    let below : Below bytes_cmp change.key es = subst (λ (key : List ℕ). Below bytes_cmp key es) (sym all.0.key) rising.0 in
+    one_change (one (was_deleted change.before)) (one (is_deleted change.after)) (gone told) (come told) (deleted_in (puts bytes_cmp next told)) (deleted_in now) (deleted_in next) (gone (change ∷ told)) (come (change ∷ told))
+    (subst (λ (o : Option CellValue). one (was_deleted o) + deleted_in next ≡ one (is_deleted change.after) + deleted_in now) before (put_counted change.key change.after now (Rising-from_sorted bytes_cmp now table.rising)))
+    (puts_counted old next es ms (IsTable-put bytes_cmp nat_list_cmp_total HasContents change.key change.after now all.0.is_valid table) rising.1 (same_later change.key change.after old now es below same.1) all.1)
+    (sum_by-cons (λ (c : TableChange (List ℕ) CellValue). one (was_deleted c.before)) change told)
+    (sum_by-cons (λ (c : TableChange (List ℕ) CellValue). one (is_deleted c.after)) change told)
+
+puts_table : (now : Entries) (told : Told) → IsTable bytes_cmp HasContents now → AreValid HasContents told → IsTable bytes_cmp HasContents (puts bytes_cmp now told)
+puts_table now [] table valid = table
+puts_table now (change ∷ told) table valid =
+    puts_table (put bytes_cmp change.key change.after now) told (IsTable-put bytes_cmp nat_list_cmp_total HasContents change.key change.after now valid.0 table) valid.1
+
+-- a join changes the count by what its changes bring and take away
+pub joined_count : (old more new : Entries) (told : Told) → IsTable bytes_cmp HasContents old → IsTable bytes_cmp HasContents more
+    → AreChanges bytes_cmp (λ cell. cell) cell_joined HasContents old more told → is_sorted bytes_cmp new ≡ true
+    → ((key : List ℕ) → find bytes_cmp key new ≡ optional_joined cell_joined (find bytes_cmp key old) (find bytes_cmp key more))
+    → gone told + deleted_in new ≡ come told + deleted_in old
+joined_count old more new told table others are rising joined =
+    let made : Told = those_there are.made in
+    let valid : AreValid HasContents told = subst (AreValid HasContents) (sym are.are) (valid_changes bytes_cmp (λ cell. cell) cell_joined HasContents old more are.made are.each) in
+    let is : new ≡ puts bytes_cmp old told =
+    same_entries bytes_cmp nat_list_cmp_total exact_bytes new (puts bytes_cmp old told) (subst T (sym rising) tt) (subst T (sym (puts_table old told table valid).rising) tt)
+    (λ q. joined q ∙ sym (find-joined old more (puts bytes_cmp old told) (puts_joined bytes_cmp nat_list_cmp_total (λ cell. cell) cell_joined cell_joined-laws HasContents old more told others are) q)) in
+    subst (λ (es : Entries). gone told + deleted_in es ≡ come told + deleted_in old) (sym is)
+    (subst (λ (list : Told). gone list + deleted_in (puts bytes_cmp old list) ≡ come list + deleted_in old) (sym are.are)
+    (puts_counted old old more are.made table (Rising-from_sorted bytes_cmp more others.rising) (same_itself old more) are.each))

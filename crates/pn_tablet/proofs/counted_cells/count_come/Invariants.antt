@@ -1,0 +1,10 @@
+-- The changes so far and those of the rest are all changes.
+use Rattle.std.proofs.Common.{◌≡◌, ◌+◌, ◌≤◌, drop}
+use Rattle.pn_tablet.proofs.Counting.{come}
+use Rattle.pn_tablet.proofs.counted_cells.count_come.Given as goal
+
+abbrev pub invariant-loop-change : goal.invariant-loop-change
+invariant-loop-change l = record {
+  all : l.count + come (drop l.change-index l.told) ≡ come l.told;
+  below : l.count ≤ l.change-index;
+}
