@@ -2,7 +2,8 @@
 from faults.preloaded import built_library, with_library
 
 # Of the calls named FAILING_CALL, on standard input, standard output or a socket, each takes at most FAILING_BYTES, and the one of
-# the number FAILING_AT fails, as all after it, unless FAILING_ONCE is 1. Of `epoll_ctl` those that add a socket are such calls.
+# the number FAILING_AT fails, as all after it, unless FAILING_ONCE is 1. Of `epoll_ctl` those that add a socket are such calls. One of
+# `epoll_wait` fails after FAILING_PAUSE milliseconds.
 SHIM = r"""
 #define _GNU_SOURCE
 #include <errno.h>
@@ -19,6 +20,7 @@ static const char *failing;
 static long failing_at;
 static int is_once;
 static size_t bytes;
+static unsigned pause_of;
 static atomic_long at = 0;
 
 __attribute__((constructor)) static void read_words(void) {
@@ -26,6 +28,7 @@ __attribute__((constructor)) static void read_words(void) {
     failing_at = atol(getenv("FAILING_AT"));
     is_once = !strcmp(getenv("FAILING_ONCE"), "1");
     bytes = strtoul(getenv("FAILING_BYTES"), NULL, 10);
+    pause_of = strtoul(getenv("FAILING_PAUSE"), NULL, 10);
 }
 
 // How many bytes a call may take, or none where it fails.
@@ -73,7 +76,9 @@ int epoll_ctl(int poll, int what, int file, struct epoll_event *event) {
 }
 
 int epoll_wait(int poll, struct epoll_event *events, int most, int milliseconds) {
-    return taken("epoll_wait", 1) ? syscall(SYS_epoll_wait, poll, events, most, milliseconds) : failed();
+    if (taken("epoll_wait", 1)) return syscall(SYS_epoll_wait, poll, events, most, milliseconds);
+    usleep(1000 * pause_of);
+    return failed();
 }
 """
 
@@ -83,7 +88,10 @@ def failing_library(folder: str) -> str:
     return built_library(folder, "failing", SHIM)
 
 
-def environment(library: str, call: str, number: int, size: int, once: bool = False) -> dict[str, str]:
-    """An environment in which the call of a number fails, alone or with all after it, and each takes at most a size."""
-    words = {"FAILING_CALL": call, "FAILING_AT": str(number), "FAILING_BYTES": str(size), "FAILING_ONCE": str(int(once))}
+def environment(library: str, call: str, number: int, size: int, once: bool = False, pause: int = 0) -> dict[str, str]:
+    """An environment in which the call of a number fails, alone or with all after it, and each takes at most a size.
+
+    A call of `epoll_wait` fails after so many milliseconds.
+    """
+    words = {"FAILING_CALL": call, "FAILING_AT": str(number), "FAILING_BYTES": str(size), "FAILING_ONCE": str(int(once)), "FAILING_PAUSE": str(pause)}
     return with_library(library, words)

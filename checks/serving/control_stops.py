@@ -193,7 +193,7 @@ def feed_on(is_over: Callable[[], bool], path: str, text: bytes) -> None:
 
 def check_stop_beside_killed_feeds(program: str, folder: str) -> None:
     """A feed is killed sixty times while it writes, up to a tenth of a second before a stop or after it: the region ends in time."""
-    rng, text, most = random.Random(1), messages(1, 20_000), 0.0
+    rng, text, most = random.Random(1), messages(1, 4_000), 0.0
     for turn in range(KILLED):
         with region_in(folder, program) as (region, control, path), Session(control) as session, Beside(feed_on, path, text) as feed:
             until("the feed is taken", lambda: session.told(do="marks")["marks"])

@@ -67,8 +67,9 @@ def check_save(program: str, folder: str) -> None:
         for word in ("pnuts-ctl: ", os.path.join(folder, "disk", "copies"), "No space left on device"):
             same(f"whether {said} has {word}", word in said[0], True)
         said, shown = save(folder, "100m", control)
-        same("what is said where they fit", said, [])
-        same("the status, the files, and the last copy's end", [*shown.splitlines()[:2], '{"end":' in shown], ["status 0", "copies", True])
+        same("what is said of faults where they fit", said, [])
+        ended = shown[shown.index("status "):]
+        same("the status, the files, and the last copy's end", [*ended.splitlines()[:2], '{"end":' in ended], ["status 0", "copies", True])
 
 
 def check_positions(program: str, folder: str) -> None:

@@ -17,8 +17,9 @@ IDLE_KB, LEAK_KB = 4, 1_024
 # How many versions of each key are shown to connections, or more.
 VERSIONS = 20
 NEVER_READING, HALF_LINES, FLOODING = 200, 200, 2
-# What a client that reads nothing may cost: an outbox of 64 KB, and a page.
-WAITING_KB, BUFFER_BYTES = 64 + 16, 1 << 14
+# What a client that reads nothing may cost: an outbox of 64 KB, a page of 11 KB that did not fit into it, and what one read brings. A
+# half line may have 64 KB.
+WAITING_KB, HALF_LINE_KB, BUFFER_BYTES = 64 + 11 + 16, 64, 1 << 14
 SLOWER = 5
 RESET = struct.pack("ii", 1, 0)
 
@@ -231,7 +232,7 @@ def check_misbehaving(program: str, folder: str) -> None:
         before = region.memory()
         with misbehaving(region.port):
             beside, grown = last_of_hundred(swarm), region.memory() - before
-        most = NEVER_READING * WAITING_KB + HALF_LINES // 10 * WAITING_KB + LEAK_KB
+        most = NEVER_READING * WAITING_KB + HALF_LINES // 10 * HALF_LINE_KB + LEAK_KB
         print(f"  the 99th percentile of honest ones: {beside:.2f} ms; {alone:.2f} alone, {elsewhere:.2f} beside another region")
         print(f"  the others cost {grown:,} KB")
         same(f"{grown} KB more are at most {most}", grown <= most, True)

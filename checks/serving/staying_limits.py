@@ -13,6 +13,8 @@ NO_ROW = b'{"row":null}\n'
 READ = b'{"do":"read","key":"z"}\n'
 # How long one that waits for its turn to connect is looked at: so many seconds, and so many times as long as an answer took.
 PATIENCE, TIMES = 0.5, 20
+# How long one waits for what has to come.
+PATIENT = 20
 RESET = struct.pack("ii", 1, 0)
 # How often clients come and go, each in its way.
 ENDS = 60
@@ -76,16 +78,26 @@ def check_unregistered(program: str, folder: str) -> None:
             same("whether the next one is answered", is_answered(second), True)
 
 
+def reply_or_end(port: int) -> bytes:
+    """What a client is told that reads once, and nothing where it is ended. One that gets neither has waited for too long."""
+    with connected(port, 1) as (client,), contextlib.suppress(ConnectionError):
+        client.settimeout(PATIENT)
+        client.sendall(READ)
+        try:
+            return client.recv(CHUNK)
+        except TimeoutError:
+            return b"neither a reply nor the end"
+    return b""
+
+
 def check_ended_thread(program: str, folder: str) -> None:
-    """A session thread ends where its poll fails: no client is given to it any more, and the other thread answers on."""
-    given = environment(failing_library(folder), "epoll_wait", 1, 1, once=True)
-    with Staying(program, folder, none(folder), threads=2, environment=given) as region:
-        answers = []
-        for _ in range(10):
-            with connected(region.port, 1) as (client,):
-                client.settimeout(SECONDS)
-                with contextlib.suppress(ConnectionError):
-                    client.sendall(READ)
-                    answers.append(client.recv(CHUNK))
-        same("whether some are answered", NO_ROW in answers, True)
-        same("what else they are sent", set(answers) - {NO_ROW, b""}, set())
+    """A session thread ends where its poll fails, at once or after 300 milliseconds, in which it is given clients: the other one answers on.
+
+    Clients that it was given are ended, and count among --connections no longer.
+    """
+    library = failing_library(folder)
+    for pause in (0, 300):
+        given = environment(library, "epoll_wait", 1, 1, once=True, pause=pause)
+        with Staying(program, folder, none(folder), "--connections", "2", threads=2, environment=given) as region:
+            answers = [reply_or_end(region.port) for _ in range(10)]
+            same("what they are sent, of which the thread may have ended one", answers.count(NO_ROW) >= 9 and {*answers} <= {NO_ROW, b""}, True)
