@@ -1,8 +1,10 @@
-"""Shows regions of a built program to a real Prometheus, by `pnuts-ctl exporter`, and looks at what that has scraped and alerts of.
+"""Shows regions of a built program to a real Prometheus and to a real browser, by `pnuts-ctl exporter`, and looks at what the one
+has scraped and alerts of, and the other shows.
 
   checks/run exporter PROGRAM [CHECK ..]
 
-It needs Debian's prometheus and python3-prometheus-client, and is skipped without. Exit status 0 where each holds.
+It needs Debian's prometheus and python3-prometheus-client, and is skipped without; so is the page without chromium. Exit status 0
+where each holds.
 """
 import contextlib
 import json
@@ -13,71 +15,20 @@ import socket
 import subprocess
 import sys
 import time
-import urllib.error
 import urllib.parse
-import urllib.request
-from collections.abc import Iterator
 
 from common.crates import TOP
-from common.served import SECONDS, Json, free_port, same
+from common.served import SECONDS, free_port, same
 from common.tried import checks_in, checks_parser, try_checks
+from serving import exporter_page
+from serving.browser import browser
 from serving.controlled import Session, adoption, region_in, written
+from serving.exporting import Exporter, answered, python
 from serving.staying import raise_descriptors, until
 from serving.writers import Writer
 
 RULES = TOP / "packaging/prometheus/pnuts.rules.yml"
-CLIENT = TOP / "clients/python/src"
-PYTHONS = (sys.executable, "/usr/bin/python3")
 TOOLS = ("prometheus", "promtool")
-METRICS = ["pnuts_bytes", "pnuts_connections", "pnuts_info", "pnuts_lines", "pnuts_rounds", "pnuts_stream", "pnuts_tablet", "pnuts_up", "pnuts_uptime"]
-
-
-def python() -> str | None:
-    """A Python that has the library of exporters."""
-    found = (it for it in PYTHONS if os.access(it, os.X_OK) and not subprocess.run([it, "-c", "import prometheus_client"], stderr=-3).returncode)
-    return next(found, None)
-
-
-def answered(url: str) -> tuple[int, str]:
-    """The status and the text that a page has."""
-    try:
-        with urllib.request.urlopen(url, timeout=SECONDS) as page:
-            return page.status, page.read().decode()
-    except urllib.error.HTTPError as fault:
-        return fault.code, fault.read().decode()
-
-
-class Exporter:
-    """An exporter of a region's control socket, until the block ends."""
-
-    def __init__(self, control: str, *words: str) -> None:
-        self.place = f"127.0.0.1:{free_port()}"
-        line = [python(), "-m", "pnuts_client.ctl", "--control", control, "exporter", "--listen", self.place, *words]
-        environment = {**os.environ, "PYTHONPATH": str(CLIENT), "PYTHONDONTWRITEBYTECODE": "1"}
-        self.process = subprocess.Popen(line, env=environment, stdin=subprocess.DEVNULL)
-
-    def __enter__(self) -> "Exporter":
-        until("the exporter answers", self.is_there)
-        return self
-
-    def __exit__(self, *_: object) -> None:
-        self.process.kill()
-        self.process.wait()
-
-    def is_there(self) -> bool:
-        with contextlib.suppress(OSError):
-            return answered(f"http://{self.place}/none")[0] == 404
-        return False
-
-    def health(self) -> tuple[int, str]:
-        return answered(f"http://{self.place}/healthz")
-
-    def metrics(self) -> dict[str, float]:
-        """The values of all metrics, by their names with labels."""
-        status, text = answered(f"http://{self.place}/metrics")
-        same("the status of metrics", status, 200)
-        lines = (line.rpartition(" ") for line in text.splitlines() if not line.startswith("#"))
-        return {name: float(value) for name, _, value in lines}
 
 
 class Prometheus:
@@ -213,11 +164,15 @@ def check_exporter_beside_silent_clients(program: str, folder: str) -> None:
 
 
 def main(words: list[str]) -> int:
-    checks = checks_in(sys.modules[__name__])
+    checks = checks_in(sys.modules[__name__], exporter_page)
     given = checks_parser(__doc__, checks).parse_args(words)
     lacks = [tool for tool in TOOLS if not shutil.which(tool)] + ["python3-prometheus-client"] * (python() is None)
     if lacks:
         print(f"exporter: skipped, for the machine lacks {', '.join(lacks)}")
         return 0
     raise_descriptors()
-    return try_checks(given.program, checks, given.names or checks)
+    names = given.names or [*checks]
+    if browser() is None and "page" in names:
+        names.remove("page")
+        print("page: skipped, for the machine lacks chromium")
+    return try_checks(given.program, checks, names)

@@ -26,7 +26,8 @@ FILES = {
     "lib/sysusers.d/pnuts.conf": 0o644,
     **{f"share/pnuts-feeds/{name}": 0o755 for name in FEEDS},
     **{f"share/pnuts-feeds/feed/{path.name}": 0o644 for path in (TOP / "feeds/feed").glob("*.py")},
-    **{f"share/pnuts-tools/pnuts_client/{path.name}": 0o644 for path in (TOP / "clients/python/src/pnuts_client").glob("*.py")},
+    **{f"share/pnuts-tools/pnuts_client/{path.name}": 0o644 for path in (TOP / "clients/python/src/pnuts_client").glob("*.*")
+       if path.suffix in (".py", ".css", ".js")},
     "share/bash-completion/completions/pnuts": 0o644,
     "share/doc/pnuts-feeds/README.md": 0o644,
     "share/doc/pnuts/third-party": 0o644,

@@ -27,6 +27,18 @@ def shown_status(stats: Stats, tablets: Sequence[Tablet]) -> str:
     return "\n".join(shown)
 
 
+def faults_of(stats: Stats, tablets: Sequence[Tablet], silence: int | None) -> list[str]:
+    """What is wrong: tablets that are lost, and streams that have failed or are silent for longer than so many seconds."""
+    found = [f"tablet {number} is recovering" for number, it in enumerate(tablets) if it.need is not None]
+    for stream in stats.streams:
+        since = stats.uptime if stream.since is None else stream.since
+        if stream.state == "failed":
+            found.append(f"stream {stream.name} has failed: {stream.reason}")
+        elif silence is not None and since > silence:
+            found.append(f"stream {stream.name} brought nothing for {since} seconds")
+    return found
+
+
 def _stream(it: StreamStats) -> Sequence[str]:
     last = "-" if it.since is None else f"{shown_seconds(it.since)} ago"
     return (it.name, it.state, str(it.position), str(it.messages), shown_bytes(it.bytes), last, it.path)
