@@ -14,12 +14,12 @@ import signal
 import socket
 import subprocess
 import sys
-import time
 import urllib.parse
 
 from common.crates import TOP
 from common.served import SECONDS, free_port, same
 from common.tried import checks_in, checks_parser, try_checks
+from common.waits import in_time, seconds_of
 from serving import exporter_page
 from serving.browser import browser
 from serving.controlled import Session, adoption, region_in, written
@@ -148,15 +148,13 @@ def check_exporter_beside_silent_clients(program: str, folder: str) -> None:
     """Clients of an exporter that send nothing hold up no scrape, and a region that does not answer holds it up for a time only."""
     with region_in(folder, program) as (region, control, _), Exporter(control) as exporter, contextlib.ExitStack() as stack:
         host, _, port = exporter.place.partition(":")
+        idle = seconds_of(exporter.metrics)
         for _ in range(12):
             stack.enter_context(socket.create_connection((host, int(port))))
-        start = time.monotonic()
-        same("up", exporter.metrics()["pnuts_up"], 1.0)
-        same("it answers at once", time.monotonic() - start < 5, True)
-        region.process.send_signal(signal.SIGSTOP)
-        start = time.monotonic()
-        same("up", exporter.metrics()["pnuts_up"], 0.0)
-        same("it answers in time", time.monotonic() - start < 30, True)
+        for is_up, signalled, least in ((1.0, signal.SIGCONT, 5.0), (0.0, signal.SIGSTOP, 30.0)):
+            region.process.send_signal(signalled)
+            took = seconds_of(lambda: same("up", exporter.metrics()["pnuts_up"], is_up))
+            in_time("a scrape", took, least, idle)
         region.process.send_signal(signal.SIGCONT)
         until("it answers again", lambda: exporter.metrics()["pnuts_up"] == 1.0)
         exporter.process.send_signal(signal.SIGTERM)
