@@ -145,7 +145,8 @@ def check_quick(folder: Path) -> Iterator[str]:
     script, replies = (TOP / "crates/pnuts" / name for name in ("stdin", "stdout"))
     with script.open("rb") as lines:
         same("its replies", subprocess.run([quick, "replay"], stdin=lines, capture_output=True).stdout, replies.read_bytes())
-    folder.mkdir()
+    make("install", folder / "root", quick)
+    same("the end of the version that is installed", run([folder / "root" / PREFIX[1:] / "bin/pnuts", "--version"]).endswith(NOT_PROVED), True)
     run(["objcopy", "--add-section", f".debug_str_offsets={script}", quick, folder / "pnuts"])
     run(["make", "-C", TOP, "deb", f"DEBS={folder}", f"PNUTS={folder}/pnuts"])
     (package,) = folder.glob("pnuts_*.deb")
