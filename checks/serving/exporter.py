@@ -139,6 +139,10 @@ def check_metrics(program: str, folder: str) -> None:
                       "pnuts_lines_refused_total": 1, "pnuts_rounds_total": stats["rounds"], 'pnuts_stream_messages_total{stream="east"}': 250,
                       'pnuts_stream_bytes_total{stream="east"}': stream["bytes"], 'pnuts_stream_state{state="failed",stream="east"}': 0,
                       'pnuts_info{version="%s"}' % stats["version"]: 1, 'pnuts_tablet_recovering{tablet="2"}': 0}
+            for kind, it in stats["lines"].get("kinds", {}).items():
+                wanted |= {f'pnuts_kind_lines_{name}_total{{kind="{kind}"}}': count for name, count in it.items()}
+            for number, it in enumerate(stats.get("tablets", [])):
+                wanted |= {f'pnuts_tablet_{name}{{tablet="{number}"}}': count for name, count in it.items()}
             same("its metrics", {name: found.get(name) for name in wanted}, wanted)
         until("its stream is silent", lambda: exporter.health()[0] == 503)
         same("what is wrong", exporter.health()[1].startswith("stream east brought nothing for "), True)

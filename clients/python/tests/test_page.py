@@ -90,7 +90,7 @@ class PageTest(unittest.TestCase):
             self.assertIn(text, texts)
         self.assertNotIn("Records", texts)
         lines = {"answered": 40, "refused": 1, "kinds": {"read": {"answered": 3_001, "refused": 77}}}
-        counted = Tags(shown_page(view(tablets=[{"deleted": 5, "records": 1_234}, None], lines=lines)).decode()).texts
+        counted = Tags(shown_page(view(tablets=[{"deleted": 5, "records": 1_234}, {"deleted": 0, "records": 0}], lines=lines)).decode()).texts
         for text in ("Records", "1,234", "5", "read", "3,001", "77"):
             self.assertIn(text, counted)
         well = View(0.0, [], Seen(0.0, stats(streams=[]), TABLETS[:1]), None)

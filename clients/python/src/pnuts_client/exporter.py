@@ -49,6 +49,7 @@ class Collector:
         yield from of_region(stats)
         yield from of_streams(stats.streams)
         yield from of_tablets(tablets)
+        yield from of_contents(stats)
 
 
 def of_region(stats: Stats) -> Iterator[Metric]:
@@ -66,6 +67,12 @@ def of_region(stats: Stats) -> Iterator[Metric]:
     yield Counter("pnuts_connections_idle", "Connections that were ended since they were idle", value=connections.idle)
     yield Counter("pnuts_lines_answered", "Lines of clients that were answered", value=lines.answered)
     yield Counter("pnuts_lines_refused", "Lines of clients that were answered by a refusal", value=lines.refused)
+    answered = Counter("pnuts_kind_lines_answered", "Lines of clients that were answered, of each kind", labels=["kind"])
+    refused = Counter("pnuts_kind_lines_refused", "Lines of clients that were answered by a refusal, of each kind", labels=["kind"])
+    for name, it in lines.kinds.items():
+        answered.add_metric([name], it.answered)
+        refused.add_metric([name], it.refused)
+    yield from (answered, refused)
 
 
 def of_streams(streams: Iterable[StreamStats]) -> Iterable[Metric]:
@@ -92,6 +99,16 @@ def of_tablets(tablets: Iterable[Tablet]) -> Iterable[Metric]:
     for number, tablet in enumerate(tablets):
         recovering.add_metric([str(number)], tablet.need is not None)
     return (recovering,)
+
+
+def of_contents(stats: Stats) -> Iterable[Metric]:
+    """What tablets hold, where the region says it."""
+    records = Gauge("pnuts_tablet_records", "Records that a tablet holds", labels=["tablet"])
+    deleted = Gauge("pnuts_tablet_deleted", "Records that a tablet holds and that are deletions", labels=["tablet"])
+    for number, tablet in enumerate(stats.tablets):
+        records.add_metric([str(number)], tablet.records)
+        deleted.add_metric([str(number)], tablet.deleted)
+    return records, deleted
 
 
 def faults(region: Control, silence: int | None) -> list[str]:

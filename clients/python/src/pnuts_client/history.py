@@ -70,12 +70,6 @@ def rate(before: Sample, after: Sample, name: str) -> float | None:
     return max(last - first, 0) / (after.at - before.at)
 
 
-def kinds_of(stats: Stats) -> dict[str, tuple[int, int]]:
-    """How many lines of each kind were answered, and refused; none where the region does not say it."""
-    kinds = stats.reply["lines"].get("kinds", {})
-    return {str(name): (int(it["answered"]), int(it["refused"])) for name, it in kinds.items()}
-
-
 def counts_of(stats: Stats) -> dict[str, int]:
     """What is kept of a region's counts."""
     return {
@@ -87,7 +81,7 @@ def counts_of(stats: Stats) -> dict[str, int]:
         "refused": stats.lines.refused,
         "messages": sum(it.messages for it in stats.streams),
         **{PER_STREAM + it.name: it.messages for it in stats.streams},
-        **{PER_KIND + name: answered for name, (answered, _) in kinds_of(stats).items()},
+        **{PER_KIND + name: it.answered for name, it in stats.lines.kinds.items()},
     }
 
 

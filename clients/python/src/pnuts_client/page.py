@@ -3,14 +3,13 @@
 from __future__ import annotations
 
 from base64 import b64encode
-from collections.abc import Iterable, Iterator, Sequence
+from collections.abc import Callable, Iterable, Iterator, Sequence
 from hashlib import sha256
 from pathlib import Path
-from typing import Any
 
-from .control_requests import Stats, StreamStats, Tablet
+from .control_requests import LineCounts, Lines, Stats, StreamStats, Tablet
 from .elements import Html, element, joined
-from .history import KEPT, PER_KIND, PER_STREAM, STEP, Point, Seen, View, kinds_of
+from .history import KEPT, PER_KIND, PER_STREAM, STEP, Point, Seen, View
 from .sparkline import sparkline
 from .status import faults_of, shown_bytes, shown_marks, shown_seconds
 
@@ -86,7 +85,7 @@ def tiles(view: View) -> Iterator[Html]:
     yield tile("Memory", view.values("bytes"), lambda value: shown_bytes(int(value)))
 
 
-def tile(what: str, points: Sequence[Point], text: Any) -> Html:
+def tile(what: str, points: Sequence[Point], text: Callable[[float], str]) -> Html:
     """A value with a picture of what it was."""
     now, most = now_and_most(points)
     shown = joined(element("strong", "-" if now is None else text(now)), element("small", "" if most is None else f"at most {text(most)}"))
@@ -125,22 +124,15 @@ def lack(stream: StreamStats, tablet: Tablet) -> int:
 
 def tablets(seen: Seen) -> Html:
     """A table of the tablets, with how many records each holds where the region says it."""
-    counts = seen.stats.reply.get("tablets")
-    counted = isinstance(counts, list) and len(counts) == len(seen.tablets)
-    heads = (*TABLETS, *COUNTED) if counted else TABLETS
+    counts = seen.stats.tablets if len(seen.stats.tablets) == len(seen.tablets) else []
+    heads = (*TABLETS, *COUNTED) if counts else TABLETS
     rows = []
     for number, it in enumerate(seen.tablets):
         behind = max((lack(stream, it) for stream in seen.stats.streams), default=0)
         shown = state("serves") if it.need is None else joined(state("recovering"), f" needs {shown_marks(it.need)}")
-        cells: list[object] = [element("strong", number), it.start or "-", it.end or "-", shown, f"{behind:,}"]
-        rows.append(row(heads, [*cells, *(records(counts[number]) if counted else [])]))
+        held = [f"{counts[number].records:,}", f"{counts[number].deleted:,}"] if counts else []
+        rows.append(row(heads, [element("strong", number), it.start or "-", it.end or "-", shown, f"{behind:,}", *held]))
     return table(heads, rows)
-
-
-def records(count: Any) -> list[str]:
-    """How many records a tablet holds, and how many of them are deletions; `-` where that is not said."""
-    found = count if isinstance(count, dict) else {}
-    return [f"{found[name]:,}" if isinstance(found.get(name), int) else "-" for name in ("records", "deleted")]
 
 
 def connections(stats: Stats) -> str:
@@ -151,15 +143,15 @@ def connections(stats: Stats) -> str:
 
 def lines(view: View, stats: Stats) -> Iterator[Html]:
     """A row for all lines of clients, and one for each kind of them where the region says it."""
-    yield line("all", stats.lines.answered, stats.lines.refused, view.rates("answered"))
-    for name, (answered, refused) in kinds_of(stats).items():
-        yield line(name, answered, refused, view.rates(PER_KIND + name))
+    yield line("all", stats.lines, view.rates("answered"))
+    for name, it in stats.lines.kinds.items():
+        yield line(name, it, view.rates(PER_KIND + name))
 
 
-def line(name: str, answered: int, refused: int, points: Sequence[Point]) -> Html:
+def line(name: str, counts: Lines | LineCounts, points: Sequence[Point]) -> Html:
     now, _ = now_and_most(points)
     picture = sparkline(points, SECONDS, f"Lines answered a second: {name}")
-    return row(LINES, (element("strong", name), f"{answered:,}", f"{refused:,}", "-" if now is None else shown_rate(now), picture))
+    return row(LINES, (element("strong", name), f"{counts.answered:,}", f"{counts.refused:,}", "-" if now is None else shown_rate(now), picture))
 
 
 def state(name: str) -> Html:
