@@ -2,18 +2,21 @@
 import contextlib
 import json
 import os
+import random
 import select
 import signal
 import socket
 import time
+from collections.abc import Callable
 
 from common.served import SECONDS, same
 from common.waits import in_time, seconds_of
 from serving.controlled import CHUNK, Session, region_in, written
-from serving.staying import KEYS, Staying, until
+from serving.staying import KEYS, Beside, Staying, messages, until
+from serving.stream_lives import write_slowly
 from serving.writers import Writer
 
-CLIENTS, LINES, PAGES = 256, 100, 60
+CLIENTS, LINES, PAGES, KILLED = 256, 100, 60, 60
 READ = b'{"do":"read","key":"k%03d"}\n'
 HALF = b'{"error":"not-json"}\n'
 SCAN = b'{"do":"scan","query":{"limit":1000}}\n'
@@ -186,6 +189,32 @@ def check_stop_of_many_kinds(program: str, folder: str) -> None:
             took[kind] = time.monotonic() - start
             in_time(f"a stop at once, {kind}", took[kind], 3.0, took["none"] if kind != "none" else 0.0)
             same("files of sockets", [it for it in os.listdir(folder) if "errors" not in it], [])
+
+
+def feed_on(is_over: Callable[[], bool], path: str, text: bytes) -> None:
+    """A feed whose region may go."""
+    with contextlib.suppress(ConnectionError):
+        write_slowly(is_over, path, text)
+
+
+def check_stop_beside_killed_feeds(program: str, folder: str) -> None:
+    """A feed is killed sixty times while it writes, up to a tenth of a second before a stop or after it: the region ends in time."""
+    rng, text, most = random.Random(1), messages(1, 20_000), 0.0
+    for turn in range(KILLED):
+        with region_in(folder, program) as (region, control, path), Session(control) as session, Beside(feed_on, path, text) as feed:
+            until("the feed is taken", lambda: session.told(do="marks")["marks"])
+            time.sleep(rng.random() * 0.05)
+            if turn % 3 == 0:
+                feed.kill()
+                time.sleep(rng.random() * 0.01)
+            start = time.monotonic()
+            session.send(b'{"do":"stop"}\n')
+            if turn % 3 == 1:
+                time.sleep(rng.random() * 0.1)
+            feed.kill()
+            same("the reply", session.line(), b'{"stopping":10}\n')
+            most = max(most, ended(region, start))
+    same(f"it stops in {most:.2f} seconds", most < 3, True)
 
 
 def check_kill(program: str, folder: str) -> None:

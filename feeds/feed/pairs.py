@@ -2,6 +2,7 @@
 
 from __future__ import annotations
 
+import contextlib
 import hashlib
 import json
 import os
@@ -101,6 +102,8 @@ class Pairs:
                 os.fsync(file.fileno())
             written.rename(self._path)
         except OSError as fault:
+            with contextlib.suppress(OSError):
+                written.unlink()
             raise BadPairs(f"cannot write {self._path}: {fault.strerror}") from fault
 
 
