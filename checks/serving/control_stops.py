@@ -10,6 +10,7 @@ import time
 from collections.abc import Callable
 
 from common.served import SECONDS, same
+from common.waits import in_time, seconds_of
 from serving.controlled import CHUNK, Session, region_in, written
 from serving.staying import KEYS, Beside, Staying, messages, until
 from serving.stream_lives import write_slowly
@@ -152,12 +153,16 @@ def check_stop_in_time(program: str, folder: str) -> None:
                 with contextlib.suppress(BlockingIOError):
                     for _ in range(100_000):
                         client.send(SCAN * 100)
+            with Session(control) as session:
+                idle = seconds_of(lambda: session.told(do="marks"))
             seconds = stopped(region, control, wanted)
-            same(f"it ends after {seconds:.2f} seconds, of {wanted}", wanted <= seconds + 0.1 and seconds < wanted + 2.5, True)
+            same(f"it ends after {seconds:.2f} seconds, of {wanted}", wanted <= seconds + 0.1, True)
+            in_time(f"the end after {wanted} seconds", seconds - wanted, 2.5, idle)
 
 
 def check_stop_of_many_kinds(program: str, folder: str) -> None:
     """A stop that is asked by several at once, without a client, with streams that have ended or failed, and with half lines."""
+    took: dict[str, float] = {}
     for kind in ("none", "many", "half", "failed", "idle"):
         with region_in(folder, program) as (region, control, path), contextlib.ExitStack() as stack:
             if kind == "failed":
@@ -181,7 +186,8 @@ def check_stop_of_many_kinds(program: str, folder: str) -> None:
             said = [session.line() for session in sessions]
             same("a stop's reply", any(it.startswith(b'{"stopping":') for it in said), True)
             same("its status", region.process.wait(timeout=SECONDS), 0)
-            same("it stops at once", time.monotonic() - start < 3, True)
+            took[kind] = time.monotonic() - start
+            in_time(f"a stop at once, {kind}", took[kind], 3.0, took["none"] if kind != "none" else 0.0)
             same("files of sockets", [it for it in os.listdir(folder) if "errors" not in it], [])
 
 

@@ -7,6 +7,7 @@ import subprocess
 import time
 
 from common.served import SECONDS, same
+from common.waits import in_time, seconds_of
 from serving.controlled import Session, region_in, written
 from serving.staying import messages, until
 from serving.writers import Writer
@@ -83,15 +84,14 @@ def check_stats_of_connections(program: str, folder: str) -> None:
 def check_waits(program: str, folder: str) -> None:
     """A `notices` that waits is answered by a change, a loss and the end of its time; others are not held up."""
     with region_in(folder, program) as (_, control, path), Session(control) as waits, Session(control) as other:
-        start = time.monotonic()
-        same("without a change", waits.ask(b'{"do":"notices","since":0,"wait":1}\n'), b'{"next":0,"notices":[]}\n')
-        assert 0.9 < time.monotonic() - start < 3, "it waits for its time"
+        idle = seconds_of(lambda: other.told(do="marks"))
+        took = seconds_of(lambda: same("without a change", waits.ask(b'{"do":"notices","since":0,"wait":1}\n'), b'{"next":0,"notices":[]}\n'))
+        same("it waits for its time", took > 0.9, True)
+        in_time("and no longer", took - 1, 2.0, idle)
         same("of what was not yet", waits.ask(b'{"do":"notices","since":1,"wait":60}\n'), b'{"missed":true,"next":0}\n')
         waits.send(b'{"do":"notices","since":0,"wait":60}\n')
         time.sleep(0.2)
-        start = time.monotonic()
-        same("another session meanwhile", other.told(do="marks"), {"marks": {}})
-        assert time.monotonic() - start < 0.5, "it is not held up"
+        in_time("another session meanwhile", seconds_of(lambda: same("marks", other.told(do="marks"), {"marks": {}})), 0.5, idle)
         written(path, 1, 1)
         told = json.loads(waits.line())
         same("the change", [told["next"], [it["key"] for it in told["notices"]]], [1, ["k001"]])
@@ -103,6 +103,8 @@ def check_waits(program: str, folder: str) -> None:
 def check_waits_whose_client_goes(program: str, folder: str) -> None:
     """Sixteen clients that go while they wait make room for others within seconds."""
     with region_in(folder, program) as (_, control, _):
+        with Session(control) as session:
+            idle = seconds_of(lambda: session.told(do="marks"))
         for _ in range(16):
             with Session(control) as session:
                 session.send(b'{"do":"notices","since":0,"wait":60}\n')
@@ -110,7 +112,7 @@ def check_waits_whose_client_goes(program: str, folder: str) -> None:
         start = time.monotonic()
         with Session(control) as session:
             same("marks", session.told(do="marks"), {"marks": {}})
-        assert time.monotonic() - start < 5, "there is room"
+        in_time("one that makes room", time.monotonic() - start, 5.0, idle)
 
 
 def check_words_of_the_program(program: str, folder: str) -> None:

@@ -1,8 +1,10 @@
-"""Shows regions of a built program to a real Prometheus, by `pnuts-ctl exporter`, and looks at what that has scraped and alerts of.
+"""Shows regions of a built program to a real Prometheus and to a real browser, by `pnuts-ctl exporter`, and looks at what the one
+has scraped and alerts of, and the other shows.
 
   checks/run exporter PROGRAM [CHECK ..]
 
-It needs Debian's prometheus and python3-prometheus-client, and is skipped without. Exit status 0 where each holds.
+It needs Debian's prometheus and python3-prometheus-client, and is skipped without; so is the page without chromium. Exit status 0
+where each holds.
 """
 import contextlib
 import json
@@ -12,72 +14,21 @@ import signal
 import socket
 import subprocess
 import sys
-import time
-import urllib.error
 import urllib.parse
-import urllib.request
-from collections.abc import Iterator
 
 from common.crates import TOP
-from common.served import SECONDS, Json, free_port, same
+from common.served import SECONDS, free_port, same
 from common.tried import checks_in, checks_parser, try_checks
+from common.waits import in_time, seconds_of
+from serving import exporter_page
+from serving.browser import browser
 from serving.controlled import Session, adoption, region_in, written
+from serving.exporting import Exporter, answered, python
 from serving.staying import raise_descriptors, until
 from serving.writers import Writer
 
 RULES = TOP / "packaging/prometheus/pnuts.rules.yml"
-CLIENT = TOP / "clients/python/src"
-PYTHONS = (sys.executable, "/usr/bin/python3")
 TOOLS = ("prometheus", "promtool")
-METRICS = ["pnuts_bytes", "pnuts_connections", "pnuts_info", "pnuts_lines", "pnuts_rounds", "pnuts_stream", "pnuts_tablet", "pnuts_up", "pnuts_uptime"]
-
-
-def python() -> str | None:
-    """A Python that has the library of exporters."""
-    found = (it for it in PYTHONS if os.access(it, os.X_OK) and not subprocess.run([it, "-c", "import prometheus_client"], stderr=-3).returncode)
-    return next(found, None)
-
-
-def answered(url: str) -> tuple[int, str]:
-    """The status and the text that a page has."""
-    try:
-        with urllib.request.urlopen(url, timeout=SECONDS) as page:
-            return page.status, page.read().decode()
-    except urllib.error.HTTPError as fault:
-        return fault.code, fault.read().decode()
-
-
-class Exporter:
-    """An exporter of a region's control socket, until the block ends."""
-
-    def __init__(self, control: str, *words: str) -> None:
-        self.place = f"127.0.0.1:{free_port()}"
-        line = [python(), "-m", "pnuts_client.ctl", "--control", control, "exporter", "--listen", self.place, *words]
-        environment = {**os.environ, "PYTHONPATH": str(CLIENT), "PYTHONDONTWRITEBYTECODE": "1"}
-        self.process = subprocess.Popen(line, env=environment, stdin=subprocess.DEVNULL)
-
-    def __enter__(self) -> "Exporter":
-        until("the exporter answers", self.is_there)
-        return self
-
-    def __exit__(self, *_: object) -> None:
-        self.process.kill()
-        self.process.wait()
-
-    def is_there(self) -> bool:
-        with contextlib.suppress(OSError):
-            return answered(f"http://{self.place}/none")[0] == 404
-        return False
-
-    def health(self) -> tuple[int, str]:
-        return answered(f"http://{self.place}/healthz")
-
-    def metrics(self) -> dict[str, float]:
-        """The values of all metrics, by their names with labels."""
-        status, text = answered(f"http://{self.place}/metrics")
-        same("the status of metrics", status, 200)
-        lines = (line.rpartition(" ") for line in text.splitlines() if not line.startswith("#"))
-        return {name: float(value) for name, _, value in lines}
 
 
 class Prometheus:
@@ -188,6 +139,10 @@ def check_metrics(program: str, folder: str) -> None:
                       "pnuts_lines_refused_total": 1, "pnuts_rounds_total": stats["rounds"], 'pnuts_stream_messages_total{stream="east"}': 250,
                       'pnuts_stream_bytes_total{stream="east"}': stream["bytes"], 'pnuts_stream_state{state="failed",stream="east"}': 0,
                       'pnuts_info{version="%s"}' % stats["version"]: 1, 'pnuts_tablet_recovering{tablet="2"}': 0}
+            for kind, it in stats["lines"].get("kinds", {}).items():
+                wanted |= {f'pnuts_kind_lines_{name}_total{{kind="{kind}"}}': count for name, count in it.items()}
+            for number, it in enumerate(stats.get("tablets", [])):
+                wanted |= {f'pnuts_tablet_{name}{{tablet="{number}"}}': count for name, count in it.items()}
             same("its metrics", {name: found.get(name) for name in wanted}, wanted)
         until("its stream is silent", lambda: exporter.health()[0] == 503)
         same("what is wrong", exporter.health()[1].startswith("stream east brought nothing for "), True)
@@ -197,15 +152,13 @@ def check_exporter_beside_silent_clients(program: str, folder: str) -> None:
     """Clients of an exporter that send nothing hold up no scrape, and a region that does not answer holds it up for a time only."""
     with region_in(folder, program) as (region, control, _), Exporter(control) as exporter, contextlib.ExitStack() as stack:
         host, _, port = exporter.place.partition(":")
+        idle = seconds_of(exporter.metrics)
         for _ in range(12):
             stack.enter_context(socket.create_connection((host, int(port))))
-        start = time.monotonic()
-        same("up", exporter.metrics()["pnuts_up"], 1.0)
-        same("it answers at once", time.monotonic() - start < 5, True)
-        region.process.send_signal(signal.SIGSTOP)
-        start = time.monotonic()
-        same("up", exporter.metrics()["pnuts_up"], 0.0)
-        same("it answers in time", time.monotonic() - start < 30, True)
+        for is_up, signalled, least in ((1.0, signal.SIGCONT, 5.0), (0.0, signal.SIGSTOP, 30.0)):
+            region.process.send_signal(signalled)
+            took = seconds_of(lambda: same("up", exporter.metrics()["pnuts_up"], is_up))
+            in_time("a scrape", took, least, idle)
         region.process.send_signal(signal.SIGCONT)
         until("it answers again", lambda: exporter.metrics()["pnuts_up"] == 1.0)
         exporter.process.send_signal(signal.SIGTERM)
@@ -213,11 +166,15 @@ def check_exporter_beside_silent_clients(program: str, folder: str) -> None:
 
 
 def main(words: list[str]) -> int:
-    checks = checks_in(sys.modules[__name__])
+    checks = checks_in(sys.modules[__name__], exporter_page)
     given = checks_parser(__doc__, checks).parse_args(words)
     lacks = [tool for tool in TOOLS if not shutil.which(tool)] + ["python3-prometheus-client"] * (python() is None)
     if lacks:
         print(f"exporter: skipped, for the machine lacks {', '.join(lacks)}")
         return 0
     raise_descriptors()
-    return try_checks(given.program, checks, given.names or checks)
+    names = given.names or [*checks]
+    if browser() is None and "page" in names:
+        names.remove("page")
+        print("page: skipped, for the machine lacks chromium")
+    return try_checks(given.program, checks, names)

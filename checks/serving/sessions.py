@@ -17,6 +17,7 @@ from collections.abc import Iterator
 from common.served import Client, Json, Served, fifo, free_port, image, message, row_of, same, written
 from common.tried import checks_in, checks_parser, try_checks
 from faults import refused_sessions
+from serving.staying import until
 
 MANY = 10_000
 
@@ -100,15 +101,21 @@ def check_failed_streams(program: str, folder: str) -> None:
     fails(program, written(folder, "gap", message(1, "k", 0, "x") + message(3, "k", 1, "y")), "k", row)
 
 
+def has_gone(port: int) -> bool:
+    """Whether a client was taken, which sends nothing and goes."""
+    with contextlib.suppress(OSError), Client(port) as client:
+        client.end()
+        return True
+    return False
+
+
 def check_no_room_for_the_last_line(program: str, folder: str) -> None:
     east = written(folder, "east", b"")
     port = free_port()
     line = [program, "serve", "--sessions", "1", "--port", str(port), f"east={east}"]
     with open("/dev/full", "wb") as full:
         process = subprocess.Popen(line, stdin=subprocess.DEVNULL, stdout=full, stderr=subprocess.PIPE)
-        with contextlib.suppress(OSError):
-            time.sleep(0.3)
-            Client(port).end()
+        until("a client has gone, or the program ended", lambda: process.poll() is not None or has_gone(port))
         same("what is said", process.communicate(timeout=30)[1], b"pnuts: write\n")
         same("the status", process.returncode, 1)
 

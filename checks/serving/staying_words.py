@@ -182,19 +182,20 @@ def check_progress_to_a_file(program: str, folder: str) -> None:
             at += 1
             pipe.write(message(at, key_of(at), at, "x"))
             time.sleep(0.01)
+        took, wanted = time.monotonic() - start, re.compile(rf"\b{at:,}\b|\b{at}\b")
+        until(f"the position {at} is told", lambda: wanted.search(region.said().decode()))
         time.sleep(1.5)
         lines = [line for line in region.said().decode().splitlines(keepends=True) if "east" in line and "ended" not in line]
-        same(f"{len(lines)} lines in 4 seconds are one a second", 3 <= len(lines) <= 6, True)
+        same(f"{len(lines)} lines in {took:.1f} seconds are one a second", took / 2 <= len(lines) <= took + 2, True)
         same("lines with control characters", [line for line in lines if re.search(r"[\r\x1b\x08]", line)], [])
         same("the end of the last line", lines[-1][-1:], "\n")
-        same(f"the last has the position {at}: {lines[-1]}", bool(re.search(rf"\b{at:,}\b|\b{at}\b", lines[-1])), True)
+        same(f"the last has the position {at}: {lines[-1]}", bool(wanted.search(lines[-1])), True)
         before = region.said()
         time.sleep(2.5)
         same("what is said while nothing changes", region.said()[len(before) :], b"")
         with Client(region.port) as client:
             client.read("k001")
-            time.sleep(1.5)
-        same("a client's line is a change", len(region.said()) > len(before), True)
+            until("a client's line is told as a change", lambda: len(region.said()) > len(before))
 
 
 def check_progress_of_sessions(program: str, folder: str) -> None:
@@ -237,11 +238,10 @@ def check_progress_to_a_terminal(program: str, folder: str) -> None:
         for at in range(1, 301):
             pipe.write(message(at, key_of(at), at, "x"))
             time.sleep(0.01)
-        time.sleep(1.2)
+        until("the last position is shown", lambda: b"300" in terminal.shown)
     terminal.close()
     shown = terminal.shown.decode()
     same(f"it is rewritten in place: {shown!r}", len(re.findall(r"[\r\x1b][^\n]", shown)) >= 2, True)
-    same(f"it has the last position: {shown!r}", "300" in shown, True)
     same(f"it has a bar for the file: {shown!r}", bool(re.search(r"\[[#=█>-]+|[█▏▎▍▌▋▊▉#=]{3}", shown)), True)
 
 

@@ -9,13 +9,15 @@ import time
 from collections.abc import Iterator
 
 from common.served import SECONDS, Client, row_of, same
+from common.waits import seconds_of
 from serving.staying import Staying, key_of, messages, until
 from serving.writers import Writer, failed, made, said_of_faults, socket_in
 
 ENDED = b"pnuts: stream east ended\n"
 LIVES, RESTARTS, QUIET_LIVES = 200, 50, 300
-# How soon a feed is started again, and how long a region needs at most to see the end of one that has gone.
-GAPS, SEEN = (0.0, 0.0005, 0.002, 0.01, 0.05), 0.3
+# How soon a feed is started again. How long a region is given to see the end of one that has gone: so many seconds, and so many times
+# as long as it took once.
+GAPS, SEEN, TIMES = (0.0, 0.0005, 0.002, 0.01, 0.05), 0.3, 20
 # How long something is looked at, and how much of a processor a region may take in a second in which nothing happens.
 LOOKED, AT_REST = 2.0, 0.1
 FEW_DESCRIPTORS, SILENT = 8, 60
@@ -62,6 +64,12 @@ def without_descriptors(region: Staying) -> Iterator[None]:
         yield
 
 
+def seen_within(region: Staying) -> float:
+    """How long a region is given to see that a writer has gone, which is asked as the first one goes."""
+    took = seconds_of(lambda: until("the end of its first writer is told", lambda: b" ended\n" in region.said()))
+    return max(SEEN, TIMES * took)
+
+
 def wait_at(errors: int, words: bytes) -> None:
     """Waits at the other end of standard error until it has these words."""
     last, said = time.monotonic() + SECONDS, b""
@@ -96,20 +104,20 @@ def check_restarts_before_the_end(program: str, folder: str) -> None:
         with open(path, "wb", buffering=0) as pipe:
             pipe.write(messages(1, 1))
         wait_for(client, 1)
-        has = 1
+        has, seen = 1, seen_within(region)
         for at in range(RESTARTS):
             write(path, messages(has + 1, 1) + messages(has + 2, 1)[:-30])
             wait_for(client, has + 1)
             time.sleep(GAPS[at % len(GAPS)])
             write(path, messages(has + 2, 1))
-            time.sleep(SEEN)
+            time.sleep(seen)
             row = client.read(key_of(has + 2))["row"]
             read += row == row_of(key_of(has + 2), (has + 2) // 100, "x")
             write(path, messages(has + 1, 2))
             wait_for(client, has + 2)
-            time.sleep(SEEN)
+            time.sleep(seen)
             has += 2
-        print(f"  of {RESTARTS} that came too early {read} were read, and all that came {SEEN} s later")
+        print(f"  of {RESTARTS} that came too early {read} were read, and all that came {seen:.1f} s later")
 
 
 def check_beginnings_of_a_fifo(program: str, folder: str) -> None:
@@ -117,12 +125,13 @@ def check_beginnings_of_a_fifo(program: str, folder: str) -> None:
     path, east = made(folder)
     with Staying(program, folder, [east]) as region, Client(region.port) as client:
         until("it has opened the FIFO", lambda: opens(path))
-        has, said = 0, list[bytes]()
+        has, seen, said = 0, 0.0, list[bytes]()
         for first, count in ((1, 10), (1, 12), (5, 10), (15, 5), (3, 4), (20, 1)):
             write(path, messages(first, count))
             has = max(has, first + count - 1)
             wait_for(client, has)
-            time.sleep(SEEN)
+            seen = seen or seen_within(region)
+            time.sleep(seen)
         for bad, line, at, why in (
             (messages(has + 2, 1), 1, has + 1, f"gap, got {has + 2}, wanted {has + 1}"),
             (messages(has, 1) + b"x\n", 2, has + 1, "not-json"),
@@ -132,7 +141,7 @@ def check_beginnings_of_a_fifo(program: str, folder: str) -> None:
             write(path, bad + messages(has + 1, 30))
             said.append(failed("east", at, line, why))
             until(f"it says {said[-1]!r}", lambda: said_of_faults(region) == said)
-            time.sleep(SEEN)
+            time.sleep(seen)
             same(f"what is there behind {why}", client.read(key_of(has + 1)), {"row": None})
         write(path, messages(has + 1, 1))
         wait_for(client, has + 1)
@@ -153,13 +162,14 @@ def check_no_descriptor_left(program: str, folder: str) -> None:
         until("it has opened the FIFO", lambda: opens(path))
         write(path, messages(1, 1))
         wait_for(client, 1)
+        seen = seen_within(region)
         with without_descriptors(region):
             for number in range(2, 6):
-                time.sleep(SEEN)
+                time.sleep(seen)
                 write(path, messages(number, 1))
                 wait_for(client, number)
             with Writer(at) as writer:
-                writer.is_taken(SEEN)
+                writer.is_taken(seen)
                 rests(region, "while no descriptor is left")
                 same("whether the clients are answered", client.read(key_of(1)), {"row": row_of(key_of(1), 0, "x")})
         with Writer(at) as writer:

@@ -26,7 +26,8 @@ FILES = {
     "lib/sysusers.d/pnuts.conf": 0o644,
     **{f"share/pnuts-feeds/{name}": 0o755 for name in FEEDS},
     **{f"share/pnuts-feeds/feed/{path.name}": 0o644 for path in (TOP / "feeds/feed").glob("*.py")},
-    **{f"share/pnuts-tools/pnuts_client/{path.name}": 0o644 for path in (TOP / "clients/python/src/pnuts_client").glob("*.py")},
+    **{f"share/pnuts-tools/pnuts_client/{path.name}": 0o644 for path in (TOP / "clients/python/src/pnuts_client").glob("*.*")
+       if path.suffix in (".py", ".css", ".js")},
     "share/bash-completion/completions/pnuts": 0o644,
     "share/doc/pnuts-feeds/README.md": 0o644,
     "share/doc/pnuts/third-party": 0o644,
@@ -144,7 +145,8 @@ def check_quick(folder: Path) -> Iterator[str]:
     script, replies = (TOP / "crates/pnuts" / name for name in ("stdin", "stdout"))
     with script.open("rb") as lines:
         same("its replies", subprocess.run([quick, "replay"], stdin=lines, capture_output=True).stdout, replies.read_bytes())
-    folder.mkdir()
+    make("install", folder / "root", quick)
+    same("the end of the version that is installed", run([folder / "root" / PREFIX[1:] / "bin/pnuts", "--version"]).endswith(NOT_PROVED), True)
     run(["objcopy", "--add-section", f".debug_str_offsets={script}", quick, folder / "pnuts"])
     run(["make", "-C", TOP, "deb", f"DEBS={folder}", f"PNUTS={folder}/pnuts"])
     (package,) = folder.glob("pnuts_*.deb")

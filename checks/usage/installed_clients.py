@@ -3,7 +3,9 @@ passes its tests."""
 
 from __future__ import annotations
 
+import re
 import shutil
+import textwrap
 from collections.abc import Iterator
 from pathlib import Path
 
@@ -12,19 +14,69 @@ from common.served import message, same
 from usage.fresh_system import System
 
 SCRATCH = "/var/tmp"
-INDENT, BLOCK = "    ", "\n```"
+INDENT = "    "
+SHOWN = re.compile(r"^```\w+\n(.*?)^```", re.MULTILINE | re.DOTALL)
 
-# Of each client: what comes before the lines of its README, where the program that it shows is put, and what runs that.
+# Of each client: what comes before the lines of its README, where a program that it shows is put, what makes that ready, and what
+# runs it.
 CLIENTS = {
-    "python": ("", "reading.py", "python3 reading.py"),
-    "go": ("go mod init reading", "reading.go", "go run ."),
-    "javascript": ("", "reading.mjs", "node reading.mjs"),
+    "python": ("", "reading.py", "", "python3 -u reading.py"),
+    "go": ("go mod init reading", "reading.go", "go build .", "./reading"),
+    "javascript": ("", "reading.mjs", "", "node reading.mjs"),
 }
-# What each says of a record that is older than it asked for.
-SAID = "the region still has"
-# A region for what runs after it, with the record k.
-SERVED = """./pnuts serve --stay east=east.log > served 2>&1 & trap 'kill %1' EXIT
-until grep -q ended served; do sleep 0.1; done"""
+# What each says of a record that is older than it asked for, and of changes where it is not told after which.
+SAID, WATCHED = "the region still has", "some changes are not known: read anew"
+# What shows a program, and one that goes on until it is ended.
+RUN = "{} 2>&1"
+RUN_ON = f"""{{}} > watched 2>&1 & watching=$!
+until grep -q "{WATCHED}" watched; do kill -0 $watching; sleep 0.1; done
+kill $watching; cat watched"""
+# The regions for what runs after it, where the pages have them: each has the record k, and the first a control socket.
+SERVED = """trap 'kill $(jobs -p) || true; wait || true; rm -r /run/pnuts' EXIT
+mkdir -p /run/pnuts
+ip address replace 10.0.0.1/32 dev lo
+ip address replace 10.0.0.2/32 dev lo
+./pnuts serve --stay --control /run/pnuts/control east=east.log > served 2>&1 &
+for it in 1 2; do ./pnuts serve --stay --listen 10.0.0.$it east=east.log > served-$it 2>&1 & done
+until [[ $(cat served served-1 served-2 | grep -c ended) = 3 ]]; do sleep 0.1; done"""
+# What a piece of Go is put into, which its page leaves out.
+FRAME = """package main
+
+import (
+%s)
+
+func main() {
+	ctx := context.Background()
+%s}
+"""
+PACKAGES = {"context": "context", "fmt": "fmt", "pnuts": "keqapwi.example/pnuts", "control": "keqapwi.example/pnuts/control"}
+
+
+def whole(shown: str, path: str) -> str:
+    """A program that a page shows, which may be the inside of one of Go."""
+    if not path.endswith(".go") or shown.startswith("package"):
+        return shown
+    used = [it for name, it in PACKAGES.items() if name == "context" or f"{name}." in shown]
+    return FRAME % ("".join(f'\t"{it}"\n' for it in used), textwrap.indent(shown, "\t"))
+
+
+def check_client(system: System, name: str) -> int:
+    """Installs a client, runs all that its page shows, and its tests. How many programs it shows."""
+    before, path, ready, run = CLIENTS[name]
+    page = (TOP / "clients" / name / "README.md").read_text(encoding="utf-8")
+    lines = [it.removeprefix(INDENT) for it in page.partition("```")[0].splitlines() if it.startswith(INDENT)]
+    system.run("bash", "-ec", "\n".join([f"cd {SCRATCH}; export HOME=$PWD", before, *lines]))
+    enter = ". reading/bin/activate" if name == "python" else ""
+    programs = SHOWN.findall(page)
+    for shown in programs:
+        (system.root / SCRATCH[1:] / path).write_text(whole(shown, path), encoding="utf-8")
+        goes_on = WATCHED in shown
+        line = (RUN_ON if goes_on else RUN).format(run)
+        said = system.run("bash", "-ec", "\n".join([f"cd {SCRATCH}; export HOME=$PWD", SERVED, enter, ready, line]))
+        wanted = WATCHED if goes_on else SAID if SAID in shown else ""
+        same(f"whether a program of the client for {name} says {wanted!r}", wanted in said, True)
+    system.run("bash", "-ec", f"cd {SCRATCH}; HOME=$PWD PNUTS=pnuts clients/{name}/test")
+    return len(programs)
 
 
 def check_clients(system: System, program: Path) -> Iterator[str]:
@@ -33,11 +85,6 @@ def check_clients(system: System, program: Path) -> Iterator[str]:
     shutil.copytree(TOP / "clients", folder / "clients", dirs_exist_ok=True)
     shutil.copy(program, folder / "pnuts")
     (folder / "east.log").write_bytes(message(1, "k", 0, "x"))
-    for name, (before, path, after) in CLIENTS.items():
-        told, _, shown = (TOP / "clients" / name / "README.md").read_text(encoding="utf-8").partition(BLOCK)
-        (folder / path).write_text(shown.partition("\n")[2].partition(BLOCK)[0], encoding="utf-8")
-        lines = [it.removeprefix(INDENT) for it in told.splitlines() if it.startswith(INDENT)]
-        said = system.run("bash", "-ec", "\n".join([f"cd {SCRATCH}; export HOME=$PWD", SERVED, before, *lines, after]))
-        same(f"whether the client for {name} says what the region has", SAID in said, True)
-        system.run("bash", "-ec", f"cd {SCRATCH}; HOME=$PWD PNUTS=pnuts clients/{name}/test")
-        yield f"the client for {name}: {len(lines)} lines install it without a network, what its README shows runs, and its tests pass"
+    for name in CLIENTS:
+        count = check_client(system, name)
+        yield f"the client for {name}: it is installed without a network, the {count} programs that its README shows run, and its tests pass"

@@ -22,10 +22,9 @@ SOCKET = "/run/pnuts/east"
 # How a program writes into the socket. It waits until the region has closed it.
 WRITE = f"socat -t 10 - UNIX-CONNECT:{SOCKET}"
 
-# A feed of Redis, and its words.
+# A feed of Redis, and where its words are, which the document on installing shows.
 FEED = "pnuts-feed@east"
 FEED_ENVIRONMENT = "etc/default/pnuts-feed-east"
-FEED_WORDS = 'FEED=redis-stream\nFEED_WORDS="--url redis://127.0.0.1:6379/0 east"\n'
 
 # What changes by a user, which a package keeps.
 USERS = {"etc/group", "etc/gshadow", "etc/passwd", "etc/shadow"}
@@ -175,7 +174,9 @@ def check_killed(system: System, unit: str) -> None:
 
 def check_feed(system: System) -> None:
     """A feed of Redis gives what is added, also once it, the region and both were killed."""
-    (system.root / FEED_ENVIRONMENT).write_text(FEED_WORDS, encoding="utf-8")
+    lines = (TOP / "docs/installing.md").read_text(encoding="utf-8").splitlines()
+    words = "".join(f"{it.removeprefix(INDENT)}\n" for it in lines if it.startswith(f"{INDENT}FEED"))
+    (system.root / FEED_ENVIRONMENT).write_text(words, encoding="utf-8")
     system.run("redis-server", "--daemonize", "yes", "--save", "", "--dir", SCRATCH)
     system.wait_for("PONG", "redis-cli", "PING")
     # What it has of the stream so far is not the broker's.

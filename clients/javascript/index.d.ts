@@ -128,6 +128,12 @@ export interface StreamStats {
   readonly line: number | null;
 }
 
+/** How many lines were answered, and how many of these refused. */
+export interface LineCounts {
+  readonly answered: number;
+  readonly refused: number;
+}
+
 /** What a region has done so far: seconds that it runs, bytes of memory, rounds, and the connections and lines of clients. */
 export interface Stats {
   readonly version: string;
@@ -135,8 +141,11 @@ export interface Stats {
   readonly bytes: number;
   readonly rounds: number;
   readonly connections: { readonly accepted: number; readonly idle: number; readonly open: number; readonly refused: number };
-  readonly lines: { readonly answered: number; readonly refused: number };
+  /** All of them and, where the region says it, those of each kind. */
+  readonly lines: LineCounts & { readonly kinds?: { readonly [kind: string]: LineCounts } };
   readonly streams: readonly StreamStats[];
+  /** What each tablet holds, where the region says it: records, and how many of them are deletions. */
+  readonly tablets?: readonly { readonly deleted: number; readonly records: number }[];
 }
 
 /** The control socket of a region, as unix:/run/pnuts/control. It reads records, too. */

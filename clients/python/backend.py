@@ -51,8 +51,8 @@ def scripts(told: dict[str, Any]) -> bytes:
 
 
 def package() -> Files:
-    """The modules, and what says that they have types."""
-    found = (path for path in sorted(SOURCES.rglob("*")) if path.suffix == ".py" or path.name == "py.typed")
+    """The modules, the style and the script of a page, and what says that the modules have types."""
+    found = (path for path in sorted(SOURCES.rglob("*")) if path.suffix in (".py", ".css", ".js") or path.name == "py.typed")
     return {str(path.relative_to(SOURCES)): path.read_bytes() for path in found}
 
 

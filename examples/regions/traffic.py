@@ -18,6 +18,8 @@ from pnuts_client.addresses import Tcp
 KEYS = 500
 # How often a reader asks other regions for what one does not have yet, before it waits.
 ATTEMPTS = 3
+# How long something may take at most: so many seconds, or on a machine that is busy, so many times as long as when nothing is killed.
+LONGEST, SLOWER = 3.0, 50
 STREAM = {"x-queue-type": "stream", "x-initial-cluster-size": 3}
 
 
@@ -91,6 +93,7 @@ class Reader:
 
     publisher: Publisher
     seed: int
+    timeout: float = LONGEST
     answers: int = 0
     behind: int = 0
     failed: int = 0
@@ -99,7 +102,7 @@ class Reader:
     longest: float = 0.0
 
     def run(self, is_over: Callable[[], bool]) -> None:
-        rng, regions = random.Random(self.seed), [regions_of_all(), regions_of_all(), regions_of_all()]
+        rng, regions = random.Random(self.seed), [regions_of_all(self.timeout) for _ in range(3)]
         self.last = time.monotonic()
         while not is_over():
             key = rng.choice(list(self.publisher.confirmed))
@@ -134,7 +137,17 @@ class Reader:
         return longest
 
 
-def regions_of_all() -> Regions:
-    """The regions of both ranges, through the front."""
+def regions_of_all(timeout: float) -> Regions:
+    """The regions of both ranges, through the front, and for how many seconds a reply of each is waited for."""
     fronts = [Tcp(FRONT, PROXY_PORT + at, tls=context()) for at in range(len(RANGES))]
-    return Regions([BOUND], [Client(front, timeout=3.0) for front in fronts])
+    return Regions([BOUND], [Client(front, timeout=timeout) for front in fronts])
+
+
+def patience(keys: Sequence[str]) -> float:
+    """For how many seconds readers wait for a reply, by what the slowest read of some keys takes while nothing is killed."""
+    regions, slowest = regions_of_all(60.0), 0.0
+    for key in keys:
+        start = time.monotonic()
+        regions.read(key)
+        slowest = max(slowest, time.monotonic() - start)
+    return max(LONGEST, SLOWER * slowest)

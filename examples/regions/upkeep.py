@@ -125,7 +125,7 @@ def renew(machine: Machine, is_level: Callable[[str], bool]) -> float:
 def faults(near: Near, cache: Cache) -> list[str]:
     """What is wrong with what was shown, once nothing is published any more."""
     try:
-        until("the cache equals its region", cache.equals_region, 30)
+        until("the cache equals its region", cache.equals_region, PATIENCE)
     except (TimeoutError, PnutsError) as fault:
         return [*near.wrong, str(fault)]
     return near.wrong

@@ -25,9 +25,20 @@ type Stats struct {
 	Version               string
 	Uptime, Bytes, Rounds int64
 	Connections           struct{ Accepted, Idle, Open, Refused int64 }
-	Lines                 struct{ Answered, Refused int64 }
+	Lines                 Lines
 	Streams               []Stream
+	// What each tablet holds; none where the region does not say it.
+	Tablets []Tablet
 }
+
+// Lines of clients: how many were answered, and how many of these refused; and so for each kind of line, where the region says it.
+type Lines struct {
+	Answered, Refused int64
+	Kinds             map[string]Lines
+}
+
+// A Tablet holds records, some of which are deletions.
+type Tablet struct{ Records, Deleted int64 }
 
 // A Stream of a region. State is "waiting" for a writer, "open", "ended" or "failed"; Position is up to where it was taken; Messages
 // and Bytes were read. Since is the seconds since the last message, nil before the first. Reason and Line are of the last fault,

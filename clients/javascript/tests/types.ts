@@ -28,10 +28,11 @@ export async function reads(): Promise<Value | undefined> {
 
 export async function changes(): Promise<Notices | undefined> {
   const region = new Control("unix:control");
-  const { streams } = await region.stats();
+  const { streams, lines, tablets } = await region.stats();
   const since: number | null | undefined = streams[0]?.since;
+  const counts: number[] = [lines.answered, lines.kinds?.["read"]?.refused ?? 0, tablets?.[0]?.records ?? 0];
   for await (const found of region.watch(since ?? undefined)) {
-    found.changes.map((each) => each.before ?? each.after);
+    found.changes.map((each) => each.before ?? each.after ?? counts);
     return found;
   }
   return undefined;

@@ -131,6 +131,8 @@ def as_reply(answer: Any) -> Any:
         later = {name: member for name, member in answer.reply.items() if name == "of-a-later-version"}
         told = {**asdict(answer), **later}
         del told["reply"]
+        told = {name: member for name, member in told.items() if name in answer.reply}
+        told["lines"] = {name: member for name, member in told["lines"].items() if name in answer.reply["lines"]}
         told["connections"].update(dict.fromkeys(answer.reply["connections"].keys() - told["connections"], 1))
         return told
     if isinstance(answer, Notices):

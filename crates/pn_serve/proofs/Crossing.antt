@@ -9,8 +9,6 @@ use Rattle.pn_record.specs.contracts.held_contents.HeldContents as held
 use Rattle.pn_record.specs.contracts.cell.Cell as cell
 use Rattle.pn_record.specs.contracts.key.Key as key
 use Rattle.pn_tablet.specs.contracts.copy.TabletCopy as copy
-use Rattle.pn_protocol.specs.contracts.reply.Reply as reply
-use Rattle.pn_region.specs.contracts.notices.Since as since
 use Rattle.pn_serve.specs.contracts.control.commands.WriterCommand as command
 use Rattle.pn_serve.specs.contracts.control.answers.GivenAnswer as given
 use Rattle.pn_serve.specs.contracts.control.mailboxes.HeldCommand as held_command
@@ -53,17 +51,11 @@ key_sync = search (sendable, crosses) depth 40
 copy_send : IsSend copy.the_row
 copy_send = search (sendable, crosses, key_send, key_sync, cell_send, cell_sync, name_send, name_sync) depth 40 fits 20000
 
-reply_send : IsSend reply.the_row
-reply_send = search (sendable, crosses) depth 60 fits 20000
-
-since_send : IsSend since.the_row
-since_send = search (sendable, crosses, key_send) depth 60 fits 20000
-
 command_send : IsSend command.the_row
 command_send = search (sendable, crosses, copy_send) depth 60 fits 20000
 
 given_send : IsSend given.the_row
-given_send = search (sendable, crosses, reply_send, since_send) depth 60 fits 20000
+given_send = search (sendable, crosses) depth 60 fits 20000
 
 held_command_send : IsSend held_command.the_row
 held_command_send = variants_send held_command.enum (tt, ((command_send, tt), (tt, ((given_send, tt), (tt, tt)))))
@@ -89,11 +81,8 @@ counter_sync = search (sendable, crosses) depth 40
 failure_send : IsSend failure.the_row
 failure_send = search (sendable, crosses, name_send) depth 40 fits 20000
 
-failure_sync : IsSync failure.the_row
-failure_sync = search (sendable, crosses, name_sync) depth 40 fits 20000
-
 pub faults_send : IsSend faults.the_row
 faults_send = search (sendable, crosses, failure_send) depth 40 fits 20000
 
 pub faults_sync : IsSync faults.the_row
-faults_sync = search (sendable, crosses, failure_send, failure_sync) depth 40 fits 20000
+faults_sync = search (sendable, crosses, failure_send) depth 40 fits 20000

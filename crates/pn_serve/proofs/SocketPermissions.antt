@@ -28,11 +28,11 @@ not_too_great n = cond (nat_le n MAX_PERMISSIONS) (Ok n) (Err fault.SocketMode)
 of_numeral : (text : List ℕ) → IsNumeral OCTAL (without_leading_plus text) → permissions_in text ≡ not_too_great (digits_value OCTAL (without_leading_plus text))
 of_numeral text h = rw (lt-ltb _ _ h.0, digits_back _ h.1) refl
 
-pub of_number : {E : Type 0} (text : List ℕ) (n : ℕ) → ParsesUnsigned {E = E} 32 OCTAL text (Ok n) → not_too_great n ≡ permissions_in text
-of_number text n parsed = ap not_too_great parsed.1 ∙ sym (of_numeral text parsed.0.0)
+pub of_number : (E : Type 0) (text : List ℕ) (n : ℕ) → ParsesUnsigned {E = E} 32 OCTAL text (Ok n) → not_too_great n ≡ permissions_in text
+of_number E text n parsed = ap not_too_great parsed.1 ∙ sym (of_numeral text parsed.0.0)
 
-pub of_none : {E : Type 0} (text : List ℕ) (e : E) → ParsesUnsigned {E = E} 32 OCTAL text (Err e) → Err fault.SocketMode ≡ permissions_in text
-of_none text e parsed = none (are_permissions (without_leading_plus text)) refl
+pub of_none : (E : Type 0) (text : List ℕ) (e : E) → ParsesUnsigned {E = E} 32 OCTAL text (Err e) → Err fault.SocketMode ≡ permissions_in text
+of_none E text e parsed = none (are_permissions (without_leading_plus text)) refl
   where
     none : (b : Bool) → are_permissions (without_leading_plus text) ≡ b
         → ◌≡◌ {A = Result ℕ OptionFault} (Err fault.SocketMode) (cond b (Ok (digits_value OCTAL (without_leading_plus text))) (Err fault.SocketMode))

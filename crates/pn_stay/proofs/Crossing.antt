@@ -10,6 +10,8 @@ use Rattle.pn_stay.specs.contracts.counters.StreamCounters as stream
 use Rattle.pn_stay.specs.contracts.counters.InputCounters as input
 use Rattle.pn_stay.specs.contracts.counters.ConnectionCounters as connections
 use Rattle.pn_stay.specs.contracts.counters.Counters as counters
+use Rattle.pn_stay.specs.contracts.line_counters.LineCounters as line_counters
+use Rattle.pn_stay.specs.contracts.line_counters.KindCounters as kinds
 use Rattle.pn_stay.specs.contracts.server.control_client.ControlClient as client
 use Rattle.pn_stay.specs.contracts.server.control_threads.ControlThread as control
 use Rattle.pn_stay.specs.contracts.streams.status.StreamStatus as status
@@ -40,11 +42,23 @@ connections_send = search (sendable, crosses, counter_send) depth 40 fits 20000
 connections_sync : IsSync connections.the_row
 connections_sync = search (sendable, crosses, counter_sync) depth 40 fits 20000
 
+line_counters_send : IsSend line_counters.the_row
+line_counters_send = search (sendable, crosses, counter_send) depth 40 fits 20000
+
+line_counters_sync : IsSync line_counters.the_row
+line_counters_sync = search (sendable, crosses, counter_sync) depth 40 fits 20000
+
+kinds_send : IsSend kinds.the_row
+kinds_send = search (sendable, crosses, line_counters_send) depth 40 fits 20000
+
+kinds_sync : IsSync kinds.the_row
+kinds_sync = search (sendable, crosses, line_counters_sync) depth 40 fits 20000
+
 pub counters_send : IsSend counters.the_row
-counters_send = search (sendable, crosses, counter_send, counter_sync, input_send, input_sync, connections_send, stream_send) depth 40 fits 20000
+counters_send = search (sendable, crosses, counter_send, counter_sync, input_send, input_sync, kinds_send, connections_send, stream_send) depth 40 fits 20000
 
 pub counters_sync : IsSync counters.the_row
-counters_sync = search (sendable, crosses, counter_send, counter_sync, input_send, input_sync, connections_sync, stream_sync) depth 40 fits 20000
+counters_sync = search (sendable, crosses, counter_send, counter_sync, input_send, input_sync, kinds_sync, connections_sync, stream_sync) depth 40 fits 20000
 
 pub messages_send : IsSend messages.the_row
 messages_send = search (sendable, crosses) depth 40 fits 20000

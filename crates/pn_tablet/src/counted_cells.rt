@@ -1,6 +1,6 @@
 //! The cells of a tablet, and how many of them are deleted.
 
-ghost use Rattle.std.specs.Prelude.{◌≡◌, ◌+◌, ◌≤◌, [], ◌++◌, ℕ, List, count_by, IfOk, OnOk, OnErr, IsTrue};
+ghost use Rattle.std.specs.Prelude.{◌≡◌, ◌+◌, ◌^◌, ◌<◌, ◌≤◌, [], ◌++◌, ℕ, List, count_by, length, IfOk, OnOk, OnErr, IsTrue};
 ghost use Rattle.std.specs.FinMap.{find, is_sorted};
 ghost use Rattle.pn_join.specs.Prelude.{AreChanges, optional_joined};
 ghost use Rattle.pn_record.specs.Cells.{Holds};
@@ -8,7 +8,7 @@ ghost use Rattle.pn_record.specs.Prelude.{HasContents, bytes_cmp, cell_joined, s
 ghost use Rattle.pn_tablet.specs.Counting.{counts_of, deleted_in, is_deleted as deletes, was_deleted as deleted_before};
 
 use pn_join::{Dup, NoMemory, TableChange};
-use pn_record::{Cell, CellState, Key, Records, join_and_tell};
+use pn_record::{Cell, CellState, Key, Records, join_and_tell, join_records};
 use std::alloc::Global;
 use std::marker::Model;
 
@@ -99,6 +99,19 @@ impl CountedCells {
         self.deleted = count_after(count, self.deleted, count_come(&told), count_gone(&told));
         Ok(told)
     }
+
+    /// Joins other cells into these, and counts all that are then deleted. An error leaves them as they were.
+    pub fn join_and_count(&mut self, other: &Records) -> Result<(), NoMemory>
+        ensures spelled { OnOk result (Holds self.new (spell self.old ++ spell other.now)) }
+        ensures joined { OnOk result ((key : List ℕ) → find bytes_cmp key self.new
+            ≡ optional_joined cell_joined (find bytes_cmp key self.old) (find bytes_cmp key other.now)) }
+        ensures rising { OnOk result (IsTrue (is_sorted bytes_cmp self.new) × IsTrue (is_sorted bytes_cmp other.now)) }
+        ensures err { OnErr result (self.new ≡ self.old) }
+    {
+        join_records(&mut self.cells, other)?;
+        self.deleted = count_deleted(&self.cells);
+        Ok(())
+    }
 }
 
 // The count after a join, which is at most `most`.
@@ -143,7 +156,7 @@ fn count_gone(told: &[TableChange<Key, Cell>]) -> usize
 fn count_deleted(cells: &Records) -> usize
     ensures { result ≡ deleted_in cells.now }
 {
-    let _ = cells.len();
+    recall_len(cells);
     let mut count = 0;
     for (_key, cell) in cells.iter() {
         if is_deleted(cell) {
@@ -151,6 +164,13 @@ fn count_deleted(cells: &Records) -> usize
         }
     }
     count
+}
+
+// Recalls for the prover that the cells can be counted.
+fn recall_len(cells: &Records)
+    ensures { length cells.now < 2 ^ 64 }
+{
+    let _ = cells.len();
 }
 
 fn is_deleted(cell: &Cell) -> bool

@@ -159,7 +159,7 @@ impl TabletState {
             });
         }
         let (coverage, spare) = raise_coverage(&self.coverage, &copy.marks)?;
-        self.cells.join_and_tell(&copy.cells)?;
+        self.cells.join_and_count(&copy.cells)?;
         self.coverage = coverage;
         self.spare = Some(spare);
         self.status = Status::Serving;

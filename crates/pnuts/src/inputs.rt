@@ -92,6 +92,7 @@ where
         alloc,
         messages: Arc::try_clone(&messages)?,
         is_counted: service.is_progress_told || service.control.is_some(),
+        socket_mode: service.socket_mode,
     };
     let opened = open_origins(&setting, streams)?;
     let counters = match new_counters(rt, opened.counters) {

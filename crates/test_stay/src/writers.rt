@@ -4,7 +4,8 @@ use crate::show;
 use pn_join::{LAST_POSITION, Name};
 use pn_serve::{Origin, Stream, StreamPath, WriterEnd};
 use pn_stay::{
-    Messages, StreamOrigin, StreamSetting, StreamSource, WaitingLines, open_origins, remove_sockets,
+    Messages, OWNER_ALONE, StreamOrigin, StreamSetting, StreamSource, WaitingLines, open_origins,
+    remove_sockets,
 };
 use pn_stream::{ResumeFault, StreamReader};
 use std::alloc::Global;
@@ -50,6 +51,7 @@ where
         alloc,
         messages: Arc::try_clone(&messages)?,
         is_counted: false,
+        socket_mode: OWNER_ALONE,
     };
     let mut streams = Vec::with_capacity(alloc, 1)?;
     streams.push((Name::read(b"east")?, path))?;

@@ -4,7 +4,7 @@ from .addresses import Address, Tcp, Unix, address_of
 from .aio import AsyncClient
 from .client import Client
 from .control import AsyncControl, Control
-from .control_requests import Connections, Lines, Notice, Notices, Stats, StreamStats, Tablet
+from .control_requests import Connections, LineCounts, Lines, Notice, Notices, Stats, StreamStats, Tablet, TabletStats
 from .errors import (
     BadLine,
     ConnectionFailed,
@@ -37,6 +37,7 @@ __all__ = [
     "Content",
     "Control",
     "CopyBehind",
+    "LineCounts",
     "Lines",
     "NoEntry",
     "Notice",
@@ -55,6 +56,7 @@ __all__ = [
     "Stats",
     "StreamStats",
     "Tablet",
+    "TabletStats",
     "Tcp",
     "TimedOut",
     "Unix",

@@ -55,11 +55,28 @@ class Connections:
 
 
 @dataclass(frozen=True, slots=True)
-class Lines:
-    """Lines of clients: how many were answered, and how many refused."""
+class LineCounts:
+    """Lines: how many were answered, and how many of these refused."""
 
     answered: int
     refused: int
+
+
+@dataclass(frozen=True, slots=True)
+class Lines:
+    """Lines of clients: how many were answered, and how many of these refused; and so for each kind of line, where the region says it."""
+
+    answered: int
+    refused: int
+    kinds: dict[str, LineCounts]
+
+
+@dataclass(frozen=True, slots=True)
+class TabletStats:
+    """What a tablet holds: records, and how many of them are deletions."""
+
+    records: int
+    deleted: int
 
 
 @dataclass(frozen=True, slots=True)
@@ -84,7 +101,10 @@ class StreamStats:
 
 @dataclass(frozen=True, slots=True)
 class Stats:
-    """What a region has done so far; `uptime` is in seconds, `bytes` its memory. `reply` is the whole reply."""
+    """What a region has done so far; `uptime` is in seconds, `bytes` its memory. `reply` is the whole reply.
+
+    `tablets` are in their order, and none where the region does not say what they hold.
+    """
 
     version: str
     uptime: int
@@ -93,6 +113,7 @@ class Stats:
     connections: Connections
     lines: Lines
     streams: list[StreamStats]
+    tablets: list[TabletStats]
     reply: dict[str, Any]
 
 
@@ -164,10 +185,16 @@ def _stats(reply: Any) -> Stats:
         bytes=reply["bytes"],
         rounds=reply["rounds"],
         connections=_of(Connections, reply["connections"]),
-        lines=_of(Lines, reply["lines"]),
+        lines=_lines(reply["lines"]),
         streams=[_of(StreamStats, it) for it in reply["streams"]],
+        tablets=[_of(TabletStats, it) for it in reply.get("tablets", [])],
         reply=reply,
     )
+
+
+def _lines(reply: Any) -> Lines:
+    kinds = {name: _of(LineCounts, it) for name, it in reply.get("kinds", {}).items()}
+    return Lines(reply["answered"], reply["refused"], kinds)
 
 
 def _of(kind: type[Kind], reply: Any) -> Kind:

@@ -68,7 +68,7 @@ def parser() -> argparse.ArgumentParser:
     ready.add_argument("--process", type=int, metavar="PID", help="give up once this process, which is the region's, has ended")
     stopped = command(stop_region, "stop", "end the region once all lines that have come are answered, and wait for that")
     stopped.add_argument("--seconds", type=int, default=10, metavar="N", help="end it after so many at most, 0 to 60 (default: %(default)s)")
-    shown = command(export, "exporter", "show the region to Prometheus: /metrics, and /healthz (needs python3-prometheus-client)")
+    shown = command(export, "exporter", "show the region to people at /, to Prometheus at /metrics, and to load balancers at /healthz (needs python3-prometheus-client)")
     shown.add_argument("--listen", type=_place, default=("127.0.0.1", 9107), metavar="ADDRESS:PORT", help="where (default: 127.0.0.1:9107)")
     shown.add_argument("--silence", type=int, metavar="SECONDS", help="/healthz is 503 also where a stream brought nothing for longer")
     return words
@@ -197,7 +197,8 @@ def export(region: Control, words: Words) -> int:
     except ModuleNotFoundError as fault:
         raise PnutsError(f"{fault.name} is not installed: it is in Debian's python3-prometheus-client") from fault
     host, port = words.listen
-    serve(region, host, port, words.silence)
+    with Control(Unix(words.control), timeout=5.0, retries=1) as watched:
+        serve(region, watched, host, port, words.silence)
     return 0
 
 

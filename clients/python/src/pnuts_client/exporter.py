@@ -1,4 +1,7 @@
-"""Shows a region to Prometheus: `/metrics`, and `/healthz`. It needs Debian's package python3-prometheus-client."""
+"""Shows a region: to people at `/`, to Prometheus at `/metrics`, and to load balancers at `/healthz`.
+
+It needs Debian's package python3-prometheus-client.
+"""
 
 from __future__ import annotations
 
@@ -16,6 +19,9 @@ from prometheus_client.core import GaugeMetricFamily as Gauge
 from .control import Control
 from .control_requests import Stats, StreamStats, Tablet
 from .errors import PnutsError
+from .history import History
+from .page import policy, shown_page
+from .status import faults_of
 
 PATIENCE = 10.0
 """For how many seconds a client is waited for that sends or takes nothing."""
@@ -43,6 +49,7 @@ class Collector:
         yield from of_region(stats)
         yield from of_streams(stats.streams)
         yield from of_tablets(tablets)
+        yield from of_contents(stats)
 
 
 def of_region(stats: Stats) -> Iterator[Metric]:
@@ -60,6 +67,12 @@ def of_region(stats: Stats) -> Iterator[Metric]:
     yield Counter("pnuts_connections_idle", "Connections that were ended since they were idle", value=connections.idle)
     yield Counter("pnuts_lines_answered", "Lines of clients that were answered", value=lines.answered)
     yield Counter("pnuts_lines_refused", "Lines of clients that were answered by a refusal", value=lines.refused)
+    answered = Counter("pnuts_kind_lines_answered", "Lines of clients that were answered, of each kind", labels=["kind"])
+    refused = Counter("pnuts_kind_lines_refused", "Lines of clients that were answered by a refusal, of each kind", labels=["kind"])
+    for name, it in lines.kinds.items():
+        answered.add_metric([name], it.answered)
+        refused.add_metric([name], it.refused)
+    yield from (answered, refused)
 
 
 def of_streams(streams: Iterable[StreamStats]) -> Iterable[Metric]:
@@ -88,34 +101,43 @@ def of_tablets(tablets: Iterable[Tablet]) -> Iterable[Metric]:
     return (recovering,)
 
 
+def of_contents(stats: Stats) -> Iterable[Metric]:
+    """What tablets hold, where the region says it."""
+    records = Gauge("pnuts_tablet_records", "Records that a tablet holds", labels=["tablet"])
+    deleted = Gauge("pnuts_tablet_deleted", "Records that a tablet holds and that are deletions", labels=["tablet"])
+    for number, tablet in enumerate(stats.tablets):
+        records.add_metric([str(number)], tablet.records)
+        deleted.add_metric([str(number)], tablet.deleted)
+    return records, deleted
+
+
 def faults(region: Control, silence: int | None) -> list[str]:
-    """What is wrong with a region: it does not answer, tablets are lost, or streams have failed or are silent for too long."""
+    """What is wrong with a region, of which one fault is that it does not answer."""
     try:
-        stats, tablets = region.stats(), region.tablets()
+        return faults_of(region.stats(), region.tablets(), silence)
     except PnutsError as fault:
         return [str(fault)]
-    found = [f"tablet {number} is recovering" for number, it in enumerate(tablets) if it.need is not None]
-    for stream in stats.streams:
-        since = stats.uptime if stream.since is None else stream.since
-        if stream.state == "failed":
-            found.append(f"stream {stream.name} has failed: {stream.reason}")
-        elif silence is not None and since > silence:
-            found.append(f"stream {stream.name} brought nothing for {since} seconds")
-    return found
 
 
-def app_of(region: Control, silence: int | None = None) -> App:
+def app_of(region: Control, history: History, silence: int | None = None) -> App:
     """What is served."""
     registry = CollectorRegistry(auto_describe=False)
     registry.register(cast(Any, Collector(region)))
     metrics: App = make_wsgi_app(registry)
+    page = [("Content-Type", "text/html; charset=utf-8"), ("Content-Security-Policy", policy()), ("Cache-Control", "no-store"),
+            ("Referrer-Policy", "no-referrer"), ("X-Content-Type-Options", "nosniff")]
 
     def app(environ: dict[str, Any], start: Callable[..., Any]) -> Iterable[bytes]:
-        if environ["PATH_INFO"] == "/metrics":
+        path = environ["PATH_INFO"] or "/"
+        if path == "/metrics":
             return metrics(environ, start)
-        if environ["PATH_INFO"] != "/healthz":
+        if path == "/":
+            # The server adds to the list.
+            start("200 OK", [*page])
+            return [shown_page(history.view(), silence)]
+        if path != "/healthz":
             start("404 Not Found", [TEXT])
-            return [b"there are /metrics and /healthz\n"]
+            return [b"there are /, /metrics and /healthz\n"]
         found = faults(region, silence)
         start("503 Service Unavailable" if found else "200 OK", [TEXT])
         return ["".join(f"{it}\n" for it in found or ["well"]).encode()]
@@ -158,8 +180,10 @@ class Server6(Server):
     address_family = socket.AF_INET6
 
 
-def serve(region: Control, host: str, port: int, silence: int | None = None) -> None:
-    """Serves until it is interrupted."""
+def serve(region: Control, watched: Control, host: str, port: int, silence: int | None = None) -> None:
+    """Serves until it is interrupted. What the page shows is asked through a client of its own: scrapes do not wait for it."""
+    history = History(watched)
     kind = Server6 if ":" in host else Server
-    with make_server(host, port, app_of(region, silence), server_class=kind, handler_class=Handler) as server:
+    with make_server(host, port, app_of(region, history, silence), server_class=kind, handler_class=Handler) as server:
+        history.begin()
         server.serve_forever()

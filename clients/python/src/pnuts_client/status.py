@@ -4,10 +4,11 @@ from __future__ import annotations
 
 from collections.abc import Sequence
 
-from .control_requests import Marks, Stats, StreamStats, Tablet
+from .control_requests import Lines, Marks, Stats, StreamStats, Tablet
 
 STREAMS = ("STREAM", "STATE", "POSITION", "MESSAGES", "SIZE", "LAST", "PATH")
 TABLETS = ("TABLET", "FROM", "TO", "STATE")
+COUNTED = ("RECORDS", "DELETED")
 
 
 def shown_status(stats: Stats, tablets: Sequence[Tablet]) -> str:
@@ -17,14 +18,26 @@ def shown_status(stats: Stats, tablets: Sequence[Tablet]) -> str:
         f"pnuts {stats.version}, up {shown_seconds(stats.uptime)}, {shown_bytes(stats.bytes)} of memory, {stats.rounds} rounds",
         f"connections: {connections.open} open, {connections.accepted} accepted, {connections.refused} refused, "
         f"{connections.idle} ended because they were idle",
-        f"lines: {lines.answered} answered, {lines.refused} of them refused",
+        f"lines: {lines.answered} answered, {lines.refused} of them refused{_kinds(lines)}",
         "",
         *table([STREAMS, *(_stream(it) for it in stats.streams)]),
         *(f"{it.name}: {it.reason}{_place(it)}" for it in stats.streams if it.reason is not None),
         "",
-        *table([TABLETS, *(_tablet(number, it) for number, it in enumerate(tablets))]),
+        *table(_tablets(stats, tablets)),
     ]
     return "\n".join(shown)
+
+
+def faults_of(stats: Stats, tablets: Sequence[Tablet], silence: int | None) -> list[str]:
+    """What is wrong: tablets that are lost, and streams that have failed or are silent for longer than so many seconds."""
+    found = [f"tablet {number} is recovering" for number, it in enumerate(tablets) if it.need is not None]
+    for stream in stats.streams:
+        since = stats.uptime if stream.since is None else stream.since
+        if stream.state == "failed":
+            found.append(f"stream {stream.name} has failed: {stream.reason}")
+        elif silence is not None and since > silence:
+            found.append(f"stream {stream.name} brought nothing for {since} seconds")
+    return found
 
 
 def _stream(it: StreamStats) -> Sequence[str]:
@@ -34,6 +47,20 @@ def _stream(it: StreamStats) -> Sequence[str]:
 
 def _place(it: StreamStats) -> str:
     return "" if it.line is None else f" (line {it.line})"
+
+
+def _kinds(lines: Lines) -> str:
+    """How many lines of each kind there were, if any."""
+    return "".join(f", {it.answered} {name}" for name, it in lines.kinds.items() if it.answered)
+
+
+def _tablets(stats: Stats, tablets: Sequence[Tablet]) -> list[Sequence[str]]:
+    """Rows of tablets, with how many records each holds where the region says it."""
+    rows = [TABLETS, *(_tablet(number, it) for number, it in enumerate(tablets))]
+    if len(stats.tablets) != len(tablets):
+        return rows
+    counts = [COUNTED, *((str(it.records), str(it.deleted)) for it in stats.tablets)]
+    return [[*row, *count] for row, count in zip(rows, counts, strict=True)]
 
 
 def _tablet(number: int, it: Tablet) -> Sequence[str]:

@@ -55,7 +55,7 @@ listen_option = option_of (codes "listen") (codes "127.0.0.1")
 abbrev pub socket_option : Rule
 socket_option = plain_option (codes "socket") values.NonEmptyString
 
--- the permissions of the Unix socket
+-- the permissions of the sockets of clients and of streams
 abbrev pub socket_mode_option : Rule
 socket_mode_option = option_of (codes "socket-mode") (codes "0600")
 

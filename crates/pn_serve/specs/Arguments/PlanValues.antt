@@ -15,8 +15,8 @@ pub data AddressValue : Type 0 where
   port : IpAddr → ℕ → AddressValue
   path : List ℕ → AddressValue
 
--- the sessions, where the server listens, the permissions of its Unix socket, the connections of a server that stays, the socket of
--- its control sessions, the seconds of a client that is idle, and whether progress is written
+-- the sessions, where the server listens, the permissions of its sockets, the connections of a server that stays, the socket of its
+-- control sessions, the seconds of a client that is idle, and whether progress is written
 pub record ServiceValue : Type 0 where
   pub sessions : ℕ
   pub address : AddressValue

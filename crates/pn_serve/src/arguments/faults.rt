@@ -16,7 +16,7 @@ pub enum PlanFault<'w> {
     Words(String),
     /// The bounds are not a JSON array of rising keys.
     Bounds(Option<Refused<'w>>),
-    /// The address is none of IPv4 or IPv6; or, with `--stay`, the path of the socket is too long; or its permissions are none.
+    /// The address is none of IPv4 or IPv6; or, with `--stay`, the path of the socket is too long; or permissions are none.
     Address(Option<Refused<'w>>),
     /// Control sessions are only with `--stay`, and at a path of at most 107 bytes.
     Control(Refused<'w>),

@@ -65,7 +65,8 @@ const PORT_HELP: &str = "The port that is listened on";
 
 const SOCKET_HELP: &str = "A Unix socket that is listened on in place of a port";
 
-const SOCKET_MODE_HELP: &str = "The permissions of --socket in octal, up to 0777; with 0660 its group may connect";
+const SOCKET_MODE_HELP: &str =
+    "The permissions of --socket and of streams' sockets, in octal, up to 0777: with 0660 a group may connect";
 
 const CONTROL_HELP: &str =
     "With --stay: a Unix socket for those who run the region; only its owner may connect";

@@ -1,6 +1,6 @@
 //! The socket at which a stream's writers come.
 
-use crate::listener::{OWNER_ALONE, bind_socket};
+use crate::listener::bind_socket;
 use std::fs::Files;
 use std::io;
 use std::net::Net;
@@ -11,9 +11,13 @@ use std::os::unix::net::{UnixListener, UnixStream};
 pub struct StreamListener(UnixListener);
 
 impl StreamListener {
-    /// Listens at a path, for writers of the owner alone. A socket there is replaced where nobody listens on it.
-    pub fn bind<R: Files + Net>(rt: &R, path: &str) -> io::Result<StreamListener> {
-        Ok(StreamListener(bind_socket(rt, path, OWNER_ALONE)?))
+    /// Listens at a path, whose file has these permissions. A socket there is replaced where nobody listens on it.
+    pub fn bind<R: Files + Net>(
+        rt: &R,
+        path: &str,
+        permissions: u32,
+    ) -> io::Result<StreamListener> {
+        Ok(StreamListener(bind_socket(rt, path, permissions)?))
     }
 
     /// Waits for a writer.

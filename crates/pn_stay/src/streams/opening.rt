@@ -37,13 +37,14 @@ pub struct OpenedStreams<R: Drop> {
 // The writers of a stream, and how many bytes its file has, where it ends.
 type OpenedWriters<R> = Result<(Writers<R>, Option<u64>), OpenFault>;
 
-/// Where messages about streams go, and whether what is read of them is counted.
+/// Where messages about streams go, whether what is read of them is counted, and the permissions of their sockets.
 #[derive(Drop)]
 pub struct StreamSetting<R> {
     pub rt: R,
     pub alloc: Global,
     pub messages: Arc<Messages>,
     pub is_counted: bool,
+    pub socket_mode: u32,
 }
 
 /// Opens streams in their order, and waits for no writer. After a fault the sockets are removed.
@@ -90,7 +91,7 @@ where
     ensures names { OnOk result (map (λ stream. stream.name) opened.new.streams.items ≡ map (λ stream. stream.name) opened.old.streams.items ++ name ∷ []) }
 {
     let notes = new_notes(setting, name, &path)?;
-    let (writers, size) = open_writers(&notes, path, &mut opened.sockets)?;
+    let (writers, size) = open_writers(setting, &notes, path, &mut opened.sockets)?;
     let taken = Arc::try_clone(&notes.progress.taken)?;
     add_counters(&mut opened.counters, &notes, &writers, size)?;
     opened.streams.push(Stream {
@@ -161,6 +162,7 @@ fn new_status(
 
 // The writers that come to a path, and how many bytes its file has, where it ends. A socket's path is added.
 fn open_writers<R>(
+    setting: &StreamSetting<R>,
     notes: &StreamNotes<R>,
     path: StreamPath,
     sockets: &mut Vec<String>,
@@ -169,7 +171,10 @@ where
     R: Files<File = File> + Net + Wait + Clock + Copy + Drop,
 {
     match path {
-        StreamPath::Listen(path) => Ok((listen(notes, path, sockets)?, None)),
+        StreamPath::Listen(path) => {
+            let writers = listen(notes, path, setting.socket_mode, sockets)?;
+            Ok((writers, None))
+        }
         StreamPath::File(path) => match is_fifo(&notes.rt, path.as_str()) {
             Ok(true) => open_fifo(notes, path),
             Ok(false) => open_file(notes, path),
@@ -181,13 +186,14 @@ where
 fn listen<R>(
     notes: &StreamNotes<R>,
     path: String,
+    permissions: u32,
     sockets: &mut Vec<String>,
 ) -> Result<Writers<R>, OpenFault>
 where
     R: Files<File = File> + Net + Wait + Clock + Copy + Drop,
 {
     let shown = String::from_str(notes.alloc, path.as_str())?;
-    match StreamListener::bind(&notes.rt, path.as_str()) {
+    match StreamListener::bind(&notes.rt, path.as_str(), permissions) {
         Ok(listener) => {
             sockets.push(path)?;
             Ok(Writers::Socket(SocketWriters::new(listener, shown)))

@@ -14,24 +14,24 @@ use Rattle.pn_tablet.proofs.state.TabletState.adopt.Goals as goal
 
 pub invariant_of-self-2 : goal.invariant_of-self-2
 invariant_of-self-2 c =
-    let joins = c.in_ok-join_and_tell.ensures in
+    let joins = c.in_ok-join_and_count.ensures in
     kept c.self.invariant
     (subst (λ range. lie_in range c.copy.inside.cells ≡ true) (sym (one_range c.self.inside.range c.copy.inside.range (is_so _ (sym c.ne.ensures ∙ c.if-ne.false)))) c.copy.invariant.inside)
     (record { rises = joins.rising.1; rising = joins.rising.0; joined = joins.joined })
-    (held_adds c.self.inside.cells c.join_and_tell.new.self (spell c.copy.inside.cells) joins.rising.0 joins.spelled)
+    (held_adds c.self.inside.cells c.join_and_count.new.self (spell c.copy.inside.cells) joins.rising.0 joins.spelled)
     c.in_ok-coverage.ensures.1.1
     refl
 
 pub returns-clause-ok : goal.returns-clause-ok
 returns-clause-ok c =
-    let joins = c.in_ok-join_and_tell.ensures in
+    let joins = c.in_ok-join_and_count.ensures in
     let tablet : TabletStateValue = record { range = c.self.inside.range; cells = c.self.inside.cells; cover = c.self.inside.coverage.cover; reach = c.self.inside.coverage.reach; status = c.self.inside.status } in
     let copy : TabletCopyValue = record { range = c.copy.inside.range; marks = c.copy.inside.marks; cells = c.copy.inside.cells } in
     ap (λ (t : TabletStateValue). step t (Adopt c.args.copy.now)) (sym c.self.view_is)
     ∙ ap (λ (k : TabletCopyValue). step tablet (Adopt k)) (sym c.copy.view_is)
-    ∙ adopt_step tablet copy c.join_and_tell.new.self c.in_ok-coverage.coverage.cover c.in_ok-coverage.coverage.reach
+    ∙ adopt_step tablet copy c.join_and_count.new.self c.in_ok-coverage.coverage.cover c.in_ok-coverage.coverage.reach
     (is_so _ (sym c.ne.ensures ∙ c.if-ne.false))
     (ap (λ (t : TabletStateValue). need_shortfall t.status c.copy.inside.marks) c.self.view_is ∙ sym c.need_shortfall.ensures ∙ c.in_default.is)
-    (held_adds c.self.inside.cells c.join_and_tell.new.self (spell c.copy.inside.cells) joins.rising.0 joins.spelled)
+    (held_adds c.self.inside.cells c.join_and_count.new.self (spell c.copy.inside.cells) joins.rising.0 joins.spelled)
     c.in_ok-coverage.ensures.0
     c.in_ok-coverage.ensures.1.0
