@@ -46,7 +46,7 @@ impl CountingReader {
 
     /// The reader.
     pub fn into_reader(self) -> LiveReader
-        ensures { result ≡ self.entry }
+        ensures { result ≡ self }
     {
         let CountingReader {
             reader,
