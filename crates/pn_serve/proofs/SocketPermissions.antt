@@ -1,10 +1,10 @@
 -- The permissions that a text writes are the number that is read of it.
-use Rattle.std.proofs.Common.{◌≡◌, ℕ, Bool, true, false, cond, List, [], ◌∷◌, Result, Ok, Err, refl, ap, sym, arith, ◌∙◌}
+use Rattle.std.proofs.Common.{◌≡◌, ◌<◌, ◌^◌, ℕ, Bool, true, false, cond, List, [], ◌∷◌, Result, Ok, Err, refl, ap, sym, arith, ◌∙◌}
 use Rattle.std.proofs.lemmas.Bool.{ltb-true, leb-true, lt-ltb}
-use Rattle.std.specs.Prelude.{◌≤◌, nat_le, nat_lt}
+use Rattle.std.specs.Prelude.{nat_le, nat_lt}
 use Rattle.std.specs.Char.{digit_value}
 use Rattle.std.specs.List.{list_all}
-use Rattle.std.specs.Str.Parse.{AllDigits, IsNumeral, ParsesUnsigned, digits_value, without_leading_plus}
+use Rattle.std.specs.Str.Parse.{AllDigits, IsNumeral, digits_value, without_leading_plus}
 use Rattle.clap.proofs.WalkLemmas.{both}
 use Rattle.pn_serve.specs.Arguments.Permissions.{are_permissions, permissions_in}
 use Rattle.pn_serve.specs.declared.arguments.permissions.TheConstants.{MAX_PERMISSIONS, OCTAL}
@@ -28,17 +28,19 @@ not_too_great n = cond (nat_le n MAX_PERMISSIONS) (Ok n) (Err fault.SocketMode)
 of_numeral : (text : List ℕ) → IsNumeral OCTAL (without_leading_plus text) → permissions_in text ≡ not_too_great (digits_value OCTAL (without_leading_plus text))
 of_numeral text h = rw (lt-ltb _ _ h.0, digits_back _ h.1) refl
 
-pub of_number : (E : Type 0) (text : List ℕ) (n : ℕ) → ParsesUnsigned {E = E} 32 OCTAL text (Ok n) → not_too_great n ≡ permissions_in text
-of_number E text n parsed = ap not_too_great parsed.1 ∙ sym (of_numeral text parsed.0.0)
+pub of_number : (text : List ℕ) (n : ℕ)
+    → (IsNumeral OCTAL (without_leading_plus text) × (digits_value OCTAL (without_leading_plus text) < 2 ^ 32)) × (n ≡ digits_value OCTAL (without_leading_plus text))
+    → not_too_great n ≡ permissions_in text
+of_number text n parsed = ap not_too_great parsed.1 ∙ sym (of_numeral text parsed.0.0)
 
-pub of_none : (E : Type 0) (text : List ℕ) (e : E) → ParsesUnsigned {E = E} 32 OCTAL text (Err e) → Err fault.SocketMode ≡ permissions_in text
-of_none E text e parsed = none (are_permissions (without_leading_plus text)) refl
+pub of_none : (text : List ℕ) → ¬ (IsNumeral OCTAL (without_leading_plus text) × (digits_value OCTAL (without_leading_plus text) < 2 ^ 32)) → Err fault.SocketMode ≡ permissions_in text
+of_none text none = unless (are_permissions (without_leading_plus text)) refl
   where
-    none : (b : Bool) → are_permissions (without_leading_plus text) ≡ b
+    unless : (b : Bool) → are_permissions (without_leading_plus text) ≡ b
         → ◌≡◌ {A = Result ℕ OptionFault} (Err fault.SocketMode) (cond b (Ok (digits_value OCTAL (without_leading_plus text))) (Err fault.SocketMode))
-    none true is =
+    unless true is =
         let parts = both _ _ is in
         let octal = both _ _ parts.0 in
         let most = leb-true _ _ parts.1 in
-        absurd (parsed ((ltb-true _ _ octal.0, digits_from _ octal.1), omega (arith, most)))
-    none false is = refl
+        absurd (none ((ltb-true _ _ octal.0, digits_from _ octal.1), omega (arith, most)))
+    unless false is = refl

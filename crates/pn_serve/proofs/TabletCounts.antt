@@ -1,5 +1,5 @@
 -- Tablets that are counted one after another.
-use Rattle.std.proofs.Common.{◌≡◌, ℕ, suc, ◌+◌, List, [], ◌∷◌, ◌++◌, length, Option, Some, None, Result, Ok, Err, Vec, Global, refl, ap, subst, arith}
+use Rattle.std.proofs.Common.{◌≡◌, ℕ, suc, ◌+◌, List, [], ◌∷◌, ◌++◌, length, Option, Some, Result, Ok, Err, Vec, Global, refl, ap, subst, arith}
 use Rattle.pn_tablet.specs.Tablets.{TabletStateValue}
 use Rattle.pn_tablet.specs.declared.counted_cells.RecordCounts.{RecordCounts}
 use Rattle.pn_scan.specs.declared.fault.ScanFault.{ScanFault}

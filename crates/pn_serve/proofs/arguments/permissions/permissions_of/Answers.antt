@@ -4,7 +4,7 @@ use Rattle.pn_serve.proofs.SocketPermissions.{of_none, of_number}
 use Rattle.pn_serve.proofs.arguments.permissions.permissions_of.Goals as goal
 
 pub returns-in-Ok : goal.returns-in-Ok
-returns-in-Ok c = c.within_most.ensures ∙ of_number _ c.args.text.now _ c.in-Ok.ensures.value
+returns-in-Ok c = c.within_most.ensures ∙ of_number c.args.text.now c.in-Ok.permissions c.in-Ok.ensures.value
 
 pub returns-in-Err : goal.returns-in-Err
-returns-in-Err c = of_none _ c.args.text.now _ c.in-Err.ensures.value
+returns-in-Err c = of_none c.args.text.now c.in-Err.ensures.value

@@ -1,12 +1,12 @@
 -- Each round, and the commands before it, go on from what was done before.
-use Rattle.std.proofs.Common.{◌≡◌, ◌≢◌, ℕ, ◌==◌, true, false, List, [], map, refl, sym, ap, subst, ◌∙◌, arith}
-use Rattle.std.specs.Prelude.{vec_len, Ok, Err}
+use Rattle.std.proofs.Common.{◌≡◌, ◌≢◌, ℕ, ◌==◌, true, false, [], map, refl, sym, ap, subst, ◌∙◌, arith}
+use Rattle.std.specs.Prelude.{vec_len, Ok}
 use Rattle.pn_live.specs.LiveRegions.{LiveRegionValue}
 use Rattle.pn_serve.specs.Server.Reading.{StopsAt, TakesRound}
 use Rattle.pn_serve.specs.declared.server.mailboxes.AtFault.{AtFault}
 use Rattle.pn_serve.specs.declared.server.mailboxes.StreamMailbox.{StreamMailbox}
 use Rattle.pn_serve.proofs.EventsRead.{as_fault, more_told, nothing_yet, one_round, ran_on, ran_up_to}
-use Rattle.pn_serve.proofs.RoundsRead.{SoFar, all_read, as_answer, none_yet, no_names, one_more, read_up_to}
+use Rattle.pn_serve.proofs.RoundsRead.{SoFar, as_answer, none_yet, no_names, one_more, read_up_to}
 use Rattle.pn_serve.proofs.server.events.run_rounds.Goals as goal
 
 pub loop-init : goal.loop-init

@@ -1,8 +1,8 @@
 -- The line says a command, or it was refused.
-use Rattle.std.proofs.Common.{Err, ap, subst, ◌∙◌, ◌≡◌, false}
-use Rattle.std.specs.Prelude.{Result, IsErrOf}
+use Rattle.std.proofs.Common.{Err, ap, subst, ◌∙◌}
+use Rattle.std.specs.Prelude.{Result}
 use Rattle.pn_json.specs.Answers.{ShowsUnless}
-use Rattle.pn_protocol.specs.Command.Lines.{is_too_long, lookup_at}
+use Rattle.pn_protocol.specs.Command.Lines.{lookup_at}
 use Rattle.pn_protocol.specs.Command.Meaning.{command_value}
 use Rattle.pn_protocol.specs.declared.command.Command.{Command}
 use Rattle.pn_protocol.specs.declared.refusal.Refusal.{Refusal}
