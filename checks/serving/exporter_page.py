@@ -33,7 +33,10 @@ def text_of(page: Browser) -> str:
 
 
 def wait_for(page: Browser, *texts: str) -> None:
-    until(f"the page shows {texts}", lambda: all(it in text_of(page) for it in texts))
+    try:
+        until(f"the page shows {texts}", lambda: all(it in text_of(page) for it in texts))
+    except TimeoutError as fault:
+        raise TimeoutError(f"{fault}: {text_of(page)!r}") from fault
 
 
 def check_page(program: str, folder: str) -> None:

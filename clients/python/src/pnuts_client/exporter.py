@@ -132,7 +132,8 @@ def app_of(region: Control, history: History, silence: int | None = None) -> App
         if path == "/metrics":
             return metrics(environ, start)
         if path == "/":
-            start("200 OK", page)
+            # The server adds to the list.
+            start("200 OK", [*page])
             return [shown_page(history.view(), silence)]
         if path != "/healthz":
             start("404 Not Found", [TEXT])

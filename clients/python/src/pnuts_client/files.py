@@ -14,7 +14,17 @@ def write_whole(path: Path, content: bytes) -> None:
 
 
 def write_parts(path: Path, parts: Iterable[bytes], keep: bool = True) -> None:
-    """Writes a file of parts as they come beside the path, and moves it there. With `keep` it is on the disk then."""
+    """Writes a file of parts as they come beside the path, and moves it there. With `keep` it is on the disk then.
+
+    What the system refuses is raised with the path.
+    """
+    try:
+        _write_parts(path, parts, keep)
+    except OSError as fault:
+        raise OSError(fault.errno, fault.strerror, str(path)) from fault
+
+
+def _write_parts(path: Path, parts: Iterable[bytes], keep: bool) -> None:
     handle, name = tempfile.mkstemp(dir=path.parent, prefix=f".{path.name}.")
     try:
         with os.fdopen(handle, "wb") as file:

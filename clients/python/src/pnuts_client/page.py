@@ -20,7 +20,7 @@ FIRST = Html(
     '<!DOCTYPE html>\n<html lang="en"><head><meta charset="utf-8"><meta name="viewport" content="width=device-width, initial-scale=1">'
     '<link rel="icon" href="data:,"><noscript><meta http-equiv="refresh" content="5"></noscript>'
 )
-RATES = (("messages", "Messages a second"), ("answered", "Lines answered a second"), ("refused", "Lines refused a second"), ("rounds", "Rounds a second"))
+RATES = (("messages", "Messages a second"), ("answered", "Lines a second"), ("refused", "Refused a second"), ("rounds", "Rounds a second"))
 STREAMS = ("Stream", "State", "Position", "Behind", "Last message", "Read", "Messages a second", "", "Path")
 TABLETS = ("Tablet", "From", "To", "State", "Behind")
 COUNTED = ("Records", "Deleted")
@@ -72,7 +72,7 @@ def sections(view: View) -> Iterator[Html]:
         tablets(view.last),
         element("h2", "Clients"),
         element("p", connections(view.last.stats)),
-        table(LINES, lines(view, view.last.stats)),
+        table(LINES, lines(view, view.last.stats), "few"),
     )
     yield element("div", *parts, class_="stale" if view.fault is not None else "now")
 
@@ -81,7 +81,7 @@ def tiles(view: View) -> Iterator[Html]:
     """Pictures of the whole region."""
     for name, what in RATES:
         yield tile(what, view.rates(name), shown_rate)
-    yield tile("Connections of clients", view.values("open"), lambda value: f"{value:,.0f}")
+    yield tile("Connections", view.values("open"), lambda value: f"{value:,.0f}")
     yield tile("Memory", view.values("bytes"), lambda value: shown_bytes(int(value)))
 
 
@@ -167,6 +167,7 @@ def row(heads: Sequence[str], cells: Sequence[object]) -> Html:
     return element("tr", *(element("td", cell, class_=kind(head), data_label=head) for head, cell in zip(heads, cells, strict=True)))
 
 
-def table(heads: Sequence[str], rows: Iterable[Html]) -> Html:
+def table(heads: Sequence[str], rows: Iterable[Html], width: str = "many") -> Html:
+    """A table. One of many columns has a line for each cell on a narrow screen."""
     head = element("thead", element("tr", *(element("th", it, scope="col", class_=kind(it)) for it in heads)))
-    return element("table", head, element("tbody", *rows))
+    return element("table", head, element("tbody", *rows), class_=width)
