@@ -164,7 +164,7 @@ class ProgramTest(unittest.TestCase):
             status, text = said(*words[:2], "status")
             self.assertEqual(status, 0)
             self.assertRegex(text, r"(?m)^east  .*  3  .*" + re.escape(region.stream))
-            self.assertRegex(text, r"(?m)^1 +g +p +serves$")
+            self.assertRegex(text, r"(?m)^1 +g +p +serves( +1 +0)?$")
             texts = []
             peers: list[list[str]] = [[], ["--from", f"unix:{region.clients}"]]
             for at, more in enumerate(peers):
@@ -197,7 +197,7 @@ class ProgramTest(unittest.TestCase):
             with contextlib.redirect_stderr(io.StringIO()) as errors:
                 self.assertEqual(said(*words, "--timeout", "0.2")[0], 1)
             self.assertEqual(errors.getvalue(), "pnuts-ctl: behind: 1 of stream east, 4 wanted\n")
-            self.assertRegex(said(words[0], words[1], "status")[1], r"(?m)^1 +g +p +recovering, needs east 4$")
+            self.assertRegex(said(words[0], words[1], "status")[1], r"(?m)^1 +g +p +recovering, needs east 4( +0 +0)?$")
             writing = threading.Timer(0.3, peer.write, [2, "h", "q", "h"], {"number": 1})
             writing.start()
             status, text = said(*words)
