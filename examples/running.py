@@ -20,7 +20,7 @@ CLIENT = TOP / "clients/python/src"
 WITHIN = "PNUTS_EXAMPLE_IS_WITHIN"
 # Files of an example, of which none is left.
 RUN = Path("/run")
-SECONDS = 60.0
+SECONDS = 300.0
 
 
 def enter() -> None:

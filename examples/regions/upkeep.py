@@ -15,7 +15,7 @@ from running import Word, until
 
 # The tablet of the range `high` that is lost. The front's check reads none of its keys.
 LOST, KEYS = 2, [f"z{number}" for number in range(250, 400)]
-PATIENCE = 180.0
+PATIENCE = 600.0
 
 
 class Cache:
