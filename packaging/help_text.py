@@ -50,6 +50,11 @@ class Help:
         return [it.words for it in self.entries.get("Commands", []) if it.words != "help"]
 
     @property
+    def help(self) -> Entry:
+        """The command that prints what this says."""
+        return next(it for it in self.entries["Commands"] if it.words == "help")
+
+    @property
     def arguments(self) -> list[Entry]:
         return self.entries.get("Arguments", [])
 

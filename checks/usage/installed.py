@@ -49,12 +49,15 @@ SHELLS = {
 # A line that is typed, and what each shell makes of its last word, in no order and without a stream's name.
 COMPLETIONS = {
     "pnuts -": {"--help", "--version", "-V", "-h"},
+    "pnuts h": {"help"},
+    "pnuts help s": {"serve"},
     "pnuts r": {"replay"},
     "pnuts s": {"serve"},
     "pnuts serve --b": {"--bounds"},
     "pnuts serve --co": {"--connections", "--control"},
     "pnuts serve --stay --control m": {"messages"},
     "pnuts serve --s": {"--sessions", "--socket", "--socket-mode", "--stay"},
+    "pnuts serve --socket-mode ": set(),
     "pnuts serve --socket m": {"messages"},
     "pnuts serve --stay --idle ": set(),
     "pnuts replay --w": {"--workers"},

@@ -100,13 +100,16 @@ def check_bounds(system: System, process: str) -> None:
 
 
 def check_serving(system: System) -> str:
-    """Writes a message into the socket as the user pnuts, which no other one may, and reads it in a session. The process that serves."""
+    """Writes a message into the socket as the user pnuts and as its group, which no others may, and reads it in a session. The
+    process that serves.
+    """
     system.wait_for("active", "systemctl", "is-active", "pnuts")
-    system.wait_for("socket pnuts:pnuts 600", "stat", "--format=%F %U:%G %a", SOCKET)
+    system.wait_for("socket pnuts:pnuts 660", "stat", "--format=%F %U:%G %a", SOCKET)
     write = f"echo {shlex.quote(message(1, 'k', 0, 'x').decode().strip())} | "
     same("what is told the writer first", system.run("bash", "-c", f"{write} runuser -u pnuts -- {WRITE}")[:9], '{"after":')
-    other = f"{write} setpriv --reuid=nobody --regid=pnuts --clear-groups {WRITE}"
-    same("whether another user may write", "Permission denied" in system.status("bash", "-c", other)[1], True)
+    for group, may in (("pnuts", True), ("nogroup", False)):
+        other = f"{write} setpriv --reuid=nobody --regid={group} --clear-groups {WRITE}"
+        same(f"whether the group {group} may write", "Permission denied" not in system.status("bash", "-c", other)[1], may)
     check_record(system, 0, "x")
     return shown(system, "MainPID")[0]
 
