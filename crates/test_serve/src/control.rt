@@ -4,9 +4,9 @@ use pn_join::{Name, NoMemory};
 use pn_line::InMemory;
 use pn_live::{LiveReader, LiveRegion};
 use pn_serve::{
-    ConnectionStats, ControlMailboxes, ControlSession, LineStats, Origin, ServeFault, Stats,
-    StatsSource, Stream, StreamFaultStats, StreamState, StreamStats, Watchers, WriterEnd,
-    close_region, open_region, read_streams, take_commands,
+    ConnectionStats, ControlMailboxes, ControlSession, LineCounts, LineKinds, LineStats, Origin,
+    ServeFault, Stats, StatsSource, Stream, StreamFaultStats, StreamState, StreamStats,
+    TabletStats, Watchers, WriterEnd, close_region, open_region, read_streams, take_commands,
 };
 use std::alloc::Global;
 use std::sync::{Arc, Wait};
