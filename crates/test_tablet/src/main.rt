@@ -1,17 +1,15 @@
-//! Cases of `pn_tablet`, a line each: `layout`, `copy`, `parts` (of a copy), `counts` (of two copies) and `faults`, and damaged copies by `prefixes` and `crossed`.
+//! Cases of `pn_tablet`, a line each: `layout`, `copy`, `parts` (of a copy) and `faults`, and damaged copies by `prefixes` and `crossed`.
 //!
 //! A newline of a copy is written `|`, and `~3~ab~` is `ababab`. `stdout` has what must be answered.
 #![tactic(auto)]
 
 mod copies;
-mod counts;
 mod damaged;
 mod fault_texts;
 mod layouts;
 mod parts;
 
 use copies::copy;
-use counts::counts;
 use damaged::{crossed, prefixes};
 use fault_texts::faults;
 use layouts::layout;
@@ -27,7 +25,6 @@ fn main(rt: HostRuntime) -> Result<(), Fail> {
         Some(("prefixes", text)) => prefixes(alloc, text),
         Some(("crossed", text)) => crossed(alloc, text),
         Some(("parts", text)) => parts(alloc, text),
-        Some(("counts", text)) => counts(alloc, text),
         _ => faults(alloc),
     })
 }
