@@ -1,3 +1,9 @@
+pub mod BlockEditPuts
+pub mod BlockFacts
+pub mod BlockGrowth
+pub mod BlockHalves
+pub mod BlockJoin
+pub mod BlockPuts
 pub mod Changing
 pub mod Each
 pub mod EditJoins

@@ -1,4 +1,4 @@
-//! Cases of `pn_join`, a line each: `join` of two tables, `entry` for one entry more, `least` for one below all
+//! Cases of `pn_join`, a line each: `join` of two tables, `entry` for one entry more, `mixed` for keys in mixed order, `least` for one below all
 //! others, `name` for a name.
 //!
 //! `slice` is for a part of a table, and `cut` for a table that is cut and put together again.
@@ -13,7 +13,7 @@ use pn_join::Name;
 use slices::{cut, slice};
 use std::alloc::Global;
 use std::test::Fail;
-use tables::{entry, join, least};
+use tables::{entry, join, least, mixed};
 use test_kit::answer_lines;
 
 fn main(rt: HostRuntime) -> Result<(), Fail> {
@@ -21,6 +21,7 @@ fn main(rt: HostRuntime) -> Result<(), Fail> {
     answer_lines(&rt, |line| match line.split_once(' ') {
         Some(("join", tables)) => join(alloc, tables),
         Some(("entry", table)) => entry(alloc, table),
+        Some(("mixed", table)) => mixed(alloc, table),
         Some(("least", table)) => least(alloc, table),
         Some(("name", text)) => name(alloc, text),
         Some(("slice", table)) => slice(alloc, table),

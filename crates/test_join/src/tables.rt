@@ -25,6 +25,31 @@ pub(crate) fn table(alloc: Global, words: &mut Split<'_, char>) -> Result<Number
     Ok(table)
 }
 
+/// The table of a first key, a step and a prime count, whose keys are joined in mixed order, and whether each key and no other is found.
+pub(crate) fn mixed(alloc: Global, text: &str) -> Result<String, Fail> {
+    let mut words = text.split(' ');
+    let (first, step, count) = (
+        number(&mut words)?,
+        number(&mut words)?,
+        number(&mut words)?,
+    );
+    let mut table = NumberTable::new(alloc);
+    for index in 0..count {
+        let place = index.saturating_mul(7_919).checked_rem(count).unwrap_or(0);
+        let key = Highest(first.saturating_add(place.saturating_mul(step)));
+        table.join_entry(key, key)?;
+    }
+    let mut found = true;
+    for index in 0..count {
+        let key = Highest(first.saturating_add(index.saturating_mul(step)));
+        let next = Highest(key.0.saturating_add(1));
+        let at = table.lower_bound(&next) == table.lower_bound(&key).saturating_add(1);
+        found = found && at && table.get(&key) == Some(&key) && table.get(&next).is_none();
+    }
+    let form = form(alloc, &table)?;
+    Ok(format!(in alloc; "{form}, found: {found}")?)
+}
+
 fn key_at(table: &NumberTable, index: usize) -> Option<u64> {
     match table.entry_at(index) {
         Some((key, _content)) => Some(key.0),

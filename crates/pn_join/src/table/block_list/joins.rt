@@ -1,0 +1,126 @@
+//! Joins one entry into one block.
+
+ghost use Rattle.std.specs.Prelude.{◌≡◌, ◌<◌, ◌≤◌, ◌∷◌, [], length, get_or, OnOk, OnErr};
+ghost use Rattle.pn_join.specs.Blocks.{entries_in, in_blocks, AreBlocks};
+ghost use Rattle.pn_join.specs.Leaves.{all_entries, leaf_for, IsLeafList};
+ghost use Rattle.pn_join.specs.PutInLeaves.{IsPutOf, ChangesOneLeaf};
+
+use super::{BlockList, MAX_BLOCK_LEAVES};
+use crate::table::block::Block;
+use crate::table::block_ref::BlockRef;
+use crate::table::entry_counts::raise_from;
+use crate::{Dup, Join, NoMemory};
+
+impl<K: Ord + Dup, C: Join> BlockList<K, C> {
+    /// Joins a content into that at the key. One leaf is changed or cut in two, or the first is made; all others
+    /// stay. An error leaves all leaves as they were.
+    pub fn join_entry(&mut self, key: K, content: C) -> Result<(), NoMemory>
+        requires { C.valid content }
+        ensures ok { OnOk result (IsPutOf K.cmp C.meaning C.joined C.valid key content
+            (entries_in self.old) (entries_in self.new)) }
+        ensures one { OnOk result (ChangesOneLeaf (all_entries self.old) (all_entries self.new)) }
+        ensures err { OnErr result (all_entries self.new ≡ all_entries self.old) }
+        ensures blocks { AreBlocks K.cmp C.valid self.old × AreBlocks K.cmp C.valid self.new }
+    {
+        if self.blocks.is_empty() {
+            return self.push_first(key, content);
+        }
+        let mut index = self.block_for(&key);
+        if self.leaves_in(index) >= MAX_BLOCK_LEAVES {
+            self.halve(index)?;
+            index = self.block_for(&key);
+        }
+        self.join_in_block(index, key, content)
+    }
+
+    fn push_first(&mut self, key: K, content: C) -> Result<(), NoMemory>
+        requires valid { C.valid content }
+        requires none { self.old ≡ [] }
+        ensures ok { OnOk result (all_entries self.new ≡ ((key, content) ∷ []) ∷ []) }
+        ensures err { OnErr result (self.new ≡ self.old) }
+        ensures blocks { AreBlocks K.cmp C.valid self.new }
+    {
+        let alloc = self.alloc();
+        let mut block = Block::new(alloc);
+        block.push_first(key, content)?;
+        self.push(BlockRef::seal(alloc, block))
+    }
+
+    /// How many leaves a block has.
+    pub(super) fn leaves_in(&self, index: usize) -> usize
+        ensures { result ≡ length (get_or self.now index []) }
+    {
+        match self.block(index) {
+            Some(block) => block.count(),
+            None => 0,
+        }
+    }
+
+    /// Joins a content into that at the key, in the block that the key belongs into.
+    fn join_in_block(&mut self, index: usize, key: K, content: C) -> Result<(), NoMemory>
+        requires valid { C.valid content }
+        requires some { 0 < length self.old }
+        requires block { index ≡ leaf_for K.cmp key (in_blocks self.old) }
+        ensures ok { OnOk result (IsPutOf K.cmp C.meaning C.joined C.valid key content
+            (entries_in self.old) (entries_in self.new)) }
+        ensures one { OnOk result (ChangesOneLeaf (all_entries self.old) (all_entries self.new)) }
+        ensures err { OnErr result (self.new ≡ self.old) }
+        ensures blocks { AreBlocks K.cmp C.valid self.new }
+    {
+        let alloc = self.alloc();
+        if self.len() == usize::MAX || self.count() == usize::MAX {
+            return Err(NoMemory);
+        }
+        let (entries, leaves) = sizes_of(&self.blocks[index]);
+        self.blocks[index].join_entry(alloc, key, content)?;
+        let (more, more_leaves) = sizes_of(&self.blocks[index]);
+        raise_from(&mut self.entry_counts, index, more - entries);
+        raise_from(&mut self.leaf_counts, index, more_leaves - leaves);
+        Ok(())
+    }
+
+    /// Divides a block in two. No leaf changes, also on an error.
+    pub(super) fn halve(&mut self, index: usize) -> Result<(), NoMemory>
+        requires within { index < length self.old }
+        requires two { 1 < length (get_or self.old index []) }
+        ensures same { all_entries self.new ≡ all_entries self.old }
+        ensures blocks { AreBlocks K.cmp C.valid self.new }
+    {
+        let alloc = self.alloc();
+        let start = self.entries_before(index);
+        let start_leaf = self.leaves_before(index);
+        self.blocks.reserve(1)?;
+        self.entry_counts.reserve(1)?;
+        self.leaf_counts.reserve(1)?;
+        let back = self.blocks[index].halve(alloc)?;
+        let front = self.blocks[index].block();
+        let (end, end_leaf) = (start + front.len(), start_leaf + front.count());
+        self.blocks.insert(index + 1, back).unwrap();
+        self.entry_counts.insert(index, end).unwrap();
+        self.leaf_counts.insert(index, end_leaf).unwrap();
+        self.insert_last_key(index);
+        Ok(())
+    }
+
+    /// Adds the last key of a block that was halved to the last keys, if there is memory for it.
+    fn insert_last_key(&mut self, index: usize)
+        ensures { self.new ≡ self.old }
+    {
+        if index >= self.blocks.len() || index > self.last_keys.len() {
+            return;
+        }
+        if let Some(Ok(key)) = self.blocks[index].block().last_key() {
+            let _ = self.last_keys.insert(index, key);
+        }
+    }
+}
+
+/// How many entries and leaves a block has.
+fn sizes_of<K: Ord + Dup, C: Join>(block: &BlockRef<K, C>) -> (usize, usize)
+    ensures entries { result.0 ≡ length (all_entries block.now) }
+    ensures leaves { result.1 ≡ length block.now }
+    ensures leaf_list { IsLeafList K.cmp C.valid block.now }
+{
+    let block = block.block();
+    (block.len(), block.count())
+}
