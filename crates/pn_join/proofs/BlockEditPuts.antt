@@ -13,17 +13,14 @@ use Rattle.pn_join.specs.declared.table.edit.Edit.{Edit}
 use Rattle.pn_join.proofs.Each.{each_append, each_prefix, each_back}
 
 module _ {K C : Type 0} where
-  abbrev Puts : Type 0
-  Puts = List (ℕ × (K × C))
-
-  abbrev all_puts : List (ℕ × Puts) → Puts
+  abbrev all_puts : List (ℕ × List (ℕ × (K × C))) → List (ℕ × (K × C))
   all_puts ps = flat_map (λ p. p.1) ps
 
   module _ (cmp : K → K → Ordering) where
-    abbrev put_each : List (K × C) → Puts → List (K × C)
+    abbrev put_each : List (K × C) → List (ℕ × (K × C)) → List (K × C)
     put_each now ps = fold (λ now p. put cmp p.1.0 p.1.1 now) now ps
 
-    put_each-append : (now : List (K × C)) (ps qs : Puts) → put_each now (ps ++ qs) ≡ put_each (put_each now ps) qs
+    put_each-append : (now : List (K × C)) (ps qs : List (ℕ × (K × C))) → put_each now (ps ++ qs) ≡ put_each (put_each now ps) qs
     put_each-append now [] qs = refl
     put_each-append now (p ∷ ps) qs = put_each-append (put cmp p.1.0 p.1.1 now) ps qs
 
@@ -47,7 +44,7 @@ module _ {K C : Type 0} where
     same_block_puts now es fs same = puts_all now fs ∙ ap (λ ps. put_each now (all_puts ps)) same ∙ sym (puts_all now es)
 
     module _ (blocks : List (List (List (K × C)))) where
-      abbrev Aim : ℕ × Puts → Type 0
+      abbrev Aim : ℕ × List (ℕ × (K × C)) → Type 0
       Aim p = AllByRecursion (λ q. p.0 ≡ leaf_for cmp q.1.0 (in_blocks blocks)) p.1 × AllByRecursion (λ q. q.0 ≡ leaf_for cmp q.1.0 (get_or blocks p.0 [])) p.1
 
       at_block : (i : ℕ) (es : List (Edit K C)) → AllByRecursion (λ e. i ≡ leaf_for cmp e.change.key (in_blocks blocks)) es → AllByRecursion (λ q. i ≡ leaf_for cmp q.1.0 (in_blocks blocks)) (puts_in es)
@@ -78,7 +75,7 @@ module _ {K C : Type 0} where
       same_block_aims es fs same h = aimed fs (subst (λ ps. AllByRecursion Aim ps) (sym same) (aims es h))
 
   module _ (valid : C → Type 0) where
-    abbrev Valid : Puts → Type 0
+    abbrev Valid : List (ℕ × (K × C)) → Type 0
     Valid ps = AllByRecursion (λ p. valid p.1.1) ps
 
     valid_puts : (es : List (Edit K C)) → AreValid valid (changes_in es) → Valid (puts_in es)

@@ -14,6 +14,12 @@ use Rattle.pn_join.proofs.LeafListIndices.{leaf_at, leaf_at-prefix, entry_in_lis
 use Rattle.pn_join.proofs.LeafListSearch.{parted, leaf_for-search, find_in_list}
 use Rattle.pn_join.proofs.Rising.{Rising, Rising-from_sorted}
 
+pub take_whole : {A : Type 0} (xs : List A) (n : ℕ) → length xs ≤ n → take n xs ≡ xs
+take_whole [] zero le = refl
+take_whole [] (suc n) le = refl
+take_whole (x ∷ xs) zero le = absurd (omega (arith, le))
+take_whole (x ∷ xs) (suc n) le = ap (λ ys. x ∷ ys) (take_whole xs n (omega (arith, le)))
+
 module _ {A : Type 0} where
   -- the entries of all blocks, block by block
   pub all_in_blocks : (blocks : List (List (List A))) → all_entries (in_blocks blocks) ≡ entries_in blocks
@@ -38,12 +44,6 @@ module _ {A : Type 0} where
   drop_blocks zero blocks = refl
   drop_blocks (suc n) [] = refl
   drop_blocks (suc n) (b ∷ bs) = drop_blocks n bs
-
-  pub take_whole : {B : Type 0} (xs : List B) (n : ℕ) → length xs ≤ n → take n xs ≡ xs
-  take_whole [] zero le = refl
-  take_whole [] (suc n) le = refl
-  take_whole (x ∷ xs) zero le = absurd (omega (arith, le))
-  take_whole (x ∷ xs) (suc n) le = ap (λ ys. x ∷ ys) (take_whole xs n (omega (arith, le)))
 
   -- what holds of each leaf of all blocks holds of those of each block
   pub each_leaf : (P : List A → Type 0) (blocks : List (List (List A))) → AllByRecursion P (all_entries blocks) → AllByRecursion (λ block. AllByRecursion P block) blocks

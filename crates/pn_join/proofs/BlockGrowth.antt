@@ -1,6 +1,6 @@
 -- Blocks added to a list, and the first blocks of one.
-use Rattle.std.proofs.Common.{◌≡◌, ℕ, zero, suc, ◌+◌, ◌^◌, ◌<◌, ◌≤◌, List, [], ◌∷◌, ◌++◌, ◌-◌, length, get_or, take, drop, slice_range, Ordering, IsTrue, refl, sym, ap, ◌∙◌, arith, append_assoc, take-append-drop}
-use Rattle.std.proofs.lemmas.List.{length-append}
+use Rattle.std.proofs.Common.{◌≡◌, ℕ, zero, suc, ◌+◌, ◌^◌, ◌<◌, ◌≤◌, List, [], ◌∷◌, ◌++◌, ◌-◌, min, length, get_or, take, drop, slice_range, Ordering, IsTrue, refl, sym, ap, ◌∙◌, arith, append_assoc, take-append-drop}
+use Rattle.std.proofs.lemmas.List.{length-append, length-drop, take_min}
 use Rattle.std.proofs.lemmas.List.Concat.{flat_map-append}
 use Rattle.std.specs.List.{AllByRecursion}
 use Rattle.pn_join.specs.Blocks.{in_blocks, entries_in, AreBlocks}
@@ -30,6 +30,12 @@ module _ {K X : Type 0} (cmp : K → K → Ordering) (valid : X → Type 0) wher
     rising = sorted_from_Rising cmp ys (Rising-back cmp xs ys (Rising-from_sorted cmp (xs ++ ys) table.rising));
     contents = each_back (λ e. valid e.1) xs ys table.contents;
   }
+
+  -- a slice of a table
+  pub slice_table : (es : List (K × X)) (from to : ℕ) → IsTable cmp valid es → IsTable cmp valid (slice_range es from to)
+  slice_table es from to table =
+      let rest : IsTable cmp valid (drop from es) = IsTable-back (take from es) (drop from es) (rw (take-append-drop from es) table) in
+      IsTable-prefix cmp valid (take (to - from) (drop from es)) (drop (to - from) (drop from es)) (rw (take-append-drop (to - from) (drop from es)) rest)
 
   -- the first leaves of a list
   pub IsLeafList-prefix : (xs ys : List (List (K × X))) → IsLeafList cmp valid (xs ++ ys) → IsLeafList cmp valid xs
@@ -63,6 +69,14 @@ module _ {K X : Type 0} (cmp : K → K → Ordering) (valid : X → Type 0) wher
       table = rw (all_append (all_entries blocks) block) table;
     });
   }
+
+-- a slice up to the end
+pub slice_to_end : {A : Type 0} (es : List A) (from to end : ℕ) → end ≡ min to (length es) → slice_range es from end ≡ slice_range es from to
+slice_to_end es from to end is =
+    let rest = drop from es in
+    let long : length rest ≡ length es - from = length-drop from es in
+    let shorter : end - from ≡ min (to - from) (length rest) = omega (arith, is, long) in
+    ap (λ n. take n rest) shorter ∙ take_min (to - from) rest
 
 -- the slice of all
 pub whole_slice : {A : Type 0} (xs : List A) (n : ℕ) → n ≡ length xs → slice_range xs 0 n ≡ xs

@@ -40,6 +40,7 @@ module _ {A : Type 0} where
     fits = fits;
   }
 
+module _ {A : Type 0} where
   reindices : (old new : List (List A)) → 0 < length old → ChangesOneLeaf old new → ReindicesOneLeaf old new
   reindices [] new some one = absurd (omega (arith, some))
   reindices (l ∷ ls) new some one = one

@@ -1,3 +1,5 @@
+pub mod BlockChanging
+pub mod BlockCounts
 pub mod BlockEditPuts
 pub mod BlockFacts
 pub mod BlockGrowth
@@ -31,3 +33,4 @@ pub mod LeafListSplits
 pub mod Singles
 pub mod SliceFacts
 pub mod TableFacts
+pub mod TakenFacts

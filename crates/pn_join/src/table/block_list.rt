@@ -16,10 +16,12 @@ ghost use Rattle.pn_join.specs.Leaves.{all_entries, counts_after, leaf_for};
 ghost use Rattle.pn_join.specs.Tables.{IsTable};
 
 mod bulk_join;
+mod counts;
 mod growth;
 mod joins;
 mod search;
 mod slices;
+mod taking;
 
 use crate::table::block::{Block, copy_keys, from_on};
 use crate::table::block_ref::BlockRef;
@@ -189,12 +191,12 @@ impl<K: Ord + Dup, C: Join> BlockList<K, C> {
     {
         let index = self.block_for(key);
         let start = self.entries_before(index);
-        let Some(block) = self.block(index) else {
-            return Err(start);
-        };
-        match block.binary_search(key) {
-            Ok(index) => Ok(start + index),
-            Err(index) => Err(start + index),
+        match self.block(index) {
+            Some(block) => match block.binary_search(key) {
+                Ok(index) => Ok(start + index),
+                Err(index) => Err(start + index),
+            },
+            None => Err(start),
         }
     }
 

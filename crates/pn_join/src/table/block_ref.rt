@@ -1,6 +1,6 @@
 //! Blocks that copies of a table share.
 
-ghost use Rattle.std.specs.Prelude.{◌≡◌, ◌<◌, ◌++◌, length, IfOk, OnOk, OnErr};
+ghost use Rattle.std.specs.Prelude.{◌≡◌, ◌<◌, [], ◌++◌, length, IfOk, OnOk, OnErr};
 ghost use Rattle.pn_join.specs.Leaves.{all_entries, IsLeafList};
 ghost use Rattle.pn_join.specs.PutInLeaves.{IsPutOf, ChangesOneLeaf};
 
@@ -67,17 +67,20 @@ impl<K: Ord + Dup, C: Join> BlockRef<K, C> {
     /// Takes the block out, and leaves an empty one. A shared block is copied; an error leaves it in.
     pub fn take(&mut self, alloc: Global) -> Result<Block<K, C>, NoMemory>
         ensures ok { IfOk result (λ block. block ≡ self.old) }
+        ensures empty { OnOk result (self.new ≡ []) }
         ensures err { OnErr result (self.new ≡ self.old) }
     {
         match mem::replace(&mut self.held, Held::Own(Block::new(alloc))) {
             Held::Own(block) => Ok(block),
             Held::Shared(shared) => match Arc::try_unwrap(shared) {
                 Ok(block) => Ok(block),
-                Err(shared) => {
-                    let copy = shared.share();
-                    self.held = Held::Shared(shared);
-                    copy
-                }
+                Err(shared) => match shared.share() {
+                    Ok(block) => Ok(block),
+                    Err(refused) => {
+                        self.held = Held::Shared(shared);
+                        Err(refused)
+                    }
+                },
             },
         }
     }
@@ -102,6 +105,7 @@ impl<K: Ord + Dup, C: Join> BlockRef<K, C> {
         ensures err { OnErr result (self.new ≡ self.old) }
         ensures leaf_list { IsLeafList K.cmp C.valid self.old × IsLeafList K.cmp C.valid self.new }
     {
+        self.block().recall_leaf_list();
         let mut block = self.take(alloc)?;
         let joined = block.join_entry(key, content);
         *self = BlockRef::seal(alloc, block);

@@ -104,9 +104,9 @@ impl<K: Ord + Dup, C: Join> Block<K, C> {
         let Ok(indices) = leaf_indices(alloc, &edits) else {
             return Opening::NoMemory(self);
         };
-        if open_leaves(alloc, &mut self.leaves, &edits).is_err() {
+        let Ok(()) = open_leaves(alloc, &mut self.leaves, &edits) else {
             return Opening::NoMemory(self);
-        }
+        };
         let Block {
             leaves,
             entry_counts,

@@ -1,21 +1,21 @@
 //! Joins all entries of another list at once, if no leaf gets too many.
 
-ghost use Rattle.std.specs.Prelude.{◌≡◌, ◌≤◌, [], false, length, vec_capacity, IsTrue, IfOk, OnErr};
+ghost use Rattle.std.specs.Prelude.{◌≡◌, ℕ, ◌+◌, ◌<◌, [], false, length, get_or, option_map, IsTrue, IfOk, IfSome, OnErr};
 ghost use Rattle.pn_join.specs.BlockEdits.{changes_in_blocks, AreAimedAtBlocks};
 ghost use Rattle.pn_join.specs.Blocks.{in_blocks, entries_in, AreBlocks};
-ghost use Rattle.pn_join.specs.Leaves.{all_entries};
-ghost use Rattle.pn_join.specs.TableChanges.{AreChanges, AreValid, puts};
+ghost use Rattle.pn_join.specs.Edits.{IsAimed};
+ghost use Rattle.pn_join.specs.Leaves.{all_entries, leaf_for};
+ghost use Rattle.pn_join.specs.TableChanges.{AreChanges, AreValid, Changes, puts};
 ghost use Rattle.pn_join.specs.Tables.{contents_at, key_by_key};
-ghost use Rattle.pn_join.specs.TakenBlocks.{filled, was, becomes, AreHoles};
 
+use super::counts::count_anew;
+use super::taking::edit_blocks;
 use super::{BlockList, MAX_BLOCK_LEAVES};
-use crate::table::block::{Block, OpenBlock, Opening};
-use crate::table::block_edits::{BlockEdits, add_edit, take_all_changes};
-use crate::table::block_ref::BlockRef;
+use crate::table::block::Block;
+use crate::table::block_edits::{BlockEdits, add_optional, len_with, take_all_changes};
 use crate::table::change::TableChange;
 use crate::table::edit::Edit;
 use crate::{Dup, Join, NoMemory};
-use std::alloc::Global;
 
 /// What the entries of another table change, and whether they are joined.
 #[derive(Drop)]
@@ -64,17 +64,22 @@ impl<K: Ord + Dup, C: Join> BlockList<K, C> {
         let alloc = self.alloc();
         let mut all = Vec::new(alloc);
         for (key, content) in other.iter() {
-            let block = self.block_for(key);
-            if let Some(edit) = self.edit(block, key, content)? {
-                add_edit(alloc, &mut all, block, edit)?;
-            }
+            let index = self.block_for(key);
+            let edit = self.edit(index, key, content)?;
+            add_optional(alloc, &mut all, index, edit)?;
         }
         Ok(all)
     }
 
     /// What an entry changes in the block that its key belongs into.
-    fn edit(&self, block: usize, key: &K, content: &C) -> Result<Option<Edit<K, C>>, NoMemory> {
-        match self.block(block) {
+    fn edit(&self, index: usize, key: &K, content: &C) -> Result<Option<Edit<K, C>>, NoMemory>
+        requires block { index ≡ leaf_for K.cmp key.now (in_blocks self.now) }
+        requires valid { C.valid content.now }
+        ensures changes { IfOk result (λ edit. Changes K.cmp C.meaning C.joined C.valid (entries_in self.now) (key.now, content.now) (option_map (λ e. e.change) edit)) }
+        ensures aimed { IfOk result (λ edit. IsAimed K.cmp (get_or self.now index []) edit) }
+    {
+        self.recall_blocks();
+        match self.block(index) {
             Some(block) => block.edit(key, content),
             None => Block::new(self.alloc()).edit(key, content),
         }
@@ -90,163 +95,53 @@ impl<K: Ord + Dup, C: Join> BlockList<K, C> {
         ensures err { OnErr result (entries_in self.new ≡ entries_in self.old) }
         ensures blocks { AreBlocks K.cmp C.valid self.new }
     {
-        let Some(first) = all.first() else {
+        self.recall_blocks();
+        if all.is_empty() {
             return Ok(true);
-        };
-        let from = first.block;
-        if self.len().checked_add(count_edits(&all)).is_none() {
-            return Err(NoMemory);
         }
-        let alloc = self.alloc();
-        let mut taken = Vec::with_capacity(alloc, all.len())?;
-        let done = open_blocks(alloc, &mut self.blocks, &mut taken, all);
-        if matches!(done, Ok(true)) {
-            finish_blocks(alloc, &mut self.blocks, taken);
-        } else {
-            restore_blocks(alloc, &mut self.blocks, taken);
-        }
-        count_anew(
-            &self.blocks,
-            from,
-            &mut self.entry_counts,
-            &mut self.leaf_counts,
-        );
+        let done = self.put_in_blocks(all);
         self.halve_long_blocks();
         done
     }
 
+    /// The same, where blocks may get too many leaves.
+    fn put_in_blocks(&mut self, all: Vec<BlockEdits<K, C>>) -> Result<bool, NoMemory>
+        requires aimed { AreAimedAtBlocks K.cmp self.old all.items }
+        requires valid { AreValid C.valid (changes_in_blocks all.items) }
+        ensures done { IfOk result (λ done. IsTrue done → entries_in self.new ≡ puts K.cmp (entries_in self.old) (changes_in_blocks all.items)) }
+        ensures undone { IfOk result (λ done. done ≡ false → entries_in self.new ≡ entries_in self.old) }
+        ensures err { OnErr result (entries_in self.new ≡ entries_in self.old) }
+    {
+        let alloc = self.alloc();
+        let Some(_most) = len_with(self.len(), &all) else {
+            return Err(NoMemory);
+        };
+        let done = edit_blocks(alloc, &mut self.blocks, all);
+        count_anew(&self.blocks, &mut self.entry_counts, &mut self.leaf_counts);
+        done
+    }
+
     /// Halves the blocks that have too many leaves, while there is memory. No leaf changes.
-    fn halve_long_blocks(&mut self) {
+    fn halve_long_blocks(&mut self)
+        ensures same { all_entries self.new ≡ all_entries self.old }
+        ensures blocks { AreBlocks K.cmp C.valid self.new }
+    {
         let mut index = self.blocks.len();
         while index > 0 {
             index -= 1;
-            let start = self.leaves_before(index);
-            let is_long = self.leaf_counts[index].saturating_sub(start) > MAX_BLOCK_LEAVES;
-            if is_long && self.leaves_in(index) > MAX_BLOCK_LEAVES && self.halve(index).is_err() {
+            if self.halve_if_long(index).is_err() {
                 return;
             }
         }
     }
-}
 
-/// A block that was taken out of a list to be opened, and its index.
-#[derive(Drop)]
-pub struct Taken<K: Ord + Dup, C: Join> {
-    pub index: usize,
-    pub block: OpenBlock<K, C>,
-}
-
-/// Takes the blocks of the edits out and opens them; an empty block stays in the place of each. Returns whether all edits fit.
-fn open_blocks<K: Ord + Dup, C: Join>(
-    alloc: Global,
-    blocks: &mut Vec<BlockRef<K, C>>,
-    taken: &mut Vec<Taken<K, C>>,
-    all: Vec<BlockEdits<K, C>>,
-) -> Result<bool, NoMemory>
-    requires aimed { AreAimedAtBlocks K.cmp blocks.old.items all.items }
-    requires valid { AreValid C.valid (changes_in_blocks all.items) }
-    requires none { taken.old.items ≡ [] }
-    requires capacity { length all.items ≤ vec_capacity taken.old }
-    requires blocks { AreBlocks K.cmp C.valid blocks.old.items }
-    ensures same { filled was taken.new.items (in_blocks blocks.new.items) ≡ in_blocks blocks.old.items }
-    ensures done { IfOk result (λ done. IsTrue done → all_entries (filled becomes taken.new.items (in_blocks blocks.new.items))
-        ≡ puts K.cmp (entries_in blocks.old.items) (changes_in_blocks all.items)) }
-    ensures holes { AreHoles taken.new.items blocks.new.items }
-{
-    for edits in all {
-        if !open_block(alloc, blocks, taken, edits)? {
-            return Ok(false);
+    /// Halves a block if it has too many leaves. No leaf changes, also on an error.
+    fn halve_if_long(&mut self, index: usize) -> Result<(), NoMemory>
+        ensures { all_entries self.new ≡ all_entries self.old }
+    {
+        if self.leaves_in(index) <= MAX_BLOCK_LEAVES {
+            return Ok(());
         }
-    }
-    Ok(true)
-}
-
-fn open_block<K: Ord + Dup, C: Join>(
-    alloc: Global,
-    blocks: &mut Vec<BlockRef<K, C>>,
-    taken: &mut Vec<Taken<K, C>>,
-    edits: BlockEdits<K, C>,
-) -> Result<bool, NoMemory> {
-    let index = edits.block;
-    if index >= blocks.len() || blocks[index].block().count() == 0 {
-        return Ok(false);
-    }
-    let block = blocks[index].take(alloc)?;
-    match block.open(edits.edits) {
-        Opening::Open(block) => {
-            taken.push_reserved(Taken { index, block });
-            Ok(true)
-        }
-        Opening::Full(block) => {
-            blocks[index] = BlockRef::seal(alloc, block);
-            Ok(false)
-        }
-        Opening::NoMemory(block) => {
-            blocks[index] = BlockRef::seal(alloc, block);
-            Err(NoMemory)
-        }
-    }
-}
-
-/// Puts the blocks back with all contents put.
-fn finish_blocks<K: Ord + Dup, C: Join>(
-    alloc: Global,
-    blocks: &mut Vec<BlockRef<K, C>>,
-    mut taken: Vec<Taken<K, C>>,
-)
-    requires { AreHoles taken.items blocks.old.items }
-    ensures { in_blocks blocks.new.items ≡ filled becomes taken.items (in_blocks blocks.old.items) }
-{
-    while let Some(Taken { index, block }) = taken.pop() {
-        blocks[index] = BlockRef::seal(alloc, block.finish());
-    }
-}
-
-/// Puts the blocks back as they were.
-fn restore_blocks<K: Ord + Dup, C: Join>(
-    alloc: Global,
-    blocks: &mut Vec<BlockRef<K, C>>,
-    mut taken: Vec<Taken<K, C>>,
-)
-    requires { AreHoles taken.items blocks.old.items }
-    ensures { in_blocks blocks.new.items ≡ filled was taken.items (in_blocks blocks.old.items) }
-{
-    while let Some(Taken { index, block }) = taken.pop() {
-        blocks[index] = BlockRef::seal(alloc, block.cancel());
-    }
-}
-
-/// How many edits there are.
-fn count_edits<K, C>(all: &[BlockEdits<K, C>]) -> usize {
-    let mut count = 0_usize;
-    for edits in all {
-        count = count.saturating_add(edits.edits.len());
-    }
-    count
-}
-
-/// Sets the counts of the blocks from an index on.
-fn count_anew<K: Ord + Dup, C: Join>(
-    blocks: &[BlockRef<K, C>],
-    from: usize,
-    entry_counts: &mut [usize],
-    leaf_counts: &mut [usize],
-) {
-    let mut entries = count_before(entry_counts, from);
-    let mut leaves = count_before(leaf_counts, from);
-    for index in from..blocks.len() {
-        let block = blocks[index].block();
-        entries = entries.saturating_add(block.len());
-        leaves = leaves.saturating_add(block.count());
-        entry_counts[index] = entries;
-        leaf_counts[index] = leaves;
-    }
-}
-
-/// The count up to the end of the block before this one.
-fn count_before(counts: &[usize], index: usize) -> usize {
-    match index.checked_sub(1) {
-        Some(before) => counts.get(before).copied().unwrap_or(0),
-        None => 0,
+        self.halve(index)
     }
 }

@@ -28,19 +28,19 @@ impl<K: Ord + Dup, C: Join> BlockList<K, C> {
         self.blocks.reserve(1)?;
         self.entry_counts.reserve(1)?;
         self.leaf_counts.reserve(1)?;
-        self.add_last_key();
         self.blocks.push_reserved(block);
         self.entry_counts.push_reserved(entries);
         self.leaf_counts.push_reserved(leaves);
+        self.add_last_key();
         Ok(())
     }
 
-    /// Adds the last key of the last block to the last keys, if there is memory for it.
+    /// Adds the last key of the block before the last to the last keys, if there is memory for it.
     fn add_last_key(&mut self)
         ensures { self.new ≡ self.old }
     {
         let known = self.last_keys.len();
-        if known.saturating_add(1) != self.blocks.len() {
+        if known.saturating_add(2) != self.blocks.len() {
             return;
         }
         if let Some(Ok(key)) = self.blocks[known].block().last_key() {

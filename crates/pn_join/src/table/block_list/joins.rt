@@ -5,6 +5,7 @@ ghost use Rattle.pn_join.specs.Blocks.{entries_in, in_blocks, AreBlocks};
 ghost use Rattle.pn_join.specs.Leaves.{all_entries, leaf_for, IsLeafList};
 ghost use Rattle.pn_join.specs.PutInLeaves.{IsPutOf, ChangesOneLeaf};
 
+use super::counts::sizes_of;
 use super::{BlockList, MAX_BLOCK_LEAVES};
 use crate::table::block::Block;
 use crate::table::block_ref::BlockRef;
@@ -25,11 +26,12 @@ impl<K: Ord + Dup, C: Join> BlockList<K, C> {
         if self.blocks.is_empty() {
             return self.push_first(key, content);
         }
-        let mut index = self.block_for(&key);
-        if self.leaves_in(index) >= MAX_BLOCK_LEAVES {
-            self.halve(index)?;
-            index = self.block_for(&key);
+        let index = self.block_for(&key);
+        if self.leaves_in(index) < MAX_BLOCK_LEAVES {
+            return self.join_in_block(index, key, content);
         }
+        self.halve(index)?;
+        let index = self.block_for(&key);
         self.join_in_block(index, key, content)
     }
 
@@ -50,10 +52,10 @@ impl<K: Ord + Dup, C: Join> BlockList<K, C> {
     pub(super) fn leaves_in(&self, index: usize) -> usize
         ensures { result ≡ length (get_or self.now index []) }
     {
-        match self.block(index) {
-            Some(block) => block.count(),
-            None => 0,
+        if index >= self.blocks.len() {
+            return 0;
         }
+        self.leaves_before(index + 1) - self.leaves_before(index)
     }
 
     /// Joins a content into that at the key, in the block that the key belongs into.
@@ -81,8 +83,7 @@ impl<K: Ord + Dup, C: Join> BlockList<K, C> {
 
     /// Divides a block in two. No leaf changes, also on an error.
     pub(super) fn halve(&mut self, index: usize) -> Result<(), NoMemory>
-        requires within { index < length self.old }
-        requires two { 1 < length (get_or self.old index []) }
+        requires { 1 < length (get_or self.old index []) }
         ensures same { all_entries self.new ≡ all_entries self.old }
         ensures blocks { AreBlocks K.cmp C.valid self.new }
     {
@@ -113,14 +114,4 @@ impl<K: Ord + Dup, C: Join> BlockList<K, C> {
             let _ = self.last_keys.insert(index, key);
         }
     }
-}
-
-/// How many entries and leaves a block has.
-fn sizes_of<K: Ord + Dup, C: Join>(block: &BlockRef<K, C>) -> (usize, usize)
-    ensures entries { result.0 ≡ length (all_entries block.now) }
-    ensures leaves { result.1 ≡ length block.now }
-    ensures leaf_list { IsLeafList K.cmp C.valid block.now }
-{
-    let block = block.block();
-    (block.len(), block.count())
 }

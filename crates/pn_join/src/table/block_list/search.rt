@@ -41,11 +41,11 @@ impl<K: Ord + Dup, C: Join> BlockList<K, C> {
         ensures is_valid { IfSome result (λ content. C.valid content.now) }
         ensures blocks { AreBlocks K.cmp C.valid self.now }
     {
-        let Some(block) = self.block(index) else {
-            return None;
-        };
-        match block.get(key) {
-            Some(content) => Some(content),
+        match self.block(index) {
+            Some(block) => match block.get(key) {
+                Some(content) => Some(content),
+                None => None,
+            },
             None => None,
         }
     }

@@ -7,7 +7,7 @@ pub returns-then-belongs-clause-found : goal.returns-then-belongs-clause-found
 returns-then-belongs-clause-found g c =
     sym (found_in_block g.K.Ord.cmp g.C.Join.valid c.args.key.now g.met.K.Ord.total c.args.self.now c.belongs.ensures.blocks c.args.guess (c.belongs.ensures.block c.if-belongs.true) ∙ c.requires.absent)
 
-pub returns-else-belongs-clause-found : goal.returns-else-belongs-clause-found
-returns-else-belongs-clause-found g c =
+pub returns-clause-found : goal.returns-clause-found
+returns-clause-found g c =
     c.get_in_block.ensures.here
     ∙ sym (found_in_block g.K.Ord.cmp g.C.Join.valid c.args.key.now g.met.K.Ord.total c.args.self.now c.search_block.ensures.blocks c.search_block.result c.search_block.ensures.block)

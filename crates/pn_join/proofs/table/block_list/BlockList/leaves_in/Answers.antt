@@ -1,10 +1,25 @@
-use Rattle.std.proofs.Common.{[], length, ap, ◌∙◌, sym}
-use Rattle.pn_join.proofs.BlockFacts.{block_there, block_missing}
+-- The leaves of a block are those up to its end, but for those before it.
+use Rattle.std.proofs.Common.{◌≡◌, ◌<◌, ◌≤◌, [], length, get_or, ap, ◌∙◌, sym, arith}
+use Rattle.pn_join.proofs.BlockCounts.{next_start, past_none}
 use Rattle.pn_join.proofs.table.block_list.BlockList.leaves_in.Goals as goal
 
-pub returns-in-Some : goal.returns-in-Some
-returns-in-Some g c =
-    c.count.ensures.count ∙ sym (ap length (block_there c.args.self.now c.args.index c.in-Some.block.now c.in-Some.ensures.block))
+pub returns-then-index-len : goal.returns-then-index-len
+returns-then-index-len g c =
+    let past : length c.args.self.now ≤ c.args.index = omega (arith, c.self.inside.blocks.ok.0, ap length c.self.view_is) in
+    sym (ap length (past_none c.args.self.now c.args.index past))
 
-pub returns-in-None : goal.returns-in-None
-returns-in-None g c = sym (ap length (block_missing c.args.self.now c.args.index c.in-None.ensures.block))
+pub leaves_before-requires : goal.leaves_before-requires
+leaves_before-requires g c = omega (arith, c.self.inside.blocks.ok.0, ap length c.self.view_is)
+
+pub leaves_before-2-requires : goal.leaves_before-2-requires
+leaves_before-2-requires g c = omega (arith, c.self.inside.blocks.ok.0, ap length c.self.view_is)
+
+pub overflow_sub-result : goal.overflow_sub-result
+overflow_sub-result g c =
+    let within : c.args.index < length c.args.self.now = omega (arith, c.self.inside.blocks.ok.0, ap length c.self.view_is) in
+    omega (arith, next_start c.args.self.now c.args.index within, c.leaves_before.ensures.start, c.leaves_before-2.ensures.start)
+
+pub returns : goal.returns
+returns g c =
+    let within : c.args.index < length c.args.self.now = omega (arith, c.self.inside.blocks.ok.0, ap length c.self.view_is) in
+    omega (arith, next_start c.args.self.now c.args.index within, c.leaves_before.ensures.start, c.leaves_before-2.ensures.start)

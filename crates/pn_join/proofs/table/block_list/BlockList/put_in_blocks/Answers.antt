@@ -1,0 +1,27 @@
+-- Whatever came of the edits, these are blocks, and they are counted.
+use Rattle.std.proofs.Common.{◌≡◌, ◌+◌, ◌^◌, ◌<◌, ◌≤◌, length, ap, ◌∙◌, sym, arith, rules}
+use Rattle.std.proofs.lemmas.Result.{IfOk-weaker, on_err_weaker}
+use Rattle.pn_join.specs.BlockEdits.{changes_in_blocks}
+use Rattle.pn_join.specs.Blocks.{in_blocks, entries_in}
+use Rattle.pn_join.specs.Leaves.{all_entries}
+use Rattle.pn_join.specs.TableChanges.{puts}
+use Rattle.pn_join.proofs.BlockCounts.{Edited, edited, edited_blocks}
+use Rattle.pn_join.proofs.BlockFacts.{all_in_blocks}
+use Rattle.pn_join.proofs.table.block_list.BlockList.put_in_blocks.Goals as goal
+
+pub edit_blocks-requires-clause-blocks : goal.edit_blocks-requires-clause-blocks
+edit_blocks-requires-clause-blocks g c = c.self.invariant.0
+
+pub edit_blocks-requires-clause-aimed : goal.edit_blocks-requires-clause-aimed
+edit_blocks-requires-clause-aimed g c = rw c.self.view_is c.requires.aimed
+
+pub count_anew-requires-clause-fits : goal.count_anew-requires-clause-fits
+count_anew-requires-clause-fits g c =
+    let cmp = g.K.Ord.cmp in
+    let valid = g.C.Join.valid in
+    let old = c.self.inside.blocks.items in
+    let new = c.edit_blocks-done.new.blocks.items in
+    let changes = changes_in_blocks c.args.all.items in
+    let is : Edited cmp valid old new changes = edited cmp valid c.edit_blocks-done.result old new changes c.self.invariant.0 c.edit_blocks-done.ensures.done c.edit_blocks-done.ensures.undone c.edit_blocks-done.ensures.err in
+    let all : length (entries_in old) ≡ length (entries_in c.args.self.now) = ap (λ bs. length (entries_in bs)) c.self.view_is in
+    omega (arith, is.few, all, c.len.ensures.count, c.in-Some.ensures, ap (λ bs. length (entries_in bs)) c.deref-2.ensures.value)
