@@ -97,9 +97,9 @@ impl<K: Ord + Dup, C: Join> Block<K, C> {
         requires fit { FitLeaves K.cmp self edits.items }
         ensures { IsOpening K.cmp (all_entries self) (changes_in edits.items) result }
     {
-        if self.len().checked_add(edits.len()).is_none() {
+        let Some(_most) = self.len().checked_add(edits.len()) else {
             return Opening::NoMemory(self);
-        }
+        };
         let alloc = self.alloc();
         let Ok(indices) = leaf_indices(alloc, &edits) else {
             return Opening::NoMemory(self);
