@@ -5,6 +5,7 @@ pub mod BlockFacts
 pub mod BlockGrowth
 pub mod BlockHalves
 pub mod BlockJoin
+pub mod BlockJoinSteps
 pub mod BlockPuts
 pub mod Changing
 pub mod Each

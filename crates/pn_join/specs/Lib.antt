@@ -1,3 +1,4 @@
+pub mod BlockJoins
 pub mod BlockLeaves
 pub mod Blocks
 pub mod BlockEdits

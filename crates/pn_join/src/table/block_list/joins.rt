@@ -1,8 +1,9 @@
 //! Joins one entry into one block.
 
-ghost use Rattle.std.specs.Prelude.{◌≡◌, ◌<◌, ◌≤◌, ◌∷◌, [], length, get_or, OnOk, OnErr};
+ghost use Rattle.std.specs.Prelude.{◌≡◌, ◌<◌, ◌≤◌, ◌∷◌, [], length, get_or, IfOk, OnOk, OnErr};
+ghost use Rattle.pn_join.specs.BlockJoins.{JoinsAt};
 ghost use Rattle.pn_join.specs.Blocks.{entries_in, in_blocks, AreBlocks};
-ghost use Rattle.pn_join.specs.Leaves.{all_entries, leaf_for, IsLeafList};
+ghost use Rattle.pn_join.specs.Leaves.{all_entries, leaf_for};
 ghost use Rattle.pn_join.specs.PutInLeaves.{IsPutOf, ChangesOneLeaf};
 
 use super::counts::sizes_of;
@@ -11,6 +12,7 @@ use crate::table::block::Block;
 use crate::table::block_ref::BlockRef;
 use crate::table::entry_counts::raise_from;
 use crate::{Dup, Join, NoMemory};
+use std::alloc::Global;
 
 impl<K: Ord + Dup, C: Join> BlockList<K, C> {
     /// Joins a content into that at the key. One leaf is changed or cut in two, or the first is made; all others
@@ -73,11 +75,9 @@ impl<K: Ord + Dup, C: Join> BlockList<K, C> {
         if self.len() == usize::MAX || self.count() == usize::MAX {
             return Err(NoMemory);
         }
-        let (entries, leaves) = sizes_of(&self.blocks[index]);
-        self.blocks[index].join_entry(alloc, key, content)?;
-        let (more, more_leaves) = sizes_of(&self.blocks[index]);
-        raise_from(&mut self.entry_counts, index, more - entries);
-        raise_from(&mut self.leaf_counts, index, more_leaves - leaves);
+        let (more, more_leaves) = join_at(alloc, &mut self.blocks, index, key, content)?;
+        raise_from(&mut self.entry_counts, index, more);
+        raise_from(&mut self.leaf_counts, index, more_leaves);
         Ok(())
     }
 
@@ -114,4 +114,23 @@ impl<K: Ord + Dup, C: Join> BlockList<K, C> {
             let _ = self.last_keys.insert(index, key);
         }
     }
+}
+
+/// Joins a content into that at the key, in one of the blocks. Returns how many entries and leaves that adds.
+fn join_at<K: Ord + Dup, C: Join>(
+    alloc: Global,
+    blocks: &mut Vec<BlockRef<K, C>>,
+    index: usize,
+    key: K,
+    content: C,
+) -> Result<(usize, usize), NoMemory>
+    requires within { index < length blocks.old.items }
+    requires valid { C.valid content }
+    ensures ok { IfOk result (λ more. JoinsAt K.cmp C.meaning C.joined C.valid key content index more.0 more.1 blocks.old.items blocks.new.items) }
+    ensures err { OnErr result (blocks.new.items ≡ blocks.old.items) }
+{
+    let (entries, leaves) = sizes_of(&blocks[index]);
+    blocks[index].join_entry(alloc, key, content)?;
+    let (more, more_leaves) = sizes_of(&blocks[index]);
+    Ok((more - entries, more_leaves - leaves))
 }
