@@ -17,7 +17,7 @@ use Rattle.pn_join.proofs.PutFacts.{put_by_one}
 
 module _ {A : Type 0} where
   -- there are no more leaves than entries
-  few_leaves : (leaves : List (List A)) → AllByRecursion (λ leaf. IsLeaf leaf) leaves → length leaves ≤ length (all_entries leaves)
+  pub few_leaves : (leaves : List (List A)) → AllByRecursion (λ leaf. IsLeaf leaf) leaves → length leaves ≤ length (all_entries leaves)
   few_leaves [] sizes = omega arith
   few_leaves (l ∷ ls) sizes = omega (arith, sizes.0.0, few_leaves ls sizes.1, length-append l (all_entries ls))
 

@@ -10,6 +10,7 @@ use Rattle.pn_join.specs.Blocks.{in_blocks, entries_in, AreBlocks}
 use Rattle.pn_join.specs.Leaves.{all_entries, counts_after, begins_below, ends_below, leaf_for, IsLeaf, IsLeafList}
 use Rattle.pn_join.specs.Tables.{IsTable}
 use Rattle.pn_join.proofs.Each.{each_prefix, each_back, each_weaker}
+use Rattle.pn_join.proofs.EditSteps.{each_at}
 use Rattle.pn_join.proofs.LeafListIndices.{leaf_at, leaf_at-prefix, entry_in_list, rest_in_list}
 use Rattle.pn_join.proofs.LeafListSearch.{parted, leaf_for-search, find_in_list}
 use Rattle.pn_join.proofs.Rising.{Rising, Rising-from_sorted}
@@ -62,6 +63,10 @@ module _ {A : Type 0} where
 module _ {K X : Type 0} (cmp : K → K → Ordering) (valid : X → Type 0) where
   pub some_leaves : (leaves : List (List (K × X))) → IsLeafList cmp valid leaves → AllByRecursion (λ leaf. 0 < length leaf) leaves
   some_leaves leaves leaf_list = each_weaker (λ leaf. IsLeaf leaf) (λ leaf. 0 < length leaf) (λ leaf is. is.0) leaves leaf_list.sizes
+
+  -- each leaf of a block has entries
+  pub each_leaf_has : (blocks : List (List (List (K × X)))) (i : ℕ) → AreBlocks cmp valid blocks → i < length blocks → AllByRecursion (λ leaf. 0 < length leaf) (get_or blocks i [])
+  each_leaf_has blocks i are lt = each_at (λ block. AllByRecursion (λ leaf. 0 < length leaf) block) blocks i [] (each_leaf (λ leaf. 0 < length leaf) blocks (some_leaves (all_entries blocks) are.leaf_list)) lt
 
   -- each block has entries
   pub blocks_some : (blocks : List (List (List (K × X)))) → AreBlocks cmp valid blocks → AllByRecursion (λ entries. 0 < length entries) (in_blocks blocks)

@@ -3,6 +3,7 @@ pub mod BlockCounts
 pub mod BlockEditPuts
 pub mod BlockFacts
 pub mod BlockGrowth
+pub mod BlockHalfSteps
 pub mod BlockHalves
 pub mod BlockJoin
 pub mod BlockJoinSteps

@@ -1,7 +1,7 @@
 //! Joins one entry into one block.
 
-ghost use Rattle.std.specs.Prelude.{◌≡◌, ◌<◌, ◌≤◌, ◌∷◌, [], length, get_or, IfOk, OnOk, OnErr};
-ghost use Rattle.pn_join.specs.BlockJoins.{JoinsAt};
+ghost use Rattle.std.specs.Prelude.{◌≡◌, ◌<◌, ◌≤◌, ◌∷◌, [], length, get_or, vec_len, vec_capacity, IfOk, OnOk, OnErr};
+ghost use Rattle.pn_join.specs.BlockJoins.{IsHalvedAt, JoinsAt};
 ghost use Rattle.pn_join.specs.Blocks.{entries_in, in_blocks, AreBlocks};
 ghost use Rattle.pn_join.specs.Leaves.{all_entries, leaf_for};
 ghost use Rattle.pn_join.specs.PutInLeaves.{IsPutOf, ChangesOneLeaf};
@@ -72,7 +72,7 @@ impl<K: Ord + Dup, C: Join> BlockList<K, C> {
         ensures blocks { AreBlocks K.cmp C.valid self.new }
     {
         let alloc = self.alloc();
-        if self.len() == usize::MAX || self.count() == usize::MAX {
+        if self.len() == usize::MAX {
             return Err(NoMemory);
         }
         let (more, more_leaves) = join_at(alloc, &mut self.blocks, index, key, content)?;
@@ -93,12 +93,11 @@ impl<K: Ord + Dup, C: Join> BlockList<K, C> {
         self.blocks.reserve(1)?;
         self.entry_counts.reserve(1)?;
         self.leaf_counts.reserve(1)?;
-        let back = self.blocks[index].halve(alloc)?;
-        let front = self.blocks[index].block();
-        let (end, end_leaf) = (start + front.len(), start_leaf + front.count());
-        self.blocks.insert(index + 1, back).unwrap();
-        self.entry_counts.insert(index, end).unwrap();
-        self.leaf_counts.insert(index, end_leaf).unwrap();
+        let (front, front_leaves) = halve_at(alloc, &mut self.blocks, index)?;
+        self.entry_counts.insert(index, start + front).unwrap();
+        self.leaf_counts
+            .insert(index, start_leaf + front_leaves)
+            .unwrap();
         self.insert_last_key(index);
         Ok(())
     }
@@ -133,4 +132,21 @@ fn join_at<K: Ord + Dup, C: Join>(
     blocks[index].join_entry(alloc, key, content)?;
     let (more, more_leaves) = sizes_of(&blocks[index]);
     Ok((more - entries, more_leaves - leaves))
+}
+
+/// Divides a block in two. Returns how many entries and leaves its front has.
+fn halve_at<K: Ord + Dup, C: Join>(
+    alloc: Global,
+    blocks: &mut Vec<BlockRef<K, C>>,
+    index: usize,
+) -> Result<(usize, usize), NoMemory>
+    requires two { 1 < length (get_or blocks.old.items index []) }
+    requires capacity { vec_len blocks.old < vec_capacity blocks.old }
+    ensures ok { IfOk result (λ front. IsHalvedAt index front.0 front.1 blocks.old.items blocks.new.items) }
+    ensures err { OnErr result (blocks.new.items ≡ blocks.old.items) }
+{
+    let back = blocks[index].halve(alloc)?;
+    let front = sizes_of(&blocks[index]);
+    blocks.insert(index + 1, back).unwrap();
+    Ok(front)
 }
