@@ -1,5 +1,5 @@
 -- Blocks and their counts after one was divided in two.
-use Rattle.std.proofs.Common.{◌≡◌, ℕ, suc, ◌+◌, ◌^◌, ◌<◌, ◌≤◌, List, [], ◌∷◌, ◌++◌, length, get_or, set, insert, take, Ordering, refl, sym, ap, ◌∙◌, arith}
+use Rattle.std.proofs.Common.{◌≡◌, ℕ, zero, suc, ◌+◌, ◌^◌, ◌<◌, ◌≤◌, List, [], ◌∷◌, ◌++◌, length, get_or, set, insert, take, Ordering, refl, sym, ap, ◌∙◌, arith}
 use Rattle.std.proofs.lemmas.List.{length-append}
 use Rattle.pn_join.specs.BlockJoins.{IsHalvedAt}
 use Rattle.pn_join.specs.Blocks.{in_blocks, AreBlocks}
@@ -11,6 +11,12 @@ use Rattle.pn_join.proofs.BlockHalves.{halved_counts, halved_leaves, halved_bloc
 use Rattle.pn_join.proofs.Each.{each_back}
 use Rattle.pn_join.proofs.EditSteps.{each_at}
 use Rattle.pn_join.proofs.LeafListIndices.{leaf_within}
+
+-- the item that was just set
+pub just_set : {A : Type 0} (xs : List A) (i : ℕ) (x d : A) → i < length xs → get_or (set xs i x) i d ≡ x
+just_set [] i x d lt = absurd (omega (arith, lt))
+just_set (y ∷ ys) zero x d lt = refl
+just_set (y ∷ ys) (suc i) x d lt = just_set ys i x d (omega (arith, lt))
 
 module _ {A : Type 0} (i entries leaves : ℕ) (old new : List (List (List A))) (is : IsHalvedAt i entries leaves old new) where
   pub halved_within : i < length old
