@@ -1,5 +1,5 @@
 -- The leaves are ready, and have the same entries.
-use Rattle.std.proofs.Common.{◌+◌, ◌<◌, ◌^◌, length, ap, arith, rules}
+use Rattle.std.proofs.Common.{◌≡◌, ◌+◌, ◌<◌, ◌^◌, length, ap, arith, rules}
 use Rattle.pn_join.specs.Edits.{AreAimed, FitLeaves}
 use Rattle.pn_join.specs.LeafEntries.{leaves_of}
 use Rattle.pn_join.specs.Leaves.{all_entries}

@@ -11,8 +11,8 @@ returns-then-index-len g c =
 pub leaves_before-requires : goal.leaves_before-requires
 leaves_before-requires g c = omega (arith, c.self.inside.blocks.ok.0, ap length c.self.view_is)
 
-pub leaves_before-2-requires : goal.leaves_before-2-requires
-leaves_before-2-requires g c = omega (arith, c.self.inside.blocks.ok.0, ap length c.self.view_is)
+pub leaves_before-requires-2 : goal.leaves_before-requires-2
+leaves_before-requires-2 g c = omega (arith, c.self.inside.blocks.ok.0, ap length c.self.view_is)
 
 pub overflow_sub-result : goal.overflow_sub-result
 overflow_sub-result g c =
