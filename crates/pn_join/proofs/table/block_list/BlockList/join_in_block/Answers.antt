@@ -21,20 +21,20 @@ raise_from-requires g c =
     let some : 0 < length old = omega (arith, c.requires.some, ap length c.self.view_is) in
     let at : c.args.index ≡ leaf_for cmp c.args.key (in_blocks old) = c.requires.block ∙ ap (λ bs. leaf_for cmp c.args.key (in_blocks bs)) (sym c.self.view_is) in
     let room : length (entries_in old) + 1 < 2 ^ 64 = omega (arith, c.if-len.false, c.len.ensures.count, c.self.invariant.1.fits, ap (λ bs. length (entries_in bs)) c.self.view_is) in
-    entries_fit cmp g.met.K.Ord.total g.C.Join.meaning g.C.Join.joined g.C.Join.valid c.args.key c.args.content old c.join_at.new.blocks.items c.self.invariant.0 some c.args.index at _ _ c.in_ok-join_at.ensures.ok c.self.inside.entry_counts.items c.self.invariant.1 room
+    entries_fit cmp g.met.K.Ord.total g.C.Join.meaning g.C.Join.joined g.C.Join.valid c.args.key c.args.content old c.join_at.new.blocks.items c.self.invariant.0 some c.args.index at _ _ c.in_ok-more.ensures.ok c.self.inside.entry_counts.items c.self.invariant.1 room
 
-pub raise_from-2-requires : goal.raise_from-2-requires
-raise_from-2-requires g c =
+pub raise_from-requires-2 : goal.raise_from-requires-2
+raise_from-requires-2 g c =
     let cmp = g.K.Ord.cmp in
     let old = c.self.inside.blocks.items in
     let some : 0 < length old = omega (arith, c.requires.some, ap length c.self.view_is) in
     let at : c.args.index ≡ leaf_for cmp c.args.key (in_blocks old) = c.requires.block ∙ ap (λ bs. leaf_for cmp c.args.key (in_blocks bs)) (sym c.self.view_is) in
     let room : length (entries_in old) + 1 < 2 ^ 64 = omega (arith, c.if-len.false, c.len.ensures.count, c.self.invariant.1.fits, ap (λ bs. length (entries_in bs)) c.self.view_is) in
     let room_leaves : length (all_entries old) + 1 < 2 ^ 64 = omega (arith, room, few_leaves (all_entries old) c.self.invariant.0.leaf_list.sizes) in
-    leaves_fit cmp g.met.K.Ord.total g.C.Join.meaning g.C.Join.joined g.C.Join.valid c.args.key c.args.content old c.join_at.new.blocks.items c.self.invariant.0 some c.args.index at _ _ c.in_ok-join_at.ensures.ok c.self.inside.leaf_counts.items c.self.invariant.2 room_leaves
+    leaves_fit cmp g.met.K.Ord.total g.C.Join.meaning g.C.Join.joined g.C.Join.valid c.args.key c.args.content old c.join_at.new.blocks.items c.self.invariant.0 some c.args.index at _ _ c.in_ok-more.ensures.ok c.self.inside.leaf_counts.items c.self.invariant.2 room_leaves
 
-pub invariant_of-self-in_err-join_at : goal.invariant_of-self-in_err-join_at
-invariant_of-self-in_err-join_at g c = rw c.in_err-join_at.ensures.err c.self.invariant
+pub invariant_of-self-in_err-more : goal.invariant_of-self-in_err-more
+invariant_of-self-in_err-more g c = rw c.in_err-more.ensures.err c.self.invariant
 
 pub invariant_of-self-2 : goal.invariant_of-self-2
 invariant_of-self-2 g c =
@@ -51,7 +51,7 @@ invariant_of-self-2 g c =
     let at : i ≡ leaf_for cmp key (in_blocks old) = c.requires.block ∙ ap (λ bs. leaf_for cmp key (in_blocks bs)) (sym c.self.view_is) in
     let room : length (entries_in old) + 1 < 2 ^ 64 = omega (arith, c.if-len.false, c.len.ensures.count, c.self.invariant.1.fits, ap (λ bs. length (entries_in bs)) c.self.view_is) in
     let room_leaves : length (all_entries old) + 1 < 2 ^ 64 = omega (arith, room, few_leaves (all_entries old) c.self.invariant.0.leaf_list.sizes) in
-    let is = c.in_ok-join_at.ensures.ok in
+    let is = c.in_ok-more.ensures.ok in
     (
       now_blocks cmp o meaning joined valid key c.args.content old new c.self.invariant.0 some i at _ _ is,
       now_by_entries cmp o meaning joined valid key c.args.content old new c.self.invariant.0 some i at _ _ is c.self.inside.entry_counts.items c.self.invariant.1 room c.raise_from.new.entry_counts.items c.raise_from.ensures.items,
@@ -64,7 +64,7 @@ returns-clause-ok g c =
     let old = c.self.inside.blocks.items in
     let some : 0 < length old = omega (arith, c.requires.some, ap length c.self.view_is) in
     let at : c.args.index ≡ leaf_for cmp c.args.key (in_blocks old) = c.requires.block ∙ ap (λ bs. leaf_for cmp c.args.key (in_blocks bs)) (sym c.self.view_is) in
-    rw (← c.self.view_is) (now_put cmp g.met.K.Ord.total g.C.Join.meaning g.C.Join.joined g.C.Join.valid c.args.key c.args.content old c.join_at.new.blocks.items c.self.invariant.0 some c.args.index at _ _ c.in_ok-join_at.ensures.ok)
+    rw (← c.self.view_is) (now_put cmp g.met.K.Ord.total g.C.Join.meaning g.C.Join.joined g.C.Join.valid c.args.key c.args.content old c.join_at.new.blocks.items c.self.invariant.0 some c.args.index at _ _ c.in_ok-more.ensures.ok)
 
 pub returns-clause-one : goal.returns-clause-one
 returns-clause-one g c =
@@ -72,7 +72,7 @@ returns-clause-one g c =
     let old = c.self.inside.blocks.items in
     let some : 0 < length old = omega (arith, c.requires.some, ap length c.self.view_is) in
     let at : c.args.index ≡ leaf_for cmp c.args.key (in_blocks old) = c.requires.block ∙ ap (λ bs. leaf_for cmp c.args.key (in_blocks bs)) (sym c.self.view_is) in
-    rw (← c.self.view_is) (now_one cmp g.met.K.Ord.total g.C.Join.meaning g.C.Join.joined g.C.Join.valid c.args.key c.args.content old c.join_at.new.blocks.items c.self.invariant.0 some c.args.index at _ _ c.in_ok-join_at.ensures.ok)
+    rw (← c.self.view_is) (now_one cmp g.met.K.Ord.total g.C.Join.meaning g.C.Join.joined g.C.Join.valid c.args.key c.args.content old c.join_at.new.blocks.items c.self.invariant.0 some c.args.index at _ _ c.in_ok-more.ensures.ok)
 
 pub returns-clause-blocks : goal.returns-clause-blocks
 returns-clause-blocks g c =
@@ -80,4 +80,4 @@ returns-clause-blocks g c =
     let old = c.self.inside.blocks.items in
     let some : 0 < length old = omega (arith, c.requires.some, ap length c.self.view_is) in
     let at : c.args.index ≡ leaf_for cmp c.args.key (in_blocks old) = c.requires.block ∙ ap (λ bs. leaf_for cmp c.args.key (in_blocks bs)) (sym c.self.view_is) in
-    now_blocks cmp g.met.K.Ord.total g.C.Join.meaning g.C.Join.joined g.C.Join.valid c.args.key c.args.content old c.join_at.new.blocks.items c.self.invariant.0 some c.args.index at _ _ c.in_ok-join_at.ensures.ok
+    now_blocks cmp g.met.K.Ord.total g.C.Join.meaning g.C.Join.joined g.C.Join.valid c.args.key c.args.content old c.join_at.new.blocks.items c.self.invariant.0 some c.args.index at _ _ c.in_ok-more.ensures.ok

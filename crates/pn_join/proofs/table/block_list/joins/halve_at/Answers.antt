@@ -9,8 +9,8 @@ use Rattle.pn_join.proofs.table.block_list.joins.halve_at.Goals as goal
 pub index_mut-requires : goal.index_mut-requires
 index_mut-requires g c = omega (arith, within_some c.args.blocks.now.items c.args.index (omega (arith, c.requires.two)), c.args.blocks.now.ok.0)
 
-pub halve-back-requires : goal.halve-back-requires
-halve-back-requires g c =
+pub halve-requires : goal.halve-requires
+halve-requires g c =
     let old = c.args.blocks.now.items in
     let i = c.args.index in
     let within : i < length old = within_some old i (omega (arith, c.requires.two)) in
@@ -29,7 +29,7 @@ returns-clause-ok g c =
     let i = c.args.index in
     let within : i < length old = within_some old i (omega (arith, c.requires.two)) in
     let here : c.index_mut.result.now ≡ get_or old i [] = c.index_mut.ensures.value ∙ same_at old i c.index_mut.result.now [] within in
-    let front = c.halve-back.new.self in
+    let front = c.halve.new.self in
     let back = c.in_ok-back.back in
     let front_is : c.index.result.now ≡ front = c.index.ensures ∙ just_set old i front c.index.result.now within in
     let items : c.insert.new.self.items ≡ insert (set old i front) (i + 1) back = search rules in
