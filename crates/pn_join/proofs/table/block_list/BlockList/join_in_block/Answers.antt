@@ -51,8 +51,7 @@ invariant_of-self-2 g c =
     let at : i ≡ leaf_for cmp key (in_blocks old) = c.requires.block ∙ ap (λ bs. leaf_for cmp key (in_blocks bs)) (sym c.self.view_is) in
     let room : length (entries_in old) + 1 < 2 ^ 64 = omega (arith, c.if-len.false, c.len.ensures.count, c.self.invariant.1.fits, ap (λ bs. length (entries_in bs)) c.self.view_is) in
     let room_leaves : length (all_entries old) + 1 < 2 ^ 64 = omega (arith, room, few_leaves (all_entries old) c.self.invariant.0.leaf_list.sizes) in
-    let is = c.in_ok-more.ensures.ok in
-    (
+    let is = c.in_ok-more.ensures.ok in (
       now_blocks cmp o meaning joined valid key c.args.content old new c.self.invariant.0 some i at _ _ is,
       now_by_entries cmp o meaning joined valid key c.args.content old new c.self.invariant.0 some i at _ _ is c.self.inside.entry_counts.items c.self.invariant.1 room c.raise_from.new.entry_counts.items c.raise_from.ensures.items,
       now_by_leaves cmp o meaning joined valid key c.args.content old new c.self.invariant.0 some i at _ _ is c.self.inside.leaf_counts.items c.self.invariant.2 room_leaves c.raise_from-2.new.entry_counts.items c.raise_from-2.ensures.items,
