@@ -17,6 +17,9 @@ use pn_tablet::{CopyFault, Layout, TabletCopy};
 use std::alloc::Global;
 use std::marker::Model;
 
+/// How many records one entry into a tablet looks at where there are as many: a page without conditions takes no more.
+pub const ENTRY_RECORDS: usize = 1_024;
+
 /// A reader of a live region, for one thread at a time. None of its calls waits.
 #[derive(Drop)]
 pub struct LiveReader {
@@ -141,6 +144,73 @@ fn learn_all(tablet_readers: &mut [TabletReader], notes: Vec<TabletNote>)
     }
 }
 
+/// Keys of which some were read.
+#[derive(Drop)]
+pub struct GetWalk {
+    keys: Vec<Key>,
+    // The cells of the keys that were read, or none once memory ran out.
+    cells: Option<Vec<Option<Cell>>>,
+    read: usize,
+}
+
+impl Model for GetWalk {
+    ghost use Rattle.pn_live.specs.Getting.{GetWalkValue, cells_in};
+
+    ghost Value = { GetWalkValue };
+
+    ghost view = { λ walk. record { keys = walk.keys.items; cells = cells_in walk.cells; read = walk.read } };
+
+    ghost invariant = { λ walk. walk.read ≤ length walk.keys.items };
+}
+
+impl GetWalk {
+    /// Keys of which none was read.
+    pub fn new(alloc: Global, keys: Vec<Key>) -> GetWalk
+        ensures { result ≡ new_get keys.items }
+    {
+        let cells = Vec::with_capacity(alloc, keys.len()).ok();
+        GetWalk {
+            keys,
+            cells,
+            read: 0,
+        }
+    }
+
+    /// How many keys are still to be read.
+    pub fn left(&self) -> usize
+        ensures { result ≡ length self.now.keys - self.now.read }
+    {
+        self.keys.len() - self.read
+    }
+
+    /// Reads so many more keys at most, each by an entry of its own. Where memory runs out, the other keys are still read, since the
+    /// fault of a tablet is answered first.
+    pub fn go_on(self, reader: &mut LiveReader, most: usize) -> Result<GetWalk, ScanFault>
+        ensures goes { (moves : Relation LiveReaderValue LiveReaderValue) (was between : LiveReaderValue) (seen : List Look) → IsOnGet moves was between self seen → moves between reader.old → GetsOn moves was reader.new result seen }
+        ensures same { tablets_of reader.new ≡ tablets_of reader.old }
+    {
+        let GetWalk { keys, cells, read } = self;
+        let end = read + (keys.len() - read).min(most);
+        let cells = read_cells(reader, &keys[read..end], cells)?;
+        Ok(GetWalk {
+            keys,
+            cells,
+            read: end,
+        })
+    }
+
+    /// The keys and their cells, once all were read.
+    pub fn end(self) -> Result<(Vec<Key>, Vec<Option<Cell>>), ScanFault>
+        requires { self.read ≡ length self.keys }
+    {
+        let GetWalk { keys, cells, .. } = self;
+        match cells {
+            Some(cells) => Ok((keys, cells)),
+            None => Err(ScanFault::Memory),
+        }
+    }
+}
+
 // The cells of keys in order, each read by an entry of its own. Where memory runs out, the other keys are still read,
 // since the fault of a tablet is answered first.
 fn get_cells(
@@ -151,11 +221,22 @@ fn get_cells(
     ensures { (seen : List Look) × IsGet LooksLive reader.old.layout keys.now reader.old reader.new (λ cells. cells.items) result seen
         × (IsErrOf result ScanFault.Memory → length seen ≡ length keys.now) }
 {
-    let mut cells = Vec::with_capacity(alloc, keys.len()).ok();
+    let cells = Vec::with_capacity(alloc, keys.len()).ok();
+    let cells = read_cells(reader, keys, cells)?;
+    cells.ok_or(ScanFault::Memory)
+}
+
+// The cells with those of more keys, each read by an entry of its own, or none once memory ran out.
+fn read_cells(
+    reader: &mut LiveReader,
+    keys: &[Key],
+    cells: Option<Vec<Option<Cell>>>,
+) -> Result<Option<Vec<Option<Cell>>>, ScanFault> {
+    let mut cells = cells;
     for key in keys {
         cells = with_cell(cells, reader.cell(key))?;
     }
-    cells.ok_or(ScanFault::Memory)
+    Ok(cells)
 }
 
 // The cells with one more, or none once memory ran out.
@@ -191,8 +272,16 @@ impl View for LiveReader {
         &self.layout
     }
 
-    fn part(&mut self, alloc: Global, tablet: usize, query: &Query, room: usize) -> PartResult {
-        self.tablet_readers[tablet].part(alloc, tablet, query, room)
+    fn part(
+        &mut self,
+        alloc: Global,
+        tablet: usize,
+        query: &Query,
+        room: usize,
+        records: usize,
+    ) -> PartResult {
+        let records = records.max(ENTRY_RECORDS);
+        self.tablet_readers[tablet].part(alloc, tablet, query, room, records)
     }
 
     fn cell(&mut self, key: &Key) -> Result<Option<Cell>, ScanFault> {

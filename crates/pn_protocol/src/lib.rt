@@ -19,3 +19,4 @@ pub use reply::stats::{
     ConnectionStats, LineStats, Stats, StreamFaultStats, StreamState, StreamStats, stats_reply,
 };
 pub use reply::tablets::{ShownTablets, marks_reply, tablets_reply};
+pub use reply::text::{MAX_PIECE_BYTES, ReplyText};

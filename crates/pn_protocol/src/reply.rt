@@ -12,6 +12,7 @@ pub(crate) mod short;
 mod shown;
 pub(crate) mod stats;
 pub(crate) mod tablets;
+pub(crate) mod text;
 
 use crate::Refusal;
 

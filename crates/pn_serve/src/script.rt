@@ -11,13 +11,13 @@ ghost use Rattle.pn_serve.specs.Machine.Outcomes.{new_machine};
 ghost use Rattle.pn_serve.specs.Runs.Ends.{Ends, run_start};
 ghost use Rattle.pn_serve.specs.Session.Knowing.{KnowsNoLess};
 
-mod blocks;
 pub(crate) mod line_loop;
+pub(crate) mod replies;
 
 use crate::Settings;
 use crate::machine::line_handler::LineHandler;
 use crate::machine::script_handler::ScriptHandler;
-use crate::script::line_loop::{LineLoop, Next};
+use crate::script::line_loop::{LineLoop, TURN_UNITS};
 use pn_line::{Sink, Source, WriteFault};
 use std::alloc::Global;
 use std::mem;
@@ -145,11 +145,10 @@ pub(crate) fn answer_lines<M: LineHandler, S: Source, W: Sink>(
     ensures end { OnOk result S.may_end }
     ensures begun { IfErr result (λ fault. fault ≢ RunFault.Memory) }
 {
-    'turns: for _turn in 0..MAX_LINES {
-        match lines.turn(machine, input, output)? {
-            Next::Line => {}
-            Next::End(counts) => return Ok(counts),
+    'steps: loop {
+        let step = lines.step(machine, input, output, TURN_UNITS);
+        if let Some(ended) = lines.end_after(step, machine) {
+            return ended;
         }
     }
-    lines.finish(machine, input, output)
 }

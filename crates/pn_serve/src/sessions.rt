@@ -6,11 +6,13 @@ ghost use Rattle.pn_serve.specs.Lines.Waiting.{HandsOn, looks_of_input};
 ghost use Rattle.pn_serve.specs.Session.Knowing.{KnowsNoLess};
 ghost use Rattle.pn_serve.specs.Session.Lines.{AnswersLine, EndsLines, session_start};
 
+pub(crate) mod going;
 pub(crate) mod lookups;
 
-use crate::machine::line_handler::LineHandler;
+use crate::machine::line_handler::{Answer, LineHandler};
 use crate::script::line_loop::LineLoop;
 use crate::script::{MAX_LINES, answer_lines};
+use crate::sessions::going::Going;
 use crate::sessions::lookups::answer_line;
 use crate::{Counts, RunFault};
 use pn_line::{LineBuffer, Sink, Source};
@@ -46,7 +48,7 @@ pub fn session<S: Source, W: Sink>(
 
 impl LineHandler for LiveReader {
     ghost use Rattle.pn_serve.specs.Session.Knowing.{KnowsNoLess};
-    ghost use Rattle.pn_serve.specs.Session.Lines.{AnswersLine, EndsLines};
+    ghost use Rattle.pn_serve.specs.Session.Lines.{AnswersLine, EndsLines, LooksFor, LooksForLast};
     ghost use Rattle.std.specs.Prelude.{⊤};
 
     ghost ready = { ⊤ };
@@ -55,16 +57,24 @@ impl LineHandler for LiveReader {
 
     ghost ends = { EndsLines };
 
+    ghost goes = { LooksFor };
+
+    ghost goes_last = { LooksForLast };
+
     ghost reader = { λ reader. reader };
 
-    fn answer(&mut self, alloc: Global, line: &LineBuffer) -> Reply {
+    fn answer(&mut self, alloc: Global, line: &LineBuffer) -> Answer {
         answer_line(alloc, self, line.bytes())
     }
 
-    fn answer_end(&mut self, alloc: Global, part: &LineBuffer) -> Reply {
+    fn answer_end(&mut self, alloc: Global, part: &LineBuffer) -> Answer {
         if part.is_empty() {
-            return Reply::Silent;
+            return Answer::Done(Reply::Silent);
         }
         answer_line(alloc, self, part.bytes())
+    }
+
+    fn go_on(&mut self, alloc: Global, going: Going, records: usize) -> (Answer, usize) {
+        going.go_on(alloc, self, records)
     }
 }

@@ -30,7 +30,7 @@ pub fn answer_in_turns<M: LineHandler, R: Read, W: Sink>(
     let mut state = ConnectionState::new(alloc);
     'turns: for _turn in 0..turns {
         match state.turn(&mut buffers, machine, input, output) {
-            TurnOutcome::Goes(next, _) => state = next,
+            TurnOutcome::Goes(_) => {}
             TurnOutcome::Ended(ended) => return Ok(Some(ended)),
         }
     }

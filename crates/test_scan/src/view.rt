@@ -54,7 +54,7 @@ impl TakesTurns {
             × Answers (λ part. (part.0.items, part.1)) result (rows_at query.now room (tablet, found)) }
     {
         match self.state(tablet) {
-            Some(state) => part_of(alloc, state, tablet, query, room),
+            Some(state) => part_of(alloc, state, tablet, query, room, usize::MAX),
             None => Err(ScanFault::NoEntry),
         }
     }
@@ -102,7 +102,14 @@ impl View for TakesTurns {
         &self.layout
     }
 
-    fn part(&mut self, alloc: Global, tablet: usize, query: &Query, room: usize) -> PartResult {
+    fn part(
+        &mut self,
+        alloc: Global,
+        tablet: usize,
+        query: &Query,
+        room: usize,
+        _records: usize,
+    ) -> PartResult {
         self.rooms = [self.rooms[1], room];
         let part = self.part_now(alloc, tablet, query, room);
         mem::swap(&mut self.tablets, &mut self.others);

@@ -11,7 +11,7 @@ ghost use Rattle.pn_serve.specs.Session.Knowing.{KnowsNoLess};
 use crate::control::handler::ControlHandler;
 use crate::control::mailboxes::ControlMailboxes;
 use crate::script::MAX_LINES;
-use crate::script::line_loop::{LineLoop, Next};
+use crate::script::line_loop::{LineLoop, TURN_UNITS};
 use crate::{Counts, RunFault};
 use pn_join::NoMemory;
 use pn_line::{Sink, Source};
@@ -107,15 +107,14 @@ fn answer_lines<R: Wait + Clock, C: StatsSource + Drop, S: Source, W: Sink>(
     ensures looks { S.looks input.new ≤ S.looks input.old + looks_of_input }
     ensures begun { IfErr result (λ fault. fault ≢ RunFault.Memory) }
 {
-    'turns: for _turn in 0..MAX_LINES {
-        match lines.turn(handler, input, output)? {
-            Next::Line => {}
-            Next::End(counts) => return Ok(counts),
+    'steps: loop {
+        let step = lines.step(handler, input, output, TURN_UNITS);
+        if let Some(ended) = lines.end_after(step, handler) {
+            return ended;
         }
         if handler.is_closed() {
-            lines.flush(output)?;
-            return Ok(lines.counts());
+            let counts = lines.counts();
+            lines.end_by(Ok(counts));
         }
     }
-    lines.finish(handler, input, output)
 }

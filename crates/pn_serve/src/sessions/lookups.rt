@@ -6,6 +6,8 @@ ghost use Rattle.pn_protocol.specs.Prelude.{command_value};
 ghost use Rattle.pn_serve.specs.Session.Lines.{AnswersLine, LooksUp};
 ghost use Rattle.pn_serve.specs.Session.Lookups.{LooksUpKey, LooksUpKeys, LooksUpPage, LooksUpCopy};
 
+use crate::machine::line_handler::Answer;
+use crate::sessions::going::Going;
 use pn_join::Marks;
 use pn_live::LiveReader;
 use pn_protocol::{
@@ -15,19 +17,32 @@ use pn_record::{Key, Version};
 use pn_scan::{Query, View};
 use std::alloc::Global;
 
-/// Answers a line by what the reader finds.
-pub(super) fn answer_line(alloc: Global, reader: &mut LiveReader, line: &[u8]) -> Reply
-    ensures answers { AnswersLine reader.old line.now reader.new result }
+/// Answers a line by what the reader finds, or begins to look for it.
+pub(super) fn answer_line(alloc: Global, reader: &mut LiveReader, line: &[u8]) -> Answer
+    ensures answers { (moves : Relation LiveReaderValue LiveReaderValue) → AnswersWith (AnswersLine moves) (LooksFor moves) reader.old line.now reader.new result }
     ensures same { tablets_of reader.new ≡ tablets_of reader.old }
 {
     match lookup_of(alloc, line) {
-        Ok(command) => look_up(alloc, reader, command),
-        Err(refusal) => Reply::Refused(refusal),
+        Ok(command) => begin(alloc, reader, command),
+        Err(refusal) => Answer::Done(Reply::Refused(refusal)),
     }
 }
 
+// Answers a command, or begins to look for the answer.
+fn begin(alloc: Global, reader: &mut LiveReader, command: Command) -> Answer
+    ensures begins { (moves : Relation LiveReaderValue LiveReaderValue) → Begins moves reader.old (command_value command) reader.new result }
+    ensures same { tablets_of reader.new ≡ tablets_of reader.old }
+{
+    match command {
+        Command::Get(keys) => Answer::Going(Going::keys(alloc, keys)),
+        Command::Scan(query) => Answer::Going(Going::page(alloc, reader, query)),
+        command => Answer::Done(look_up(alloc, reader, command)),
+    }
+}
+
+/// Answers a command by what the reader finds.
 pub(crate) fn look_up(alloc: Global, reader: &mut LiveReader, command: Command) -> Reply
-    ensures looks_up { LooksUp reader.old (command_value command) reader.new result }
+    ensures looks_up { LooksUp (λ was now. now ≡ was) reader.old (command_value command) reader.new result }
     ensures same { tablets_of reader.new ≡ tablets_of reader.old }
 {
     match command {

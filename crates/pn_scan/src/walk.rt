@@ -1,0 +1,128 @@
+//! Looks into one tablet that are gone on with.
+
+ghost use Rattle.std.specs.Prelude.{◌≡◌, ◌+◌, ◌<◌, ◌≤◌, ◌⊎◌, ◌++◌, drop, length, nat_lt, take, IfOk, OnErr};
+ghost use Rattle.pn_scan.specs.Shown.{shown_rows};
+ghost use Rattle.pn_scan.specs.Parts.{part_at, PartValue};
+
+use crate::filter::is_shown;
+use crate::part::{prefetch_cells, row_of};
+use crate::{Query, Row};
+use pn_join::NoMemory;
+use pn_record::Records;
+use pn_tablet::is_before;
+use std::alloc::Global;
+use std::marker::Model;
+
+/// What a look into a tablet has of its answer.
+#[derive(Drop)]
+pub enum Part {
+    /// The first rows that a query shows of the tablet, and whether it shows more.
+    Done(Vec<Row>, bool),
+    /// The look is to be gone on with, over what it took of the tablet.
+    Rest(PartWalk),
+}
+
+/// The rows that a look found so far, and the records of its tablet that it has still to look at, as they were found. They are its
+/// own, so the tablet may change.
+#[derive(Drop)]
+pub struct PartWalk {
+    rest: Records,
+    // How many of these were looked at.
+    index: usize,
+    rows: Vec<Row>,
+    room: usize,
+}
+
+impl Model for PartWalk {
+    ghost use Rattle.pn_scan.specs.Parts.{PartWalkValue};
+
+    ghost Value = { PartWalkValue };
+
+    ghost view = { λ walk. record { rows = walk.rows.items; rest = drop walk.index walk.rest; room = walk.room } };
+
+    ghost invariant = { λ walk. (length walk.rows.items ≤ walk.room) × (walk.index ≤ length walk.rest) };
+}
+
+impl PartWalk {
+    /// A look that found these rows, and has still to look at these records.
+    pub(crate) fn new(rest: Records, rows: Vec<Row>, room: usize) -> PartWalk
+        requires { length rows.items ≤ room }
+        ensures { result ≡ record { rows = rows.items; rest = rest; room = room } }
+    {
+        PartWalk {
+            rest,
+            index: 0,
+            rows,
+            room,
+        }
+    }
+
+    /// Looks at so many more records at most. The answer that it comes to stays.
+    pub fn go_on(self, query: &Query, records: usize) -> Result<Part, NoMemory>
+        ensures same { IfOk result (λ part. (all : PartValue) → part_at query.now self ≡ all → IsPartOf query.now part all) }
+        ensures few { IfOk result (λ part. records_left self ≤ records_left_in part + records) }
+        ensures less { 0 < records → IfOk result (IsDoneOr (λ walk. length walk.rest < length self.rest)) }
+    {
+        let PartWalk {
+            rest,
+            index,
+            rows,
+            room,
+        } = self;
+        let mut rows = rows;
+        match walk_some(&rest, index, query, room, records, &mut rows)? {
+            Walked::All(more) => Ok(Part::Done(rows, more)),
+            Walked::To(index) => Ok(Part::Rest(PartWalk {
+                rest,
+                index,
+                rows,
+                room,
+            })),
+        }
+    }
+}
+
+/// How far a walk over records came.
+#[derive(Clone, Copy, Debug, PartialEq, Eq)]
+pub(crate) enum Walked {
+    /// The rows that there is room for were found, or all. Whether there are more.
+    All(bool),
+    /// The records before this index were looked at.
+    To(usize),
+}
+
+/// Adds the rows that a query shows of so many records at most, from an index on.
+pub(crate) fn walk_some(
+    cells: &Records,
+    index: usize,
+    query: &Query,
+    room: usize,
+    records: usize,
+    rows: &mut Vec<Row>,
+) -> Result<Walked, NoMemory>
+    requires index { index ≤ length cells.now }
+    requires few { length rows.old.items ≤ room }
+    ensures all { (more : _) → result ≡ Ok (Walked.All more) → (rows.new.items ≡ take room (rows.old.items ++ shown_rows query.now (drop index cells.now)))
+        × (more ≡ nat_lt room (length rows.old.items + length (shown_rows query.now (drop index cells.now)))) }
+    ensures to { (end : _) → result ≡ Ok (Walked.To end) → (end ≡ index + records) × (end ≤ length cells.now)
+        × (rows.new.items ≡ rows.old.items ++ shown_rows query.now (take records (drop index cells.now))) × (length rows.new.items ≤ room) }
+{
+    let mut left = records;
+    prefetch_cells(cells, index, query, (room - rows.len()).min(records));
+    for (key, cell) in cells.iter_from(index) {
+        if left == 0 {
+            return Ok(Walked::To(index + records));
+        }
+        left -= 1;
+        if !is_before(query.to(), key) {
+            return Ok(Walked::All(false));
+        }
+        if is_shown(query, key, cell) {
+            if rows.len() == room {
+                return Ok(Walked::All(true));
+            }
+            rows.push(row_of(key, cell)?)?;
+        }
+    }
+    Ok(Walked::All(false))
+}
