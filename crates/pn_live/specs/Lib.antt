@@ -4,6 +4,7 @@ pub mod Books
 pub mod Copying
 pub mod Drafts
 pub mod Events
+pub mod Getting
 pub mod Honest
 pub mod Laws
 pub mod LiveRegions

@@ -1,11 +1,13 @@
 //! Readers of a live region.
 
-ghost use Rattle.std.specs.Prelude.{◌≡◌, ◌+◌, ◌≤◌, ◌<◌, ◌++◌, ◌∷◌, [], true, false, List, map, Option, Some, Ok, Err, IfOk, IfErr, IfSome, IsSomeAnd, IsOkAnd, IsErrOf, length, vec_capacity, vec_len};
+ghost use Rattle.std.specs.Prelude.{◌≡◌, ◌+◌, ◌-◌, ◌≤◌, ◌<◌, ◌++◌, ◌∷◌, [], true, false, List, map, Option, Some, Ok, Err, IfOk, IfErr, IfSome, IsSomeAnd, IsOkAnd, IsErrOf, length, vec_capacity, vec_len};
 ghost use Rattle.pn_tablet.specs.Prelude.{tablet_of, TabletStateValue};
 ghost use Rattle.pn_scan.specs.Prelude.{Look, first_page, IsRead, IsGet, IsScan};
 ghost use Rattle.pn_scan.specs.Views.{is_memory};
+ghost use Rattle.pn_scan.specs.Prelude.{IsPreorder, Moving};
 ghost use Rattle.pn_live.specs.Copying.{IsCopied};
-ghost use Rattle.pn_live.specs.Readers.{LooksLive, IsFrontFor, AreTabletReadersOf, tablets_of};
+ghost use Rattle.pn_live.specs.Getting.{GetsOn, IsNewGet, IsOnGet};
+ghost use Rattle.pn_live.specs.Readers.{LiveReaderValue, LooksLive, IsFrontFor, AreTabletReadersOf, tablets_of};
 ghost use Rattle.pn_live.specs.TabletReaders.{AllLearn};
 
 use crate::front::{Front, TabletNote};
@@ -154,11 +156,12 @@ pub struct GetWalk {
 }
 
 impl Model for GetWalk {
-    ghost use Rattle.pn_live.specs.Getting.{GetWalkValue, cells_in};
+    ghost use Rattle.std.specs.Prelude.{option_map, length, ◌≤◌};
+    ghost use Rattle.pn_live.specs.Getting.{GetWalkValue};
 
     ghost Value = { GetWalkValue };
 
-    ghost view = { λ walk. record { keys = walk.keys.items; cells = cells_in walk.cells; read = walk.read } };
+    ghost view = { λ walk. record { keys = walk.keys.items; cells = option_map (λ cells. cells.items) walk.cells; read = walk.read } };
 
     ghost invariant = { λ walk. walk.read ≤ length walk.keys.items };
 }
@@ -166,7 +169,7 @@ impl Model for GetWalk {
 impl GetWalk {
     /// Keys of which none was read.
     pub fn new(alloc: Global, keys: Vec<Key>) -> GetWalk
-        ensures { result ≡ new_get keys.items }
+        ensures { IsNewGet keys.items result }
     {
         let cells = Vec::with_capacity(alloc, keys.len()).ok();
         GetWalk {
@@ -186,7 +189,9 @@ impl GetWalk {
     /// Reads so many more keys at most, each by an entry of its own. Where memory runs out, the other keys are still read, since the
     /// fault of a tablet is answered first.
     pub fn go_on(self, reader: &mut LiveReader, most: usize) -> Result<GetWalk, ScanFault>
-        ensures goes { (moves : Relation LiveReaderValue LiveReaderValue) (was between : LiveReaderValue) (seen : List Look) → IsOnGet moves was between self seen → moves between reader.old → GetsOn moves was reader.new result seen }
+        ensures goes { (moves : Moving LiveReaderValue) (was between : LiveReaderValue) (seen : List Look) → IsPreorder moves → IsOnGet moves was between self seen → moves between reader.old
+            → GetsOn moves was reader.new self.keys result seen }
+        ensures few { IfOk result (λ walk. walk.read ≤ self.read + most) }
         ensures same { tablets_of reader.new ≡ tablets_of reader.old }
     {
         let GetWalk { keys, cells, read } = self;

@@ -3,6 +3,7 @@ pub mod Answers
 pub mod Capacity
 pub mod Errors
 pub mod Faults
+pub mod Making
 pub mod Notices
 pub mod Record
 pub mod Refusals

@@ -4,7 +4,7 @@ pub(crate) mod answers;
 mod capacity;
 mod errors;
 pub(crate) mod notices;
-mod record;
+pub(crate) mod pieces;
 pub(crate) mod refusals;
 mod rows;
 pub(crate) mod scan;
@@ -15,6 +15,9 @@ pub(crate) mod tablets;
 pub(crate) mod text;
 
 use crate::Refusal;
+use pn_record::{Cell, Key};
+use pn_scan::Row;
+use pn_tablet::CopyText;
 
 /// The reply to one line.
 #[derive(Drop)]
@@ -23,8 +26,8 @@ pub enum Reply {
     Adopted(u64),
     /// The number of records that a round changed.
     Changed(u64),
-    /// A copy: the number of its lines, and its text.
-    Copied { lines: u64, text: String },
+    /// A copy, after the number of its lines.
+    Copy(CopyText),
     /// The number of the tablet that was lost.
     Lost(u64),
     /// The number of tablets in a new layout.
@@ -33,10 +36,26 @@ pub enum Reply {
     Stopping(u64),
     /// No reply: announced lines are still to come, or the input is at its end.
     Silent,
+    /// A page of rows.
+    Page(PageReply),
+    /// The record of a key, or none.
+    Record { key: Key, cell: Option<Cell> },
+    /// The records of keys, in the order of the keys.
+    Records {
+        keys: Vec<Key>,
+        cells: Vec<Option<Cell>>,
+    },
     /// A reply's text.
     Text(Vec<u8>),
     /// The line was refused.
     Refused(Refusal),
     /// Why the command was not run.
     NotTaken(Vec<u8>),
+}
+
+/// A page of rows, and what its text begins with: the query for the rest.
+#[derive(Drop)]
+pub struct PageReply {
+    pub head: Vec<u8>,
+    pub rows: Vec<Row>,
 }

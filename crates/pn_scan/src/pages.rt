@@ -1,17 +1,15 @@
 //! Pages of the rows of a query, read tablet by tablet.
 
-ghost use Rattle.std.specs.Prelude.{◌≡◌, ℕ, ◌+◌, ◌-◌, ◌<◌, ◌≤◌, ◌++◌, List, length, take, max, option_map, nat_lt, Option, Some, None, IfOk, OnErr};
+ghost use Rattle.std.specs.Prelude.{◌≡◌, ℕ, ◌+◌, ◌-◌, ◌<◌, ◌≤◌, ◌++◌, List, length, take, option_map, nat_lt, Some, None, IfOk, OnErr};
 ghost use Rattle.std.specs.List.{range_with_len, last_or};
 ghost use Rattle.std.specs.Option.{option_copied};
 ghost use Rattle.pn_record.specs.Prelude.{Entries};
-ghost use Rattle.pn_tablet.specs.Prelude.{tablet_ends, TabletStateValue};
+ghost use Rattle.pn_tablet.specs.Prelude.{tablet_ends};
 ghost use Rattle.pn_scan.specs.Queries.{query_after};
 ghost use Rattle.pn_scan.specs.Candidates.{Look, candidates as all_candidates, first_tablet as named_tablet, begins_before as bound_before};
 ghost use Rattle.pn_scan.specs.Pages.{first_page};
-ghost use Rattle.pn_scan.specs.Views.{LooksOnce};
-ghost use Rattle.pn_scan.specs.Parts.{part_at, new_walk};
-ghost use Rattle.pn_scan.specs.Paging.{IsOnPage, PagesTo, Relation};
-ghost use Rattle.pn_scan.specs.Visits.{IsScan, rows_after};
+ghost use Rattle.pn_scan.specs.Paging.{IsNewWalk, IsOnPage, IsPreorder, Moving, PagesTo};
+ghost use Rattle.pn_scan.specs.Visits.{IsScan};
 
 use crate::{Page, Part, PartWalk, Query, Row, ScanFault, View};
 use pn_join::NoMemory;
@@ -41,17 +39,17 @@ pub struct PageWalk {
 }
 
 impl Model for PageWalk {
-    ghost use Rattle.pn_scan.specs.Parts.{PageWalkValue, part_rest};
+    ghost use Rattle.pn_scan.specs.Paging.{PageWalkValue};
 
     ghost Value = { PageWalkValue };
 
-    ghost view = { λ walk. record { rows = walk.rows.items; part = part_rest walk.part; next = walk.tablet; end = walk.end } };
+    ghost view = { λ walk. record { rows = walk.rows.items; part = walk.part; next = walk.tablet; end = walk.end } };
 }
 
 impl PageWalk {
     /// A page of a query of which nothing was looked for.
     pub fn new(alloc: Global, layout: &Layout, query: &Query) -> PageWalk
-        ensures { result ≡ new_walk layout.now query.now }
+        ensures { IsNewWalk layout.now query.now result }
     {
         let (tablet, end) = candidates(layout, query);
         PageWalk {
@@ -70,7 +68,7 @@ impl PageWalk {
         query: &Query,
         records: usize,
     ) -> Result<PageStep, ScanFault>
-        ensures goes { (moves : Relation V V) (was between : V) (seen : List Look) → IsOnPage moves V.looks (V.bounds view.old) query.now was between self seen → moves between view.old
+        ensures goes { (moves : Moving V) (was between : V) (seen : List Look) → IsPreorder moves → IsOnPage moves V.looks (V.bounds view.old) query.now was between self seen → moves between view.old
             → PagesTo moves V.looks (V.bounds view.old) query.now was view.new result seen }
         ensures layout { V.bounds view.new ≡ V.bounds view.old }
     {

@@ -1,12 +1,12 @@
 //! Reads of one tablet.
 
-ghost use Rattle.std.specs.Prelude.{◌≡◌, true, take, drop, length, count_by, nat_lt, Some, IfOk, IsTrue};
+ghost use Rattle.std.specs.Prelude.{◌≡◌, ◌≤◌, [], true, drop, length, count_by, Some, IfOk, IsTrue};
 ghost use Rattle.std.specs.FinMap.{is_sorted};
 ghost use Rattle.std.specs.Option.{option_copied, option_map_or};
 ghost use Rattle.std.specs.List.{AllByRecursion};
 ghost use Rattle.std.specs.Ordering.{is_lt};
 ghost use Rattle.pn_scan.specs.Pages.{refusal, unless};
-ghost use Rattle.pn_scan.specs.Parts.{part_at, part_in};
+ghost use Rattle.pn_scan.specs.Parts.{part_at, walk_answer};
 ghost use Rattle.pn_scan.specs.Views.{Answers, rows_at, cell_at};
 ghost use Rattle.pn_scan.specs.Shown.{shown_rows};
 ghost use Rattle.pn_record.specs.Prelude.{bytes_cmp};
@@ -49,7 +49,7 @@ fn begin_walk(
     records: usize,
 ) -> Result<Part, NoMemory>
     requires index { index ≤ length cells.now }
-    ensures { IfOk result (λ part. part_at query.now part ≡ part_in query.now (record { rows = []; rest = drop index cells.now; room = room })) }
+    ensures { IfOk result (λ part. part_at query.now part ≡ walk_answer query.now (record { rows = []; rest = drop index cells.now; room = room })) }
 {
     let mut rows = Vec::with_capacity(alloc, room.min(cells.len()))?;
     match walk_some(cells, index, query, room, records, &mut rows)? {
@@ -68,7 +68,7 @@ fn take_rest(
 ) -> Result<Part, NoMemory>
     requires index { index ≤ length cells.now }
     requires few { length rows.items ≤ room }
-    ensures { IfOk result (λ part. part_at query.now part ≡ part_in query.now (record { rows = rows.items; rest = drop index cells.now; room = room })) }
+    ensures { IfOk result (λ part. part_at query.now part ≡ walk_answer query.now (record { rows = rows.items; rest = drop index cells.now; room = room })) }
 {
     let mut rows = rows;
     match cells.slice(index, end_of_range(cells, query).max(index)) {

@@ -1,8 +1,8 @@
 //! Looks into one tablet that are gone on with.
 
-ghost use Rattle.std.specs.Prelude.{◌≡◌, ◌+◌, ◌<◌, ◌≤◌, ◌⊎◌, ◌++◌, drop, length, nat_lt, take, IfOk, OnErr};
-ghost use Rattle.pn_scan.specs.Shown.{shown_rows};
-ghost use Rattle.pn_scan.specs.Parts.{part_at, PartValue};
+ghost use Rattle.std.specs.Prelude.{◌≡◌, ◌+◌, ◌<◌, ◌≤◌, ◌⊎◌, drop, length, IfOk};
+ghost use Rattle.pn_scan.specs.Walking.{WalksTo};
+ghost use Rattle.pn_scan.specs.Parts.{part_at, walk_answer, left_in, IsDone};
 
 use crate::filter::is_shown;
 use crate::part::{prefetch_cells, row_of};
@@ -59,9 +59,9 @@ impl PartWalk {
 
     /// Looks at so many more records at most. The answer that it comes to stays.
     pub fn go_on(self, query: &Query, records: usize) -> Result<Part, NoMemory>
-        ensures same { IfOk result (λ part. (all : PartValue) → part_at query.now self ≡ all → IsPartOf query.now part all) }
-        ensures few { IfOk result (λ part. records_left self ≤ records_left_in part + records) }
-        ensures less { 0 < records → IfOk result (IsDoneOr (λ walk. length walk.rest < length self.rest)) }
+        ensures same { IfOk result (λ part. part_at query.now part ≡ walk_answer query.now self) }
+        ensures few { IfOk result (λ part. length self.rest ≤ left_in part + records) }
+        ensures less { 0 < records → IfOk result (λ part. (left_in part < length self.rest) ⊎ IsDone part) }
     {
         let PartWalk {
             rest,
@@ -102,10 +102,7 @@ pub(crate) fn walk_some(
 ) -> Result<Walked, NoMemory>
     requires index { index ≤ length cells.now }
     requires few { length rows.old.items ≤ room }
-    ensures all { (more : _) → result ≡ Ok (Walked.All more) → (rows.new.items ≡ take room (rows.old.items ++ shown_rows query.now (drop index cells.now)))
-        × (more ≡ nat_lt room (length rows.old.items + length (shown_rows query.now (drop index cells.now)))) }
-    ensures to { (end : _) → result ≡ Ok (Walked.To end) → (end ≡ index + records) × (end ≤ length cells.now)
-        × (rows.new.items ≡ rows.old.items ++ shown_rows query.now (take records (drop index cells.now))) × (length rows.new.items ≤ room) }
+    ensures { IfOk result (WalksTo query.now (drop index cells.now) index records room rows.old.items rows.new.items) }
 {
     let mut left = records;
     prefetch_cells(cells, index, query, (room - rows.len()).min(records));

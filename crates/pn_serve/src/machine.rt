@@ -142,11 +142,11 @@ fn obey<R: Threads + Sync>(
         Command::Deliver(deliveries) => Handled::Obeyed(deliver(
             rt, alloc, region, workers, deliveries,
         )),
-        Command::Get(keys) => Handled::Obeyed(get(alloc, region, &keys)),
+        Command::Get(keys) => Handled::Obeyed(get(alloc, region, keys)),
         Command::Lose { tablet } => Handled::Obeyed(lose_tablet(region, tablet)),
         Command::Marks => Handled::Obeyed(answer_text(marks_reply(alloc, region.marks()))),
         Command::Notices { since } => Handled::Obeyed(look_up_notices(alloc, region, since)),
-        Command::Read { key, version } => Handled::Obeyed(read(alloc, region, &key, version)),
+        Command::Read { key, version } => Handled::Obeyed(read(alloc, region, key, version)),
         Command::Relayout(bounds) => Handled::Obeyed(relayout(alloc, region, bounds)),
         Command::Scan(query) => Handled::Obeyed(scan(alloc, region, &query)),
         Command::Tablets => Handled::Obeyed(answer_text(tablets_reply(alloc, region))),

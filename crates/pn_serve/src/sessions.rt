@@ -1,6 +1,7 @@
 //! Sessions: lines are answered by a reader of a live region.
 
 ghost use Rattle.std.specs.Prelude.{◌≡◌, ◌+◌, ◌≤◌, IfOk, OnOk, IsErrOf};
+ghost use Rattle.pn_scan.specs.Prelude.{Stays};
 ghost use Rattle.pn_serve.specs.Lines.Ends.{EndsBy};
 ghost use Rattle.pn_serve.specs.Lines.Waiting.{HandsOn, looks_of_input};
 ghost use Rattle.pn_serve.specs.Session.Knowing.{KnowsNoLess};
@@ -30,7 +31,7 @@ pub fn session<S: Source, W: Sink>(
     input: &mut S,
     output: &mut W,
 ) -> Result<Counts, RunFault>
-    ensures ends { EndsBy AnswersLine EndsLines (session_start reader.old (S.left input.old) (W.contents output.old)) (S.left input.new) (W.contents output.new) reader.new result }
+    ensures ends { EndsBy (AnswersLine Stays) (EndsLines Stays) (session_start reader.old (S.left input.old) (W.contents output.old)) (S.left input.new) (W.contents output.new) reader.new result }
     ensures read { IsErrOf result RunFault.Read → S.may_fail }
     ensures write { IsErrOf result RunFault.Write → W.may_fail }
     ensures knows { KnowsNoLess reader.old reader.new }
@@ -48,7 +49,8 @@ pub fn session<S: Source, W: Sink>(
 
 impl LineHandler for LiveReader {
     ghost use Rattle.pn_serve.specs.Session.Knowing.{KnowsNoLess};
-    ghost use Rattle.pn_serve.specs.Session.Lines.{AnswersLine, EndsLines, LooksFor, LooksForLast};
+    ghost use Rattle.pn_serve.specs.Session.Lines.{AnswersLine, EndsLines};
+    ghost use Rattle.pn_serve.specs.Session.Looking.{LooksFor, LooksForLast};
     ghost use Rattle.std.specs.Prelude.{⊤};
 
     ghost ready = { ⊤ };

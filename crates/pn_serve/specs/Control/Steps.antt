@@ -19,6 +19,7 @@ use Rattle.pn_protocol.specs.declared.reply.stats.Stats.{Stats}
 use Rattle.pn_serve.specs.Control.Answers.{IsGiven, question_of}
 use Rattle.pn_serve.specs.Control.Commands as control
 use Rattle.pn_serve.specs.Control.Commands.{Asked, Said, said_by}
+use Rattle.pn_scan.specs.Paging.{Stays}
 use Rattle.pn_serve.specs.Session.Lines.{LooksUp}
 use Rattle.pn_serve.specs.declared.control.steps.Step.{Step}
 use Rattle.pn_serve.specs.declared.control.steps.Step.TheVariants.{Replies, Announces, Stops, Ends}
@@ -60,7 +61,7 @@ ObeysScript old (command.adopt lines) new step = (new ≡ old) × (step ≡ Anno
 ObeysScript old (command.lose tablet) new step = (new ≡ old) × Asks (control.lose tablet) step
 ObeysScript old command.marks new step = (new ≡ old) × Asks control.marks step
 ObeysScript old command.tablets new step = (new ≡ old) × Asks control.tablets step
-ObeysScript old asked new step = RepliesWith (λ shown. LooksUp old asked new shown) step
+ObeysScript old asked new step = RepliesWith (λ shown. LooksUp Stays old asked new shown) step
 
 -- the reply shows what some server has done so far
 abbrev pub ShowsStats : Reply → Type 0

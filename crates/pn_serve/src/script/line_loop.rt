@@ -1,12 +1,13 @@
 //! The line loop: a machine that takes what its input has at hand, answers it line by line, and writes as much as its output
 //! takes. It waits for neither.
 
-ghost use Rattle.std.specs.Prelude.{◌≡◌, ◌≢◌, ◌+◌, ◌<◌, ◌≤◌, ℕ, Bool, List, [], Option, IfOk};
-ghost use Rattle.pn_serve.specs.Lines.Going.{Relation};
-ghost use Rattle.pn_serve.specs.Lines.States.{Start, new_loop, LineStateValue};
-ghost use Rattle.pn_serve.specs.Lines.Stepping.{Stands, StepsTo, IsOutUnless, StepsWithin};
-ghost use Rattle.pn_protocol.specs.Prelude.{is_refusal};
-ghost use Rattle.pn_serve.specs.Script.Written.{one_if};
+ghost use Rattle.std.specs.Prelude.{◌≡◌, ◌⊎◌, ◌+◌, ◌*◌, ◌≤◌, ℕ, List, [], Option, IfOk};
+ghost use Rattle.pn_scan.specs.Prelude.{IsPreorder, Moving};
+ghost use Rattle.pn_live.specs.declared.reader.TheConstants.{ENTRY_RECORDS};
+ghost use Rattle.pn_serve.specs.Lines.States.{Start, new_loop};
+ghost use Rattle.pn_serve.specs.Lines.Stepping.{by, with_rest, at_end, Stands, StepsTo, IsOutAs, HandsOnAtMost, LooksAtMost, CountsUnits};
+ghost use Rattle.pn_serve.specs.declared.script.replies.TheConstants.{BLOCK};
+ghost use Rattle.pn_serve.specs.declared.script.line_loop.steps.TheConstants.{UNIT_RECORDS};
 ghost use Rattle.pn_serve.specs.Session.Knowing.{KnowsNoLess};
 
 mod state;
@@ -37,15 +38,11 @@ pub struct LineLoop {
 }
 
 impl Model for LineLoop {
-    ghost use Rattle.pn_serve.specs.Lines.States.{LineLoopValue, loop_with};
+    ghost use Rattle.pn_serve.specs.Lines.States.{LineLoopValue};
 
     ghost Value = { LineLoopValue };
 
-    ghost use Rattle.pn_serve.specs.Lines.Coding.{line_loop_code};
-
-    ghost coded = { line_loop_code };
-
-    ghost view = { λ run. loop_with run.line run.replies run.state };
+    ghost view = { λ run. record { line = run.line; replies = run.replies; state = run.state } };
 }
 
 impl LineLoop {
@@ -71,10 +68,12 @@ impl LineLoop {
         units: u32,
     ) -> Step
         requires ready { M.ready }
-        ensures steps { (moves : Relation M M) (start : Start M) (more : Option (List ℕ)) → Stands M.makes M.ends M.goes M.goes_last moves start (S.left input.old) more (W.contents output.old) machine.old self.old
-            → StepsTo M.makes M.ends M.goes M.goes_last moves start (S.left input.new) more (W.contents output.new) machine.new self.new result }
-        ensures out { IsOutUnless self.old (W.is_handed_on output.old) → IsOutUnless self.new (W.is_handed_on output.new) }
-        ensures within { StepsWithin units self.old self.new result }
+        ensures steps { (moves : Moving M) (start : Start M) (rest : Option (List ℕ)) → IsPreorder moves → Stands (by moves M.makes M.ends M.goes M.goes_last) start (with_rest (S.left input.old) rest) (W.contents output.old) machine.old self.old
+            → StepsTo (by moves M.makes M.ends M.goes M.goes_last) start (with_rest (S.left input.new) rest) (W.contents output.new) machine.new self.new result }
+        ensures out { IsOutAs self.old (W.is_handed_on output.old) → IsOutAs self.new (W.is_handed_on output.new) }
+        ensures few { HandsOnAtMost BLOCK self.old self.new ⊎ (self.new.replies ≡ []) }
+        ensures looked { LooksAtMost (UNIT_RECORDS * units + ENTRY_RECORDS) self.old self.new }
+        ensures counted { CountsUnits self.old self.new result }
         ensures looks { S.looks input.new ≤ S.looks input.old + 1 }
         ensures end { result ≡ Step.NoInput → S.may_end }
         ensures read { result ≡ Step.Ends (Err RunFault.Read) → S.may_fail }
@@ -97,7 +96,10 @@ impl LineLoop {
     /// The input is at its end: a last part of a line is answered, and the loop ends once its replies are written.
     pub fn end_input<M: LineHandler>(&mut self, machine: &mut M)
         requires ready { M.ready }
-        requires reading { self.old.stage ≡ reading }
+        requires reading { self.old.state.stage ≡ Stage.Reading }
+        ensures stands { (moves : Moving M) (start : Start M) (written : Option (List ℕ)) → IsPreorder moves → Stands (by moves M.makes M.ends M.goes M.goes_last) start (at_end start.left) written machine.old self.old
+            → Stands (by moves M.makes M.ends M.goes M.goes_last) start (at_end start.left) written machine.new self.new }
+        ensures knows { KnowsNoLess (M.reader machine.old) (M.reader machine.new) }
     {
         let is_line = !self.line.is_empty();
         self.state.is_last = true;

@@ -1,9 +1,12 @@
 //! Answers to the lookups of a session.
 
 ghost use Rattle.std.specs.Prelude.{◌≡◌};
-ghost use Rattle.pn_live.specs.Prelude.{tablets_of};
+ghost use Rattle.pn_live.specs.Prelude.{LiveReaderValue, tablets_of};
 ghost use Rattle.pn_protocol.specs.Prelude.{command_value};
+ghost use Rattle.pn_scan.specs.Prelude.{IsPreorder, Moving, Stays};
+ghost use Rattle.pn_serve.specs.Lines.Going.{AnswersWith};
 ghost use Rattle.pn_serve.specs.Session.Lines.{AnswersLine, LooksUp};
+ghost use Rattle.pn_serve.specs.Session.Looking.{LooksFor, LooksTo};
 ghost use Rattle.pn_serve.specs.Session.Lookups.{LooksUpKey, LooksUpKeys, LooksUpPage, LooksUpCopy};
 
 use crate::machine::line_handler::Answer;
@@ -19,7 +22,7 @@ use std::alloc::Global;
 
 /// Answers a line by what the reader finds, or begins to look for it.
 pub(super) fn answer_line(alloc: Global, reader: &mut LiveReader, line: &[u8]) -> Answer
-    ensures answers { (moves : Relation LiveReaderValue LiveReaderValue) → AnswersWith (AnswersLine moves) (LooksFor moves) reader.old line.now reader.new result }
+    ensures answers { (moves : Moving LiveReaderValue) → IsPreorder moves → AnswersWith (AnswersLine moves) (LooksFor moves) reader.old line.now reader.new result }
     ensures same { tablets_of reader.new ≡ tablets_of reader.old }
 {
     match lookup_of(alloc, line) {
@@ -30,53 +33,67 @@ pub(super) fn answer_line(alloc: Global, reader: &mut LiveReader, line: &[u8]) -
 
 // Answers a command, or begins to look for the answer.
 fn begin(alloc: Global, reader: &mut LiveReader, command: Command) -> Answer
-    ensures begins { (moves : Relation LiveReaderValue LiveReaderValue) → Begins moves reader.old (command_value command) reader.new result }
+    ensures begins { (moves : Moving LiveReaderValue) → IsPreorder moves → LooksTo moves reader.old (command_value command) reader.new result }
     ensures same { tablets_of reader.new ≡ tablets_of reader.old }
 {
     match command {
+        Command::Copy { need, tablet } => begin_copy(alloc, reader, &need, tablet),
         Command::Get(keys) => Answer::Going(Going::keys(alloc, keys)),
         Command::Scan(query) => Answer::Going(Going::page(alloc, reader, query)),
         command => Answer::Done(look_up(alloc, reader, command)),
     }
 }
 
+// Takes a copy, of which the lines are then counted.
+fn begin_copy(alloc: Global, reader: &mut LiveReader, need: &Marks, tablet: u64) -> Answer {
+    if tablet >= reader.layout().count() as u64 {
+        return Answer::Done(Reply::Refused(Refusal::OutOfRange(Part::Tablet)));
+    }
+    match reader.copy(tablet as usize, need) {
+        Ok(copy) => Answer::Going(Going::copy(copy)),
+        fault => Answer::Done(answer_copy(alloc, tablet as usize, fault)),
+    }
+}
+
 /// Answers a command by what the reader finds.
 pub(crate) fn look_up(alloc: Global, reader: &mut LiveReader, command: Command) -> Reply
-    ensures looks_up { LooksUp (λ was now. now ≡ was) reader.old (command_value command) reader.new result }
+    ensures looks_up { LooksUp Stays reader.old (command_value command) reader.new result }
     ensures same { tablets_of reader.new ≡ tablets_of reader.old }
 {
     match command {
         Command::Copy { need, tablet } => copy_tablet(alloc, reader, &need, tablet),
-        Command::Get(keys) => get(alloc, reader, &keys),
-        Command::Read { key, version } => read(alloc, reader, &key, version),
+        Command::Get(keys) => get(alloc, reader, keys),
+        Command::Read { key, version } => read(alloc, reader, key, version),
         Command::Scan(query) => scan(alloc, reader, &query),
         _ => Reply::Refused(Refusal::ReadOnly),
     }
 }
 
-fn read(alloc: Global, reader: &mut LiveReader, key: &Key, version: Option<Version>) -> Reply
-    ensures looks_up { LooksUpKey reader.old key.now version reader.new result }
+fn read(alloc: Global, reader: &mut LiveReader, key: Key, version: Option<Version>) -> Reply
+    ensures looks_up { LooksUpKey reader.old key version reader.new result }
     ensures same { tablets_of reader.new ≡ tablets_of reader.old }
 {
-    answer_read(alloc, key, reader.read(key, version))
+    let found = reader.read(&key, version);
+    answer_read(alloc, key, found)
 }
 
-fn get(alloc: Global, reader: &mut LiveReader, keys: &[Key]) -> Reply
-    ensures looks_up { LooksUpKeys reader.old keys.now reader.new result }
+fn get(alloc: Global, reader: &mut LiveReader, keys: Vec<Key>) -> Reply
+    ensures looks_up { LooksUpKeys Stays reader.old keys.items reader.new result }
     ensures same { tablets_of reader.new ≡ tablets_of reader.old }
 {
-    answer_get(alloc, keys, reader.get(keys))
+    let found = reader.get(&keys);
+    answer_get(alloc, keys, found)
 }
 
 fn scan(alloc: Global, reader: &mut LiveReader, query: &Query) -> Reply
-    ensures looks_up { LooksUpPage reader.old query.now reader.new result }
+    ensures looks_up { LooksUpPage Stays reader.old query.now reader.new result }
     ensures same { tablets_of reader.new ≡ tablets_of reader.old }
 {
     answer_scan(alloc, reader.scan(query))
 }
 
 fn copy_tablet(alloc: Global, reader: &mut LiveReader, need: &Marks, tablet: u64) -> Reply
-    ensures looks_up { LooksUpCopy reader.old need.now tablet reader.new result }
+    ensures looks_up { LooksUpCopy Stays reader.old need.now tablet reader.new result }
     ensures same { tablets_of reader.new ≡ tablets_of reader.old }
 {
     if tablet >= reader.layout().count() as u64 {

@@ -41,11 +41,12 @@ pub(super) enum Stage {
 
 impl Model for LineState {
     ghost use Rattle.std.specs.Prelude.{◌≤◌};
-    ghost use Rattle.pn_serve.specs.Lines.States.{LineStateValue, stage_of, text_left};
+    ghost use Rattle.pn_serve.specs.Lines.States.{LineStateValue};
+    ghost use Rattle.pn_serve.specs.Lines.Sending.{text_left};
 
     ghost Value = { LineStateValue };
 
-    ghost view = { λ state. record { stage = stage_of state.stage; left = text_left state.text; more = state.more; out = state.is_out; last = state.is_last; counts = state.counts } };
+    ghost view = { λ state. record { stage = state.stage; left = text_left state.text; more = state.more; out = state.is_out; last = state.is_last; counts = state.counts } };
 
     ghost invariant = { λ state. state.counts.refused ≤ state.counts.lines + 1 };
 }
