@@ -22,15 +22,15 @@ walk_answer query walk = (take walk.room (walk.rows ++ shown_rows query walk.res
 
 -- the answer that it has, or comes to
 abbrev pub part_at : QueryValue → Part → PartValue
-part_at query (Done rows more) = (rows.items, more)
+part_at query (Done rows more looked) = (rows.items, more)
 part_at query (Rest walk) = walk_answer query walk
 
 -- how many records are still to be looked at
 abbrev pub left_in : Part → ℕ
-left_in (Done rows more) = 0
+left_in (Done rows more looked) = 0
 left_in (Rest walk) = length walk.rest
 
 -- nothing is left to look at
 abbrev pub IsDone : Part → Type 0
-IsDone (Done rows more) = Unit {0}
+IsDone (Done rows more looked) = Unit {0}
 IsDone (Rest walk) = ⊥

@@ -36,6 +36,8 @@ pub struct PageWalk {
     // The tablets that are still to be looked into, from the first number up to the second.
     tablet: usize,
     end: usize,
+    // How many records the last step looked at.
+    looked: usize,
 }
 
 impl Model for PageWalk {
@@ -57,7 +59,13 @@ impl PageWalk {
             part: None,
             tablet,
             end,
+            looked: 0,
         }
+    }
+
+    /// How many records the last step looked at.
+    pub fn looked(&self) -> usize {
+        self.looked
     }
 
     /// Looks at so many more records at most, or into the next tablet.
@@ -76,7 +84,7 @@ impl PageWalk {
         match walk.part.take() {
             Some(part) => {
                 let part = part.go_on(query, records)?;
-                Ok(PageStep::Next(walk.with_part(part)?))
+                Ok(PageStep::Next(walk.with_part(part, records)?))
             }
             None => walk.look_further(alloc, view, query, records),
         }
@@ -98,23 +106,24 @@ impl PageWalk {
         let room = query.limit() + 1 - walk.rows.len();
         let part = view.part(alloc, walk.tablet, query, room, records)?;
         walk.tablet += 1;
-        Ok(PageStep::Next(walk.with_part(part)?))
+        Ok(PageStep::Next(walk.with_part(part, records)?))
     }
 
-    // With what the look into a tablet has come to.
-    fn with_part(self, part: Part) -> Result<PageWalk, NoMemory> {
+    // With what the look into a tablet has come to, which went over so many records unless it is done.
+    fn with_part(self, part: Part, records: usize) -> Result<PageWalk, NoMemory> {
         let PageWalk {
             rows, tablet, end, ..
         } = self;
-        let (rows, part) = match part {
-            Part::Done(more, _) => (put_after(rows, more)?, None),
-            Part::Rest(part) => (rows, Some(part)),
+        let (rows, part, looked) = match part {
+            Part::Done(more, _, looked) => (put_after(rows, more)?, None, looked),
+            Part::Rest(part) => (rows, Some(part), records),
         };
         Ok(PageWalk {
             rows,
             part,
             tablet,
             end,
+            looked,
         })
     }
 }

@@ -53,7 +53,7 @@ fn begin_walk(
 {
     let mut rows = Vec::with_capacity(alloc, room.min(cells.len()))?;
     match walk_some(cells, index, query, room, records, &mut rows)? {
-        Walked::All(more) => Ok(Part::Done(rows, more)),
+        Walked::All(more, looked) => Ok(Part::Done(rows, more, looked)),
         Walked::To(next) => take_rest(cells, next, query, rows, room),
     }
 }
@@ -74,7 +74,7 @@ fn take_rest(
     match cells.slice(index, end_of_range(cells, query).max(index)) {
         Ok(rest) => Ok(Part::Rest(PartWalk::new(rest, rows, room))),
         Err(_) => match walk_some(cells, index, query, room, usize::MAX, &mut rows)? {
-            Walked::All(more) => Ok(Part::Done(rows, more)),
+            Walked::All(more, looked) => Ok(Part::Done(rows, more, looked)),
             Walked::To(_) => unreachable!(),
         },
     }

@@ -16,8 +16,8 @@ use std::marker::Model;
 /// What a look into a tablet has of its answer.
 #[derive(Drop)]
 pub enum Part {
-    /// The first rows that a query shows of the tablet, and whether it shows more.
-    Done(Vec<Row>, bool),
+    /// The first rows that a query shows of the tablet, whether it shows more, and how many records were looked at.
+    Done(Vec<Row>, bool, usize),
     /// The look is to be gone on with, over what it took of the tablet.
     Rest(PartWalk),
 }
@@ -71,7 +71,7 @@ impl PartWalk {
         } = self;
         let mut rows = rows;
         match walk_some(&rest, index, query, room, records, &mut rows)? {
-            Walked::All(more) => Ok(Part::Done(rows, more)),
+            Walked::All(more, looked) => Ok(Part::Done(rows, more, looked)),
             Walked::To(index) => Ok(Part::Rest(PartWalk {
                 rest,
                 index,
@@ -85,8 +85,8 @@ impl PartWalk {
 /// How far a walk over records came.
 #[derive(Clone, Copy, Debug, PartialEq, Eq)]
 pub(crate) enum Walked {
-    /// The rows that there is room for were found, or all. Whether there are more.
-    All(bool),
+    /// The rows that there is room for were found, or all. Whether there are more, and how many records were looked at.
+    All(bool, usize),
     /// The records before this index were looked at.
     To(usize),
 }
@@ -104,22 +104,22 @@ pub(crate) fn walk_some(
     requires few { length rows.old.items ≤ room }
     ensures { IfOk result (WalksTo query.now (drop index cells.now) index records room rows.old.items rows.new.items) }
 {
-    let mut left = records;
+    let mut looked = 0;
     prefetch_cells(cells, index, query, (room - rows.len()).min(records));
     for (key, cell) in cells.iter_from(index) {
-        if left == 0 {
-            return Ok(Walked::To(index + records));
+        if looked == records {
+            return Ok(Walked::To(index + looked));
         }
-        left -= 1;
+        looked += 1;
         if !is_before(query.to(), key) {
-            return Ok(Walked::All(false));
+            return Ok(Walked::All(false, looked));
         }
         if is_shown(query, key, cell) {
             if rows.len() == room {
-                return Ok(Walked::All(true));
+                return Ok(Walked::All(true, looked));
             }
             rows.push(row_of(key, cell)?)?;
         }
     }
-    Ok(Walked::All(false))
+    Ok(Walked::All(false, looked))
 }

@@ -8,7 +8,7 @@ ghost use Rattle.pn_serve.specs.Session.Looking.{LooksOn, LooksTo};
 
 use crate::machine::line_handler::Answer;
 use pn_join::NoMemory;
-use pn_live::{ENTRY_RECORDS, GetWalk, LiveReader};
+use pn_live::{GetWalk, LiveReader};
 use pn_protocol::{CommandFault, Refusal, Reply, answer_get, answer_scan, refuse};
 use pn_record::Key;
 use pn_scan::{PageStep, PageWalk, Query, ScanFault, View};
@@ -60,7 +60,8 @@ impl Going {
         match self {
             Going::Page(query, walk) => {
                 let step = walk.go_on(alloc, reader, &query, records);
-                (page_answer(alloc, query, step), records.min(ENTRY_RECORDS))
+                let looked = looked_by(&step);
+                (page_answer(alloc, query, step), looked)
             }
             Going::Keys(walk) => {
                 let most = (records / RECORDS_OF_KEY).max(1);
@@ -70,6 +71,14 @@ impl Going {
             }
             Going::Copy(count) => (copy_answer(count.go_on(records)), records),
         }
+    }
+}
+
+// How many records a step of a page looked at.
+fn looked_by(step: &Result<PageStep, ScanFault>) -> usize {
+    match step {
+        Ok(PageStep::Next(walk)) => walk.looked(),
+        _ => 0,
     }
 }
 
