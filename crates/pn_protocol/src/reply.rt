@@ -1,5 +1,7 @@
 //! Replies.
 
+ghost use Rattle.pn_protocol.specs.Reply.Making.{IsShortFor};
+
 pub(crate) mod answers;
 mod capacity;
 mod errors;
@@ -58,4 +60,20 @@ pub enum Reply {
 pub struct PageReply {
     pub head: Vec<u8>,
     pub rows: Vec<Row>,
+}
+
+impl Reply {
+    /// The reply where there is no memory to keep a long one: that refusal in place of what shows records or a long text.
+    pub fn or_memory(self) -> Reply
+        ensures { IsShortFor self result }
+    {
+        match self {
+            Reply::Copy(_)
+            | Reply::Page(_)
+            | Reply::Record { .. }
+            | Reply::Records { .. }
+            | Reply::Text(_) => Reply::Refused(Refusal::Memory),
+            reply => reply,
+        }
+    }
 }

@@ -130,9 +130,7 @@ impl ConnectionState {
         ensures pauses { PausesWell self.new result }
         ensures knows { KnowsNoLess (M.reader machine.old) (M.reader machine.new) }
     {
-        if !self.load(buffers) {
-            return TurnOutcome::Ended(Err(RunFault::Write));
-        }
+        self.load(buffers);
         let before = buffers.lines.counts();
         let step = send_and_step(buffers, machine, input, output);
         let after = buffers.lines.counts();

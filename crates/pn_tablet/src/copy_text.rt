@@ -172,7 +172,7 @@ impl CopyText {
                 let text = write_head(text, self.form, &self.copy.range)?;
                 Ok((text, CopyPlace::Mark(0)))
             }
-            CopyPlace::Mark(index) => self.write_mark(text, index),
+            CopyPlace::Mark(index) => self.write_mark_at(text, index),
             CopyPlace::Image { index, content } => self.write_images(text, index, content, most),
             CopyPlace::End => {
                 let text = write_end(text, self.lines - 2)?;
@@ -183,7 +183,7 @@ impl CopyText {
     }
 
     // Writes the mark of an index, if there is one.
-    fn write_mark(
+    fn write_mark_at(
         &self,
         text: Vec<u8>,
         index: usize,
@@ -215,7 +215,9 @@ impl CopyText {
         let mut index = index;
         let mut content = content;
         for (key, cell) in self.copy.cells.iter_from(index) {
-            (text, content) = write_contents(text, key, cell, content, most)?;
+            let (more, next) = write_contents(text, key, cell, content, most)?;
+            text = more;
+            content = next;
             if content < cell.contents().len() {
                 return Ok((text, CopyPlace::Image { index, content }));
             }

@@ -5,7 +5,8 @@ use Rattle.serde_json.specs.Written.{compact_text}
 use Rattle.pn_record.specs.Sets.{CellValue}
 use Rattle.pn_record.specs.Writing.{content_data}
 use Rattle.pn_protocol.specs.declared.reply.Reply.{Reply}
-use Rattle.pn_protocol.specs.declared.reply.Reply.TheVariants.{Copy, Page, Record as One, Records, Text, NotTaken}
+use Rattle.pn_protocol.specs.declared.reply.Reply.TheVariants.{Copy, Page, Record as One, Records, Refused, Text}
+use Rattle.pn_protocol.specs.declared.refusal.Refusal.TheVariants.{Memory}
 use Rattle.pn_protocol.specs.declared.reply.text.Place.{Place}
 use Rattle.pn_protocol.specs.declared.reply.text.Place.TheVariants.{Bytes, Record, Lines, End}
 use Rattle.pn_protocol.specs.Reply.Record.{row_or_null}
@@ -63,3 +64,12 @@ WritesTo reply place old new next = (new ++ rest_of reply next ≡ old ++ rest_o
 abbrev pub WritesRecord : List ℕ × Option CellValue → ℕ → List ℕ → List ℕ → ℕ → Type 0
 WritesRecord found content old new 0 = new ≡ old ++ drop (before_content content found) (record_text found)
 WritesRecord found content old new next = new ≡ old ++ take (before_content next found - before_content content found) (drop (before_content content found) (record_text found))
+
+-- the reply, unless it shows records or has a long text: then the refusal out of memory
+abbrev pub IsShortFor : Reply → Reply → Type 0
+IsShortFor (Copy copy) short = short ≡ Refused Memory
+IsShortFor (Page page) short = short ≡ Refused Memory
+IsShortFor (One key cell) short = short ≡ Refused Memory
+IsShortFor (Records keys cells) short = short ≡ Refused Memory
+IsShortFor (Text text) short = short ≡ Refused Memory
+IsShortFor reply short = short ≡ reply

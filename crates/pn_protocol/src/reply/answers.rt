@@ -53,11 +53,9 @@ pub fn answer_scan(alloc: Global, found: Result<Page, ScanFault>) -> Reply
 fn page_reply(alloc: Global, page: Page) -> Reply
     ensures { ShowsPage (page.rows.items, page.next) result }
 {
-    match write_head(alloc, page.next.as_ref()) {
-        Ok(head) => Reply::Page(PageReply {
-            head,
-            rows: page.rows,
-        }),
+    let Page { rows, next } = page;
+    match write_head(alloc, next.as_ref()) {
+        Ok(head) => Reply::Page(PageReply { head, rows }),
         Err(_) => Reply::Refused(Refusal::Memory),
     }
 }

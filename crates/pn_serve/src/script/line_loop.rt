@@ -35,6 +35,8 @@ pub struct LineLoop {
     line: LineBuffer,
     replies: ReplyBuffer,
     state: LineState,
+    // Whether no replies can be kept that the output does not take at once.
+    is_scarce: bool,
 }
 
 impl Model for LineLoop {
@@ -55,6 +57,7 @@ impl LineLoop {
             line: LineBuffer::new(alloc)?,
             replies: ReplyBuffer::new(alloc)?,
             state: LineState::new(),
+            is_scarce: false,
         })
     }
 
@@ -104,7 +107,7 @@ impl LineLoop {
         let is_line = !self.line.is_empty();
         self.state.is_last = true;
         let answer = machine.answer_end(self.alloc, &self.line);
-        self.take_answer(answer, is_line);
+        let _ = self.take_answer(answer, is_line);
     }
 
     /// How a loop ends whose input and output do not wait, after a step: an input with no more at hand is at its end, and an output
@@ -202,8 +205,13 @@ impl LineLoop {
         }
     }
 
-    // A line has its reply, of which a block's text is made.
+    // A line has its reply, of which a block's text is made. Where no replies can be kept it is short, and ends the turn.
     fn reply(&mut self, reply: Reply, is_line: bool) -> u32 {
+        let reply = if self.is_scarce {
+            reply.or_memory()
+        } else {
+            reply
+        };
         if is_line {
             self.state.counts.lines += 1;
         }
@@ -215,7 +223,8 @@ impl LineLoop {
         if self.state.is_last {
             self.state.stage = Stage::Ending(Ok(self.state.counts));
         }
-        self.make_text()
+        let made = self.make_text();
+        if self.is_scarce { TURN_UNITS } else { made }
     }
 
     // Makes the text of the reply while it has room. How many units that took.

@@ -12,8 +12,8 @@ use std::alloc::{AllocError, Global};
 use std::mem;
 
 impl ConnectionState {
-    // Loads what it keeps into the buffers. False where there is no memory for the replies that it may have to keep.
-    pub(super) fn load(&mut self, buffers: &mut ThreadBuffers) -> bool {
+    // Loads what it keeps into the buffers. Where there is no memory for replies that it may have to keep, long ones are refused.
+    pub(super) fn load(&mut self, buffers: &mut ThreadBuffers) {
         let _ = buffers.lines.flush(&mut Discard);
         buffers.lines.begin_line();
         buffers.lines.swap_state(&mut self.state);
@@ -29,7 +29,7 @@ impl ConnectionState {
         if buffers.spare.is_none() {
             buffers.spare = ReplyBuffer::new(self.alloc).ok();
         }
-        buffers.spare.is_some()
+        buffers.lines.set_scarce(buffers.spare.is_none());
     }
 
     // Stores it until its next turn, or ends it.
@@ -43,10 +43,14 @@ impl ConnectionState {
         }
     }
 
-    // Takes out of the buffers what it keeps. Out of memory, its input is lost as by a fault of the reader.
+    // Takes out of the buffers what it keeps. Out of memory, its input is lost as by a fault of the reader, and a short reply that the
+    // socket did not take as by one of the writer.
     fn keep(&mut self, buffers: &mut ThreadBuffers, pause: Pause) -> TurnOutcome {
         if !buffers.lines.is_sent() {
             self.replies = take_replies(buffers);
+            if self.replies.is_none() {
+                return TurnOutcome::Ended(Err(RunFault::Write));
+            }
         }
         match unload_input(self.alloc, buffers) {
             Ok(stored) => {

@@ -92,6 +92,13 @@ impl LineLoop {
         self.replies.is_empty()
     }
 
+    /// Whether replies that the output does not take at once can be kept from now on. Where not, long ones are refused.
+    pub fn set_scarce(&mut self, is_scarce: bool)
+        ensures { self.new ≡ self.old }
+    {
+        self.is_scarce = is_scarce;
+    }
+
     /// Begins a new line.
     pub fn begin_line(&mut self)
         ensures { self.new ≡ record self.old { line = so_far [] } }
