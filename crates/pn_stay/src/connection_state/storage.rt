@@ -2,7 +2,6 @@
 
 ghost use Rattle.std.specs.Prelude.{◌≡◌, ◌+◌, ◌≤◌, ℕ, List, [], ◌++◌, Option, length, vec_len, IfOk};
 ghost use Rattle.pn_stay.specs.Connections.{IsLine, SameInput, line_in};
-ghost use Rattle.pn_stay.specs.Turns.{in_buffers, IsStored};
 
 use crate::connection_state::{ConnectionState, Pause, ThreadBuffers, TurnOutcome};
 use crate::input_buffer::INPUT_CAPACITY;
@@ -22,36 +21,58 @@ impl ConnectionState {
         }
         buffers.input.fill(&self.held);
         self.held = Vec::new(self.alloc);
-        if let Some(mut replies) = self.replies.take() {
-            buffers.lines.swap_replies(&mut replies);
-            buffers.spare = Some(replies);
+        let can_keep = self.load_replies(buffers);
+        buffers.lines.set_scarce(!can_keep);
+    }
+
+    // Goes on with its own buffer of replies, in whose place it has the thread's meanwhile. Where it has none, whether there is a spare
+    // one, which it may have to keep.
+    fn load_replies(&mut self, buffers: &mut ThreadBuffers) -> bool {
+        if let Some(replies) = &mut self.replies {
+            buffers.lines.swap_replies(replies);
+            return true;
         }
         if buffers.spare.is_none() {
             buffers.spare = ReplyBuffer::new(self.alloc).ok();
         }
-        buffers.lines.set_scarce(buffers.spare.is_none());
+        buffers.spare.is_some()
     }
 
     // Stores it until its next turn, or ends it.
     pub(super) fn store(&mut self, buffers: &mut ThreadBuffers, step: Step) -> TurnOutcome {
+        let pause = match step {
+            Step::Next(_) => Pause::Turn,
+            Step::NoInput => Pause::Input,
+            Step::NoRoom => Pause::Output,
+            Step::Ends(ended) => return TurnOutcome::Ended(ended),
+        };
+        let has_kept = self.keep_replies(buffers);
         buffers.lines.swap_state(&mut self.state);
-        match step {
-            Step::Next(_) => self.keep(buffers, Pause::Turn),
-            Step::NoInput => self.keep(buffers, Pause::Input),
-            Step::NoRoom => self.keep(buffers, Pause::Output),
-            Step::Ends(ended) => TurnOutcome::Ended(ended),
+        if !has_kept {
+            return TurnOutcome::Ended(Err(RunFault::Write));
         }
+        self.keep_input(buffers, pause)
     }
 
-    // Takes out of the buffers what it keeps. Out of memory, its input is lost as by a fault of the reader, and a short reply that the
-    // socket did not take as by one of the writer.
-    fn keep(&mut self, buffers: &mut ThreadBuffers, pause: Pause) -> TurnOutcome {
-        if !buffers.lines.is_sent() {
-            self.replies = take_replies(buffers);
-            if self.replies.is_none() {
-                return TurnOutcome::Ended(Err(RunFault::Write));
-            }
+    // Keeps the buffer of replies where some wait or are still to be made. False where the thread has no other.
+    fn keep_replies(&mut self, buffers: &mut ThreadBuffers) -> bool {
+        let mut others = match self.replies.take() {
+            Some(threads) => Some(threads),
+            None => mem::replace(&mut buffers.spare, None),
+        };
+        if !buffers.lines.has_replies() {
+            buffers.spare = others;
+            return true;
         }
+        if let Some(replies) = &mut others {
+            buffers.lines.swap_replies(replies);
+        }
+        self.replies = others;
+        self.replies.is_some()
+    }
+
+    // Takes the input out of the buffers. Out of memory, it is lost as by a fault of the reader.
+    fn keep_input(&mut self, buffers: &mut ThreadBuffers, pause: Pause) -> TurnOutcome {
         match unload_input(self.alloc, buffers) {
             Ok(stored) => {
                 self.line = stored.line;
@@ -61,13 +82,6 @@ impl ConnectionState {
             Err(_) => TurnOutcome::Ended(Err(RunFault::Read)),
         }
     }
-}
-
-// The buffer of the replies that wait. The thread goes on with its spare one.
-fn take_replies(buffers: &mut ThreadBuffers) -> Option<ReplyBuffer> {
-    let mut spare = mem::replace(&mut buffers.spare, None)?;
-    buffers.lines.swap_replies(&mut spare);
-    Some(spare)
 }
 
 // The input of a connection between two turns.

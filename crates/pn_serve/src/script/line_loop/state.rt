@@ -1,8 +1,8 @@
 //! Where a line loop is between two steps, and how it is put aside while its buffers serve another.
 
-ghost use Rattle.std.specs.Prelude.{◌≡◌, ◌↔◌, IsTrue, []};
+ghost use Rattle.std.specs.Prelude.{◌≡◌, ◌↔◌, IsFalse, IsTrue, []};
 ghost use Rattle.pn_line.specs.Line.{so_far};
-ghost use Rattle.pn_serve.specs.Lines.States.{new_state};
+ghost use Rattle.pn_serve.specs.Lines.States.{new_state, waits_in};
 
 use crate::script::line_loop::LineLoop;
 use crate::script::replies::ReplyBuffer;
@@ -90,6 +90,13 @@ impl LineLoop {
         ensures { IsTrue result ↔ (self.now.replies ≡ []) }
     {
         self.replies.is_empty()
+    }
+
+    /// Whether bytes wait, or text of a reply is still to be made.
+    pub fn has_replies(&self) -> bool
+        ensures { IsFalse result ↔ (waits_in self.now ≡ []) }
+    {
+        !self.replies.is_empty() || self.state.text.is_some()
     }
 
     /// Whether replies that the output does not take at once can be kept from now on. Where not, long ones are refused.
