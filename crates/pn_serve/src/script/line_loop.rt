@@ -86,6 +86,9 @@ impl LineLoop {
         if self.state.text.is_some() {
             return self.write_on(output);
         }
+        if let Stage::Reading = &self.state.stage {
+            return self.read_on(machine, input, output);
+        }
         match mem::replace(&mut self.state.stage, Stage::Reading) {
             Stage::Reading => self.read_on(machine, input, output),
             Stage::Looking(going) => {
