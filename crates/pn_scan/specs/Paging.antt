@@ -1,5 +1,5 @@
 -- Pages that are gone on with, between whose looks the view may move.
-use Rattle.std.specs.Prelude.{◌≡◌, ◌<◌, ◌≤◌, ℕ, ◌+◌, ◌-◌, List, [], ◌++◌, length, map, take, Option, None, Some, Result, Ok, Err}
+use Rattle.std.specs.Prelude.{◌≡◌, ◌⊎◌, ◌<◌, ◌≤◌, ℕ, suc, ◌+◌, ◌-◌, List, [], ◌++◌, length, map, take, Option, None, Some, Result, Ok, Err}
 use Rattle.std.specs.List.{range_with_len}
 use Rattle.pn_record.specs.CellMap.{Entries}
 use Rattle.pn_tablet.specs.Layouts.{Bounds}
@@ -49,6 +49,11 @@ abbrev pub records_left : Option PartWalkValue → ℕ
 records_left None = 0
 records_left (Some walk) = length walk.rest
 
+-- one more than that, where a look is gone on with
+abbrev pub steps_left : Option PartWalkValue → ℕ
+steps_left None = 0
+steps_left (Some walk) = suc (length walk.rest)
+
 -- the look has room for what the page still takes
 abbrev pub HasRoom : QueryValue → Entries → Option PartWalkValue → Type 0
 HasRoom query rows None = Unit {0}
@@ -80,3 +85,9 @@ PagesTo moves looks bounds query was now (Err fault) seen = (more : List Look) �
 -- a page of which nothing was looked for
 abbrev pub IsNewWalk : Bounds → QueryValue → PageWalkValue → Type 0
 IsNewWalk bounds query walk = (walk.rows ≡ []) × (walk.part ≡ None) × (candidates bounds query ≡ range_with_len walk.next (walk.end - walk.next))
+
+-- fewer tablets are to come, or less is left of the one that is looked into
+abbrev pub IsNearer : PageWalkValue → PageStep → Type 0
+IsNearer old (Done page) = Unit {0}
+IsNearer old (Next walk) =
+    (walk.end - walk.next < old.end - old.next) ⊎ ((walk.end ≡ old.end) × (walk.next ≡ old.next) × (steps_left walk.part < steps_left old.part))

@@ -8,7 +8,7 @@ ghost use Rattle.pn_tablet.specs.Prelude.{tablet_ends};
 ghost use Rattle.pn_scan.specs.Queries.{query_after};
 ghost use Rattle.pn_scan.specs.Candidates.{Look, candidates as all_candidates, first_tablet as named_tablet, begins_before as bound_before};
 ghost use Rattle.pn_scan.specs.Pages.{first_page};
-ghost use Rattle.pn_scan.specs.Paging.{IsNewWalk, IsOnPage, IsPreorder, Moving, PagesTo};
+ghost use Rattle.pn_scan.specs.Paging.{IsNearer, IsNewWalk, IsOnPage, IsPreorder, Moving, PagesTo};
 ghost use Rattle.pn_scan.specs.Visits.{IsScan};
 
 use crate::{Page, Part, PartWalk, Query, Row, ScanFault, View};
@@ -78,6 +78,7 @@ impl PageWalk {
     ) -> Result<PageStep, ScanFault>
         ensures goes { (moves : Moving V) (was between : V) (seen : List Look) → IsPreorder moves → IsOnPage moves V.looks (V.bounds view.old) query.now was between self seen → moves between view.old
             → PagesTo moves V.looks (V.bounds view.old) query.now was view.new result seen }
+        ensures nearer { 0 < records → IfOk result (IsNearer self) }
         ensures layout { V.bounds view.new ≡ V.bounds view.old }
     {
         let mut walk = self;
