@@ -1,7 +1,9 @@
 -- The text of a reply that is still to be made.
-use Rattle.std.specs.Prelude.{◌≡◌, ◌≤◌, ◌-◌, ℕ, List, [], ◌∷◌, ◌++◌, length, map, take, drop, get_or, codes, zip, Option, None, Some}
+use Rattle.std.specs.Prelude.{◌≡◌, ◌≤◌, ◌+◌, ◌-◌, ℕ, Bool, false, nat_lt, List, [], ◌∷◌, ◌++◌, length, map, take, drop, get_or, codes, zip, Option, None, Some}
 use Rattle.std.specs.FinMap.{keys}
-use Rattle.serde_json.specs.Written.{compact_text}
+use Rattle.serde_json.specs.Data.{Data}
+use Rattle.serde_json.specs.View.{items_of}
+use Rattle.serde_json.specs.Written.{compact_text, items_text}
 use Rattle.pn_record.specs.Sets.{CellValue}
 use Rattle.pn_record.specs.Writing.{content_data}
 use Rattle.pn_protocol.specs.declared.reply.Reply.{Reply}
@@ -10,7 +12,7 @@ use Rattle.pn_protocol.specs.declared.refusal.Refusal.TheVariants.{Memory}
 use Rattle.pn_protocol.specs.declared.reply.text.Place.{Place}
 use Rattle.pn_protocol.specs.declared.reply.text.Place.TheVariants.{Bytes, Record, Lines, End}
 use Rattle.pn_protocol.specs.Reply.Record.{row_or_null}
-use Rattle.pn_protocol.specs.Reply.Texts.{joined, reply_text}
+use Rattle.pn_protocol.specs.Reply.Texts.{reply_text}
 
 -- the records that a reply shows, in its order
 abbrev pub records_of : Reply → List (List ℕ × Option CellValue)
@@ -19,32 +21,38 @@ records_of (Records shown cells) = zip shown.items cells.items
 records_of (Page page) = map (λ row. (row.0, Some row.1)) page.rows.items
 records_of reply = []
 
--- what comes after the last record
-abbrev pub end_text : Reply → List ℕ
-end_text (One key cell) = codes "}\n"
-end_text reply = codes "]}\n"
-
 -- the row of a record, or null
-abbrev pub record_text : List ℕ × Option CellValue → List ℕ
-record_text found = compact_text (row_or_null found.0 found.1)
+abbrev pub record_data : List ℕ × Option CellValue → Data
+record_data found = row_or_null found.0 found.1
 
--- how many bytes of its row come before a content of a record: none before the first
+abbrev pub record_text : List ℕ × Option CellValue → List ℕ
+record_text found = compact_text (record_data found)
+
+-- rows and the bracket that ends them, with a comma before the first as well if others come before it
+abbrev pub rows_text : Bool → List (List ℕ × Option CellValue) → List ℕ
+rows_text later records = items_text later (items_of (map record_data records))
+
+-- how many bytes of its row come before a content of a record: all contents before it, without the comma after them
 abbrev pub before_content : ℕ → List ℕ × Option CellValue → ℕ
 before_content 0 found = 0
 before_content n (key, None) = 0
-before_content n (key, Some cell) = length (codes "{\"contents\":[") + length (joined (take n (map (λ content. compact_text (content_data content)) (keys cell.1))))
+before_content n (key, Some cell) = length (codes "{\"contents\":[") + (length (items_text false (items_of (map content_data (take n (keys cell.1))))) - 1)
 
--- the rows from an index on, with a comma before all but the first row of the reply
-abbrev pub rows_from : ℕ → List (List ℕ × Option CellValue) → List ℕ
-rows_from index [] = []
-rows_from 0 (found ∷ rest) = joined (map record_text (found ∷ rest))
-rows_from index (found ∷ rest) = 44 ∷ joined (map record_text (found ∷ rest))
+-- the record of an index, if there is one
+abbrev pub record_at : Reply → ℕ → List ℕ × Option CellValue
+record_at reply index = get_or (records_of reply) index ([], None)
+
+-- the text from a content of a record on, without the end of the line
+abbrev pub records_rest : Reply → ℕ → ℕ → List ℕ
+records_rest (One key cell) 0 content = drop (before_content content (key, cell)) (record_text (key, cell))
+records_rest (One key cell) index content = []
+records_rest reply index 0 = rows_text (nat_lt 0 index) (drop index (records_of reply))
+records_rest reply index content = drop (before_content content (record_at reply index)) (rows_text false (drop index (records_of reply)))
 
 -- the text from a place on
 abbrev pub rest_of : Reply → Place → List ℕ
 rest_of reply (Bytes made) = drop made (reply_text reply)
-rest_of reply (Record index 0) = rows_from index (drop index (records_of reply)) ++ end_text reply
-rest_of reply (Record index content) = drop (before_content content (get_or (records_of reply) index ([], None))) (joined (map record_text (drop index (records_of reply)))) ++ end_text reply
+rest_of reply (Record index content) = records_rest reply index content ++ codes "}\n"
 rest_of (Copy copy) Lines = copy.left
 rest_of reply Lines = []
 rest_of reply End = []
@@ -52,7 +60,7 @@ rest_of reply End = []
 -- a place is one of the reply's
 abbrev pub IsPlaceIn : Reply → Place → Type 0
 IsPlaceIn reply (Bytes made) = made ≤ length (reply_text reply)
-IsPlaceIn reply (Record index content) = (index ≤ length (records_of reply)) × (before_content content (get_or (records_of reply) index ([], None)) ≤ length (record_text (get_or (records_of reply) index ([], None))))
+IsPlaceIn reply (Record index content) = (index ≤ length (records_of reply)) × (before_content content (record_at reply index) ≤ length (record_text (record_at reply index)))
 IsPlaceIn reply Lines = Unit {0}
 IsPlaceIn reply End = Unit {0}
 
