@@ -9,7 +9,6 @@ pub use command::Command;
 pub use command::control::{ControlCommand, a_control_line_is_one_command, control_of};
 pub use command::parse::{a_line_is_one_command, command_of, lookup_of};
 pub use refusal::{Part, Refusal};
-pub use reply::{PageReply, Reply};
 pub use reply::answers::{answer_copy, answer_get, answer_read, answer_scan, answer_text};
 pub use reply::notices::notices_reply;
 pub use reply::pieces::MAX_PIECE_BYTES;
@@ -21,3 +20,4 @@ pub use reply::stats::{
 };
 pub use reply::tablets::{ShownTablets, marks_reply, tablets_reply};
 pub use reply::text::ReplyText;
+pub use reply::{PageReply, Reply};

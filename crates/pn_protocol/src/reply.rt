@@ -41,7 +41,10 @@ pub enum Reply {
     /// A page of rows.
     Page(PageReply),
     /// The record of a key, or none.
-    Record { key: Key, cell: Option<Cell> },
+    Record {
+        key: Key,
+        cell: Option<Cell>,
+    },
     /// The records of keys, in the order of the keys.
     Records {
         keys: Vec<Key>,

@@ -113,7 +113,10 @@ impl PageWalk {
     // With what the look into a tablet has come to, which went over so many records unless it is done.
     fn with_part(self, part: Part, records: usize) -> Result<PageWalk, NoMemory> {
         let PageWalk {
-            rows, tablet, end, ..
+            rows,
+            tablet,
+            end,
+            ..
         } = self;
         let (rows, part, looked) = match part {
             Part::Done(more, _, looked) => (put_after(rows, more)?, None, looked),

@@ -183,11 +183,7 @@ impl CopyText {
     }
 
     // Writes the mark of an index, if there is one.
-    fn write_mark_at(
-        &self,
-        text: Vec<u8>,
-        index: usize,
-    ) -> Result<(Vec<u8>, CopyPlace), NoMemory> {
+    fn write_mark_at(&self, text: Vec<u8>, index: usize) -> Result<(Vec<u8>, CopyPlace), NoMemory> {
         match self.copy.marks.entry_at(index) {
             Some((name, position)) => {
                 let text = write_mark(text, name, position.0)?;

@@ -117,7 +117,11 @@ fn write_begin(out: &mut Vec<u8>, reply: &Reply, made: usize) -> Place
             write_record(out, reply, 0, 0)
         }
         Reply::Copy(copy) => {
-            write_bytes(out, number_reply(NumberName::Lines, copy.lines()).as_bytes(), 0);
+            write_bytes(
+                out,
+                number_reply(NumberName::Lines, copy.lines()).as_bytes(),
+                0,
+            );
             Place::Lines
         }
         reply => {

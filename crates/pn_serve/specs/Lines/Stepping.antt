@@ -74,7 +74,8 @@ module _ {V : Type 0} (handling : Handling V) where
     pub read : ((run.state.last ≡ false) × LinesRead script left (lines ++ text ∷ [])) ⊎ ((run.state.last ≡ true) × (left ≡ Some []) × PartRead script left lines text)
     pub short : All IsShort (text ∷ lines)
     pub bound : run.state.counts.lines < MAX_LINES
-    pub reached between : V
+    pub reached : V
+    pub between : V
     pub answered : AllAnswered Makes start lines written reached (waiting_in run)
     pub begun : ((run.state.last ≡ false) × After handling.moves handling.goes reached text between going) ⊎ ((run.state.last ≡ true) × After handling.moves handling.goes_last reached text between going)
     pub moved : handling.moves between machine
