@@ -156,14 +156,14 @@ pub struct GetWalk {
 }
 
 impl Model for GetWalk {
-    ghost use Rattle.std.specs.Prelude.{option_map, length, ◌≤◌};
+    ghost use Rattle.std.specs.Prelude.{◌≡◌, ◌≤◌, option_map, length, vec_capacity, vec_len, IfSome};
     ghost use Rattle.pn_live.specs.Getting.{GetWalkValue};
 
     ghost Value = { GetWalkValue };
 
     ghost view = { λ walk. record { keys = walk.keys.items; cells = option_map (λ cells. cells.items) walk.cells; read = walk.read } };
 
-    ghost invariant = { λ walk. walk.read ≤ length walk.keys.items };
+    ghost invariant = { λ walk. (walk.read ≤ length walk.keys.items) × IfSome walk.cells (λ cells. (vec_len cells ≡ walk.read) × (length walk.keys.items ≤ vec_capacity cells)) };
 }
 
 impl GetWalk {

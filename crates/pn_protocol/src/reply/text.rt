@@ -5,7 +5,7 @@ ghost use Rattle.pn_protocol.specs.Reply.Making.{rest_of, IsPlaceIn, WritesTo};
 ghost use Rattle.pn_protocol.specs.Reply.Texts.{reply_text};
 
 use crate::reply::capacity::prefetch_rows;
-use crate::reply::pieces::{write_bytes, write_record_piece, write_text};
+use crate::reply::pieces::{MAX_PIECE_BYTES, write_bytes, write_record_piece, write_text};
 use crate::reply::scan::ROWS_AT_HAND;
 use crate::{NumberName, Reply, ShortReply, number_reply, refusal_reply};
 use pn_record::{Cell, Key};
