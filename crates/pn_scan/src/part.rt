@@ -52,6 +52,7 @@ fn begin_walk(
     ensures { IfOk result (λ part. part_at query.now part ≡ walk_answer query.now (record { rows = []; rest = drop index cells.now; room = room })) }
 {
     let mut rows = Vec::with_capacity(alloc, room.min(cells.len()))?;
+    prefetch_cells(cells, index, query, room.min(records));
     match walk_some(cells, index, query, room, records, &mut rows)? {
         Walked::All(more, looked) => Ok(Part::Done(rows, more, looked)),
         Walked::To(next) => take_rest(cells, next, query, rows, room),
@@ -113,8 +114,8 @@ fn check_serving(state: &TabletState, tablet: usize) -> Result<(), ScanFault>
     }
 }
 
-/// Prefetches the counters that copies of the cells raise. No clause depends on it.
-pub(crate) fn prefetch_cells(cells: &Records, index: usize, query: &Query, room: usize) {
+// Prefetches the counters that copies of the cells raise. No clause depends on it.
+fn prefetch_cells(cells: &Records, index: usize, query: &Query, room: usize) {
     for (key, cell) in cells.iter_from(index).take(room) {
         if !is_before(query.to(), key) {
             return;

@@ -5,7 +5,7 @@ ghost use Rattle.pn_scan.specs.Walking.{WalksTo};
 ghost use Rattle.pn_scan.specs.Parts.{part_at, walk_answer, left_in, IsDone};
 
 use crate::filter::is_shown;
-use crate::part::{prefetch_cells, row_of};
+use crate::part::row_of;
 use crate::{Query, Row};
 use pn_join::NoMemory;
 use pn_record::Records;
@@ -105,7 +105,6 @@ pub(crate) fn walk_some(
     ensures { IfOk result (WalksTo query.now (drop index cells.now) index records room rows.old.items rows.new.items) }
 {
     let mut looked = 0;
-    prefetch_cells(cells, index, query, (room - rows.len()).min(records));
     for (key, cell) in cells.iter_from(index) {
         if looked == records {
             return Ok(Walked::To(index + looked));
