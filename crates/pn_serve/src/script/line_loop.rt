@@ -264,7 +264,7 @@ impl LineLoop {
     /// Writes the replies that wait, and hands them on.
     pub fn flush<W: Sink>(&mut self, output: &mut W) -> Result<SendOutcome, WriteFault> {
         let sent = self.replies.flush(output)?;
-        self.state.is_out = sent == SendOutcome::All;
+        self.state.is_out = sent == SendOutcome::All && self.state.text.is_none();
         Ok(sent)
     }
 }
