@@ -28,6 +28,8 @@ from common.tried import program_parser
 from serving.staying import CHUNK, Beside, Staying, raise_descriptors, until
 
 BIG_RECORDS, BIG_TEXT = 2_000, 4_000
+# For how many seconds the records may be read in.
+LOADING = 600
 GREEDY = (1, 8, 64)
 WANTED_MS = {1: 10.0, 8: 10.0, 64: 50.0}
 STREAMED, SCANNERS, SLOWEST = 60_000, 4, 0.5
@@ -61,6 +63,11 @@ def write_records(folder: str, records: int) -> str:
         file.write(messages(1, records, "k", "x"))
         file.write(messages(records + 1, BIG_RECORDS, "p", "y" * BIG_TEXT))
     return path
+
+
+def wait_until_loaded(region: Staying) -> None:
+    """Waits until the stream of all records is taken, however busy the machine is."""
+    until("all records are there", lambda: b"stream east ended" in region.said(), LOADING)
 
 
 def ask_without_end(is_over: Callable[[], bool], port: int, count: int, line: bytes, ready: socket.socket) -> None:
@@ -163,7 +170,7 @@ def stream_row(program: str, folder: str, east: str) -> Row:
         path = os.path.join(folder, f"west{number}")
         os.mkfifo(path)
         with Staying(program, folder, [("east", east), ("west", path)], threads=1) as region, contextlib.ExitStack() as stay:
-            region.wait_for_words(b"stream east ended")
+            wait_until_loaded(region)
             if count:
                 stay.enter_context(greedy(region.port, count, SCAN))
                 time.sleep(0.5)
@@ -198,7 +205,7 @@ def memory_at_rest(region: Staying, seconds: float = 3) -> int:
 def deaf_row(program: str, folder: str, east: str, count: int) -> Row:
     """What clients cost that take nothing."""
     with Staying(program, folder, [("east", east)], "--connections", "4096", threads=1) as region, contextlib.ExitStack() as stay:
-        region.wait_for_words(b"stream east ended")
+        wait_until_loaded(region)
         before = memory_at_rest(region)
         for number in range(count):
             stay.enter_context(deaf_client(region.port, COPY if number % 2 else PAGE))
@@ -218,7 +225,7 @@ def scarce_row(program: str, folder: str, east: str) -> Row:
         resource.setrlimit(resource.RLIMIT_AS, soft)
     lost, refused = 0, 0
     with region, contextlib.ExitStack() as stay:
-        region.wait_for_words(b"stream east ended")
+        wait_until_loaded(region)
         clients = [stay.enter_context(deaf_client(region.port, PAGE)) for _ in range(SCARCE_CLIENTS)]
         with open(path, "wb") as pipe:
             pipe.write(messages(1, STREAMED // 10, "w", "z" * 100))
@@ -253,7 +260,7 @@ def rows(program: str, folder: str, records: int, seconds: float, names: list[st
     east, kinds = write_records(folder, records), [name for name in LINES if not names or name in names]
     if kinds:
         with Staying(program, folder, [("east", east)], threads=1) as region:
-            region.wait_for_words(b"stream east ended")
+            wait_until_loaded(region)
             yield from read_rows(region, seconds, kinds)
     if not names or "stream" in names:
         yield stream_row(program, folder, east)
