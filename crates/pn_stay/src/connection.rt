@@ -62,7 +62,9 @@ impl Connection {
         input.end_input_if(self.is_ending);
         let mut output = TrackedSocket::new(&self.socket);
         let turned = self.state.turn(buffers, machine, &mut input, &mut output);
-        self.idle.note_activity(has_moved(&input, &output));
+        let is_busy = turned == TurnOutcome::Goes(Pause::Turn);
+        self.idle
+            .note_activity(is_busy || has_moved(&input, &output));
         self.is_held_up = turned == TurnOutcome::Goes(Pause::Output);
         match turned {
             TurnOutcome::Goes(pause) => Some(pause),
