@@ -19,9 +19,10 @@ mod read_guard;
 mod reader;
 mod reader_handle;
 mod region;
+pub mod start_laws;
 mod tablet_reader;
 
-pub use fault::OpenFault;
+pub use fault::{OpenFault, StartFault};
 pub use front::Front;
 pub use reader::LiveReader;
 pub use region::{LiveRegion, MAX_READERS};

@@ -10,8 +10,8 @@ ghost use Rattle.pn_tablet.specs.Ranges.{are_ends};
 ghost use Rattle.pn_tablet.specs.Refusals.{Answers};
 ghost use Rattle.pn_tablet.specs.declared.cuts.CutFault.TheVariants.{Memory as no_memory};
 
-use crate::layout::{Layout, MAX_BOUNDS};
 use crate::TabletCopy;
+use crate::layout::{Layout, MAX_BOUNDS};
 use pn_join::{Dup, NoMemory, dup_optional};
 use pn_record::Key;
 use std::alloc::Global;
