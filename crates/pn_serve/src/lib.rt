@@ -3,6 +3,7 @@
 
 mod arguments;
 mod control;
+mod copies;
 mod laws;
 mod machine;
 mod page_laws;
@@ -20,6 +21,7 @@ pub use arguments::plans::{Address, Plan, Service, StreamPath};
 pub use control::laws::commands_are_events;
 pub use control::mailboxes::{ControlMailboxes, MAX_CONTROLS};
 pub use control::session::{ControlSession, StatsSource};
+pub use copies::{CopiesFault, read_copies, start_from_copies};
 pub use laws::regions_converge;
 pub use machine::line_handler::LineHandler;
 pub use page_laws::{
@@ -38,9 +40,9 @@ pub use repeat_laws::{
 pub use script::line_loop::LineLoop;
 pub use script::{Counts, MAX_LINES, RunFault, run, run_to_exit};
 pub use server::{
-    Acceptor, ComesBack, Counter, FaultLog, Origin, ServeFault, SessionThread, Stream,
-    StreamFailure, Watchers, WriterEnd, close_region, join_sessions, open_region, read_streams,
-    serve, take_commands,
+    Acceptor, ComesBack, Counter, FaultLog, OpenedRegion, Origin, ServeFault, SessionThread,
+    Stream, StreamFailure, Watchers, WriterEnd, close_region, join_sessions, open_region,
+    read_streams, serve, serve_from, take_commands,
 };
 pub use sessions::session;
 pub use settings::Settings;

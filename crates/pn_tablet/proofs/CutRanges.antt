@@ -1,5 +1,5 @@
 -- Ranges that follow one another from the first key to the last are those of a layout.
-use Rattle.std.proofs.Common.{◌≡◌, ℕ, zero, suc, ◌+◌, ◌<◌, ◌≤◌, Bool, true, false, not, cond, ◌&&◌, nat_lt, List, [], ◌∷◌, map, length, slice_get, Option, Some, None, option_map, Result, Ok, Err, Ordering, Less, Equal, Greater, is_eq, is_lt, IsTrue, refl, sym, ap, ap₂, ◌∙◌, subst, arith, add-one}
+use Rattle.std.proofs.Common.{◌≡◌, ℕ, zero, suc, ◌+◌, ◌<◌, ◌≤◌, Bool, true, false, not, cond, ◌&&◌, nat_lt, List, [], ◌∷◌, ◌++◌, map, length, slice_get, Option, Some, None, option_map, Result, Ok, Err, Ordering, Less, Equal, Greater, is_eq, is_lt, IsTrue, refl, sym, ap, ap₂, ◌∙◌, subst, arith, add-one}
 use Rattle.std.proofs.lemmas.Bool.Decides.{nat_tests}
 use Rattle.std.proofs.lemmas.Cmp.{nat_list_cmp_total}
 use Rattle.std.proofs.lemmas.List.Sums.{sum_by-cons}
@@ -52,6 +52,15 @@ begins-cons (None, end) rest to is = cc
 begins-cons (Some key, end) rest to is =
     let same : key ≡ to = cc in
     ap (λ (k : List ℕ). k ∷ begins_of rest) same
+
+pub begins-append : (first later : List Ends) → begins_of (first ++ later) ≡ begins_of first ++ begins_of later
+begins-append [] later = refl
+begins-append ((None, end) ∷ first) later = begins-append first later
+begins-append ((Some key, end) ∷ first) later = ap (λ (bounds : Bounds). key ∷ bounds) (begins-append first later)
+
+pub begins-one : (range : Ends) → begins_of (range ∷ []) ≡ begins_of ((range.0, None) ∷ [])
+begins-one (None, end) = refl
+begins-one (Some key, end) = refl
 
 -- ranges that follow one another begin where the first one does, and are cut at the keys at which the others begin
 pub in_turn : (from : Option (List ℕ)) (range : Ends) (rest : List Ends) → follow_from from (range ∷ rest) ≡ Ok tt → (range.0 ≡ from) × (range ∷ rest ≡ cuts from (begins_of rest))
@@ -107,7 +116,7 @@ no_fall (a ∷ b ∷ bs) rise =
 
 length_cuts : (from : Option (List ℕ)) (bs : Bounds) → length (cuts from bs) ≡ length bs + 1
 length_cuts from [] = refl
-length_cuts from (b ∷ bs) = ap suc (length_cuts (Some b) bs)
+length_cuts from (b ∷ bs) = omega (arith, length_cuts (Some b) bs)
 
 -- all at once, of ranges that are there
 pub record Cut (ranges : List Ends) : Type 0 where
@@ -227,7 +236,7 @@ one_of_two (Some f) b bs key false is follows =
 counted : (from : Option (List ℕ)) (bs : Bounds) (key : List ℕ) → IsStrictlySortedBy bytes_cmp bs → Follows from bs → count_having (cuts from bs) key ≡ once (is_from from key)
 unfolding IsStrictlySortedBy
 counted from [] key rise follows = last (is_from from key) where
-  last : (t : Bool) → once (t && true) + 0 ≡ once t
+  last : (t : Bool) → 0 + once (t && true) ≡ once t
   last true = refl
   last false = refl
 counted from (b ∷ bs) key rise follows =

@@ -1,5 +1,5 @@
 -- Ranges that cut all keys: those of a layout's tablets.
-use Rattle.std.specs.Prelude.{◌≡◌, ℕ, ◌+◌, nat_lt, Bool, true, false, if◌then◌else◌, List, [], ◌∷◌, length, count_by, map, Option, None, Some, Result, Ok, Err, IsTrue}
+use Rattle.std.specs.Prelude.{◌≡◌, ℕ, ◌+◌, nat_lt, if◌then◌else◌, List, [], ◌∷◌, length, count_by, map, Option, None, Some, Result, Ok, Err, IsTrue}
 use Rattle.std.specs.List.{range_with_len}
 use Rattle.std.specs.List.Sorted.{IsSortedByKey}
 use Rattle.std.specs.Option.{option_cmp}
@@ -10,7 +10,7 @@ use Rattle.pn_record.specs.Order.{bytes_cmp}
 use Rattle.pn_tablet.specs.Layouts.{Bounds, tablet_ends}
 use Rattle.pn_tablet.specs.Ranges.{Ends, in_range, is_below}
 use Rattle.pn_tablet.specs.declared.cuts.CutFault.{CutFault}
-use Rattle.pn_tablet.specs.declared.cuts.CutFault.TheVariants.{NoCopy, TwoCopies, TooMany, Memory}
+use Rattle.pn_tablet.specs.declared.cuts.CutFault.TheVariants.{NoCopy, TwoCopies, TooMany}
 use Rattle.pn_tablet.specs.declared.layout.TheConstants.{MAX_BOUNDS}
 
 -- the least text that is not below an end: the empty one where the range is open
@@ -73,8 +73,3 @@ unfoldable pub layout_with : List Ends → Result Bounds CutFault
 layout_with ranges =
     if nat_lt (MAX_BOUNDS + 1) (length ranges) then Err TooMany
     else follow_from None ranges >>= λ _. Ok (begins_of ranges)
-
--- the fault says that memory ran out
-abbrev pub is_memory : CutFault → Bool
-is_memory Memory = true
-is_memory _ = false

@@ -1,13 +1,13 @@
 //! The layout of copies whose ranges cut all keys.
 
-ghost use Rattle.std.specs.Prelude.{◌≡◌, map, None, OnOk, IfOk, IsTrue};
+ghost use Rattle.std.specs.Prelude.{◌≡◌, ◌∷◌, ◌++◌, [], map, None, OnOk, IfOk, IsTrue};
 ghost use Rattle.std.specs.List.{AllByRecursion};
 ghost use Rattle.std.specs.List.Sorted.{IsPermutation, IsSortedByKey};
 ghost use Rattle.std.specs.Option.{option_cmp, option_copied};
+ghost use Rattle.pn_json.specs.Prelude.{IsUnless};
 ghost use Rattle.pn_record.specs.Prelude.{bytes_cmp};
-ghost use Rattle.pn_tablet.specs.Cuts.{begins_at, begins_of, ends_open, follow_from, is_memory, layout_with};
+ghost use Rattle.pn_tablet.specs.Cuts.{begins_at, begins_of, ends_open, follow_from, layout_with};
 ghost use Rattle.pn_tablet.specs.Ranges.{are_ends};
-ghost use Rattle.pn_tablet.specs.Refusals.{Answers};
 ghost use Rattle.pn_tablet.specs.declared.cuts.CutFault.TheVariants.{Memory as no_memory};
 
 use crate::TabletCopy;
@@ -43,7 +43,7 @@ impl From<NoMemory> for CutFault {
 pub fn layout_of_copies(alloc: Global, copies: &mut Vec<TabletCopy>) -> Result<Layout, CutFault>
     ensures same { IsPermutation copies.old.items copies.new.items }
     ensures order { IsSortedByKey (λ copy. copy.range.0) (option_cmp bytes_cmp) copies.new.items }
-    ensures exact { Answers is_memory result (layout_with (map (λ copy. copy.range) copies.new.items)) }
+    ensures exact { IsUnless CutFault.Memory result (layout_with (map (λ copy. copy.range) copies.new.items)) }
 {
     copies.sort_unstable_by(|one, other| compare_begins(one.range.from(), other.range.from()));
     layout_in_order(alloc, copies)
@@ -64,7 +64,7 @@ fn compare_begins(one: Option<&Key>, other: Option<&Key>) -> Ordering
 // The layout of copies in the order in which their ranges begin.
 #[tactic(auto, unfolding(crate::specs::Cuts::layout_with))]
 fn layout_in_order(alloc: Global, copies: &[TabletCopy]) -> Result<Layout, CutFault>
-    ensures exact { Answers is_memory result (layout_with (map (λ copy. copy.range) copies.now)) }
+    ensures exact { IsUnless CutFault.Memory result (layout_with (map (λ copy. copy.range) copies.now)) }
 {
     if copies.len() > MAX_BOUNDS + 1 {
         return Err(CutFault::TooMany);
@@ -79,7 +79,7 @@ fn layout_in_order(alloc: Global, copies: &[TabletCopy]) -> Result<Layout, CutFa
 // Whether the ranges follow one another from the first key to the last.
 #[tactic(auto, unfolding(crate::specs::Cuts::follow_from))]
 fn follow(copies: &[TabletCopy]) -> Result<(), CutFault>
-    ensures exact { Answers is_memory result (follow_from None (map (λ copy. copy.range) copies.now)) }
+    ensures exact { IsUnless CutFault.Memory result (follow_from None (map (λ copy. copy.range) copies.now)) }
     ensures order { OnOk result (AllByRecursion (λ range. IsTrue (are_ends range)) (map (λ copy. copy.range) copies.now)) }
 {
     let mut from = None;
@@ -97,7 +97,7 @@ fn follow(copies: &[TabletCopy]) -> Result<(), CutFault>
 
 // Whether a range begins where those before it end.
 fn begin_at(from: Option<&Key>, begin: Option<&Key>) -> Result<(), CutFault>
-    ensures { Answers is_memory result (begins_at (option_copied from.entry) (option_copied begin.entry)) }
+    ensures { IsUnless CutFault.Memory result (begins_at (option_copied from.entry) (option_copied begin.entry)) }
 {
     match compare_begins(from, begin) {
         Ordering::Less => Err(CutFault::NoCopy(dup_optional(from)?)),
@@ -108,7 +108,7 @@ fn begin_at(from: Option<&Key>, begin: Option<&Key>) -> Result<(), CutFault>
 
 // Whether no copy is left past one that is open above.
 fn end_open(copies: &[TabletCopy]) -> Result<(), CutFault>
-    ensures { Answers is_memory result (ends_open (map (λ copy. copy.range) copies.now)) }
+    ensures { IsUnless CutFault.Memory result (ends_open (map (λ copy. copy.range) copies.now)) }
 {
     match copies.first() {
         None => Ok(()),
@@ -122,9 +122,17 @@ fn begins_of(alloc: Global, copies: &[TabletCopy]) -> Result<Vec<Key>, NoMemory>
 {
     let mut bounds = Vec::with_capacity(alloc, copies.len())?;
     for copy in copies {
-        if let Some(from) = copy.range.from() {
-            bounds.push_reserved(from.dup()?);
-        }
+        add_begin(&mut bounds, copy.range.from())?;
     }
     Ok(bounds)
+}
+
+// Adds where a range begins, unless it is open there.
+fn add_begin(bounds: &mut Vec<Key>, begin: Option<&Key>) -> Result<(), NoMemory>
+    ensures { OnOk result (bounds.new.items ≡ bounds.old.items ++ begins_of ((option_copied begin.entry, None) ∷ [])) }
+{
+    if let Some(begin) = begin {
+        bounds.push(begin.dup()?)?;
+    }
+    Ok(())
 }

@@ -4,11 +4,11 @@ use Rattle.pn_tablet.specs.Cuts.{follow_from}
 use Rattle.pn_tablet.proofs.CutRanges.{InOrder}
 use Rattle.pn_tablet.proofs.cuts.follow.Given as goal
 
-abbrev pub invariant-loop-copy : goal.invariant-loop-copy
-invariant-loop-copy l = record {
+abbrev pub invariant-copies : goal.invariant-copies
+invariant-copies l = record {
   same : follow_from None (map (λ copy. copy.range) l.copies) ≡ follow_from (option_copied l.from) (map (λ copy. copy.range) l.rest);
   order : InOrder (map (λ copy. copy.range) l.rest) → InOrder (map (λ copy. copy.range) l.copies);
 }
 
-abbrev pub decreases-loop-copy : goal.decreases-loop-copy
-decreases-loop-copy l = length l.rest
+abbrev pub decreases-copies : goal.decreases-copies
+decreases-copies l = length l.rest

@@ -1,0 +1,91 @@
+//! Copies, read by several workers from a text in which they stand one after another.
+
+ghost use Rattle.std.specs.Prelude.{◌≡◌, ◌≤◌, IfOk, IfSome, All};
+ghost use Rattle.pn_apply.specs.declared.reducing.TheConstants.{MAX_WORKERS};
+ghost use Rattle.pn_serve.specs.Copies.{SpellsCopies};
+ghost use Rattle.pn_tablet.specs.CopyTexts.{IsCopyText};
+
+use crate::CopiesFault;
+use crate::copies::texts::{CopyText, CopyTexts};
+use pn_line::Source;
+use pn_tablet::{CopyTextFault, MAX_BOUNDS, TabletCopy, read_copy};
+use std::alloc::Global;
+use std::thread;
+use std::thread::Threads;
+
+/// The copies of a text, each read by one of 1 to 16 workers. Beside the copies it takes the memory of one copy's text a
+/// worker.
+///
+/// The first faulty line of the text decides; then more than 64 copies.
+pub fn read_copies<R, S>(
+    rt: &R,
+    alloc: Global,
+    source: S,
+    workers: usize,
+) -> Result<Vec<TabletCopy>, CopiesFault>
+where
+    R: Threads + Sync,
+    S: Source + Drop,
+    requires { (1 ≤ workers) × (workers ≤ MAX_WORKERS) }
+    ensures { IfOk result (λ copies. IfSome (S.left source) (λ text. SpellsCopies text copies.items)) }
+{
+    let mut texts = CopyTexts::new(alloc, source)?;
+    let mut copies = Vec::with_capacity(alloc, MAX_BOUNDS + 1)?;
+    for _ in 0..=MAX_BOUNDS + 1 {
+        let some = texts.next_texts(workers)?;
+        if some.is_empty() {
+            return Ok(copies);
+        }
+        add_copies(&mut copies, read_each(rt, alloc, some)?)?;
+        if copies.len() > MAX_BOUNDS + 1 {
+            return Err(CopiesFault::TooMany);
+        }
+    }
+    Err(CopiesFault::TooMany)
+}
+
+// Reads each of the texts, at the same time.
+fn read_each<R: Threads + Sync>(
+    rt: &R,
+    alloc: Global,
+    texts: Vec<CopyText>,
+) -> Result<Vec<Result<TabletCopy, CopiesFault>>, CopiesFault> {
+    Ok(thread::map_vec(rt, texts, &|text| read_text(alloc, text))?)
+}
+
+// The copy of a text, or at which line of the whole text it has which fault.
+fn read_text(alloc: Global, text: CopyText) -> Result<TabletCopy, CopiesFault> {
+    match read_copy(alloc, &text.text) {
+        Ok(copy) => Ok(copy),
+        Err(fault) => Err(fault_in(&text, fault)),
+    }
+}
+
+// The line of a fault. The text of a copy is truncated at the line that it lacks, and has a bad end in its last one.
+fn fault_in(text: &CopyText, fault: CopyTextFault) -> CopiesFault {
+    let after = text.first.saturating_add(text.lines);
+    match fault {
+        CopyTextFault::BadLine(line)
+        | CopyTextFault::OutsideRange(line)
+        | CopyTextFault::NotRising(line) => {
+            CopiesFault::Line(text.first.saturating_add(line.saturating_sub(1)), fault)
+        }
+        CopyTextFault::BadEnd => CopiesFault::Line(after.saturating_sub(1), fault),
+        CopyTextFault::Truncated if text.is_too_long => {
+            CopiesFault::Line(after, CopyTextFault::BadLine(text.lines.saturating_add(1)))
+        }
+        CopyTextFault::Truncated => CopiesFault::Line(after, fault),
+        CopyTextFault::Memory => CopiesFault::Memory,
+    }
+}
+
+// Adds the copies that were read, up to the first fault.
+fn add_copies(
+    copies: &mut Vec<TabletCopy>,
+    read: Vec<Result<TabletCopy, CopiesFault>>,
+) -> Result<(), CopiesFault> {
+    for copy in read {
+        copies.push(copy?)?;
+    }
+    Ok(())
+}
