@@ -23,8 +23,8 @@ use std::thread::Threads;
 
 /// Reads copies by 1 to 16 workers, and opens a live region with 1 to 32 readers that starts from them.
 ///
-/// The first faulty line of the text decides; then more than 64 copies, or the first key that is not in exactly one; then
-/// `TooManyStreams` above 16. `Memory` and `Read` may come in place of a later fault.
+/// The first faulty line of 64 copies decides; then that there are more; then the first key that is not in exactly one;
+/// then `TooManyStreams` above 16. `Memory` and `Read` may come in place of a later fault.
 pub fn start_from_copies<R, S>(
     rt: &R,
     alloc: Global,

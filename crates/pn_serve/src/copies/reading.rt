@@ -16,7 +16,7 @@ use std::thread::Threads;
 /// The copies of a text, each read by one of 1 to 16 workers. Beside the copies it takes the memory of one copy's text a
 /// worker.
 ///
-/// The first faulty line of the text decides; then more than 64 copies.
+/// The first faulty line of 64 copies decides; then that there are more.
 pub fn read_copies<R, S>(
     rt: &R,
     alloc: Global,
@@ -37,9 +37,6 @@ where
             return Ok(copies);
         }
         add_copies(&mut copies, read_each(rt, alloc, some)?)?;
-        if copies.len() > MAX_BOUNDS + 1 {
-            return Err(CopiesFault::TooMany);
-        }
     }
     Err(CopiesFault::TooMany)
 }
@@ -79,12 +76,15 @@ fn fault_in(text: &CopyText, fault: CopyTextFault) -> CopiesFault {
     }
 }
 
-// Adds the copies that were read, up to the first fault.
+// Adds the copies that were read, up to the first fault, or to the last that a layout has.
 fn add_copies(
     copies: &mut Vec<TabletCopy>,
     read: Vec<Result<TabletCopy, CopiesFault>>,
 ) -> Result<(), CopiesFault> {
     for copy in read {
+        if copies.len() > MAX_BOUNDS {
+            return Err(CopiesFault::TooMany);
+        }
         copies.push(copy?)?;
     }
     Ok(())
