@@ -1,10 +1,10 @@
 //! A region that starts from a text of copies.
 
-ghost use Rattle.std.specs.Prelude.{◌≡◌, ◌≤◌, map, vec_len, IfOk, IfSome};
+ghost use Rattle.std.specs.Prelude.{◌≡◌, ◌≤◌, vec_len, IfOk};
 ghost use Rattle.pn_apply.specs.declared.reducing.TheConstants.{MAX_WORKERS};
 ghost use Rattle.pn_live.specs.Prelude.{tablets_in};
 ghost use Rattle.pn_live.specs.declared.region.opening.TheConstants.{MAX_READERS};
-ghost use Rattle.pn_serve.specs.Copies.{OpensFrom, SpellsCopies, StartsOrdered};
+ghost use Rattle.pn_serve.specs.Copies.{StartsFromSome, StartsOrdered};
 ghost use Rattle.pn_serve.specs.Server.Sessions.{AllRead};
 
 mod fault;
@@ -37,7 +37,7 @@ where
     S: Source + Drop,
     requires workers { (1 ≤ workers) × (workers ≤ MAX_WORKERS) }
     requires readers { (1 ≤ readers) × (readers ≤ MAX_READERS) }
-    ensures opens { IfOk result (λ opened. IfSome (S.left source) (λ text. OpensFrom text opened.live)) }
+    ensures starts { IfOk result (λ opened. StartsFromSome opened.live) }
     ensures own { IfOk result (λ opened. AllRead (tablets_in opened.live) opened.readers.items) }
     ensures count { IfOk result (λ opened. vec_len opened.readers ≡ readers) }
 {
@@ -53,11 +53,12 @@ fn open_from<R: Wait>(
     readers: usize,
 ) -> Result<OpenedRegion, CopiesFault>
     requires readers { (1 ≤ readers) × (readers ≤ MAX_READERS) }
-    ensures opens { IfOk result (λ opened. StartsOrdered copies.items opened.live) }
+    ensures starts { IfOk result (λ opened. StartsOrdered copies.items opened.live) }
     ensures own { IfOk result (λ opened. AllRead (tablets_in opened.live) opened.readers.items) }
     ensures count { IfOk result (λ opened. vec_len opened.readers ≡ readers) }
 {
     let layout = layout_of_copies(alloc, &mut copies)?;
+    layout.recall_order();
     let (live, readers) = LiveRegion::open_from(rt, alloc, layout, copies, readers)?;
     Ok(OpenedRegion { live, readers })
 }

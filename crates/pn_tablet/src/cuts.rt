@@ -6,7 +6,7 @@ ghost use Rattle.std.specs.List.Sorted.{IsPermutation, IsSortedByKey};
 ghost use Rattle.std.specs.Option.{option_cmp, option_copied};
 ghost use Rattle.pn_json.specs.Prelude.{IsUnless};
 ghost use Rattle.pn_record.specs.Prelude.{bytes_cmp};
-ghost use Rattle.pn_tablet.specs.Cuts.{begins_at, begins_of, ends_open, follow_from, layout_with};
+ghost use Rattle.pn_tablet.specs.Cuts.{all_ends, begins_at, begins_of, ends_open, follow_from, layout_with};
 ghost use Rattle.pn_tablet.specs.Ranges.{are_ends};
 ghost use Rattle.pn_tablet.specs.declared.cuts.CutFault.TheVariants.{Memory as no_memory};
 
@@ -44,6 +44,7 @@ pub fn layout_of_copies(alloc: Global, copies: &mut Vec<TabletCopy>) -> Result<L
     ensures same { IsPermutation copies.old.items copies.new.items }
     ensures order { IsSortedByKey (λ copy. copy.range.0) (option_cmp bytes_cmp) copies.new.items }
     ensures exact { IsUnless CutFault.Memory result (layout_with (map (λ copy. copy.range) copies.new.items)) }
+    ensures ranges { IfOk result (λ layout. all_ends layout ≡ map (λ copy. copy.range) copies.new.items) }
 {
     copies.sort_unstable_by(|one, other| compare_begins(one.range.from(), other.range.from()));
     layout_in_order(alloc, copies)
@@ -65,6 +66,7 @@ fn compare_begins(one: Option<&Key>, other: Option<&Key>) -> Ordering
 #[tactic(auto, unfolding(crate::specs::Cuts::layout_with))]
 fn layout_in_order(alloc: Global, copies: &[TabletCopy]) -> Result<Layout, CutFault>
     ensures exact { IsUnless CutFault.Memory result (layout_with (map (λ copy. copy.range) copies.now)) }
+    ensures ranges { IfOk result (λ layout. all_ends layout ≡ map (λ copy. copy.range) copies.now) }
 {
     if copies.len() > MAX_BOUNDS + 1 {
         return Err(CutFault::TooMany);

