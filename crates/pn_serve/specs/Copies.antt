@@ -15,8 +15,3 @@ pub record StartsOrdered (copies : List TabletCopyValue) (live : LiveRegionValue
   pub lawful : IsLayout bounds
   pub own : map (λ copy. copy.range) ordered ≡ ranges bounds
   pub starts : StartsLive ordered bounds live
-
--- the live region started from some copies, one of each of its tablets
-pub record StartsFromSome (live : LiveRegionValue) : Type 0 where
-  pub copies : List TabletCopyValue
-  pub starts : StartsOrdered copies live

@@ -21,7 +21,7 @@ pub use arguments::plans::{Address, Plan, Service, StreamPath};
 pub use control::laws::commands_are_events;
 pub use control::mailboxes::{ControlMailboxes, MAX_CONTROLS};
 pub use control::session::{ControlSession, StatsSource};
-pub use copies::{CopiesFault, read_copies, start_from_copies};
+pub use copies::{CopiesFault, CopiesReader, open_copies};
 pub use laws::regions_converge;
 pub use machine::line_handler::LineHandler;
 pub use page_laws::{

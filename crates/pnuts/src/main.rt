@@ -12,7 +12,7 @@ mod sessions;
 mod staying;
 
 use crate::addresses::listen;
-use crate::copies::{close_copies, open_copies};
+use crate::copies::{close_copies, start_from_copies};
 use crate::failures::fail;
 use crate::inputs::{Notes, Streams, open_acceptor, open_streams, refuse_start};
 use crate::sessions::serve_streams;
@@ -21,9 +21,14 @@ use pn_join::Name;
 use pn_serve::{Plan, PlanFault, RunFault, Service, Settings, StreamPath, plan, run_to_exit};
 use pn_stay::{MessagePrinter, SocketAcceptor, message_prefix, tell_progress};
 use std::env::Env;
+use std::fs::File;
 use std::io::BufReader;
+use std::net::{Net, TcpListener, TcpStream};
 use std::process::ExitCode;
+use std::rt::Files;
+use std::sync::Wait;
 use std::thread::Threads;
+use std::time::Clock;
 use std::{env, io, thread};
 
 /// How many bytes of the script are read at a time.
@@ -41,21 +46,39 @@ fn main(rt: HostRuntime) -> ExitCode {
         Ok(planned) => planned,
         Err(status) => return status,
     };
-    let opened = match open_copies(&rt, &settings, &service) {
+    let opened = match start_from_copies(&rt, &settings, &service) {
         Ok(opened) => opened,
         Err(status) => return status,
     };
     let Prepared {
         streams,
         acceptor,
-        sockets,
-    } = match prepare(rt, &service, streams) {
+        notes,
+    } = match prepare(&rt, &service, streams) {
         Ok(prepared) => prepared,
-        Err(status) => {
-            close_copies(&rt, opened);
-            return status;
-        }
+        Err(status) => return close_copies(&rt, opened, status),
     };
+    let Notes {
+        counters,
+        messages,
+        sockets,
+        ..
+    } = notes;
+    if service.is_progress_told {
+        let telling = thread::spawn(&rt, move || tell_progress(&rt, rt.alloc(), &counters));
+        if telling.is_err() {
+            return close_copies(&rt, opened, refuse_start(&rt, &service, &sockets));
+        }
+    }
+    if let Some(messages) = messages {
+        let prefix = message_prefix(service.is_progress_told);
+        let Ok(printer) = MessagePrinter::new(rt.alloc(), messages, prefix) else {
+            return close_copies(&rt, opened, refuse_start(&rt, &service, &sockets));
+        };
+        if thread::spawn(&rt, move || printer.run(&rt)).is_err() {
+            return close_copies(&rt, opened, refuse_start(&rt, &service, &sockets));
+        }
+    }
     let (streams, connections) = match streams {
         Streams::Files(readers) => {
             return serve_streams(&rt, settings, opened, &service, &acceptor, readers);
@@ -108,48 +131,37 @@ where
     }
 }
 
-// What a server reads, what accepts its clients, and the paths of its streams' sockets.
+// What a server reads, what accepts its clients, and what is noted of it.
 #[derive(Drop)]
-struct Prepared {
-    streams: Streams<HostRuntime>,
+struct Prepared<R: Drop> {
+    streams: Streams<R>,
     acceptor: SocketAcceptor,
-    sockets: Vec<String>,
+    notes: Notes,
 }
 
-// Opens what is to be served, listens, and starts the threads that tell of it. The error is the status with which the
-// program ends.
-fn prepare(
-    rt: HostRuntime,
+// Opens what is to be served, and listens. The error is the status with which the program ends.
+fn prepare<R>(
+    rt: &R,
     service: &Service,
     streams: Vec<(Name, StreamPath)>,
-) -> Result<Prepared, ExitCode> {
-    let (streams, notes) = open_streams(&rt, service, streams)?;
-    let acceptor = open_acceptor(&rt, service, &notes, listen(&rt, service))?;
-    let Notes {
-        counters,
-        messages,
-        sockets,
-        ..
-    } = notes;
-    if service.is_progress_told {
-        let telling = thread::spawn(&rt, move || tell_progress(&rt, rt.alloc(), &counters));
-        if telling.is_err() {
-            return Err(refuse_start(&rt, service, &sockets));
-        }
-    }
-    if let Some(messages) = messages {
-        let prefix = message_prefix(service.is_progress_told);
-        let Ok(printer) = MessagePrinter::new(rt.alloc(), messages, prefix) else {
-            return Err(refuse_start(&rt, service, &sockets));
-        };
-        if thread::spawn(&rt, move || printer.run(&rt)).is_err() {
-            return Err(refuse_start(&rt, service, &sockets));
-        }
-    }
+) -> Result<Prepared<R>, ExitCode>
+where
+    R: AllocGlobal
+        + Files<File = File>
+        + Net<Listener = TcpListener, Stream = TcpStream>
+        + Print
+        + Eprint
+        + Wait
+        + Clock
+        + Copy
+        + Drop,
+{
+    let (streams, notes) = open_streams(rt, service, streams)?;
+    let acceptor = open_acceptor(rt, service, &notes, listen(rt, service))?;
     Ok(Prepared {
         streams,
         acceptor,
-        sockets,
+        notes,
     })
 }
 

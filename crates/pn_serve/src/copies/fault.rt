@@ -8,7 +8,7 @@ use pn_live::StartFault;
 use pn_record::Key;
 use pn_region::{AdoptFault, AdvanceFault};
 use pn_tablet::{CopyTextFault, CutFault, MAX_BOUNDS};
-use std::alloc::AllocError;
+use std::alloc::{AllocError, AllocFailed};
 use std::fmt;
 
 /// Why a region does not start from a text of copies.
@@ -78,6 +78,14 @@ impl From<AllocError> for CopiesFault {
     ghost from_gives = { λ _ fault. fault ≡ no_memory };
 
     fn from(_error: AllocError) -> CopiesFault {
+        CopiesFault::Memory
+    }
+}
+
+impl<T: Drop> From<AllocFailed<T>> for CopiesFault {
+    ghost from_gives = { λ _ fault. fault ≡ no_memory };
+
+    fn from(_error: AllocFailed<T>) -> CopiesFault {
         CopiesFault::Memory
     }
 }

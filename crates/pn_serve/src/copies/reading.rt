@@ -1,8 +1,5 @@
 //! Copies, read by several workers from a text in which they stand one after another.
 
-ghost use Rattle.std.specs.Prelude.{◌≤◌};
-ghost use Rattle.pn_apply.specs.declared.reducing.TheConstants.{MAX_WORKERS};
-
 use crate::CopiesFault;
 use crate::copies::texts::{CopyText, CopyTexts};
 use pn_line::Source;
@@ -11,31 +8,51 @@ use std::alloc::Global;
 use std::thread;
 use std::thread::Threads;
 
-/// The copies of a text, each read by one of 1 to 16 workers. Beside the copies it takes the memory of one copy's text a
+/// Reads the copies of a text, each by one of 1 to 16 workers. Beside the copies it takes the memory of one copy's text a
 /// worker.
 ///
 /// The first faulty line of 64 copies decides; then that there are more.
-pub fn read_copies<R, S>(
-    rt: &R,
-    alloc: Global,
-    source: S,
+#[derive(Drop)]
+pub struct CopiesReader<S: Drop> {
+    texts: CopyTexts<S>,
+    copies: Vec<TabletCopy>,
     workers: usize,
-) -> Result<Vec<TabletCopy>, CopiesFault>
-where
-    R: Threads + Sync,
-    S: Source + Drop,
-    requires { (1 ≤ workers) × (workers ≤ MAX_WORKERS) }
-{
-    let mut texts = CopyTexts::new(alloc, source)?;
-    let mut copies = Vec::with_capacity(alloc, MAX_BOUNDS + 1)?;
-    for _ in 0..=MAX_BOUNDS + 1 {
-        let some = texts.next_texts(workers)?;
-        if some.is_empty() {
-            return Ok(copies);
-        }
-        add_copies(&mut copies, read_each(rt, alloc, some)?)?;
+}
+
+impl<S: Source + Drop> CopiesReader<S> {
+    /// A reader of a text of which nothing was read yet.
+    pub fn new(alloc: Global, source: S, workers: usize) -> Result<CopiesReader<S>, CopiesFault> {
+        Ok(CopiesReader {
+            texts: CopyTexts::new(alloc, source)?,
+            copies: Vec::with_capacity(alloc, MAX_BOUNDS + 1)?,
+            workers,
+        })
     }
-    Err(CopiesFault::TooMany)
+
+    /// Reads as many of the next copies as there are workers, all at the same time. False where none was left.
+    pub fn read_some<R: Threads + Sync>(
+        &mut self,
+        rt: &R,
+        alloc: Global,
+    ) -> Result<bool, CopiesFault> {
+        let some = self.texts.next_texts(self.workers)?;
+        if some.is_empty() {
+            return Ok(false);
+        }
+        add_copies(&mut self.copies, read_each(rt, alloc, some)?)?;
+        Ok(true)
+    }
+
+    /// How many copies were read.
+    pub fn count(&self) -> usize {
+        self.copies.len()
+    }
+
+    /// The copies that were read.
+    pub fn into_copies(self) -> Vec<TabletCopy> {
+        let CopiesReader { copies, .. } = self;
+        copies
+    }
 }
 
 // Reads each of the texts, at the same time.
