@@ -29,10 +29,10 @@ cuts from (b ∷ bs) = (from, Some b) ∷ cuts (Some b) bs
 abbrev pub InOrder : List Ends → Type 0
 InOrder ranges = AllByRecursion (λ range. IsTrue (are_ends range)) ranges
 
-keys_same : (a b : List ℕ) → bytes_cmp a b ≡ Equal → a ≡ b
+pub keys_same : (a b : List ℕ) → bytes_cmp a b ≡ Equal → a ≡ b
 keys_same a b is = (bytes_eq-Decides a b).0 (sym (is_eq-slice_cmp a b) ∙ ap is_eq is)
 
-ends_same : (p q : Option (List ℕ)) → option_cmp bytes_cmp p q ≡ Equal → p ≡ q
+pub ends_same : (p q : Option (List ℕ)) → option_cmp bytes_cmp p q ≡ Equal → p ≡ q
 ends_same None None is = refl
 ends_same None (Some b) is = cc
 ends_same (Some a) None is = cc

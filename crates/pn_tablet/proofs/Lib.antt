@@ -13,6 +13,7 @@ pub mod CopyValueTexts
 pub mod CopyValues
 pub mod CopyWritten
 pub mod Counts
+pub mod CutFaults
 pub mod CutRanges
 pub mod Drafting
 pub mod FaultCases

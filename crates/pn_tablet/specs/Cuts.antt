@@ -18,6 +18,11 @@ abbrev pub begin_of : Option (List ℕ) → List ℕ
 begin_of None = []
 begin_of (Some key) = key
 
+-- an end is no empty text, as no key is
+abbrev pub IsNoEmpty : Option (List ℕ) → Type 0
+IsNoEmpty None = Unit {0}
+IsNoEmpty (Some key) = IsTrue (is_below [] key)
+
 -- how many of the ranges have the key
 abbrev pub count_having : List Ends → List ℕ → ℕ
 count_having ranges key = count_by (λ range. in_range range key) ranges
