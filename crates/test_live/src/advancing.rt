@@ -14,10 +14,10 @@ use test_kit_live::{end, open_one};
 /// A key of each tablet, and the bounds between them.
 const KEYS: [&str; 3] = ["a", "n", "z"];
 
-const BOUNDS: &str = "m t";
+pub(crate) const BOUNDS: &str = "m t";
 
-// A copy of the tablet of a region that took three messages, and then one of a key so many times.
-fn copy_of<R: Threads + Sync>(
+/// A copy of the tablet of a region that took three messages, and then one of a key so many times.
+pub(crate) fn copy_of<R: Threads + Sync>(
     rt: &R,
     alloc: Global,
     tablet: usize,
@@ -68,7 +68,8 @@ fn position(marks: &Marks) -> Option<u64> {
     Some(marks.position(&Name::read(b"east").ok()?))
 }
 
-fn mark(live: &LiveRegion) -> Option<u64> {
+/// The mark of the stream.
+pub(crate) fn mark(live: &LiveRegion) -> Option<u64> {
     position(live.marks())
 }
 

@@ -1,4 +1,4 @@
-//! Tests of live regions: a recovery, marks that advance, workers that meet, readers beside a held round and beside a writer,
+//! Tests of live regions: a recovery, marks that advance, a start from copies, workers that meet, readers beside a held round and beside a writer,
 //! and calls that run out of memory.
 #![tactic(auto)]
 
@@ -16,3 +16,5 @@ mod race;
 mod recovery;
 #[cfg(test)]
 mod rows;
+#[cfg(test)]
+mod starting;

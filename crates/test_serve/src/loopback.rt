@@ -1,10 +1,11 @@
 //! Streams in memory, served over loopback to a client in a thread of its own.
 
+use crate::copies::open_text;
 use crate::scripts::settings;
 use pn_join::Name;
 use pn_line::InMemory;
 use pn_live::LiveReader;
-use pn_serve::{Acceptor, Counter, FaultLog, ServeFault, WriterEnd, serve};
+use pn_serve::{Acceptor, Counter, FaultLog, ServeFault, WriterEnd, serve, serve_from};
 use pn_stream::StreamReader;
 use std::alloc::Global;
 use std::io::BufReader;
@@ -21,6 +22,10 @@ const FIRST: &str =
 
 const SECOND: &str =
     "{\"at\":2,\"image\":{\"fields\":{\"v\":\"x\"},\"key\":\"k\",\"master\":\"w\",\"version\":[1,0]}}\n";
+
+/// A copy without records, which took the first message.
+const COPY: &str =
+    "{\"copy\":1,\"from\":null,\"to\":null}\n{\"at\":1,\"stream\":\"east\"}\n{\"end\":1}\n";
 
 /// How often a client asks at most until its record is there, and how often after it.
 const MAX_TURNS: u64 = 100_000;
@@ -124,6 +129,35 @@ where
     let client = thread::spawn(rt, move || talk(&theirs, alloc, at, most))?;
     let mut written = Vec::new(alloc);
     let ended = serve(rt, alloc, &listener, settings, 1, streams, &mut written);
+    let told = client.join(rt)?;
+    let faults = faults_text(rt, alloc, &listener.faults)?;
+    outcome(alloc, ended, &written, told, faults)
+}
+
+/// As `serve_stream` of the first position, over a region that starts from a copy that has no record, at that position.
+pub(crate) fn serve_started<R>(rt: &R, alloc: Global) -> Result<String, Fail>
+where
+    R: Net<Listener = TcpListener, Stream = TcpStream>
+        + Threads
+        + Wait
+        + Sync
+        + Copy
+        + Send
+        + 'static,
+{
+    let theirs = *rt;
+    let listener = Logged {
+        listener: TcpListener::bind(rt, "127.0.0.1:0")?,
+        faults: Arc::new(alloc, FaultLog::new(alloc, 1)?)?,
+    };
+    let at = listener.listener.local_addr()?;
+    let streams = streams(alloc, FIRST)?;
+    let Ok(opened) = open_text(rt, alloc, 1, COPY.as_bytes(), 1) else {
+        return Ok(String::from_str(alloc, "not opened")?);
+    };
+    let client = thread::spawn(rt, move || talk(&theirs, alloc, at, MAX_TURNS))?;
+    let mut written = Vec::new(alloc);
+    let ended = serve_from(rt, alloc, &listener, opened, 1, streams, &mut written);
     let told = client.join(rt)?;
     let faults = faults_text(rt, alloc, &listener.faults)?;
     outcome(alloc, ended, &written, told, faults)

@@ -1,10 +1,11 @@
 //! Cases of `pn_serve`, a line each, of what the stored scripts of `test_rows` cannot say; `stdout` has what must be answered.
 //!
 //! `plan` and `says` read words; `run`, `blocks`, `writes` and `sessions` meet slow and failing readers and writers; `session` and
-//! `serve` answer sessions, and `control` a control session; `read` reads streams, and `writers` one whose writers come one after another. A bar is a newline.
+//! `serve` answer sessions, and `control` a control session; `start` opens a region from copies, and `started` serves it; `read` reads streams, and `writers` one whose writers come one after another. A bar is a newline.
 #![tactic(auto)]
 
 mod control;
+mod copies;
 mod loopback;
 mod plans;
 mod rounds;
@@ -14,7 +15,8 @@ mod talk;
 mod writers;
 
 use control::answer_control;
-use loopback::serve_stream;
+use copies::start;
+use loopback::{serve_started, serve_stream};
 use plans::{plan_reply, says};
 use rounds::few_rounds;
 use scripts::{blocks, run_over, write_three_bytes};
@@ -34,6 +36,8 @@ fn main(rt: HostRuntime) -> Result<(), Fail> {
         Some(("sessions", how)) => fail_sessions(&rt, alloc, how),
         Some(("control", lines)) => answer_control(&rt, alloc, lines),
         Some(("serve", position)) => serve_stream(&rt, alloc, position),
+        Some(("started", _)) => serve_started(&rt, alloc),
+        Some(("start", text)) => start(&rt, alloc, text),
         Some(("read", _)) => few_rounds(&rt, alloc),
         Some(("writers", line)) => read_writers(&rt, alloc, line),
         _ => write_three_bytes(alloc),
