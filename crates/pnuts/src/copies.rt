@@ -6,9 +6,10 @@ ghost use Rattle.pn_serve.specs.declared.arguments.options.TheConstants.{MAX_SES
 ghost use Rattle.pn_serve.specs.Server.Sessions.{AllRead};
 
 use crate::failures::{fail, fail_at};
+use pn_join::{Marks, Name};
 use pn_serve::{
-    CopiesFault, CopiesReader, MAX_CONTROLS, OpenedRegion, Service, Settings, close_region,
-    open_copies,
+    CopiesFault, CopiesReader, MAX_CONTROLS, OpenedRegion, Service, Settings, StreamPath,
+    close_region, open_copies,
 };
 use pn_tablet::{MAX_BOUNDS, TabletCopy};
 use std::fs::File;
@@ -22,11 +23,13 @@ use std::time::{Clock, Duration, Instant};
 /// How many bytes of copies are read at a time.
 const READ_SIZE: usize = 1_048_576;
 
-/// Opens a live region that starts from the copies that are named, if some are, or prints why not.
+/// Opens a live region that starts from the copies that are named, if some are, or prints why not. It prints which streams of
+/// the copies are not read.
 pub(crate) fn start_from_copies<R>(
     rt: &R,
     settings: &Settings,
     service: &Service,
+    streams: &[(Name, StreamPath)],
 ) -> Result<Option<OpenedRegion>, ExitCode>
 where
     R: AllocGlobal + Files<File = File> + Eprint + Threads + Wait + Sync + Clock,
@@ -45,10 +48,28 @@ where
         return Err(fail(rt, "memory"));
     };
     match open_from(rt, settings, service, source) {
-        Ok(opened) => Ok(Some(opened)),
+        Ok(opened) => {
+            tell_unread(rt, opened.live.marks(), streams);
+            Ok(Some(opened))
+        }
         Err(fault) => {
             let _ = eprintln!(rt; "pnuts: copies: {fault}");
             Err(ExitCode::FAILURE)
+        }
+    }
+}
+
+// Prints which streams have marks and are not read.
+fn tell_unread(rt: &impl Eprint, marks: &Marks, streams: &[(Name, StreamPath)]) {
+    for at in 0..marks.len() {
+        let Some((name, _)) = marks.entry_at(at) else {
+            return;
+        };
+        if !streams
+            .iter()
+            .any(|stream| stream.0.as_str() == name.as_str())
+        {
+            let _ = eprintln!(rt; "pnuts: copies: stream {} is not read", name.as_str());
         }
     }
 }

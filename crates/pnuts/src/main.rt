@@ -46,7 +46,7 @@ fn main(rt: HostRuntime) -> ExitCode {
         Ok(planned) => planned,
         Err(status) => return status,
     };
-    let opened = match start_from_copies(&rt, &settings, &service) {
+    let opened = match start_from_copies(&rt, &settings, &service, &streams) {
         Ok(opened) => opened,
         Err(status) => return status,
     };
