@@ -38,7 +38,7 @@ Serve tablets = AllByRecursion (λ tablet. tablet.status ≡ Serving) tablets
 adopt_serves : (t : TabletStateValue) (copy : TabletCopyValue) → t.status ≡ Serving → (tablet_after t (Adopt copy)).status ≡ Serving
 adopt_serves t copy serves =
     elim (step t (Adopt copy)) as (λ right. step t (Adopt copy) ≡ right → (after_step t right).status ≡ Serving) [
-      | Ok after ↦ λ is. ap (λ (u : TabletStateValue). u.status) (adopted t after copy is)
+      | Ok after ↦ λ is. ap (λ (u : TabletStateValue). u.status) (adopted t copy after is).taken
       | Err refusal ↦ λ is. serves
     ] refl
 
