@@ -1,6 +1,6 @@
 -- Live regions that start from copies.
 use Rattle.std.proofs.Common.{◌≡◌, List, [], ◌∷◌, map, refl, sym, ap, ◌∙◌, subst}
-use Rattle.std.specs.Vec.Iter.{into_iter_items}
+use Rattle.std.specs.List.{AllByRecursion}
 use Rattle.pn_tablet.specs.Copies.{TabletCopyValue}
 use Rattle.pn_tablet.specs.Layouts.{Bounds, IsLayout}
 use Rattle.pn_apply.specs.Reducing.{ranges}
@@ -8,7 +8,8 @@ use Rattle.pn_region.specs.Events.{adoption, AllLeadTo}
 use Rattle.pn_region.specs.Regions.{RegionValue}
 use Rattle.pn_region.specs.Starting.{StartsFrom, start_events}
 use Rattle.pn_live.specs.Events.{AllLeadLive, LeadsLive}
-use Rattle.pn_live.specs.LiveRegions.{LiveRegionValue, core}
+use Rattle.pn_live.specs.LiveRegions.{LiveRegionValue, core, tablets_in, IsReaderIn}
+use Rattle.pn_live.specs.Readers.{LiveReaderValue, Tablets, IsNewReader}
 use Rattle.pn_live.specs.Recovery.{Advances}
 use Rattle.pn_live.specs.Starting.{StartsLive}
 use Rattle.pn_live.proofs.Events.{all_lead, new_core}
@@ -33,3 +34,8 @@ starts_from copies bounds live lawful own starts = record {
   own = own;
   lead = subst (λ (r : RegionValue). AllLeadTo (start_events copies) r (core live)) (new_core bounds starts.opened starts.is_new) (all_lead (start_events copies) starts.opened live starts.lead);
 }
+
+-- readers of the tablets are those of a live region that has them
+pub still_read : (tablets : Tablets) (live : LiveRegionValue) (readers : List LiveReaderValue) → tablets_in live ≡ tablets → AllByRecursion (IsNewReader tablets) readers → AllByRecursion (IsReaderIn live) readers
+still_read tablets live [] same all = tt
+still_read tablets live (reader ∷ readers) same all = (all.0.0 ∙ sym same, still_read tablets live readers same all.1)
