@@ -38,7 +38,7 @@ ordered (r ∷ n ∷ rs) is = (is 0 r (omega arith) (omega arith), ordered (n �
       (is (suc k) d (omega arith) (omega (arith, lt)))
 
 -- the key is below where the range begins
-Past : List ℕ → Ends → Type 0
+abbrev Past : List ℕ → Ends → Type 0
 Past key r = is_from r.0 key ≡ false
 
 none_has : (key : List ℕ) (r : Ends) → Past key r → in_range r key ≡ false
