@@ -41,7 +41,7 @@ none_left_by marks text false later none = none
 none_left_by (notices since) text false later none = none
 none_left_by tablets text false later none = none
 
-none_left : (events : List WriterEvent) → all_left (region_events events) ≡ []
+pub none_left : (events : List WriterEvent) → all_left (region_events events) ≡ []
 none_left [] = refl
 none_left (taken input ∷ later) = none_left later
 none_left (told asked said ∷ later) = none_left_by asked said.text said.refused (region_events later) (none_left later)

@@ -12,6 +12,7 @@ mod script;
 mod server;
 mod sessions;
 mod settings;
+mod start_laws;
 mod stream_laws;
 
 pub use arguments::faults::{PlanFault, Refused, Why};
@@ -46,6 +47,7 @@ pub use server::{
 };
 pub use sessions::session;
 pub use settings::Settings;
+pub use start_laws::a_start_from_copies_leaves_what_was_taken;
 pub use stream_laws::{
     streams_beside_commands_leave_what_was_taken, streams_that_resume_leave_what_was_published,
 };
