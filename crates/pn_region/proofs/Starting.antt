@@ -1,13 +1,13 @@
 -- Regions that start from copies, and what they take from there on.
-use Rattle.std.proofs.Common.{◌≡◌, ℕ, zero, suc, List, [], ◌∷◌, ◌++◌, map, slice_get, Option, None, Some, Ok, Err, refl, sym, ap, ◌∙◌, subst}
+use Rattle.std.proofs.Common.{◌≡◌, ℕ, zero, suc, List, [], ◌∷◌, ◌++◌, Ok, Err, refl, sym, ap, ◌∙◌, subst}
 use Rattle.pn_region.specs.Ahead.{NoneAhead}
-use Rattle.pn_region.specs.Events.{RegionEvent, round, half_round, loss, adoption, relayout, advance, LeadsTo, AllLeadTo, AreHonestEvents}
+use Rattle.pn_region.specs.Events.{RegionEvent, round, half_round, loss, adoption, relayout, advance, AllLeadTo, AreHonestEvents}
 use Rattle.pn_region.specs.Laws.{AreIn}
 use Rattle.pn_region.specs.Starting.{StartsFrom, AreAccepted, AreHonestCopies, start_events}
 use Rattle.pn_region.specs.Taken.{all_left, all_taken}
 use Rattle.pn_region.proofs.Advanced.{advances, all_covered}
 use Rattle.pn_region.proofs.Ahead.{marked_images, marked_alike, new_none, round_none}
-use Rattle.pn_region.proofs.Common.{AllByRecursion, Positions, Reaches, table_of, BrokerRecord, up_to, TabletCopyValue, Bounds, IsLayout, step, after_step, tablet_after, TabletStateValue, Adopt, Serving, ranges, AreFaithful, HasImages, tablets_after_op, RegionValue, IsRegion, new_region, all_cells, AllServe}
+use Rattle.pn_region.proofs.Common.{AllByRecursion, Reaches, table_of, BrokerRecord, up_to, TabletCopyValue, Bounds, IsLayout, step, after_step, tablet_after, TabletStateValue, Adopt, Serving, AreFaithful, HasImages, tablets_after_op, RegionValue, IsRegion, new_region, all_cells, AllServe}
 use Rattle.pn_region.proofs.EventImages.{taken_together}
 use Rattle.pn_region.proofs.EventSteps.{adopts, takes, event_is, events_are}
 use Rattle.pn_region.proofs.Faith.{new_faithful}

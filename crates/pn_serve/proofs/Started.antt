@@ -7,7 +7,7 @@ use Rattle.pn_stream.specs.Brokers.{BrokerRecord}
 use Rattle.pn_tablet.specs.Copies.{TabletCopyValue}
 use Rattle.pn_tablet.specs.Layouts.{Bounds, IsLayout}
 use Rattle.pn_apply.specs.Reducing.{ranges}
-use Rattle.pn_region.specs.Events.{RegionEvent, AllLeadTo, AreHonestEvents}
+use Rattle.pn_region.specs.Events.{RegionEvent, AreHonestEvents}
 use Rattle.pn_region.specs.Laws.{AreIn}
 use Rattle.pn_region.specs.Regions.{all_cells}
 use Rattle.pn_region.specs.Serving.{AllServe}

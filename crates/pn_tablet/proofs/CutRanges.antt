@@ -1,5 +1,5 @@
 -- Ranges that follow one another from the first key to the last are those of a layout.
-use Rattle.std.proofs.Common.{◌≡◌, ℕ, zero, suc, ◌+◌, ◌<◌, ◌≤◌, Bool, true, false, not, cond, ◌&&◌, nat_lt, List, [], ◌∷◌, ◌++◌, map, length, slice_get, Option, Some, None, option_map, Result, Ok, Err, Ordering, Less, Equal, Greater, is_eq, is_lt, IsTrue, refl, sym, ap, ap₂, ◌∙◌, subst, arith, add-one}
+use Rattle.std.proofs.Common.{◌≡◌, ℕ, zero, suc, ◌+◌, ◌≤◌, Bool, true, false, not, cond, ◌&&◌, nat_lt, List, [], ◌∷◌, ◌++◌, map, length, slice_get, Option, Some, None, option_map, Result, Ok, Err, Ordering, Less, Equal, Greater, is_eq, is_lt, IsTrue, refl, sym, ap, ap₂, ◌∙◌, subst, arith, add-one}
 use Rattle.std.proofs.lemmas.Bool.Decides.{nat_tests}
 use Rattle.std.proofs.lemmas.Cmp.{nat_list_cmp_total}
 use Rattle.std.proofs.lemmas.List.Sums.{sum_by-cons}
@@ -13,7 +13,7 @@ use Rattle.pn_record.proofs.Sorted.{is_less}
 use Rattle.pn_record.specs.Order.{bytes_cmp}
 use Rattle.pn_tablet.specs.Cuts.{CutAllKeys, all_ends, begins_at, begins_of, by_end, by_order, count_having, ends_open, follow_from, layout_with}
 use Rattle.pn_tablet.specs.Layouts.{Bounds, IsLayout, first_fall, layout_of, rising_layout, tablet_ends}
-use Rattle.pn_tablet.specs.Ranges.{Ends, are_ends, in_range, is_below, is_from}
+use Rattle.pn_tablet.specs.Ranges.{Ends, are_ends, is_below, is_from}
 use Rattle.pn_tablet.specs.declared.cuts.CutFault.{CutFault}
 use Rattle.pn_tablet.specs.declared.cuts.CutFault.TheVariants.{NoCopy, TooMany}
 use Rattle.pn_tablet.specs.declared.layout.LayoutFault.TheVariants as layout
