@@ -67,8 +67,12 @@ fn read_each<R: Threads + Sync>(
 // The copy of a text, or at which line of the whole text it has which fault.
 fn read_text(alloc: Global, text: CopyText) -> Result<TabletCopy, CopiesFault> {
     match read_copy(alloc, &text.text) {
-        Ok(copy) if !text.is_too_long => Ok(copy),
-        Ok(_) => Err(fault_in(&text, CopyTextFault::BadEnd)),
+        Ok(copy) => {
+            if text.is_too_long {
+                return Err(fault_in(&text, CopyTextFault::BadEnd));
+            }
+            Ok(copy)
+        }
         Err(fault) => Err(fault_in(&text, fault)),
     }
 }
