@@ -53,8 +53,9 @@ impl LiveRegion {
         ensures same { tablets_in self.new ≡ tablets_in self.old }
     {
         for copy in copies {
-            if let Err(fault) = self.adopt_one(rt, copy) {
-                return Err(StartFault::Adopt(fault));
+            match self.adopt_one(rt, copy) {
+                Ok(()) => {}
+                Err(fault) => return Err(StartFault::Adopt(fault)),
             }
         }
         match self.advance() {
