@@ -1,32 +1,36 @@
 //! Cases of `pn_stream`, a line each; `stdout` has what must be answered.
 //!
 //! `message` reads one line. `whole`, `pieces`, `cuts`, `looks`, `lines` and `writers` name ways in which a stream comes to its
-//! reader.
+//! reader; with `workers`, 1 to 9 threads read its lines.
 //!
 //! After these come `batch`, `ready` or `resume` (the first message, then as `ready`), the position, the calls, the most messages of a call, the first and the last message, and
 //! further text.
 #![tactic(auto)]
 
+mod by_workers;
 mod case;
 mod pipe;
 mod reading;
 mod writers;
 
+use by_workers::read_by_workers;
 use case::Case;
 use pn_stream::{StreamFault, read_message};
 use reading::{read_by_lines, read_in_pieces, read_in_two, read_whole, read_with_a_failing_look};
 use std::alloc::Global;
 use std::test::Fail;
+use std::thread::Threads;
 use test_kit::answer_lines;
 use writers::read_by_writers;
 
 fn main(rt: HostRuntime) -> Result<(), Fail> {
-    answer_lines(&rt, |line| answer(rt.alloc(), line))
+    answer_lines(&rt, |line| answer(&rt, rt.alloc(), line))
 }
 
-fn answer(alloc: Global, line: &str) -> Result<String, Fail> {
+fn answer<R: Threads + Sync>(rt: &R, alloc: Global, line: &str) -> Result<String, Fail> {
     match line.split_once(' ') {
         Some(("message", text)) => message(alloc, text),
+        Some(("workers", text)) => read_by_workers(rt, alloc, &Case::read(alloc, text)?),
         Some((how, text)) => read_stream(alloc, how, &Case::read(alloc, text)?),
         None => Ok(format!(in alloc; "{}", StreamFault::Memory)?),
     }
