@@ -10,7 +10,7 @@ use Rattle.pn_line.proofs.TextLaws.{text_of-nil, text_of-append, text_of-push}
 use Rattle.pn_record.specs.declared.image.Image.{Image}
 use Rattle.pn_stream.specs.Batches.{Batch, Ends, IsPart}
 use Rattle.pn_stream.specs.Faults.{IsOfText, Refuses, Stands}
-use Rattle.pn_stream.specs.Lines.{Gathered, IsNextLine, IsRead, IsWhole, LinesSoFar, StopsAt}
+use Rattle.pn_stream.specs.Lines.{Gathered, IsNextLine, IsRead, IsWhole, LinesSoFar, StopsAt, first_fault}
 use Rattle.pn_stream.specs.Streams.{FirstLine, NoLine, IsLeft}
 use Rattle.pn_stream.specs.declared.fault.StreamFault.{StreamFault}
 use Rattle.pn_stream.specs.declared.fault.StreamFault.TheVariants.{Read, LineTooLong, BadMessage, OutOfStep, Memory, Failed}
@@ -18,7 +18,7 @@ use Rattle.pn_stream.specs.declared.lines.NextLine.{NextLine}
 use Rattle.pn_stream.proofs.Runs.{none_shown, on_rest}
 use Rattle.pn_stream.proofs.SameBatch.{begins, same_batch}
 use Rattle.pn_stream.proofs.Steps.{IsPart-more, TakesLine}
-use Rattle.pn_stream.proofs.Chunks.{InStep-length, all_in_step, fewer_images}
+use Rattle.pn_stream.proofs.ChunkLaws.{InStep-length, all_in_step, fault_of_line, fewer_images}
 
 -- ---- the next line
 
@@ -111,6 +111,9 @@ gathered_memory least most front part now lines (Some text) left leaves few so =
 
 -- ---- the batch of the lines' messages
 
+some_same : (fault other : StreamFault) → ◌≡◌ {A = Option StreamFault} (Some fault) (Some other) → fault ≡ other
+some_same fault other is = cc
+
 all_after : (front back : List (List ℕ)) → All IsWhole (front ++ back) → All IsWhole back
 all_after [] back whole = whole
 all_after (line ∷ front) back whole = all_after front back (All-tail IsWhole line (front ++ back) whole)
@@ -160,6 +163,27 @@ Batch-refused least most position text lines images end fault part left whole ga
       };
       ends = (omega (arith, fewer, gathered.within), stopped_stands _ read.back gathered.rest fault back read.stops);
     }
+
+-- what is read of lines, as a batch of the text that begins with them
+pub batch_read : (least most position : ℕ) (front : List ℕ) (lines : List (List ℕ)) (images : List Image) (fault end : Option StreamFault) (part : List ℕ) (first left : Option (List ℕ))
+    → All IsWhole lines → IfSome first (λ text. Gathered least most (front ++ text) lines end part left) → IsRead position lines images fault
+    → IfSome first (λ text. Batch least most position (front ++ text) images (first_fault fault end) part left)
+batch_read least most position front lines images fault end part None left whole gathered read = tt
+batch_read least most position front lines images None end part (Some text) left whole gathered read = Batch-whole least most position (front ++ text) lines images end part left gathered read
+batch_read least most position front lines images (Some fault) end part (Some text) left whole gathered read =
+    Batch-refused least most position (front ++ text) lines images end fault part left whole gathered read
+
+-- a failure of the source ended the lines, and not a message
+pub read_failure : (position : ℕ) (lines : List (List ℕ)) (images : List Image) (fault end : Option StreamFault) (may_fail : Type 0)
+    → IsRead position lines images fault → (end ≡ Some Read → may_fail) → first_fault fault end ≡ Some Read → may_fail
+read_failure position lines images None end may_fail read failed is = failed is
+read_failure position lines images (Some fault) end may_fail read failed is = absurd ((fault_of_line position lines images fault read).0 (some_same fault Read is))
+
+-- a reader that had failed reads no messages
+pub no_failure : (position : ℕ) (lines : List (List ℕ)) (images : List Image) (fault end : Option StreamFault)
+    → IsRead position lines images fault → end ≢ Some Failed → first_fault fault end ≢ Some Failed
+no_failure position lines images None end read stays is = stays is
+no_failure position lines images (Some fault) end read stays is = (fault_of_line position lines images fault read).1 (some_same fault Failed is)
 
 -- what is read of lines, as the batch of their text
 module _ (position : ℕ) (lines : List (List ℕ)) where

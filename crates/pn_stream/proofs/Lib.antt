@@ -1,4 +1,4 @@
-pub mod Chunks
+pub mod ChunkLaws
 pub mod FirstMessage
 pub mod Gathering
 pub mod Published

@@ -55,3 +55,8 @@ pub record IsRead (position : ℕ) (lines : List (List ℕ)) (images : List Imag
   pub lines_are : lines ≡ front ++ back
   pub in_step : InStep position front images
   pub stops : StopsAt (position + length images + 1) back fault
+
+-- the fault at one of the lines, which comes before the fault that ended them
+abbrev pub first_fault : Option StreamFault → Option StreamFault → Option StreamFault
+first_fault (Some fault) end = Some fault
+first_fault None end = end

@@ -204,7 +204,11 @@ pub(crate) fn whole_line(end: io::Result<BoundedEnd>) -> Result<Option<bool>, St
 }
 
 // The message of a line, or why it is none where that of `wanted` is due.
-pub(crate) fn message_of_line(alloc: Global, line: &[u8], wanted: u64) -> Result<(u64, Image), StreamFault>
+pub(crate) fn message_of_line(
+    alloc: Global,
+    line: &[u8],
+    wanted: u64,
+) -> Result<(u64, Image), StreamFault>
     ensures ok { IfOk result (λ message. IsMessageLine line.now message) }
     ensures err { IfErr result (λ fault. Refuses wanted line.now fault) }
     ensures any_step { IfErr result (λ fault. (named got : ℕ) → fault ≢ StreamFault.OutOfStep named got) }

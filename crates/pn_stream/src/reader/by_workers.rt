@@ -5,7 +5,7 @@ ghost use Rattle.pn_join.specs.declared.marks.TheConstants.{LAST_POSITION};
 ghost use Rattle.pn_record.specs.Prelude.{max_line_bytes};
 ghost use Rattle.pn_stream.specs.Batches.{Batch};
 ghost use Rattle.pn_stream.specs.Calls.{IsCall};
-ghost use Rattle.pn_stream.specs.Lines.{Gathered, IsWhole};
+ghost use Rattle.pn_stream.specs.Lines.{Gathered, IsWhole, first_fault as fault_before};
 ghost use Rattle.pn_stream.specs.declared.reader.TheConstants.{MAX_MESSAGES};
 
 use super::StreamReader;
@@ -65,17 +65,14 @@ impl<S: Source + Drop> StreamReader<S> {
         ensures part { length self.new.part ≤ max_line_bytes }
     {
         let position = self.position();
-        let (lines, end) = self.take_lines(most);
+        let (lines, end) = self.lines_at_hand(most);
         let chunks = chunk_count(workers, lines.len());
         let read = read_chunks(rt, self.alloc, &lines, position, chunks);
-        match read.fault {
-            Some(fault) => (read.images, Some(fault)),
-            None => (read.images, end),
-        }
+        (read.images, first_fault(read.fault, end))
     }
 
     // The next lines that already arrived, and what ended them, if a fault did.
-    fn take_lines(&mut self, most: usize) -> (Vec<WholeLine>, Option<StreamFault>)
+    fn lines_at_hand(&mut self, most: usize) -> (Vec<WholeLine>, Option<StreamFault>)
         requires some { 1 ≤ most }
         ensures within { length result.0.items ≤ most }
         ensures whole { All IsWhole result.0.items }
@@ -89,14 +86,27 @@ impl<S: Source + Drop> StreamReader<S> {
         ensures part { length self.new.part ≤ max_line_bytes }
     {
         let mut lines = Vec::new(self.alloc);
-        let size = BatchSize {
-            least: 1,
-            most,
-        };
-        let ended = take_lines(self.alloc, &mut self.line, &mut self.source, size, &mut lines);
+        let size = BatchSize { least: 1, most };
+        let ended = take_lines(
+            self.alloc,
+            &mut self.line,
+            &mut self.source,
+            size,
+            &mut lines,
+        );
         match ended {
             Ok(()) => (lines, None),
             Err(fault) => (lines, Some(fault)),
         }
+    }
+}
+
+// The fault at one of the lines, or else the fault that ended them.
+fn first_fault(read: Option<StreamFault>, end: Option<StreamFault>) -> Option<StreamFault>
+    ensures { result ≡ fault_before read end }
+{
+    match read {
+        Some(fault) => Some(fault),
+        None => end,
     }
 }

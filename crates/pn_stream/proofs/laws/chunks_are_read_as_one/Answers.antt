@@ -1,4 +1,4 @@
-use Rattle.pn_stream.proofs.Chunks.{later_follow, fault_hides}
+use Rattle.pn_stream.proofs.ChunkLaws.{later_follow, fault_hides}
 use Rattle.pn_stream.proofs.laws.chunks_are_read_as_one.Goals as goal
 
 pub returns-clause-follow : goal.returns-clause-follow

@@ -167,7 +167,7 @@ read_together position next lines low high one other all (Some early) second fau
     let (images, same) = hidden refl in rw (whole, images, same) (fault_hides position low high one early front)
 read_together position next lines low high one other all None second fault whole at some front back hidden follows =
     let later : IsRead (position + length low) high other second = subst (λ (n : ℕ). IsRead n high other second) at back in
-    elim follows refl [
+    elim (follows refl) [
       | inl (images, same) ↦ rw (whole, images, same) (later_follow position low high one other second front later)
       | inr (images, same) ↦ rw (whole, images, same) (memory_between position low high one some front)
     ]
