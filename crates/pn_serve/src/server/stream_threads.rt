@@ -1,6 +1,7 @@
 //! Reads streams of one writer each, each in its own thread, which leaves reports in its mailbox.
 
 ghost use Rattle.std.specs.Prelude.{◌≡◌, ◌≤◌, ◌∷◌, [], ◌++◌, map, All, IfOk, IfErr, IsErr, OnOk, OnErr, MatchResult};
+ghost use Rattle.std.specs.Thread.{IsSync};
 ghost use Rattle.pn_join.specs.Prelude.{position_of};
 ghost use Rattle.pn_serve.specs.Server.Faults.{NamesOne, names_of};
 ghost use Rattle.pn_serve.specs.Server.Whole.{EndsStream, IsTakenWhole};
@@ -16,6 +17,7 @@ use pn_join::{Marks, StreamName};
 use pn_line::Source;
 use pn_stream::StreamReader;
 use std::alloc::{AllocError, Global};
+use std::marker::Sync;
 use std::snapshot::Snapshot;
 use std::sync::{Arc, Wait};
 use std::thread;
@@ -68,16 +70,18 @@ impl<S: Source + Drop> StartedStreams<S> {
     }
 }
 
-/// Starts to read streams, each in its own thread. A refused thread, or out of memory, ends the reading.
+/// Starts to read streams, each in its own thread, which shares the lines that are at hand among so many workers. A refused
+/// thread, or out of memory, ends the reading.
 pub(crate) fn start_streams<R, S>(
     rt: &R,
     alloc: Global,
     streams: Vec<StreamReader<S>>,
+    workers: usize,
     rounds: Option<Arc<Counter>>,
     faults: Option<Arc<FaultLog>>,
 ) -> Result<StartedStreams<S>, ServeFault>
 where
-    R: Threads + Wait + Copy + Send + 'static,
+    R: Threads + Wait + Sync + Copy + Send + 'static,
     S: Source + Drop + Send + 'static,
     ensures fault { IfErr result (λ fault. fault ≡ ServeFault.Start) }
     ensures threads { IfOk result (λ started. map (λ thread. thread.promise.0.value) started.threads.items ≡ streams.items) }
@@ -88,7 +92,7 @@ where
         return Err(ServeFault::Start);
     };
     for stream in streams {
-        if let Err(_) = start_stream(rt, alloc, &mut started, stream, &faults) {
+        if let Err(_) = start_stream(rt, alloc, &mut started, stream, workers, &faults) {
             started.mailboxes.close(rt);
             return Err(ServeFault::Start);
         }
@@ -101,10 +105,11 @@ fn start_stream<R, S>(
     alloc: Global,
     started: &mut StartedStreams<S>,
     stream: StreamReader<S>,
+    workers: usize,
     faults: &Option<Arc<FaultLog>>,
 ) -> Result<(), AllocError>
 where
-    R: Threads + Wait + Copy + Send + 'static,
+    R: Threads + Wait + Sync + Copy + Send + 'static,
     S: Source + Drop + Send + 'static,
     ensures threads { OnOk result (map (λ thread. thread.promise.0.value) started.new.threads.items
         ≡ map (λ thread. thread.promise.0.value) started.old.threads.items ++ stream ∷ []) }
@@ -121,9 +126,14 @@ where
         faults: share(faults)?,
     };
     let promise = SaysWhetherWhole(Snapshot::of(&stream));
-    let thread = thread::spawn_with(rt, promise, move || {
-        report_to_end(&host, alloc, stream, origin, &reporter)
-    })?;
+    let thread = thread::spawn_with(
+        rt,
+        promise,
+        move ||
+            requires { IsSync R.row }
+            ensures { EndsStream S.left stream.entry result }
+        { report_to_end(&host, alloc, stream, workers, origin, &reporter) },
+    )?;
     started.threads.push(thread)?;
     Ok(())
 }
@@ -137,16 +147,23 @@ fn share(faults: &Option<Arc<FaultLog>>) -> Result<Option<Arc<FaultLog>>, AllocE
 }
 
 // Reports a stream to its end, or until the mailbox is closed. The error is the stream's name.
-fn report_to_end<R: Wait + Copy, S: Source + Drop>(
+fn report_to_end<R: Threads + Wait + Sync + Copy, S: Source + Drop>(
     rt: &R,
     alloc: Global,
     stream: StreamReader<S>,
+    workers: usize,
     origin: OneWriter<R>,
     reporter: &Reporter,
 ) -> Result<StreamEnd, StreamName>
     ensures { EndsStream S.left stream result }
 {
-    report_stream(rt, alloc, WriterInput::of(stream), origin, reporter)
+    report_stream(
+        rt,
+        alloc,
+        WriterInput::of(stream, workers),
+        origin,
+        reporter,
+    )
 }
 
 /// Waits for the threads of streams. The error is the first stream that was not read to its end, or that the marks fall

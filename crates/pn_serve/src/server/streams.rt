@@ -1,6 +1,7 @@
 //! Streams that are read from one writer after another into a live region, each in its own thread.
 
 ghost use Rattle.std.specs.Prelude.{◌≡◌, [], ◌∷◌, ◌++◌, ◌≤◌, map, None, IfErr, IfOk, OnOk};
+ghost use Rattle.std.specs.Thread.{IsSync};
 ghost use Rattle.pn_apply.specs.declared.reducing.TheConstants.{MAX_WORKERS};
 ghost use Rattle.pn_live.specs.Prelude.{tablets_in};
 ghost use Rattle.pn_serve.specs.Server.Events.{ReadsBesides};
@@ -14,10 +15,12 @@ use crate::server::events::run_beside;
 use crate::server::mailboxes::{AtFault, Reporter, StreamMailboxes, Wakeup};
 use crate::server::reporting::{next_input, report_stream};
 use crate::server::reports::Report;
+use crate::server::writer_input::workers_of_each;
 use crate::server::writers::{Origin, Stream};
 use pn_line::Source;
 use pn_live::LiveRegion;
 use std::alloc::{AllocError, Global};
+use std::marker::Sync;
 use std::sync::{Arc, Wait};
 use std::thread;
 use std::thread::Threads;
@@ -51,21 +54,24 @@ where
     ensures reads { ReadsBesides (map (λ stream. stream.name) streams.items) live.old live.new result }
     ensures same { tablets_in live.new ≡ tablets_in live.old }
 {
-    let mut mailboxes = start_threads::<R, S, O>(rt, alloc, streams, watchers)?;
+    let own = workers_of_each(workers, streams.len());
+    let mut mailboxes = start_threads::<R, S, O>(rt, alloc, streams, own, watchers)?;
     let read = run_beside(rt, alloc, live, workers, &mut mailboxes, &watchers.controls);
     mailboxes.close(rt);
     read
 }
 
-// Starts to read streams, each in its own thread. A refused thread, or out of memory, ends the reading.
+// Starts to read streams, each in its own thread, which shares the lines that are at hand among so many workers. A refused
+// thread, or out of memory, ends the reading.
 fn start_threads<R, S, O>(
     rt: &R,
     alloc: Global,
     streams: Vec<Stream<O>>,
+    workers: usize,
     watchers: &Watchers,
 ) -> Result<StreamMailboxes, ServeFault>
 where
-    R: Threads + Wait + Copy + Send + 'static,
+    R: Threads + Wait + Sync + Copy + Send + 'static,
     S: Source + Drop + Send + 'static,
     O: Origin<S> + Drop + Send + 'static,
     ensures names { IfOk result (λ mailboxes. map (λ stream. stream.name) mailboxes.streams.items ≡ map (λ stream. stream.name) streams.items) }
@@ -76,7 +82,7 @@ where
         return Err(ServeFault::Start);
     };
     for stream in streams {
-        if let Err(_) = start_thread::<R, S, O>(rt, alloc, &mut mailboxes, stream) {
+        if let Err(_) = start_thread::<R, S, O>(rt, alloc, &mut mailboxes, stream, workers) {
             mailboxes.close(rt);
             return Err(ServeFault::Start);
         }
@@ -109,9 +115,10 @@ fn start_thread<R, S, O>(
     alloc: Global,
     mailboxes: &mut StreamMailboxes,
     stream: Stream<O>,
+    workers: usize,
 ) -> Result<(), AllocError>
 where
-    R: Threads + Wait + Copy + Send + 'static,
+    R: Threads + Wait + Sync + Copy + Send + 'static,
     S: Source + Drop + Send + 'static,
     O: Origin<S> + Drop + Send + 'static,
     ensures names { OnOk result (map (λ stream. stream.name) mailboxes.new.streams.items
@@ -126,22 +133,26 @@ where
     } = stream;
     let reporter = mailboxes.add(alloc, name, taken)?;
     let host = *rt;
-    thread::spawn(rt, move || {
-        report_writers::<R, S, O>(&host, alloc, after, origin, &reporter)
-    })?;
+    thread::spawn(
+        rt,
+        move ||
+            requires { IsSync R.row }
+        { report_writers::<R, S, O>(&host, alloc, after, workers, origin, &reporter) },
+    )?;
     Ok(())
 }
 
 // Reports a stream from its first writer on, of which all up to this position was taken before.
-fn report_writers<R: Wait, S: Source + Drop, O: Origin<S> + Drop>(
+fn report_writers<R: Threads + Wait + Sync, S: Source + Drop, O: Origin<S> + Drop>(
     rt: &R,
     alloc: Global,
     after: u64,
+    workers: usize,
     origin: O,
     reporter: &Reporter,
 ) {
     let mut origin = origin;
-    match next_input::<S, O>(alloc, reporter.name, after, &mut origin) {
+    match next_input::<S, O>(alloc, reporter.name, after, workers, &mut origin) {
         Some(input) => {
             let _ = report_stream(rt, alloc, input, origin, reporter);
         }
