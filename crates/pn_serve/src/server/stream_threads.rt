@@ -131,7 +131,6 @@ where
         promise,
         move ||
             requires { IsSync R.row }
-            ensures { EndsStream S.left stream.entry result }
         { report_to_end(&host, alloc, stream, workers, origin, &reporter) },
     )?;
     started.threads.push(thread)?;
