@@ -1,6 +1,6 @@
 -- What is read of lines in chunks is what is read of them in one go.
-use Rattle.std.proofs.Common.{◌≡◌, ◌≢◌, ℕ, ◌+◌, ◌<◌, ◌≤◌, ◌^◌, All, List, [], ◌∷◌, ◌++◌, length, take, drop, get_or, Option, None, Some, IsSome, ◌⊎◌, inl, inr, refl, sym, ap, ◌∙◌, subst, arith, append_assoc, append-nil, length-append, take-append-drop, drop-cons, drop_of_length-le}
-use Rattle.std.proofs.lemmas.List.{take_more}
+use Rattle.std.proofs.Common.{◌≡◌, ◌≢◌, ℕ, suc, ◌+◌, ◌<◌, ◌≤◌, ◌^◌, All, List, [], ◌∷◌, ◌++◌, length, take, drop, get_or, Option, None, Some, IsSome, ◌⊎◌, inl, inr, refl, sym, ap, ◌∙◌, subst, arith, append_assoc, append-nil, length-append, take-append-drop, drop-cons}
+use Rattle.std.proofs.lemmas.List.{drop_all, take_more}
 use Rattle.std.proofs.lemmas.List.Elements.{All-get_or}
 use Rattle.pn_record.specs.declared.image.Image.{Image}
 use Rattle.pn_stream.specs.MessageLines.{IsMessageLine}
@@ -58,10 +58,14 @@ of_line wanted (line ∷ lines) LineTooLong stops = absurd stops
 of_line wanted (line ∷ lines) Failed stops = absurd stops
 
 module _ (position : ℕ) (lines : List (List ℕ)) (images : List Image) where
+  -- the position that is due after the images
+  abbrev wanted : ℕ
+  wanted = position + length images + 1
+
   -- without a fault all lines are read
   pub all_in_step : IsRead position lines images None → InStep position lines images
   all_in_step read =
-      let all : lines ≡ read.front = read.lines_are ∙ ap (λ ls. read.front ++ ls) (none_left _ read.back read.stops) ∙ append-nil read.front in
+      let all : lines ≡ read.front = read.lines_are ∙ ap (λ ls. read.front ++ ls) (none_left wanted read.back read.stops) ∙ append-nil read.front in
       subst (λ (ls : List (List ℕ)). InStep position ls images) (sym all) read.in_step
 
   -- no more messages than lines
@@ -74,14 +78,14 @@ module _ (position : ℕ) (lines : List (List ℕ)) (images : List Image) where
   pub fewer_images : (fault : StreamFault) → IsRead position lines images (Some fault) → length images < length lines
   fewer_images fault read =
       let all : length lines ≡ length read.front + length read.back = ap length read.lines_are ∙ length-append read.front read.back in
-      omega (arith, all, InStep-length position read.front images read.in_step, some_left _ read.back fault read.stops)
+      omega (arith, all, InStep-length position read.front images read.in_step, some_left wanted read.back fault read.stops)
 
   pub read_within : (fault : Option StreamFault) → position ≤ 10 ^ 15 → IsRead position lines images fault → position + length images ≤ 10 ^ 15
   read_within fault begin read = InStep-within position read.front images begin read.in_step
 
   -- a fault is one of a line
   pub fault_of_line : (fault : StreamFault) → IsRead position lines images (Some fault) → (fault ≢ Read) × (fault ≢ Failed)
-  fault_of_line fault read = of_line _ read.back fault read.stops
+  fault_of_line fault read = of_line wanted read.back fault read.stops
 
 -- ---- one line after another
 
@@ -104,7 +108,7 @@ read_all position lines images i end run = record {
   back = drop i lines;
   lines_are = sym (take-append-drop i lines);
   in_step = run;
-  stops = subst (λ (ls : List (List ℕ)). StopsAt _ ls None) (sym (drop_of_length-le lines {i = i} end)) tt;
+  stops = subst (λ (ls : List (List ℕ)). StopsAt (position + length images + 1) ls None) (sym (drop_all i lines end)) tt;
 }
 
 -- at a line that is refused
@@ -145,7 +149,7 @@ fault_hides position low high one fault first = record {
   back = first.back ++ high;
   lines_are = ap (λ ls. ls ++ high) first.lines_are ∙ append_assoc first.front first.back high;
   in_step = first.in_step;
-  stops = stops_more _ first.back high fault first.stops;
+  stops = stops_more (position + length one + 1) first.back high fault first.stops;
 }
 
 -- memory ran out between them
@@ -155,7 +159,7 @@ memory_between position low high one some first = record {
   back = high;
   lines_are = refl;
   in_step = all_in_step position low one first;
-  stops = stops_for_memory _ high some;
+  stops = stops_for_memory (position + length one + 1) high some;
 }
 
 -- a chunk and what follows it, put together
@@ -164,10 +168,10 @@ pub read_together : (position next : ℕ) (lines low high : List (List ℕ)) (on
     → (IsSome first → (all ≡ one) × (fault ≡ first)) → (first ≡ None → ((all ≡ one ++ other) × (fault ≡ second)) ⊎ ((all ≡ one) × (fault ≡ Some Memory)))
     → IsRead position lines all fault
 read_together position next lines low high one other all (Some early) second fault whole at some front back hidden follows =
-    let (images, same) = hidden refl in rw (whole, images, same) (fault_hides position low high one early front)
+    let is = hidden refl in rw (whole, is.0, is.1) (fault_hides position low high one early front)
 read_together position next lines low high one other all None second fault whole at some front back hidden follows =
     let later : IsRead (position + length low) high other second = subst (λ (n : ℕ). IsRead n high other second) at back in
     elim (follows refl) [
-      | inl (images, same) ↦ rw (whole, images, same) (later_follow position low high one other second front later)
-      | inr (images, same) ↦ rw (whole, images, same) (memory_between position low high one some front)
+      | inl is ↦ rw (whole, is.0, is.1) (later_follow position low high one other second front later)
+      | inr is ↦ rw (whole, is.0, is.1) (memory_between position low high one some front)
     ]

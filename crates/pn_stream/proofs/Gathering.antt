@@ -100,7 +100,7 @@ pub gathered_fault : (least most : ℕ) (front part now : List ℕ) (lines : Lis
 gathered_fault least most front part now lines fault None left leaves few so stands = tt
 gathered_fault least most front part now lines fault (Some text) left leaves few so stands =
     let at : (wanted : ℕ) → Stands wanted so.rest fault = on_rest so.rest part left (λ (t : List ℕ). (wanted : ℕ) → Stands wanted t fault) so.is_left stands in
-    record { rest = so.rest; within = omega (arith, few); text_is = so.text_is; ends = λ position. (few, at _) }
+    record { rest = so.rest; within = omega (arith, few); text_is = so.text_is; ends = λ position. (few, at (position + length lines + 1)) }
 
 -- memory ran out
 pub gathered_memory : (least most : ℕ) (front part now : List ℕ) (lines : List (List ℕ)) (first left leaves : Option (List ℕ)) → length lines < most
@@ -144,7 +144,7 @@ refused_stands wanted text line lines rest (OutOfStep named got) whole is refuse
 
 stopped_stands : (wanted : ℕ) (lines : List (List ℕ)) (rest : List ℕ) (fault : StreamFault) → All IsWhole lines → StopsAt wanted lines (Some fault) → Stands wanted (text_of lines ++ rest) fault
 stopped_stands wanted [] rest fault whole stops = absurd stops
-stopped_stands wanted (line ∷ lines) rest fault whole stops = refused_stands wanted _ line lines rest fault (All-head IsWhole line lines whole) refl stops
+stopped_stands wanted (line ∷ lines) rest fault whole stops = refused_stands wanted (text_of (line ∷ lines) ++ rest) line lines rest fault (All-head IsWhole line lines whole) refl stops
 
 -- a line is refused: the batch ends there
 pub Batch-refused : (least most position : ℕ) (text : List ℕ) (lines : List (List ℕ)) (images : List Image) (end : Option StreamFault) (fault : StreamFault) (part : List ℕ) (left : Option (List ℕ))
@@ -161,7 +161,7 @@ Batch-refused least most position text lines images end fault part left whole ga
         text_is = gathered.text_is ∙ ap (λ ls. text_of ls ++ gathered.rest) read.lines_are ∙ ap (λ t. t ++ gathered.rest) (text_of-append read.front read.back)
             ∙ append_assoc (text_of read.front) (text_of read.back) gathered.rest;
       };
-      ends = (omega (arith, fewer, gathered.within), stopped_stands _ read.back gathered.rest fault back read.stops);
+      ends = (omega (arith, fewer, gathered.within), stopped_stands (position + length images + 1) read.back gathered.rest fault back read.stops);
     }
 
 -- what is read of lines, as a batch of the text that begins with them
