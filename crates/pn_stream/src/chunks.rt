@@ -1,6 +1,6 @@
 //! Lines that several threads read, each a chunk of consecutive lines at the positions that its place gives.
 
-ghost use Rattle.std.specs.Prelude.{◌≡◌, ◌+◌, ◌<◌, ◌^◌, ◌⊎◌, ◌++◌, length, All, None, Some, IfOk, IfErr, OnOk, OnErr, IsSome};
+ghost use Rattle.std.specs.Prelude.{◌≡◌, ◌+◌, ◌<◌, ◌^◌, ◌⊎◌, [], ◌++◌, length, All, None, Some, IfOk, IfErr, OnOk, OnErr, IsSome};
 ghost use Rattle.std.specs.Thread.{IsSync};
 ghost use Rattle.pn_stream.specs.Faults.{Refuses};
 ghost use Rattle.pn_stream.specs.Lines.{AddsMessage, IsRead, IsWhole};
@@ -86,19 +86,36 @@ fn read_lines(alloc: Global, lines: &[WholeLine], position: u64) -> ReadRun
     ensures { IsRead position lines.now result.images.items result.fault }
 {
     let mut images = Vec::new(alloc);
+    match push_messages(alloc, lines, position, &mut images) {
+        Ok(()) => ReadRun {
+            images,
+            fault: None,
+        },
+        Err(fault) => ReadRun {
+            images,
+            fault: Some(fault),
+        },
+    }
+}
+
+// Adds the images of the lines' messages, until one is refused.
+fn push_messages(
+    alloc: Global,
+    lines: &[WholeLine],
+    position: u64,
+    images: &mut Vec<Image>,
+) -> Result<(), StreamFault>
+    requires none { images.old.items ≡ [] }
+    requires whole { All IsWhole lines.now }
+    requires numbers { position + length lines.now < 2 ^ 64 }
+    ensures ok { OnOk result (IsRead position lines.now images.new.items None) }
+    ensures err { IfErr result (λ fault. IsRead position lines.now images.new.items (Some fault)) }
+{
     for line in lines {
         let wanted = position + images.len() as u64 + 1;
-        if let Err(fault) = push_message(alloc, line.bytes(), wanted, &mut images) {
-            return ReadRun {
-                images,
-                fault: Some(fault),
-            };
-        }
+        push_message(alloc, line.bytes(), wanted, images)?;
     }
-    ReadRun {
-        images,
-        fault: None,
-    }
+    Ok(())
 }
 
 // Adds the image of the line's message, which must have the position `wanted`. An error leaves the images as they were.
