@@ -31,6 +31,7 @@ pub(crate) fn chunk_count(workers: usize, lines: usize) -> usize {
 
 /// Reads the messages of the lines, of which the first is due after `position`. While there are two workers or more, one's
 /// chunk is cut off and read in a thread of its own.
+#[cycle(chunks)]
 pub(crate) fn read_chunks<R: Threads + Sync>(
     rt: &R,
     alloc: Global,
@@ -48,17 +49,15 @@ pub(crate) fn read_chunks<R: Threads + Sync>(
     let count = (lines.len() / workers).clamp(1, lines.len() - 1);
     let (low, high) = lines.split_at(count);
     let (next, others) = (position + count as u64, workers - 1);
-    let (front, back) = join(
-        rt,
-        || -> ReadRun
-            requires { All IsWhole low.now × (position + length low.now < 2 ^ 64) }
-            ensures { IsRead position low.entry.now result.images.items result.fault }
-        { read_lines(alloc, low, position) },
-        || -> ReadRun
-            requires { IsSync R.row × All IsWhole high.now × (next + length high.now < 2 ^ 64) }
-            ensures { IsRead next high.entry.now result.images.items result.fault }
-        { read_chunks(rt, alloc, high, next, others) },
-    );
+    let front = || -> ReadRun
+        requires { All IsWhole low.now × (position + length low.now < 2 ^ 64) }
+        ensures { IsRead position low.entry.now result.images.items result.fault }
+    { read_lines(alloc, low, position) };
+    let back = || -> ReadRun
+        requires { IsSync R.row × All IsWhole high.now × (next + length high.now < 2 ^ 64) }
+        ensures { IsRead next high.entry.now result.images.items result.fault }
+    { read_chunks(rt, alloc, high, next, others) };
+    let (front, back) = join(rt, front, back);
     put_together(front, back)
 }
 
