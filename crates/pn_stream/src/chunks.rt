@@ -57,8 +57,8 @@ pub(crate) fn read_chunks<R: Threads + Sync>(
         requires { IsSync R.row × All IsWhole high.now × (next + length high.now < 2 ^ 64) }
         ensures { IsRead next high.entry.now result.images.items result.fault }
     { read_chunks(rt, alloc, high, next, others) };
-    let (front, back) = join(rt, front, back);
-    put_together(front, back)
+    let (earlier, later) = join(rt, front, back);
+    put_together(earlier, later)
 }
 
 // The images of a chunk and of what follows it; those of the chunk alone where a fault ended it.

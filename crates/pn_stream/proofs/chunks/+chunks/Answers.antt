@@ -9,4 +9,4 @@ pub returns : goal.returns
 returns g t c =
     read_together c.args.position _ c.args.lines.now c.split_at-low.result.0.now c.split_at-low.result.1.now _ _ _ _ _ _
     c.split_at-low.ensures.by_index.0 (omega (arith, c.split_at-low.ensures.front_len)) (omega (arith, c.split_at-low.ensures.back_len))
-    c.join-front.ensures.first c.join-front.ensures.second c.put_together.ensures.hidden c.put_together.ensures.follows
+    c.join-earlier.ensures.first c.join-earlier.ensures.second c.put_together.ensures.hidden c.put_together.ensures.follows
