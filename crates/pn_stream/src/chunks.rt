@@ -72,10 +72,15 @@ fn put_together(front: ReadRun, back: ReadRun) -> ReadRun
     }
     let (mut both, mut more) = (front, back);
     match both.images.append(&mut more.images) {
-        Ok(()) => both.fault = more.fault,
-        Err(_) => both.fault = Some(StreamFault::Memory),
+        Ok(()) => ReadRun {
+            images: both.images,
+            fault: more.fault,
+        },
+        Err(_) => ReadRun {
+            images: both.images,
+            fault: Some(StreamFault::Memory),
+        },
     }
-    both
 }
 
 // Reads the messages of the lines, until one is refused.
