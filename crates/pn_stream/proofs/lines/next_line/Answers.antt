@@ -1,6 +1,7 @@
 -- Where the line's end was met, the line is the first of the text; and where not, none is.
 use Rattle.std.proofs.Common.{Ok, [], sym, ap, ◌∙◌}
 use Rattle.pn_line.specs.LineEnd.{ReadsTo}
+use Rattle.pn_stream.specs.declared.fault.StreamFault.TheVariants.{Memory}
 use Rattle.pn_stream.proofs.Runs.{handed_on}
 use Rattle.pn_stream.proofs.Steps.{fault_stands, input_ended, newline_read, next_end, no_line, next_line, part-none, IsPart-more}
 use Rattle.pn_stream.proofs.Gathering.{at_any, line_taken, memory_at_any, whole_line}
@@ -23,7 +24,7 @@ returns-in_default-clause-part g c =
     IsPart-more _ _ _ _ [] c.requires reads.0 reads.2
 
 pub returns-in_err-copy-clause-stands : goal.returns-in_err-copy-clause-stands
-returns-in_err-copy-clause-stands g c = ?
+returns-in_err-copy-clause-stands g c = handed_on c.from_residual-in_err-copy.result Memory _ c.from_residual-in_err-copy.ensures.1 (memory_at_any _ _)
 
 pub returns-clause-next : goal.returns-clause-next
 returns-clause-next g c =
