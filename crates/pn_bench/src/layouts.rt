@@ -19,15 +19,21 @@ const TABLETS: usize = 16;
 /// How often the layout is changed, by one key at each bound, between the first rounds and the last ones.
 const CHANGES: usize = 100;
 
-/// How many microseconds a region took to be built, its layout to be changed and changed back, and rounds before and
-/// after many changes; and how many leaves it had before and after them.
-#[derive(Drop)]
+/// How many microseconds a region took to be built, and rounds before and after changes of its layout.
+#[derive(Clone, Copy)]
 pub struct Laid {
     built: u128,
-    there: u128,
-    back: u128,
     before: u128,
     after: u128,
+    changes: Changes,
+}
+
+/// How many microseconds it took to change a layout and to change it back, and how many leaves there were before and
+/// after many changes.
+#[derive(Clone, Copy)]
+struct Changes {
+    there: u128,
+    back: u128,
     leaves: usize,
     leaves_after: usize,
 }
@@ -35,20 +41,13 @@ pub struct Laid {
 impl Laid {
     /// What is told of it.
     pub fn text(&self, alloc: Global) -> Option<String> {
+        let changes = self.changes;
         let mut text = String::new(alloc);
-        writeln!(text, "{} {} {} microseconds", self.built, self.there, self.back).ok()?;
+        writeln!(text, "{} {} {} microseconds", self.built, changes.there, changes.back).ok()?;
         writeln!(text, "{} {} microseconds", self.before, self.after).ok()?;
-        write!(text, "{} {} leaves", self.leaves, self.leaves_after).ok()?;
+        write!(text, "{} {} leaves", changes.leaves, changes.leaves_after).ok()?;
         Some(text)
     }
-}
-
-/// A region of sixteen tablets, and the keys that it was built with.
-#[derive(Drop)]
-struct Laying {
-    region: Region,
-    keys: Vec<Key>,
-    alloc: Global,
 }
 
 /// Measures a plan, where the stream has enough messages.
@@ -59,10 +58,25 @@ pub fn time_layouts<R: Clock + Threads + Sync, S: Source + Drop>(
     plan: Plan,
 ) -> Option<Laid> {
     let first = next_rounds(alloc, &mut stream, plan.records.div_ceil(IN_BATCH), IN_BATCH)?;
-    let before = next_rounds(alloc, &mut stream, plan.rounds, plan.in_round)?;
-    let after = next_rounds(alloc, &mut stream, plan.rounds, plan.in_round)?;
     let mut laying = Laying::new(alloc, &first)?;
-    laying.time(rt, first, before, after)
+    let built = time_rounds(rt, &mut laying.region, first)?;
+    let before = laying.time_next(rt, &mut stream, plan)?;
+    let changes = laying.time_changes(rt)?;
+    let after = laying.time_next(rt, &mut stream, plan)?;
+    Some(Laid {
+        built,
+        before,
+        after,
+        changes,
+    })
+}
+
+/// A region of sixteen tablets, and the keys that it was built with.
+#[derive(Drop)]
+struct Laying {
+    region: Region,
+    keys: Vec<Key>,
+    alloc: Global,
 }
 
 impl Laying {
@@ -70,36 +84,36 @@ impl Laying {
     fn new(alloc: Global, rounds: &[Vec<Delivery>]) -> Option<Laying> {
         let keys = sorted_keys(alloc, rounds)?;
         let layout = layout_from(alloc, &keys, keys.len() / TABLETS)?;
+        let region = Region::new(alloc, layout).ok()?;
         Some(Laying {
-            region: Region::new(alloc, layout).ok()?,
+            region,
             keys,
             alloc,
         })
     }
 
-    // Measures the rounds that build the region, those before many changes, and those after them.
-    fn time<R: Clock + Threads + Sync>(
+    // How long the plan's next rounds take.
+    fn time_next<R: Clock + Threads + Sync, S: Source + Drop>(
         &mut self,
         rt: &R,
-        first: Vec<Vec<Delivery>>,
-        before: Vec<Vec<Delivery>>,
-        after: Vec<Vec<Delivery>>,
-    ) -> Option<Laid> {
-        let built = time_rounds(rt, &mut self.region, first)?;
-        let before = time_rounds(rt, &mut self.region, before)?;
-        let leaves = leaves_of(&self.region)?;
+        stream: &mut StreamReader<S>,
+        plan: Plan,
+    ) -> Option<u128> {
+        let rounds = next_rounds(self.alloc, stream, plan.rounds, plan.in_round)?;
+        time_rounds(rt, &mut self.region, rounds)
+    }
+
+    // Changes the layout by half a tablet and back, and then often.
+    fn time_changes<R: Clock>(&mut self, rt: &R) -> Option<Changes> {
         let step = self.keys.len() / TABLETS;
+        let leaves = leaves_of(&self.region)?;
         let there = self.time_change(rt, step / 2)?;
         let back = self.time_change(rt, step)?;
         self.change_often(step)?;
         let leaves_after = leaves_of(&self.region)?;
-        let after = time_rounds(rt, &mut self.region, after)?;
-        Some(Laid {
-            built,
+        Some(Changes {
             there,
             back,
-            before,
-            after,
             leaves,
             leaves_after,
         })
