@@ -43,7 +43,12 @@ impl Laid {
     pub fn text(&self, alloc: Global) -> Option<String> {
         let changes = self.changes;
         let mut text = String::new(alloc);
-        writeln!(text, "{} {} {} microseconds", self.built, changes.there, changes.back).ok()?;
+        writeln!(
+            text,
+            "{} {} {} microseconds",
+            self.built, changes.there, changes.back
+        )
+        .ok()?;
         writeln!(text, "{} {} microseconds", self.before, self.after).ok()?;
         write!(text, "{} {} leaves", changes.leaves, changes.leaves_after).ok()?;
         Some(text)
@@ -57,7 +62,12 @@ pub fn time_layouts<R: Clock + Threads + Sync, S: Source + Drop>(
     mut stream: StreamReader<S>,
     plan: Plan,
 ) -> Option<Laid> {
-    let first = next_rounds(alloc, &mut stream, plan.records.div_ceil(IN_BATCH), IN_BATCH)?;
+    let first = next_rounds(
+        alloc,
+        &mut stream,
+        plan.records.div_ceil(IN_BATCH),
+        IN_BATCH,
+    )?;
     let mut laying = Laying::new(alloc, &first)?;
     let built = time_rounds(rt, &mut laying.region, first)?;
     let before = laying.time_next(rt, &mut stream, plan)?;

@@ -27,7 +27,12 @@ fn advance_few<R: Threads + Sync>(rt: &R, alloc: Global, counts: &str) -> Option
     let mut region = region(alloc, BOUNDS)?;
     for (tablet, count) in counts.split(' ').enumerate() {
         let keys = words(0, count.parse::<usize>().ok()?)?;
-        adopt(alloc, &mut region, tablet, &filled(rt, alloc, BOUNDS, keys)?)?;
+        adopt(
+            alloc,
+            &mut region,
+            tablet,
+            &filled(rt, alloc, BOUNDS, keys)?,
+        )?;
     }
     region.advance().ok()?;
     go_on(rt, alloc, &mut region)
@@ -48,7 +53,11 @@ fn go_on<R: Threads + Sync>(rt: &R, alloc: Global, region: &mut Region) -> Optio
     let mark = mark_of(region)?;
     let gap = gap_past(rt, alloc, region, mark)?;
     let next = words(usize::try_from(mark).ok()?, 8)?;
-    let changed = bring(rt, region, deliveries(alloc, mark.checked_add(1)?, next, 0)?)?;
+    let changed = bring(
+        rt,
+        region,
+        deliveries(alloc, mark.checked_add(1)?, next, 0)?,
+    )?;
     let records = count_records(region)?;
     format!(in alloc; "{mark}; {gap}; {changed} changed; {records} records").ok()
 }
