@@ -156,7 +156,16 @@ where
 // Starts a server that stays, which counts its end of reading.
 fn start<R>(rt: &R, alloc: Global, listener: Listener) -> io::Result<Arc<Counter>>
 where
-    R: Threads + Wait + Net + Clock + Sync + Copy + Send + Drop + 'static,
+    R: Files
+        + Net<Listener = TcpListener, Stream = TcpStream>
+        + Threads
+        + Wait
+        + Clock
+        + Sync
+        + Copy
+        + Send
+        + Drop
+        + 'static,
 {
     let ended = Arc::new(alloc, Counter::new())?;
     let theirs = Arc::try_clone(&ended)?;
