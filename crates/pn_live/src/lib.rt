@@ -23,5 +23,5 @@ mod tablet_reader;
 
 pub use fault::OpenFault;
 pub use front::Front;
-pub use reader::LiveReader;
+pub use reader::{ENTRY_RECORDS, GetWalk, LiveReader};
 pub use region::{LiveRegion, MAX_READERS};

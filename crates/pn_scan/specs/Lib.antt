@@ -3,6 +3,8 @@ pub mod ConditionReading
 pub mod ConditionWords
 pub mod Conditions
 pub mod Pages
+pub mod Paging
+pub mod Parts
 pub mod Prelude
 pub mod Queries
 pub mod QueryJson
@@ -12,4 +14,5 @@ pub mod Shown
 pub mod UncheckedQueries
 pub mod Views
 pub mod Visits
+pub mod Walking
 pub mod Walks

@@ -15,13 +15,15 @@ mod reads;
 mod unchecked_conditions;
 mod unchecked_query;
 mod view;
+mod walk;
 
 pub use condition::Condition;
 pub use fault::ScanFault;
-pub use pages::page;
+pub use pages::{PageStep, PageWalk, page};
 pub use part::{cell_of, part_of};
 pub use query::{MAX_CONDITIONS, MAX_PAGE_ROWS, Query};
 pub use query_reading::{QueryFault, read_query};
 pub use query_writing::{query_value, write_query};
 pub use reads::{get, read_at_least};
 pub use view::{Page, PartResult, Row, View};
+pub use walk::{Part, PartWalk};

@@ -32,7 +32,8 @@ pub(crate) fn write_row(writer: &mut Writer, key: &Key, cell: &Cell) -> Result<(
     Ok(())
 }
 
-fn state_word(state: CellState) -> &'static str
+/// A state's name in lower case.
+pub(crate) fn state_word(state: CellState) -> &'static str
     ensures { result.now ≡ word_of_state state }
 {
     match state {

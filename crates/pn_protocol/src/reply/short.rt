@@ -36,7 +36,8 @@ impl ShortReply {
         &self.bytes[..self.len]
     }
 
-    fn new() -> ShortReply
+    /// No byte.
+    pub(crate) fn new() -> ShortReply
         ensures { result ≡ [] }
     {
         ShortReply {

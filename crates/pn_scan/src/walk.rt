@@ -1,0 +1,124 @@
+//! Looks into one tablet that are gone on with.
+
+ghost use Rattle.std.specs.Prelude.{◌≡◌, ◌+◌, ◌<◌, ◌≤◌, ◌⊎◌, drop, length, IfOk};
+ghost use Rattle.pn_scan.specs.Walking.{WalksTo};
+ghost use Rattle.pn_scan.specs.Parts.{part_at, walk_answer, left_in, IsDone};
+
+use crate::filter::is_shown;
+use crate::part::row_of;
+use crate::{Query, Row};
+use pn_join::NoMemory;
+use pn_record::Records;
+use pn_tablet::is_before;
+use std::alloc::Global;
+use std::marker::Model;
+
+/// What a look into a tablet has of its answer.
+#[derive(Drop)]
+pub enum Part {
+    /// The first rows that a query shows of the tablet, whether it shows more, and how many records were looked at.
+    Done(Vec<Row>, bool, usize),
+    /// The look is to be gone on with, over what it took of the tablet.
+    Rest(PartWalk),
+}
+
+/// The rows that a look found so far, and the records of its tablet that it has still to look at, as they were found. They are its
+/// own, so the tablet may change.
+#[derive(Drop)]
+pub struct PartWalk {
+    rest: Records,
+    // How many of these were looked at.
+    index: usize,
+    rows: Vec<Row>,
+    room: usize,
+}
+
+impl Model for PartWalk {
+    ghost use Rattle.pn_scan.specs.Parts.{PartWalkValue};
+
+    ghost Value = { PartWalkValue };
+
+    ghost view = { λ walk. record { rows = walk.rows.items; rest = drop walk.index walk.rest; room = walk.room } };
+
+    ghost invariant = { λ walk. (length walk.rows.items ≤ walk.room) × (walk.index ≤ length walk.rest) };
+}
+
+impl PartWalk {
+    /// A look that found these rows, and has still to look at these records.
+    pub(crate) fn new(rest: Records, rows: Vec<Row>, room: usize) -> PartWalk
+        requires { length rows.items ≤ room }
+        ensures { result ≡ record { rows = rows.items; rest = rest; room = room } }
+    {
+        PartWalk {
+            rest,
+            index: 0,
+            rows,
+            room,
+        }
+    }
+
+    /// Looks at so many more records at most. The answer that it comes to stays.
+    pub fn go_on(self, query: &Query, records: usize) -> Result<Part, NoMemory>
+        ensures same { IfOk result (λ part. part_at query.now part ≡ walk_answer query.now self) }
+        ensures few { IfOk result (λ part. length self.rest ≤ left_in part + records) }
+        ensures less { 0 < records → IfOk result (λ part. (left_in part < length self.rest) ⊎ IsDone part) }
+    {
+        let PartWalk {
+            rest,
+            index,
+            rows,
+            room,
+        } = self;
+        let mut rows = rows;
+        match walk_some(&rest, index, query, room, records, &mut rows)? {
+            Walked::All(more, looked) => Ok(Part::Done(rows, more, looked)),
+            Walked::To(index) => Ok(Part::Rest(PartWalk {
+                rest,
+                index,
+                rows,
+                room,
+            })),
+        }
+    }
+}
+
+/// How far a walk over records came.
+#[derive(Clone, Copy, Debug, PartialEq, Eq)]
+pub(crate) enum Walked {
+    /// The rows that there is room for were found, or all. Whether there are more, and how many records were looked at.
+    All(bool, usize),
+    /// The records before this index were looked at.
+    To(usize),
+}
+
+/// Adds the rows that a query shows of so many records at most, from an index on.
+pub(crate) fn walk_some(
+    cells: &Records,
+    index: usize,
+    query: &Query,
+    room: usize,
+    records: usize,
+    rows: &mut Vec<Row>,
+) -> Result<Walked, NoMemory>
+    requires index { index ≤ length cells.now }
+    requires few { length rows.old.items ≤ room }
+    ensures { IfOk result (WalksTo query.now (drop index cells.now) index records room rows.old.items rows.new.items) }
+{
+    let mut looked = 0;
+    for (key, cell) in cells.iter_from(index) {
+        if looked == records {
+            return Ok(Walked::To(index + looked));
+        }
+        looked += 1;
+        if !is_before(query.to(), key) {
+            return Ok(Walked::All(false, looked));
+        }
+        if is_shown(query, key, cell) {
+            if rows.len() == room {
+                return Ok(Walked::All(true, looked));
+            }
+            rows.push(row_of(key, cell)?)?;
+        }
+    }
+    Ok(Walked::All(false, looked))
+}

@@ -1,0 +1,136 @@
+-- Where a line loop stands between two steps, and what a step comes to.
+use Rattle.std.specs.Prelude.{◌≡◌, ◌≢◌, ◌⊎◌, ◌<◌, ◌≤◌, ℕ, ◌+◌, ◌*◌, Bool, true, false, List, [], ◌∷◌, ◌++◌, All, length, Option, None, Some, IfSome, OnSome, IsFalse, Result, Ok, Err}
+use Rattle.std.specs.Io.KnownBytes.{Appends, prepend_known}
+use Rattle.pn_line.specs.Line.{so_far}
+use Rattle.pn_line.specs.LinesRead.{LinesRead, PartRead}
+use Rattle.pn_line.specs.Reads.{IsUnbroken, HasShown}
+use Rattle.pn_line.specs.Sent.{AppendsPrefix}
+use Rattle.pn_protocol.specs.declared.reply.Reply.{Reply}
+use Rattle.pn_scan.specs.Paging.{Moving}
+use Rattle.pn_serve.specs.declared.script.Counts.{Counts}
+use Rattle.pn_serve.specs.declared.script.RunFault.{RunFault}
+use Rattle.pn_serve.specs.declared.script.RunFault.TheVariants.{Write}
+use Rattle.pn_serve.specs.declared.script.TheConstants.{MAX_LINES}
+use Rattle.pn_serve.specs.declared.script.replies.TheConstants.{BLOCK}
+use Rattle.pn_serve.specs.declared.script.line_loop.state.Stage.{Stage}
+use Rattle.pn_serve.specs.declared.script.line_loop.state.Stage.TheVariants.{Reading, Looking, Ending}
+use Rattle.pn_serve.specs.declared.script.line_loop.steps.Step.{Step}
+use Rattle.pn_serve.specs.declared.script.line_loop.steps.Step.TheVariants.{Next, NoInput, NoRoom, Ends}
+use Rattle.pn_serve.specs.declared.sessions.going.Going.{Going}
+use Rattle.pn_serve.specs.Lines.Ends.{EndsBy}
+use Rattle.pn_serve.specs.Lines.Served.{AllAnswered, IsShort}
+use Rattle.pn_serve.specs.Session.Looking.{left_of}
+use Rattle.pn_serve.specs.Lines.States.{LineLoopValue, Start, waiting_in, waits_in}
+
+-- what is left of an input, of which this is at hand and that comes after it, where both are known
+abbrev pub with_rest : Option (List ℕ) → Option (List ℕ) → Option (List ℕ)
+with_rest None rest = None
+with_rest (Some held) rest = prepend_known held rest
+
+-- a handler as a loop uses it: its relations to lines and to the end of an input, whole and begun, and what may become of it
+-- between two looks
+pub record Handling (V : Type 0) : Type 1 where
+  pub moves : Moving V
+  pub makes : V → List ℕ → V → Reply → Type 0
+  pub ends : V → List ℕ → V → Reply → Type 0
+  pub goes : V → List ℕ → V → Going → Type 0
+  pub goes_last : V → List ℕ → V → Going → Type 0
+
+-- a handler's relations, by what may become of it between two looks
+abbrev pub by : {V : Type 0} → Moving V → (Moving V → V → List ℕ → V → Reply → Type 0) → (Moving V → V → List ℕ → V → Reply → Type 0) → (Moving V → V → List ℕ → V → Going → Type 0) → (Moving V → V → List ℕ → V → Going → Type 0) → Handling V
+by moves makes ends goes goes_last = record { moves = moves; makes = makes moves; ends = ends moves; goes = goes moves; goes_last = goes_last moves }
+
+-- this came after what came between
+pub record After {V R : Type 0} (moves : Moving V) (does : V → List ℕ → V → R → Type 0) (was : V) (text : List ℕ) (now : V) (answer : R) : Type 0 where
+  pub between : V
+  pub moved : moves was between
+  pub done : does between text now answer
+
+module _ {V : Type 0} (handling : Handling V) where
+  -- lines, after what came before each
+  abbrev pub Makes : V → List ℕ → V → Reply → Type 0
+  Makes = After handling.moves handling.makes
+
+  abbrev pub MakesLast : V → List ℕ → V → Reply → Type 0
+  MakesLast = After handling.moves handling.ends
+
+  -- lines of the script were answered, and then this part of the next was read
+  pub record IsReading (start : Start V) (script : List ℕ) (left written : Option (List ℕ)) (machine : V) (run : LineLoopValue) : Type 0 where
+    pub lines : List (List ℕ)
+    pub part : List ℕ
+    pub read : PartRead script left lines part
+    pub short : All IsShort lines
+    pub line_is : run.line ≡ so_far part
+    pub bound : (run.state.counts.lines < MAX_LINES) ⊎ (part ≡ [])
+    pub reached : V
+    pub moved : handling.moves reached machine
+    pub answered : AllAnswered Makes start lines written reached (waiting_in run)
+    pub shown : HasShown run.state.more left
+
+  -- lines of the script were answered, and the next, or the last part, was begun
+  pub record IsLooking (start : Start V) (script : List ℕ) (left written : Option (List ℕ)) (machine : V) (run : LineLoopValue) (going : Going) : Type 0 where
+    pub lines : List (List ℕ)
+    pub text : List ℕ
+    pub read : ((run.state.last ≡ false) × LinesRead script left (lines ++ text ∷ [])) ⊎ ((run.state.last ≡ true) × (left ≡ Some []) × PartRead script left lines text)
+    pub short : All IsShort (text ∷ lines)
+    pub bound : run.state.counts.lines < MAX_LINES
+    pub reached : V
+    pub between : V
+    pub answered : AllAnswered Makes start lines written reached (waiting_in run)
+    pub begun : ((run.state.last ≡ false) × After handling.moves handling.goes reached text between going) ⊎ ((run.state.last ≡ true) × After handling.moves handling.goes_last reached text between going)
+    pub moved : handling.moves between machine
+
+  -- the loop ended so, perhaps before what came after
+  pub record HasEnded (start : Start V) (left written : Option (List ℕ)) (machine : V) (ended : Result Counts RunFault) : Type 0 where
+    pub reached : V
+    pub moved : handling.moves reached machine
+    pub ends_by : EndsBy Makes MakesLast start left written reached ended
+
+  -- once what waits is written it has ended so; where a prefix of it is, by a write fault
+  pub record EndsOnceSent (start : Start V) (left written : Option (List ℕ)) (waits : List ℕ) (machine : V) (ended : Result Counts RunFault) : Type 0 where
+    pub all : (after : Option (List ℕ)) → Appends written after waits → HasEnded start left after machine ended
+    pub cut : (after : Option (List ℕ)) → AppendsPrefix written after waits → HasEnded start left after machine (Err Write)
+
+  -- where the loop stands, by its stage, if the bytes of the script are known
+  abbrev pub StandsAt : Stage → Start V → Option (List ℕ) → Option (List ℕ) → V → LineLoopValue → Type 0
+  StandsAt Reading start left written machine run = IfSome start.left (λ script. IsReading start script left written machine run)
+  StandsAt (Looking going) start left written machine run = IfSome start.left (λ script. IsLooking start script left written machine run going)
+  StandsAt (Ending ended) start left written machine run = EndsOnceSent start left written (waits_in run) machine ended
+
+  abbrev pub Stands : Start V → Option (List ℕ) → Option (List ℕ) → V → LineLoopValue → Type 0
+  Stands start left written machine run = StandsAt run.state.stage start left written machine run
+
+  -- the loop stands, or has ended; without input it reads and nothing waits, without room something does
+  abbrev pub StepsTo : Start V → Option (List ℕ) → Option (List ℕ) → V → LineLoopValue → Step → Type 0
+  StepsTo start left written machine run (Next units) = Stands start left written machine run
+  StepsTo start left written machine run NoInput = Stands start left written machine run × (run.state.stage ≡ Reading) × (waits_in run ≡ [])
+  StepsTo start left written machine run NoRoom = Stands start left written machine run × (waits_in run ≢ [])
+  StepsTo start left written machine run (Ends ended) = HasEnded start left written machine ended
+
+-- unless replies are still to be handed on, no reply waits, and those that were written were handed on
+abbrev pub IsOutAs : LineLoopValue → Type 0 → Type 0
+IsOutAs run handed_on = run.state.out ≡ true → (waits_in run ≡ []) × ((run.state.counts.lines ≡ 0) ⊎ handed_on)
+
+-- a step hands on a block at most
+abbrev pub HandsOnAtMost : ℕ → LineLoopValue → LineLoopValue → Type 0
+HandsOnAtMost most old new = length old.replies ≤ length new.replies + most
+
+-- the end of an input, if its bytes are known
+abbrev pub at_end : Option (List ℕ) → Option (List ℕ)
+at_end None = None
+at_end (Some script) = Some []
+
+-- how many records a stage has still to look at before its next look
+abbrev pub records_at : Stage → ℕ
+records_at Reading = 0
+records_at (Looking going) = left_of going
+records_at (Ending ended) = 0
+
+-- no more records than this were looked at of those that were left; those that a look begins with are as many at most
+abbrev pub LooksAtMost : ℕ → LineLoopValue → LineLoopValue → Type 0
+LooksAtMost most old new = records_at old.state.stage ≤ records_at new.state.stage + most
+
+-- what a step did is counted: a line, the bytes of a line or of replies, and records that were looked at
+abbrev pub CountsUnits : LineLoopValue → LineLoopValue → Step → Type 0
+CountsUnits old new (Next units) = (new.state.counts.lines ≤ old.state.counts.lines + 1) × (old.line.count + length new.replies ≤ new.line.count + length old.replies + 1024 * (units + 1) + 65536)
+CountsUnits old new step = Unit {0}

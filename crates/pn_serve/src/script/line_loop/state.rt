@@ -1,0 +1,139 @@
+//! Where a line loop is between two steps, and how it is put aside while its buffers serve another.
+
+ghost use Rattle.std.specs.Prelude.{◌≡◌, ◌↔◌, IsFalse, IsTrue, []};
+ghost use Rattle.pn_line.specs.Line.{so_far};
+ghost use Rattle.pn_serve.specs.Lines.States.{new_state, waits_in};
+
+use crate::script::line_loop::LineLoop;
+use crate::script::replies::ReplyBuffer;
+use crate::sessions::going::Going;
+use crate::{Counts, RunFault};
+use pn_line::LineBuffer;
+use pn_protocol::ReplyText;
+use std::marker::Model;
+use std::mem;
+
+/// Where a line loop is between two steps, but for the line that is read and the bytes that wait.
+#[derive(Drop)]
+pub struct LineState {
+    pub(super) stage: Stage,
+    // The reply whose text is not made to its end.
+    pub(super) text: Option<ReplyText>,
+    // Whether a further line was seen. If not, reading it may wait for input.
+    pub(super) more: bool,
+    // Whether all replies were handed on.
+    pub(super) is_out: bool,
+    // Whether the input is at its end.
+    pub(super) is_last: bool,
+    pub(super) counts: Counts,
+}
+
+/// What is done next.
+#[derive(Drop)]
+pub(super) enum Stage {
+    /// The input is read.
+    Reading,
+    /// A look is gone on with.
+    Looking(Going),
+    /// The loop ends so, once its replies are out.
+    Ending(Result<Counts, RunFault>),
+}
+
+impl Model for LineState {
+    ghost use Rattle.std.specs.Prelude.{◌≤◌};
+    ghost use Rattle.pn_serve.specs.Lines.States.{LineStateValue};
+    ghost use Rattle.pn_serve.specs.Lines.Sending.{text_left};
+
+    ghost Value = { LineStateValue };
+
+    ghost view = { λ state. record { stage = state.stage; left = text_left state.text; more = state.more; out = state.is_out; last = state.is_last; counts = state.counts } };
+
+    ghost invariant = { λ state. state.counts.refused ≤ state.counts.lines + 1 };
+}
+
+impl LineState {
+    /// That of a loop that has answered no line.
+    pub fn new() -> LineState
+        ensures { result ≡ new_state }
+    {
+        LineState {
+            stage: Stage::Reading,
+            text: None,
+            more: false,
+            is_out: true,
+            is_last: false,
+            counts: Counts {
+                lines: 0,
+                refused: 0,
+            },
+        }
+    }
+}
+
+impl LineLoop {
+    /// The line that is read.
+    pub fn line(&self) -> &LineBuffer
+        ensures { result.now ≡ self.now.line }
+    {
+        &self.line
+    }
+
+    /// How many lines were answered, and how many refused.
+    pub fn counts(&self) -> Counts
+        ensures { result ≡ self.now.counts }
+    {
+        self.state.counts
+    }
+
+    /// Whether no bytes wait.
+    pub fn is_sent(&self) -> bool
+        ensures { IsTrue result ↔ (self.now.replies ≡ []) }
+    {
+        self.replies.is_empty()
+    }
+
+    /// Whether bytes wait, or text of a reply is still to be made.
+    pub fn has_replies(&self) -> bool
+        ensures { IsFalse result ↔ (waits_in self.now ≡ []) }
+    {
+        !self.replies.is_empty() || self.state.text.is_some()
+    }
+
+    /// Whether replies that the output does not take at once can be kept from now on. Where not, long ones are refused.
+    pub fn set_scarce(&mut self, is_scarce: bool)
+        ensures { self.new ≡ self.old }
+    {
+        self.is_scarce = is_scarce;
+    }
+
+    /// Begins a new line.
+    pub fn begin_line(&mut self)
+        ensures { self.new ≡ record self.old { line = so_far [] } }
+    {
+        self.line.start();
+    }
+
+    /// Goes on with another line, and gives the one that is read.
+    pub fn swap_line(&mut self, line: &mut LineBuffer)
+        ensures line { self.new ≡ record self.old { line = line.old } }
+        ensures given { line.new ≡ self.old.line }
+    {
+        mem::swap(&mut self.line, line);
+    }
+
+    /// Goes on from another state, and gives its own.
+    pub fn swap_state(&mut self, state: &mut LineState)
+        ensures state { self.new ≡ record self.old { state = state.old } }
+        ensures given { state.new ≡ self.old.state }
+    {
+        mem::swap(&mut self.state, state);
+    }
+
+    /// Goes on with another buffer of replies, and gives its own.
+    pub fn swap_replies(&mut self, replies: &mut ReplyBuffer)
+        ensures replies { self.new ≡ record self.old { replies = replies.old } }
+        ensures given { replies.new ≡ self.old.replies }
+    {
+        mem::swap(&mut self.replies, replies);
+    }
+}
