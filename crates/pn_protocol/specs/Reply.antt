@@ -4,7 +4,6 @@ pub mod Capacity
 pub mod Errors
 pub mod Faults
 pub mod LineStats
-pub mod Making
 pub mod Notices
 pub mod Record
 pub mod Refusals

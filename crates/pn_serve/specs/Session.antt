@@ -2,5 +2,4 @@
 pub mod Counting
 pub mod Knowing
 pub mod Lines
-pub mod Looking
 pub mod Lookups

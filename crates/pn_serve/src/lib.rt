@@ -21,7 +21,7 @@ pub use control::laws::commands_are_events;
 pub use control::mailboxes::{ControlMailboxes, MAX_CONTROLS};
 pub use control::session::{ControlSession, StatsSource};
 pub use laws::regions_converge;
-pub use machine::line_handler::{Answer, LineHandler};
+pub use machine::line_handler::LineHandler;
 pub use page_laws::{
     a_scan_line_shows_the_page_of_its_region, keys_rise_from_page_to_page_of_a_script,
     pages_of_a_script_are_together_its_rows,
@@ -35,8 +35,7 @@ pub use pn_protocol::{
 pub use repeat_laws::{
     a_repeated_deliver_leaves_no_trace_of_a_refused_one, repeated_delivers_leave_the_same_region,
 };
-pub use script::line_loop::{LineLoop, LineState, Step, TURN_UNITS};
-pub use script::replies::{BLOCK, REPLY_CAPACITY, ReplyBuffer, SendOutcome};
+pub use script::line_loop::LineLoop;
 pub use script::{Counts, MAX_LINES, RunFault, run, run_to_exit};
 pub use server::{
     Acceptor, ComesBack, Counter, FaultLog, Origin, ServeFault, SessionThread, Stream,
@@ -44,7 +43,6 @@ pub use server::{
     serve, take_commands,
 };
 pub use sessions::counting_reader::CountingReader;
-pub use sessions::going::Going;
 pub use sessions::session;
 pub use settings::Settings;
 pub use stream_laws::{

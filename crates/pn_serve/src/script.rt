@@ -1,23 +1,23 @@
 //! Scripts: each line is read and answered, and its reply is written.
 
-ghost use Rattle.std.specs.Prelude.{◌≡◌, ◌≢◌, ◌+◌, ◌≤◌, IfOk, IfErr, OnOk, IsErrOf};
+ghost use Rattle.std.specs.Prelude.{◌≡◌, ◌≢◌, ◌+◌, ◌≤◌, [], IfOk, IfErr, OnOk, IsErrOf};
 ghost use Rattle.pn_serve.specs.declared.script.RunFault.TheVariants.{Write, Memory};
 ghost use Rattle.pn_serve.specs.Lines.Ends.{EndsBy};
 ghost use Rattle.pn_serve.specs.Lines.Waiting.{HandsOn, looks_of_input};
 ghost use Rattle.pn_region.specs.Prelude.{new_region};
-ghost use Rattle.pn_scan.specs.Prelude.{Stays};
-ghost use Rattle.pn_serve.specs.Lines.States.{new_loop, start_at};
+ghost use Rattle.pn_serve.specs.Lines.States.{Start, new_loop};
+ghost use Rattle.pn_serve.specs.Lines.Served.{Served};
 ghost use Rattle.pn_serve.specs.Machine.Outcomes.{new_machine};
 ghost use Rattle.pn_serve.specs.Runs.Ends.{Ends, run_start};
 ghost use Rattle.pn_serve.specs.Session.Knowing.{KnowsNoLess};
 
+mod blocks;
 pub(crate) mod line_loop;
-pub(crate) mod replies;
 
 use crate::Settings;
 use crate::machine::line_handler::LineHandler;
 use crate::machine::script_handler::ScriptHandler;
-use crate::script::line_loop::{LineLoop, TURN_UNITS};
+use crate::script::line_loop::{LineLoop, Next};
 use pn_line::{Sink, Source, WriteFault};
 use std::alloc::Global;
 use std::mem;
@@ -133,8 +133,10 @@ pub(crate) fn answer_lines<M: LineHandler, S: Source, W: Sink>(
     output: &mut W,
 ) -> Result<Counts, RunFault>
     requires ready { M.ready }
-    requires new { lines.old ≡ new_loop }
-    ensures ends { EndsBy (M.makes Stays) (M.ends Stays) (start_at machine.old (S.left input.old) (W.contents output.old)) (S.left input.new) (W.contents output.new) machine.new result }
+    requires none { lines.old.counts.lines ≡ 0 }
+    requires waits { lines.old.waits ≡ [] }
+    ensures ends { (start : Start M) → Served M.makes start (S.left input.old) (W.contents output.old) machine.old lines.old
+        → EndsBy M.makes M.ends start (S.left input.new) (W.contents output.new) machine.new result }
     ensures read { IsErrOf result RunFault.Read → S.may_fail }
     ensures write { IsErrOf result RunFault.Write → W.may_fail }
     ensures knows { KnowsNoLess (M.reader machine.old) (M.reader machine.new) }
@@ -144,10 +146,11 @@ pub(crate) fn answer_lines<M: LineHandler, S: Source, W: Sink>(
     ensures end { OnOk result S.may_end }
     ensures begun { IfErr result (λ fault. fault ≢ RunFault.Memory) }
 {
-    'steps: loop {
-        let step = lines.step(machine, input, output, TURN_UNITS);
-        if let Some(ended) = lines.end_after(step, machine) {
-            return ended;
+    'turns: for _turn in 0..MAX_LINES {
+        match lines.turn(machine, input, output)? {
+            Next::Line => {}
+            Next::End(counts) => return Ok(counts),
         }
     }
+    lines.finish(machine, input, output)
 }

@@ -1,21 +1,18 @@
 //! Sessions: lines are answered by a reader of a live region.
 
 ghost use Rattle.std.specs.Prelude.{◌≡◌, ◌+◌, ◌≤◌, IfOk, OnOk, IsErrOf};
-ghost use Rattle.pn_scan.specs.Prelude.{Stays};
 ghost use Rattle.pn_serve.specs.Lines.Ends.{EndsBy};
 ghost use Rattle.pn_serve.specs.Lines.Waiting.{HandsOn, looks_of_input};
 ghost use Rattle.pn_serve.specs.Session.Knowing.{KnowsNoLess};
 ghost use Rattle.pn_serve.specs.Session.Lines.{AnswersLine, EndsLines, session_start};
 
 pub(crate) mod counting_reader;
-pub(crate) mod going;
 pub(crate) mod kinds;
 pub(crate) mod lookups;
 
-use crate::machine::line_handler::{Answer, LineHandler};
+use crate::machine::line_handler::LineHandler;
 use crate::script::line_loop::LineLoop;
 use crate::script::{MAX_LINES, answer_lines};
-use crate::sessions::going::Going;
 use crate::sessions::lookups::answer_line;
 use crate::{Counts, RunFault};
 use pn_line::{LineBuffer, Sink, Source};
@@ -33,7 +30,7 @@ pub fn session<S: Source, W: Sink>(
     input: &mut S,
     output: &mut W,
 ) -> Result<Counts, RunFault>
-    ensures ends { EndsBy (AnswersLine Stays) (EndsLines Stays) (session_start reader.old (S.left input.old) (W.contents output.old)) (S.left input.new) (W.contents output.new) reader.new result }
+    ensures ends { EndsBy AnswersLine EndsLines (session_start reader.old (S.left input.old) (W.contents output.old)) (S.left input.new) (W.contents output.new) reader.new result }
     ensures read { IsErrOf result RunFault.Read → S.may_fail }
     ensures write { IsErrOf result RunFault.Write → W.may_fail }
     ensures knows { KnowsNoLess reader.old reader.new }
@@ -52,7 +49,6 @@ pub fn session<S: Source, W: Sink>(
 impl LineHandler for LiveReader {
     ghost use Rattle.pn_serve.specs.Session.Knowing.{KnowsNoLess};
     ghost use Rattle.pn_serve.specs.Session.Lines.{AnswersLine, EndsLines};
-    ghost use Rattle.pn_serve.specs.Session.Looking.{LooksFor, LooksForLast};
     ghost use Rattle.std.specs.Prelude.{⊤};
 
     ghost ready = { ⊤ };
@@ -61,24 +57,16 @@ impl LineHandler for LiveReader {
 
     ghost ends = { EndsLines };
 
-    ghost goes = { LooksFor };
-
-    ghost goes_last = { LooksForLast };
-
     ghost reader = { λ reader. reader };
 
-    fn answer(&mut self, alloc: Global, line: &LineBuffer) -> Answer {
+    fn answer(&mut self, alloc: Global, line: &LineBuffer) -> Reply {
         answer_line(alloc, self, line.bytes())
     }
 
-    fn answer_end(&mut self, alloc: Global, part: &LineBuffer) -> Answer {
+    fn answer_end(&mut self, alloc: Global, part: &LineBuffer) -> Reply {
         if part.is_empty() {
-            return Answer::Done(Reply::Silent);
+            return Reply::Silent;
         }
         answer_line(alloc, self, part.bytes())
-    }
-
-    fn go_on(&mut self, alloc: Global, going: Going, records: usize) -> (Answer, usize) {
-        going.go_on(alloc, self, records)
     }
 }

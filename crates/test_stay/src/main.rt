@@ -11,7 +11,7 @@ mod stopped;
 mod talks;
 mod writers;
 
-use clients::{count_input, read_input, take_turns};
+use clients::{count_input, read_input, send_output, take_turns};
 use echo::Echo;
 use pn_stay::every_way_of_coming_and_going;
 use served::{answer_flood, listen_twice, serve_session, stay_until_idle};
@@ -33,6 +33,7 @@ fn main(rt: HostRuntime) -> Result<(), Fail> {
         let line = spell_out(alloc, line)?;
         match line.as_str().split_once(' ') {
             Some(("turns", text)) => take_turns(alloc, text),
+            Some(("output", text)) => send_output(alloc, text),
             Some(("input", text)) => read_input(alloc, text),
             Some(("counted", text)) => count_input(alloc, text),
             Some(("listens", _)) => listen_twice(&rt, alloc),

@@ -32,8 +32,7 @@ pub(crate) fn write_row(writer: &mut Writer, key: &Key, cell: &Cell) -> Result<(
     Ok(())
 }
 
-/// A state's name in lower case.
-pub(crate) fn state_word(state: CellState) -> &'static str
+fn state_word(state: CellState) -> &'static str
     ensures { result.now ≡ word_of_state state }
 {
     match state {

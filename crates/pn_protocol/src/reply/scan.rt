@@ -6,7 +6,7 @@ ghost use Rattle.serde_json.specs.Data.{array};
 ghost use Rattle.serde_json.specs.View.{items_of};
 ghost use Rattle.pn_json.specs.Prelude.{line_of, Appends, value_tokens, values_tokens};
 ghost use Rattle.pn_protocol.specs.Reply.Rows.{row_data};
-ghost use Rattle.pn_protocol.specs.Reply.Scan.{head_text, next_data, scan_data};
+ghost use Rattle.pn_protocol.specs.Reply.Scan.{next_data, scan_data};
 
 use crate::reply::capacity::{capacity_of_rows, prefetch_rows};
 use crate::reply::rows::{begin_rows, write_row};
@@ -16,11 +16,8 @@ use pn_json::finish_line;
 use pn_scan::{Page, Query, Row, write_query};
 use std::alloc::Global;
 
-/// How many bytes are reserved for what comes before the rows.
-const HEAD_BYTES: usize = 64;
-
 /// How many rows are prefetched before they are written: as many as fit the nearest cache with their texts.
-pub(crate) const ROWS_AT_HAND: usize = 12;
+const ROWS_AT_HAND: usize = 12;
 
 /// The reply to a scan, `{"next":Q,"rows":[..]}`: the query for the rest, or null, and the rows of the page.
 pub fn scan_reply(alloc: Global, page: &Page) -> Result<Vec<u8>, NoMemory>
@@ -29,19 +26,6 @@ pub fn scan_reply(alloc: Global, page: &Page) -> Result<Vec<u8>, NoMemory>
     let mut writer = begin_rows(alloc, capacity_of_rows(&page.rows))?;
     write_scan(&mut writer, page)?;
     finish_line(writer)
-}
-
-/// What the reply to a scan is before its rows, `{"next":Q,"rows":[`.
-pub(crate) fn write_head(alloc: Global, next: Option<&Query>) -> Result<Vec<u8>, NoMemory>
-    ensures { IfOk result (λ head. head.items ≡ head_text (option_copied next.entry)) }
-{
-    let mut writer = Writer::new(Vec::with_capacity(alloc, HEAD_BYTES)?);
-    writer.begin_object()?;
-    writer.key("next")?;
-    write_next(&mut writer, next)?;
-    writer.key("rows")?;
-    writer.begin_array()?;
-    Ok(writer.into_inner())
 }
 
 #[tactic(auto, unfolding(crate::specs::Reply::Scan::scan_data))]

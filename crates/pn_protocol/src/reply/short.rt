@@ -36,8 +36,7 @@ impl ShortReply {
         &self.bytes[..self.len]
     }
 
-    /// No byte.
-    pub(crate) fn new() -> ShortReply
+    fn new() -> ShortReply
         ensures { result ≡ [] }
     {
         ShortReply {

@@ -6,8 +6,7 @@ ghost use Rattle.pn_serve.specs.Control.Lines.{after_step, at_rest, is_closed, r
 use crate::control::session::{ControlSession, StatsSource};
 use crate::control::steps::Step;
 use crate::machine::adoption::{Announced, Gathered};
-use crate::machine::line_handler::{Answer, LineHandler};
-use crate::sessions::going::Going;
+use crate::machine::line_handler::LineHandler;
 use pn_line::LineBuffer;
 use pn_live::LiveReader;
 use pn_protocol::Reply;
@@ -115,60 +114,51 @@ impl<'a, R: Wait + Clock, C: StatsSource + Drop> LineHandler for ControlHandler<
 
     ghost ready = { ⊤ };
 
-    ghost makes = { λ _. AnswersControl };
+    ghost makes = { AnswersControl };
 
-    ghost ends = { λ _. EndsControl };
-
-    ghost goes = { λ _ _ _ _ _. ⊥ };
-
-    ghost goes_last = { λ _ _ _ _ _. ⊥ };
+    ghost ends = { EndsControl };
 
     ghost reader = { λ session. session.reader };
 
-    fn answer(&mut self, alloc: Global, line: &LineBuffer) -> Answer {
+    fn answer(&mut self, alloc: Global, line: &LineBuffer) -> Reply {
         if self.is_closed() {
-            return Answer::Done(Reply::Silent);
+            return Reply::Silent;
         }
         match self.announced.take() {
             None => {
                 let reader = &mut self.reader;
                 let step = self.session.step(self.rt, alloc, reader, line.bytes());
-                Answer::Done(self.note(alloc, step))
+                self.note(alloc, step)
             }
             Some(announced) => match announced.gather(line.bytes()) {
                 Gathered::More(announced) => {
                     self.announced = Some(announced);
-                    Answer::Done(Reply::Silent)
+                    Reply::Silent
                 }
                 Gathered::Text(text) => {
                     let step = self.session.adopt(self.rt, alloc, text);
-                    Answer::Done(self.note(alloc, step))
+                    self.note(alloc, step)
                 }
             },
         }
     }
 
-    fn answer_end(&mut self, alloc: Global, part: &LineBuffer) -> Answer {
+    fn answer_end(&mut self, alloc: Global, part: &LineBuffer) -> Reply {
         if self.is_closed() {
-            return Answer::Done(Reply::Silent);
+            return Reply::Silent;
         }
         match self.announced.take() {
             Some(announced) => {
                 let text = announced.end(part.bytes());
                 let step = self.session.adopt(self.rt, alloc, text);
-                Answer::Done(self.note(alloc, step))
+                self.note(alloc, step)
             }
-            None if part.is_empty() => Answer::Done(Reply::Silent),
+            None if part.is_empty() => Reply::Silent,
             None => {
                 let reader = &mut self.reader;
                 let step = self.session.last_step(self.rt, alloc, reader, part.bytes());
-                Answer::Done(self.note(alloc, step))
+                self.note(alloc, step)
             }
         }
-    }
-
-    // No line is gone on with.
-    fn go_on(&mut self, _alloc: Global, _going: Going, _records: usize) -> (Answer, usize) {
-        (Answer::Done(Reply::Silent), 0)
     }
 }

@@ -1,69 +1,41 @@
 //! Handlers of lines: the region of a script, or a reader of a live region.
 
-ghost use Rattle.std.specs.Prelude.{◌≡◌, ◌≤◌, ◌+◌, ℕ, List};
+ghost use Rattle.std.specs.Prelude.{◌≡◌, ℕ, List};
 ghost use Rattle.pn_line.specs.Prelude.{so_far};
 ghost use Rattle.pn_live.specs.Prelude.{LiveReaderValue};
-ghost use Rattle.pn_scan.specs.Prelude.{IsPreorder, Moving};
-ghost use Rattle.pn_serve.specs.Lines.Going.{AnswersWith};
 ghost use Rattle.pn_serve.specs.Session.Knowing.{KnowsNoLess};
 
-use crate::sessions::going::Going;
 use crate::sessions::kinds::NO_LINES;
 use pn_line::LineBuffer;
 use pn_protocol::{LineKinds, Reply};
 use std::alloc::Global;
 
-/// What a handler has of the answer to a line.
-#[derive(Drop)]
-pub enum Answer {
-    /// The reply.
-    Done(Reply),
-    /// A look that is to be gone on with.
-    Going(Going),
-}
-
 /// Answers lines one after another.
 pub trait LineHandler {
     ghost use Rattle.pn_protocol.specs.declared.reply.Reply.{Reply};
-    ghost use Rattle.pn_serve.specs.declared.sessions.going.Going.{Going};
 
     // What must hold of its type parameters.
     ghost ready: { Type 0 };
 
-    // By what may become of it between two looks: relates the state before, the line, the state after and the reply.
-    ghost makes: { Moving Self → Self → List ℕ → Self → Reply → Type 0 };
+    // Relates the state before, the line, the state after and the reply.
+    ghost makes: { Self → List ℕ → Self → Reply → Type 0 };
 
-    // The same for the last part of a line.
-    ghost ends: { Moving Self → Self → List ℕ → Self → Reply → Type 0 };
-
-    // By the same: relates the state before, a line that was begun, the state now, and the look that is to be gone on with.
-    ghost goes: { Moving Self → Self → List ℕ → Self → Going → Type 0 };
-
-    // The same for the last part of a line.
-    ghost goes_last: { Moving Self → Self → List ℕ → Self → Going → Type 0 };
+    // Relates the state before, the last part of a line, the state after and the reply.
+    ghost ends: { Self → List ℕ → Self → Reply → Type 0 };
 
     // The reader that it answers from, if any.
     ghost reader: { Self → LiveReaderValue };
 
-    /// Answers a whole line with one reply, or begins to look for it.
-    fn answer(&mut self, alloc: Global, line: &LineBuffer) -> Answer
+    /// Answers a whole line with one reply.
+    fn answer(&mut self, alloc: Global, line: &LineBuffer) -> Reply
         requires { ready }
-        ensures makes { (moves : Moving Self) (text : List ℕ) → IsPreorder moves → line.now ≡ so_far text → AnswersWith (makes moves) (goes moves) self.old text self.new result }
+        ensures makes { (text : List ℕ) → line.now ≡ so_far text → makes self.old text self.new result }
         ensures knows { KnowsNoLess (reader self.old) (reader self.new) };
 
-    /// Answers the end of the input, after a part of a line, or begins to look for the reply.
-    fn answer_end(&mut self, alloc: Global, part: &LineBuffer) -> Answer
+    /// Answers the end of the input, after a part of a line.
+    fn answer_end(&mut self, alloc: Global, part: &LineBuffer) -> Reply
         requires { ready }
-        ensures ends { (moves : Moving Self) (text : List ℕ) → IsPreorder moves → part.now ≡ so_far text → AnswersWith (ends moves) (goes_last moves) self.old text self.new result }
-        ensures knows { KnowsNoLess (reader self.old) (reader self.new) };
-
-    /// Goes on with a look, at so many records at most, or with the next look. How many records that counts for.
-    fn go_on(&mut self, alloc: Global, going: Going, records: usize) -> (Answer, usize)
-        requires { ready }
-        ensures lines { (moves : Moving Self) (was between : Self) (text : List ℕ) → IsPreorder moves → goes moves was text between going → moves between self.old
-            → AnswersWith (makes moves) (goes moves) was text self.new result.0 }
-        ensures last { (moves : Moving Self) (was between : Self) (text : List ℕ) → IsPreorder moves → goes_last moves was text between going → moves between self.old
-            → AnswersWith (ends moves) (goes_last moves) was text self.new result.0 }
+        ensures ends { (text : List ℕ) → part.now ≡ so_far text → ends self.old text self.new result }
         ensures knows { KnowsNoLess (reader self.old) (reader self.new) };
 
     /// How many lines of each kind it answered since this was asked last, where it counts them.

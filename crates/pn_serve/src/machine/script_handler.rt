@@ -7,9 +7,8 @@ ghost use Rattle.pn_serve.specs.Machine.Outcomes.{new_machine};
 use crate::Settings;
 use crate::machine::adoption::Announced;
 use crate::machine::command_reader::Json;
-use crate::machine::line_handler::{Answer, LineHandler};
+use crate::machine::line_handler::LineHandler;
 use crate::machine::{answer_end, answer_line};
-use crate::sessions::going::Going;
 use pn_join::NoMemory;
 use pn_line::LineBuffer;
 use pn_protocol::Reply;
@@ -72,17 +71,13 @@ impl<'a, R: Threads + Sync> LineHandler for ScriptHandler<'a, R> {
     // Threads can share the runtime.
     ghost ready = { IsSync R.row };
 
-    ghost makes = { λ _. Answers };
+    ghost makes = { Answers };
 
-    ghost ends = { λ _. Concludes };
-
-    ghost goes = { λ _ _ _ _ _. ⊥ };
-
-    ghost goes_last = { λ _ _ _ _ _. ⊥ };
+    ghost ends = { Concludes };
 
     ghost reader = { λ _. no_reader };
 
-    fn answer(&mut self, alloc: Global, line: &LineBuffer) -> Answer {
+    fn answer(&mut self, alloc: Global, line: &LineBuffer) -> Reply {
         let waiting = self.announced.take();
         let bytes = line.bytes();
         let region = &mut self.region;
@@ -95,19 +90,13 @@ impl<'a, R: Threads + Sync> LineHandler for ScriptHandler<'a, R> {
             bytes,
         );
         self.announced = announced;
-        Answer::Done(reply)
+        reply
     }
 
-    fn answer_end(&mut self, alloc: Global, part: &LineBuffer) -> Answer {
+    fn answer_end(&mut self, alloc: Global, part: &LineBuffer) -> Reply {
         let announced = self.announced.take();
         let bytes = part.bytes();
         let region = &mut self.region;
-        let reply = answer_end::<R, Json>(self.rt, alloc, region, self.workers, announced, bytes);
-        Answer::Done(reply)
-    }
-
-    // No line is gone on with.
-    fn go_on(&mut self, _alloc: Global, _going: Going, _records: usize) -> (Answer, usize) {
-        (Answer::Done(Reply::Silent), 0)
+        answer_end::<R, Json>(self.rt, alloc, region, self.workers, announced, bytes)
     }
 }

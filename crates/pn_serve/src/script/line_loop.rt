@@ -1,50 +1,64 @@
-//! The line loop: a machine that takes what its input has at hand, answers it line by line, and writes as much as its output
-//! takes. It waits for neither.
+//! The line loop: each line is read and answered, and its reply waits or is written.
 
-ghost use Rattle.std.specs.Prelude.{◌≡◌, ◌⊎◌, ◌+◌, ◌*◌, ◌≤◌, ℕ, List, [], Option, IfOk};
-ghost use Rattle.pn_scan.specs.Prelude.{IsPreorder, Moving};
-ghost use Rattle.pn_live.specs.declared.reader.TheConstants.{ENTRY_RECORDS};
+ghost use Rattle.std.specs.Prelude.{◌≡◌, ◌≢◌, ◌+◌, ◌<◌, ◌≤◌, [], ◌++◌, Ok, IfOk, IfErr, OnOk, OnErr, IsErrOf};
+ghost use Rattle.pn_line.specs.Prelude.{Sends, AppendsPrefix};
+ghost use Rattle.pn_json.specs.Prelude.{line_of};
+ghost use Rattle.pn_serve.specs.Lines.Ends.{EndsBy};
 ghost use Rattle.pn_serve.specs.Lines.States.{Start, new_loop};
-ghost use Rattle.pn_serve.specs.Lines.Stepping.{by, with_rest, at_end, Stands, StepsTo, IsOutAs, HandsOnAtMost, LooksAtMost, CountsUnits};
-ghost use Rattle.pn_serve.specs.declared.script.replies.TheConstants.{BLOCK};
-ghost use Rattle.pn_serve.specs.declared.script.line_loop.steps.TheConstants.{UNIT_RECORDS};
+ghost use Rattle.pn_serve.specs.Lines.Served.{Served};
+ghost use Rattle.pn_serve.specs.Lines.Answered.{Answered, AnsweredInPart, Closed};
+ghost use Rattle.pn_serve.specs.Lines.Turning.{TurnsTo, EndsWithin};
+ghost use Rattle.pn_serve.specs.Lines.Waiting.{HandsOn, IsAllOut, looks_of_line};
+ghost use Rattle.pn_protocol.specs.Prelude.{lines_data, reply_text, is_refusal};
+ghost use Rattle.pn_protocol.specs.Reply.Short.{number_reply_data};
+ghost use Rattle.pn_serve.specs.Script.Written.{one_if};
 ghost use Rattle.pn_serve.specs.Session.Knowing.{KnowsNoLess};
 
-mod state;
-mod steps;
+mod parts;
 
-use crate::machine::line_handler::{Answer, LineHandler};
+use crate::machine::line_handler::LineHandler;
 use crate::script::MAX_LINES;
-use crate::script::replies::{ReplyBuffer, SendOutcome};
+use crate::script::blocks::Blocks;
 use crate::{Counts, RunFault};
 use pn_join::NoMemory;
-use pn_line::{ENDLESS, LineBuffer, Piece, Sink, Source, WriteFault};
-use pn_protocol::{Reply, ReplyText};
-pub use state::LineState;
-use state::Stage;
+use pn_line::{ENDLESS, LineBuffer, LineEnd, Sink, Source, WriteFault, read_line};
+use pn_protocol::{NumberName, Reply, number_reply, refusal_reply};
 use std::alloc::Global;
 use std::marker::Model;
-use std::mem;
-pub use steps::{Step, TURN_UNITS};
-use steps::{records_of, units_of, units_of_records};
 
-/// Answers lines: the line that is read, the replies that wait, and how far it is.
+/// The state of a line loop between two lines.
 #[derive(Drop)]
 pub struct LineLoop {
     alloc: Global,
     line: LineBuffer,
-    replies: ReplyBuffer,
-    state: LineState,
-    // Whether no replies can be kept that the output does not take at once.
-    is_scarce: bool,
+    blocks: Blocks,
+    // Whether a further line was seen. If not, reading it may wait for input.
+    more: bool,
+    counts: Counts,
 }
 
 impl Model for LineLoop {
+    ghost use Rattle.std.specs.Prelude.{◌≤◌};
     ghost use Rattle.pn_serve.specs.Lines.States.{LineLoopValue};
 
     ghost Value = { LineLoopValue };
 
-    ghost view = { λ run. record { line = run.line; replies = run.replies; state = run.state } };
+    ghost use Rattle.pn_serve.specs.Lines.Coding.{line_loop_code};
+
+    ghost coded = { line_loop_code };
+
+    ghost view = { λ run. record { line = run.line; waits = run.blocks; more = run.more; counts = run.counts } };
+
+    ghost invariant = { λ run. run.counts.refused ≤ run.counts.lines };
+}
+
+/// What comes after a line.
+#[derive(Clone, Copy, Debug, PartialEq, Eq)]
+pub(crate) enum Next {
+    /// Another line, or the end of the input.
+    Line,
+    /// The end of the input: all replies were written. How many lines were answered and refused.
+    End(Counts),
 }
 
 impl LineLoop {
@@ -55,216 +69,224 @@ impl LineLoop {
         Ok(LineLoop {
             alloc,
             line: LineBuffer::new(alloc)?,
-            replies: ReplyBuffer::new(alloc)?,
-            state: LineState::new(),
-            is_scarce: false,
+            blocks: Blocks::new(alloc)?,
+            more: false,
+            counts: Counts {
+                lines: 0,
+                refused: 0,
+            },
         })
     }
 
-    /// One step, of about so many units at most: takes a piece of the input, answers a line, goes on with a look, makes a block of
-    /// a reply's text, or writes.
-    pub fn step<M: LineHandler, S: Source, W: Sink>(
+    /// Reads a line and answers it. If no further line was seen, all replies are written, since reading it may wait.
+    pub(crate) fn turn<M: LineHandler, S: Source, W: Sink>(
         &mut self,
         machine: &mut M,
         input: &mut S,
         output: &mut W,
-        units: u32,
-    ) -> Step
+    ) -> Result<Next, RunFault>
         requires ready { M.ready }
-        ensures steps { (moves : Moving M) (start : Start M) (rest : Option (List ℕ)) → IsPreorder moves → Stands (by moves M.makes M.ends M.goes M.goes_last) start (with_rest (S.left input.old) rest) (W.contents output.old) machine.old self.old
-            → StepsTo (by moves M.makes M.ends M.goes M.goes_last) start (with_rest (S.left input.new) rest) (W.contents output.new) machine.new self.new result }
-        ensures out { IsOutAs self.old (W.is_handed_on output.old) → IsOutAs self.new (W.is_handed_on output.new) }
-        ensures few { HandsOnAtMost BLOCK self.old self.new ⊎ (self.new.replies ≡ []) }
-        ensures looked { LooksAtMost (UNIT_RECORDS * units + ENTRY_RECORDS) self.old self.new }
-        ensures counted { CountsUnits self.old self.new result }
-        ensures looks { S.looks input.new ≤ S.looks input.old + 1 }
-        ensures end { result ≡ Step.NoInput → S.may_end }
-        ensures read { result ≡ Step.Ends (Err RunFault.Read) → S.may_fail }
-        ensures write { result ≡ Step.Ends (Err RunFault.Write) → W.may_fail }
+        requires few { self.old.counts.lines < MAX_LINES }
+        requires out { IsAllOut self.old (W.is_handed_on output.old) }
+        ensures out { result ≡ Ok Next.Line → IsAllOut self.new (W.is_handed_on output.new) }
+        ensures ends_out { result ≢ Ok Next.Line → HandsOn result (W.is_handed_on output.new) }
+        ensures looks { S.looks input.new ≤ S.looks input.old + looks_of_line }
+        ensures ends { IfOk result (λ next. next ≢ Next.Line → S.may_end) }
+        ensures turns { (start : Start M) → Served M.makes start (S.left input.old) (W.contents output.old) machine.old self.old
+            → TurnsTo M.makes M.ends start (S.left input.new) (W.contents output.new) machine.new self.new result }
+        ensures counted { result ≡ Ok Next.Line → self.new.counts.lines ≡ self.old.counts.lines + 1 }
+        ensures few { IfOk result (EndsWithin MAX_LINES) }
+        ensures read { IsErrOf result RunFault.Read → S.may_fail }
+        ensures write { IsErrOf result RunFault.Write → W.may_fail }
+        ensures begun { IfErr result (λ fault. fault ≢ RunFault.Memory) }
         ensures knows { KnowsNoLess (M.reader machine.old) (M.reader machine.new) }
     {
-        if self.state.text.is_some() {
-            return self.write_on(output);
-        }
-        if let Stage::Reading = &self.state.stage {
-            return self.read_on(machine, input, output);
-        }
-        match mem::replace(&mut self.state.stage, Stage::Reading) {
-            Stage::Reading => self.read_on(machine, input, output),
-            Stage::Looking(going) => {
-                let (answer, looked) = machine.go_on(self.alloc, going, records_of(units));
-                Step::Next(self.take_answer(answer, true).max(units_of_records(looked)))
-            }
-            Stage::Ending(ended) => self.end_once_out(ended, output),
-        }
-    }
-
-    /// The input is at its end: a last part of a line is answered, and the loop ends once its replies are written.
-    pub fn end_input<M: LineHandler>(&mut self, machine: &mut M)
-        requires ready { M.ready }
-        requires reading { self.old.state.stage ≡ Stage.Reading }
-        ensures stands { (moves : Moving M) (start : Start M) (written : Option (List ℕ)) → IsPreorder moves → Stands (by moves M.makes M.ends M.goes M.goes_last) start (at_end start.left) written machine.old self.old
-            → Stands (by moves M.makes M.ends M.goes M.goes_last) start (at_end start.left) written machine.new self.new }
-        ensures knows { KnowsNoLess (M.reader machine.old) (M.reader machine.new) }
-    {
-        let is_line = !self.line.is_empty();
-        self.state.is_last = true;
-        let answer = machine.answer_end(self.alloc, &self.line);
-        let _ = self.take_answer(answer, is_line);
-    }
-
-    /// How a loop ends whose input and output do not wait, after a step: an input with no more at hand is at its end, and an output
-    /// that takes no more for now has failed.
-    pub(crate) fn end_after<M: LineHandler>(
-        &mut self,
-        step: Step,
-        machine: &mut M,
-    ) -> Option<Result<Counts, RunFault>> {
-        match step {
-            Step::Next(_) => None,
-            Step::NoInput => {
-                self.end_input(machine);
-                None
-            }
-            Step::NoRoom => Some(Err(RunFault::Write)),
-            Step::Ends(ended) => Some(ended),
-        }
-    }
-
-    /// The loop ends so, once its replies are written.
-    pub fn end_by(&mut self, ended: Result<Counts, RunFault>) {
-        self.state.stage = Stage::Ending(ended);
-    }
-
-    // Makes what still has room of a reply's text, after a block was written.
-    fn write_on<W: Sink>(&mut self, output: &mut W) -> Step {
-        match self.replies.send_block(output) {
-            Ok(SendOutcome::All) => Step::Next(self.make_text()),
-            Ok(SendOutcome::Waits) => Step::NoRoom,
-            Err(_) => Step::Ends(Err(RunFault::Write)),
-        }
-    }
-
-    // Takes a piece of the input, once all replies are out that may not wait.
-    fn read_on<M: LineHandler, S: Source, W: Sink>(
-        &mut self,
-        machine: &mut M,
-        input: &mut S,
-        output: &mut W,
-    ) -> Step {
-        if !self.state.more && !self.state.is_out {
-            return self.put_out(output);
-        }
-        if self.state.counts.lines >= MAX_LINES {
-            return self.look_further(input);
-        }
-        let before = self.line.len();
-        match input.take_some(&mut self.line) {
-            Ok(Piece::Part) => {
-                if self.line.len() >= ENDLESS {
-                    self.end_by(Err(RunFault::TooManyTurns));
-                }
-                Step::Next(units_of(self.line.len() - before))
-            }
-            Ok(Piece::Ended { more }) => {
-                self.state.more = more;
-                Step::Next(self.answer(machine))
-            }
-            Ok(Piece::NoMore) => Step::NoInput,
-            Err(_) => self.end_reading(RunFault::Read),
-        }
-    }
-
-    // Looks for input after the last line that may be answered. More is a fault.
-    fn look_further<S: Source>(&mut self, input: &mut S) -> Step {
-        match input.has_more() {
-            Ok(false) => Step::NoInput,
-            Ok(true) => self.end_reading(RunFault::TooManyTurns),
-            Err(_) => self.end_reading(RunFault::Read),
-        }
-    }
-
-    fn end_reading(&mut self, fault: RunFault) -> Step {
-        self.end_by(Err(fault));
-        Step::Next(0)
-    }
-
-    // Answers the line that was read. How many units that took.
-    fn answer<M: LineHandler>(&mut self, machine: &mut M) -> u32 {
-        let parsed = units_of(self.line.len());
-        let answer = machine.answer(self.alloc, &self.line);
-        parsed.saturating_add(self.take_answer(answer, true))
-    }
-
-    // Takes the answer to a line. How many units were made of its text.
-    fn take_answer(&mut self, answer: Answer, is_line: bool) -> u32 {
         self.line.start();
-        match answer {
-            Answer::Done(reply) => self.reply(reply, is_line),
-            Answer::Going(going) => {
-                self.state.stage = Stage::Looking(going);
-                1
+        let Ok(end) = read_line(&mut self.line, input) else {
+            prove!(self.line.len() <= ENDLESS);
+            self.blocks.flush(output)?;
+            return Err(RunFault::Read);
+        };
+        match end {
+            LineEnd::Newline { more } => {
+                self.answer_line(machine, output)?;
+                self.more = more;
+                if !more {
+                    self.blocks.flush(output)?;
+                }
+                Ok(Next::Line)
+            }
+            LineEnd::EndOfInput => {
+                let counts = self.answer_end(machine, output)?;
+                self.blocks.flush(output)?;
+                Ok(Next::End(counts))
+            }
+            LineEnd::Endless => {
+                self.blocks.flush(output)?;
+                Err(RunFault::TooManyTurns)
             }
         }
     }
 
-    // A line has its reply, of which a block's text is made. Where no replies can be kept it is short, and ends the turn.
-    fn reply(&mut self, reply: Reply, is_line: bool) -> u32 {
-        let reply = if self.is_scarce {
-            reply.or_memory()
-        } else {
-            reply
+    /// Answers the line that was read, and counts it.
+    pub fn answer_line<M: LineHandler, W: Sink>(
+        &mut self,
+        machine: &mut M,
+        output: &mut W,
+    ) -> Result<(), WriteFault>
+        requires ready { M.ready }
+        requires few { self.old.counts.lines < MAX_LINES }
+        ensures ok { OnOk result (Answered M.makes machine.old machine.new self.old self.new (W.contents output.old) (W.contents output.new)) }
+        ensures err { OnErr result (AnsweredInPart M.makes machine.old machine.new self.old (W.contents output.old) (W.contents output.new)) }
+        ensures fault { OnErr result W.may_fail }
+        ensures knows { KnowsNoLess (M.reader machine.old) (M.reader machine.new) }
+    {
+        let reply = machine.answer(self.alloc, &self.line);
+        self.counts.lines += 1;
+        count_refused(&mut self.counts, &reply);
+        push_reply(&reply, &mut self.blocks, output)
+    }
+
+    /// Answers the end of the input after the part of a line that was read. All lines and refusals are counted.
+    pub fn answer_end<M: LineHandler, W: Sink>(
+        &mut self,
+        machine: &mut M,
+        output: &mut W,
+    ) -> Result<Counts, WriteFault>
+        requires ready { M.ready }
+        requires few { self.old.counts.lines ≤ MAX_LINES }
+        ensures few { IfOk result (λ counts. counts.lines ≤ self.old.counts.lines + 1) }
+        ensures none { self.old.line.count ≡ 0 → IfOk result (λ counts. counts.lines ≡ self.old.counts.lines) }
+        ensures ok { IfOk result (λ counts. Closed M.ends machine.old machine.new self.old self.new (W.contents output.old) (W.contents output.new) counts) }
+        ensures err { OnErr result (AnsweredInPart M.ends machine.old machine.new self.old (W.contents output.old) (W.contents output.new)) }
+        ensures fault { OnErr result W.may_fail }
+        ensures knows { KnowsNoLess (M.reader machine.old) (M.reader machine.new) }
+    {
+        let reply = machine.answer_end(self.alloc, &self.line);
+        let mut counts = self.counts;
+        if !self.line.is_empty() {
+            counts.lines += 1;
+        }
+        count_refused(&mut counts, &reply);
+        push_reply(&reply, &mut self.blocks, output)?;
+        Ok(counts)
+    }
+
+    /// Writes all replies after the last line that may be answered. More input is a fault.
+    pub(crate) fn finish<M: LineHandler, S: Source, W: Sink>(
+        &mut self,
+        machine: &mut M,
+        input: &mut S,
+        output: &mut W,
+    ) -> Result<Counts, RunFault>
+        requires ready { M.ready }
+        requires all { self.old.counts.lines ≡ MAX_LINES }
+        ensures ends { (start : Start M) → Served M.makes start (S.left input.old) (W.contents output.old) machine.old self.old
+            → EndsBy M.makes M.ends start (S.left input.new) (W.contents output.new) machine.new result }
+        ensures read { IsErrOf result RunFault.Read → S.may_fail }
+        ensures write { IsErrOf result RunFault.Write → W.may_fail }
+        ensures knows { KnowsNoLess (M.reader machine.old) (M.reader machine.new) }
+        ensures few { IfOk result (λ counts. counts.lines ≤ MAX_LINES) }
+        ensures out { HandsOn result (W.is_handed_on output.new) }
+        ensures looks { S.looks input.new ≤ S.looks input.old + 1 }
+        ensures end { OnOk result S.may_end }
+        ensures begun { IfErr result (λ fault. fault ≢ RunFault.Memory) }
+    {
+        self.blocks.flush(output)?;
+        self.end_here(machine, input, output)
+    }
+
+    // Looks for more input, which may wait: no reply waits then. More is a fault.
+    fn end_here<M: LineHandler, S: Source, W: Sink>(
+        &mut self,
+        machine: &mut M,
+        input: &mut S,
+        output: &mut W,
+    ) -> Result<Counts, RunFault>
+        requires ready { M.ready }
+        requires all { self.old.counts.lines ≡ MAX_LINES }
+        requires waits { self.old.waits ≡ [] }
+        requires handed_on { W.is_handed_on output.old }
+        ensures ends { (start : Start M) → Served M.makes start (S.left input.old) (W.contents output.old) machine.old self.old
+            → EndsBy M.makes M.ends start (S.left input.new) (W.contents output.new) machine.new result }
+        ensures read { IsErrOf result RunFault.Read → S.may_fail }
+        ensures write { IsErrOf result RunFault.Write → W.may_fail }
+        ensures knows { KnowsNoLess (M.reader machine.old) (M.reader machine.new) }
+        ensures few { IfOk result (λ counts. counts.lines ≤ MAX_LINES) }
+        ensures out { HandsOn result (W.is_handed_on output.new) }
+        ensures looks { S.looks input.new ≤ S.looks input.old + 1 }
+        ensures end { OnOk result S.may_end }
+        ensures begun { IfErr result (λ fault. fault ≢ RunFault.Memory) }
+    {
+        let Ok(more) = input.has_more() else {
+            return Err(RunFault::Read);
         };
-        if is_line {
-            self.state.counts.lines += 1;
+        if more {
+            return Err(RunFault::TooManyTurns);
         }
-        if let Reply::Refused(_) | Reply::NotTaken(_) = &reply {
-            self.state.counts.refused += 1;
-        }
-        self.state.is_out = false;
-        self.state.text = Some(ReplyText::new(reply));
-        if self.state.is_last {
-            self.state.stage = Stage::Ending(Ok(self.state.counts));
-        }
-        let made = self.make_text();
-        if self.is_scarce { TURN_UNITS } else { made }
+        self.line.start();
+        let counts = self.answer_end(machine, output)?;
+        self.blocks.flush(output)?;
+        Ok(counts)
     }
+}
 
-    // Makes the text of the reply while it has room. How many units that took.
-    fn make_text(&mut self) -> u32 {
-        let before = self.replies.len();
-        self.state.text = match self.state.text.take() {
-            Some(text) => self.replies.fill(text),
-            None => None,
-        };
-        units_of(self.replies.len() - before)
+fn count_refused(counts: &mut Counts, reply: &Reply)
+    requires few { counts.old.lines ≤ MAX_LINES + 1 }
+    requires bounded { counts.old.refused ≤ counts.old.lines }
+    ensures lines { counts.new.lines ≡ counts.old.lines }
+    ensures refused { counts.new.refused ≡ one_if (is_refusal reply.now) + counts.old.refused }
+{
+    if let Reply::Refused(_) | Reply::NotTaken(_) = reply {
+        counts.refused += 1;
     }
+}
 
-    // Writes all that waits, and hands it on.
-    fn put_out<W: Sink>(&mut self, output: &mut W) -> Step {
-        match self.flush(output) {
-            Ok(SendOutcome::All) => Step::Next(0),
-            Ok(SendOutcome::Waits) => Step::NoRoom,
-            Err(_) => Step::Ends(Err(RunFault::Write)),
-        }
+// Adds a reply to the waiting bytes.
+fn push_reply<W: Sink>(reply: &Reply, blocks: &mut Blocks, output: &mut W) -> Result<(), WriteFault>
+    ensures ok { OnOk result (Sends (W.contents output.old) (W.contents output.new) blocks.old blocks.new (reply_text reply.now)) }
+    ensures err { OnErr result (AppendsPrefix (W.contents output.old) (W.contents output.new) (blocks.old ++ reply_text reply.now)) }
+    ensures fault { OnErr result W.may_fail }
+{
+    match reply {
+        Reply::Adopted(tablet) => push_number(NumberName::Adopted, *tablet, blocks, output),
+        Reply::Changed(count) => push_number(NumberName::Changed, *count, blocks, output),
+        Reply::Copied { lines, text } => push_copy(*lines, text, blocks, output),
+        Reply::Lost(tablet) => push_number(NumberName::Lost, *tablet, blocks, output),
+        Reply::Relaid(count) => push_number(NumberName::Tablets, *count, blocks, output),
+        Reply::Silent => Ok(()),
+        Reply::Stopping(seconds) => push_number(NumberName::Stopping, *seconds, blocks, output),
+        Reply::Text(text) | Reply::NotTaken(text) => blocks.push(output, text),
+        Reply::Refused(refusal) => blocks.push(output, refusal_reply(refusal).as_bytes()),
     }
+}
 
-    // Ends so, once all replies are out.
-    fn end_once_out<W: Sink>(&mut self, ended: Result<Counts, RunFault>, output: &mut W) -> Step {
-        match self.flush(output) {
-            Ok(SendOutcome::All) => Step::Ends(ended),
-            Ok(SendOutcome::Waits) => {
-                self.end_by(ended);
-                Step::NoRoom
-            }
-            Err(_) => Step::Ends(Err(RunFault::Write)),
-        }
-    }
+// Adds a reply of one number to the waiting bytes.
+fn push_number<W: Sink>(
+    name: NumberName,
+    number: u64,
+    blocks: &mut Blocks,
+    output: &mut W,
+) -> Result<(), WriteFault>
+    ensures ok { OnOk result (Sends (W.contents output.old) (W.contents output.new) blocks.old blocks.new (line_of (number_reply_data name number))) }
+    ensures err { OnErr result (AppendsPrefix (W.contents output.old) (W.contents output.new) (blocks.old ++ line_of (number_reply_data name number))) }
+    ensures fault { OnErr result W.may_fail }
+{
+    blocks.push(output, number_reply(name, number).as_bytes())
+}
 
-    /// Writes the replies that wait, and hands them on.
-    pub fn flush<W: Sink>(&mut self, output: &mut W) -> Result<SendOutcome, WriteFault> {
-        let sent = self.replies.flush(output)?;
-        self.state.is_out = sent == SendOutcome::All && self.state.text.is_none();
-        Ok(sent)
-    }
+// Adds a copy's first line and its text to the waiting bytes.
+fn push_copy<W: Sink>(
+    lines: u64,
+    text: &str,
+    blocks: &mut Blocks,
+    output: &mut W,
+) -> Result<(), WriteFault>
+    ensures ok { OnOk result (Sends (W.contents output.old) (W.contents output.new) blocks.old blocks.new (line_of (lines_data lines) ++ text.now)) }
+    ensures err { OnErr result (AppendsPrefix (W.contents output.old) (W.contents output.new) (blocks.old ++ (line_of (lines_data lines) ++ text.now))) }
+    ensures fault { OnErr result W.may_fail }
+{
+    push_number(NumberName::Lines, lines, blocks, output)?;
+    blocks.push(output, text.as_bytes())?;
+    Ok(())
 }
