@@ -14,5 +14,6 @@ pub mod Shown
 pub mod UncheckedQueries
 pub mod Views
 pub mod Visits
+pub mod WalkValues
 pub mod Walking
 pub mod Walks

@@ -3,14 +3,9 @@ use Rattle.std.specs.Prelude.{ℕ, Bool, nat_lt, List, [], ◌++◌, length, tak
 use Rattle.pn_record.specs.CellMap.{Entries}
 use Rattle.pn_scan.specs.Queries.{QueryValue}
 use Rattle.pn_scan.specs.Shown.{shown_rows}
+use Rattle.pn_scan.specs.WalkValues.{PartWalkValue}
 use Rattle.pn_scan.specs.declared.walk.Part.{Part}
 use Rattle.pn_scan.specs.declared.walk.Part.TheVariants.{Done, Rest}
-
--- the rows that were found, the records that are still to be looked at, and for how many rows there is room
-pub record PartWalkValue : Type 0 where
-  pub rows : Entries
-  pub rest : Entries
-  pub room : ℕ
 
 -- the first rows that a tablet shows, and whether it shows more
 abbrev pub PartValue : Type 0
