@@ -28,6 +28,10 @@ impl Model for GetWalk {
 
     ghost Value = { GetWalkValue };
 
+    ghost use Rattle.pn_live.specs.Proofs.Coding.{get_walk_code};
+
+    ghost coded = { get_walk_code };
+
     ghost view = { λ walk. record { keys = walk.keys.items; cells = option_map (λ cells. cells.items) walk.cells; read = walk.read } };
 
     ghost invariant = { λ walk. (walk.read ≤ length walk.keys.items) × IfSome walk.cells (λ cells. (length walk.keys.items ≤ vec_capacity cells) × (vec_len cells ≡ walk.read)) };
@@ -48,7 +52,8 @@ impl GetWalk {
 
     /// How many keys are still to be read.
     pub fn left(&self) -> usize
-        ensures { result ≡ length self.now.keys - self.now.read }
+        ensures left { result ≡ length self.now.keys - self.now.read }
+        ensures within { self.now.read ≤ length self.now.keys }
     {
         self.keys.len() - self.read
     }

@@ -13,7 +13,7 @@ use Rattle.pn_tablet.specs.Ranges.{is_below, is_from, is_before}
 use Rattle.pn_scan.specs.Queries.{QueryValue}
 use Rattle.pn_scan.specs.Parts.{walk_answer}
 use Rattle.pn_scan.specs.Shown.{is_after, is_shown, shown_rows}
-use Rattle.pn_scan.specs.Walking.{WalksTo}
+use Rattle.pn_scan.specs.Walking.{BeginsBelow, WalksTo}
 use Rattle.pn_scan.specs.declared.walk.Walked.TheVariants.{All, To}
 use Rattle.pn_scan.proofs.Walking.{NoneBelow, lesser_at, not_asked, hidden_first, shown_first, and_first, and_mid, past_end, from_there, begin_past}
 
@@ -144,3 +144,21 @@ to_answer q cells index records room before after end walked =
     let there : drop end cells ≡ drop records (drop index cells) = ap (λ k. drop k cells) walked.0 ∙ sym (drop-drop records index cells) in
     same_answer q room after (drop end cells) before (drop index cells)
     (ap (λ (es : Entries). after ++ shown_rows q es) there ∙ goes_to_same q (drop index cells) before after records walked.3)
+
+-- a record that is below `from` is passed
+pub skip_answer : (q : QueryValue) (cells : Entries) (index passed room : ℕ) (rows : Entries) → BeginsBelow q.from (drop index cells) true → passed ≤ 1
+    → walk_answer q (record { rows = rows; rest = drop (index + passed) cells; room = room }) ≡ walk_answer q (record { rows = rows; rest = drop index cells; room = room })
+skip_answer q cells index zero room rows below one =
+    let same : index + 0 ≡ index = omega arith in
+    same_answer q room rows (drop (index + 0) cells) rows (drop index cells) (ap (λ n. rows ++ shown_rows q (drop n cells)) same)
+skip_answer q cells index (suc n) room rows below one =
+    let same : index + suc n ≡ index + 1 = omega arith in
+    let others : drop (index + suc n) cells ≡ below.1 = ap (λ k. drop k cells) same ∙ sym (dropped_more index cells below.0 below.1 (sym below.2)) in
+    same_answer q room rows (drop (index + suc n) cells) rows (drop index cells)
+    (ap (λ (l : Entries). rows ++ shown_rows q l) others ∙ ap (λ (l : Entries). rows ++ l) (sym (skips_first q below.0 below.1 below.3) ∙ ap (shown_rows q) (sym below.2)))
+
+-- a first record decides whether any is below an end
+pub begins_there : (end : List ℕ) (first : List ℕ × CellValue) (others es : Entries) (low : Bool) → low ≡ is_below first.0 end → es ≡ first ∷ others → Rising bytes_cmp es → BeginsBelow (Some end) es low
+begins_there end first others es true is stands rising = (first, others, stands, ap not (sym is))
+begins_there end first others es false is stands rising =
+    subst (λ (l : Entries). NoneBelow (Some end) l) (sym stands) (begins_above end first others (sym is) (subst (λ (l : Entries). Rising bytes_cmp l) stands rising))

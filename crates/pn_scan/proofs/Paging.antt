@@ -14,13 +14,15 @@ use Rattle.pn_scan.specs.Queries.{QueryValue}
 use Rattle.pn_scan.specs.Shown.{shown_rows}
 use Rattle.pn_scan.specs.Candidates.{Look, cells_in, is_candidate, candidates, rows_in, is_visited, candidates_of, visited}
 use Rattle.pn_scan.specs.Pages.{PageValue, refusal, first_refusal, first_page, unless}
-use Rattle.pn_scan.specs.Paging.{LookMade, AreMade, looks_in, Follows, Gaps, Moving, IsPreorder, LooksAfter, rows_to_come, IsOnPage, EndsPage}
-use Rattle.pn_scan.specs.Parts.{PartValue}
+use Rattle.pn_scan.specs.Paging.{LookMade, AreMade, looks_in, Follows, Gaps, Moving, IsPreorder, LooksAfter, going_in, rows_to_come, steps_left, IsOnPage, EndsPage}
+use Rattle.pn_scan.specs.Parts.{PartValue, left_in, IsDone}
 use Rattle.pn_scan.specs.Views.{Answers, Looks, LooksOnce, is_memory, rows_at}
 use Rattle.pn_scan.specs.Visits.{GoesOn, IsVisit, IsWhole, IsScan}
 use Rattle.pn_scan.specs.WalkValues.{PageWalkValue, PartWalkValue}
 use Rattle.pn_scan.specs.declared.fault.ScanFault.{ScanFault}
 use Rattle.pn_scan.specs.declared.fault.ScanFault.TheVariants.{Memory}
+use Rattle.pn_scan.specs.declared.walk.Part.{Part}
+use Rattle.pn_scan.specs.declared.walk.Part.TheVariants.{Done as FoundAll, Rest}
 use Rattle.pn_scan.proofs.Numbers.{Numbered, all_visited}
 use Rattle.pn_scan.proofs.Scans.{looks_more, found_more, rows_more, refused_last, or_none, goes_on_more, few_more, after_front, all_taken, more_left, is_right_too, ok_value, some_seen}
 use Rattle.pn_scan.proofs.Visiting.{range_of, numbered_from}
@@ -274,3 +276,9 @@ scanned moves looks bounds query was now answer trace ends gaps =
       },
       there.2,
     )
+
+-- a look that is gone on with comes nearer to its end
+pub less_left : (part : Part) (next old : Option PartWalkValue) (walk : PartWalkValue) → next ≡ going_in part → old ≡ Some walk → (left_in part < length walk.rest) ⊎ IsDone part → steps_left next < steps_left old
+less_left (FoundAll rows more looked) next old walk is was less = let none = ap steps_left is in let some = ap steps_left was in omega arith
+less_left (Rest rest) next old walk is was (inl less) = let left = ap steps_left is in let some = ap steps_left was in omega arith
+less_left (Rest rest) next old walk is was (inr done) = absurd done

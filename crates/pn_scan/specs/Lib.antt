@@ -1,4 +1,5 @@
 pub mod Candidates
+pub mod Coding
 pub mod ConditionReading
 pub mod ConditionWords
 pub mod Conditions

@@ -1,6 +1,7 @@
 //! Pages that are gone on with.
 
 ghost use Rattle.std.specs.Prelude.{◌≡◌, ◌<◌, ◌≤◌, ◌+◌, ◌++◌, ◌⊎◌, true, false, List, length, None, IfOk};
+ghost use Rattle.pn_tablet.specs.Prelude.{IsLayout};
 ghost use Rattle.pn_scan.specs.Paging.{going_in, rows_to_come, IsNearer, IsNewWalk, IsOnPage, LookMade, PagesTo};
 ghost use Rattle.pn_scan.specs.Parts.{part_at};
 ghost use Rattle.pn_scan.specs.Queries.{QueryValue};
@@ -39,6 +40,10 @@ impl Model for PageWalk {
 
     ghost Value = { PageWalkValue };
 
+    ghost use Rattle.pn_scan.specs.Coding.{page_walk_code};
+
+    ghost coded = { page_walk_code };
+
     ghost view = { λ walk. record { rows = walk.rows.items; part = walk.part; next = walk.tablet; end = walk.end } };
 }
 
@@ -57,7 +62,7 @@ impl PageWalk {
         }
     }
 
-    /// How many records the last step looked at.
+    /// How many records the last step looked at; where its look is to be gone on with, as many as were asked for.
     pub fn looked(&self) -> usize {
         self.looked
     }
@@ -75,8 +80,21 @@ impl PageWalk {
         ensures nearer { 0 < records → IfOk result (IsNearer self) }
         ensures layout { V.bounds view.new ≡ V.bounds view.old }
     {
-        let mut walk = self;
-        match walk.part.take() {
+        let PageWalk {
+            rows,
+            part,
+            tablet,
+            end,
+            looked,
+        } = self;
+        let walk = PageWalk {
+            rows,
+            part: None,
+            tablet,
+            end,
+            looked,
+        };
+        match part {
             Some(part) => {
                 let part = part.go_on(query, records)?;
                 Ok(PageStep::Next(walk.with_part(part, records)?))
@@ -111,6 +129,7 @@ impl PageWalk {
 
     // Whether no tablet of the layout is left to look into, or no room in the page.
     fn is_whole(&self, layout: &Layout, query: &Query) -> bool
+        ensures lawful { IsLayout layout.now }
         ensures whole { result ≡ true → (self.now.end ≤ self.now.next) ⊎ (length layout.now < self.now.next) ⊎ (query.now.limit < length self.now.rows) }
         ensures more { result ≡ false → (self.now.next < self.now.end) × (self.now.next ≤ length layout.now) × (length self.now.rows ≤ query.now.limit) }
     {

@@ -85,6 +85,7 @@ fn end_of_range(cells: &Records, query: &Query) -> usize
     ensures within { result ≤ length cells.now }
     ensures shown { shown_rows query.now (drop result cells.now) ≡ [] }
 {
+    cells.recall_order();
     match query.to() {
         Some(to) => cells.lower_bound(to),
         None => cells.len(),

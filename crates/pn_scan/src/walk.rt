@@ -5,7 +5,7 @@ ghost use Rattle.std.specs.List.{AllByRecursion};
 ghost use Rattle.std.specs.Option.{option_copied};
 ghost use Rattle.pn_tablet.specs.Prelude.{is_from};
 ghost use Rattle.pn_scan.specs.Walking.{BeginsBelow, WalksTo};
-ghost use Rattle.pn_scan.specs.Parts.{part_at, walk_answer, left_in, IsDone};
+ghost use Rattle.pn_scan.specs.Parts.{part_at, walk_answer, left_in, IsDone, LooksAtMost};
 
 use crate::filter::is_shown;
 use crate::part::{index_of, row_of};
@@ -53,6 +53,10 @@ impl Model for PartWalk {
 
     ghost Value = { PartWalkValue };
 
+    ghost use Rattle.pn_scan.specs.Coding.{part_walk_code};
+
+    ghost coded = { part_walk_code };
+
     ghost view = { λ walk. record { rows = walk.rows.items; rest = drop walk.index walk.rest; room = walk.room } };
 
     ghost invariant = { λ walk. length walk.rows.items ≤ walk.room };
@@ -75,7 +79,7 @@ impl PartWalk {
     /// Looks at so many more records at most. The answer that it comes to stays.
     pub fn go_on(self, query: &Query, records: usize) -> Result<Part, NoMemory>
         ensures same { IfOk result (λ part. part_at query.now part ≡ walk_answer query.now self) }
-        ensures few { IfOk result (λ part. length self.rest ≤ left_in part + records) }
+        ensures few { IfOk result (LooksAtMost records (length self.rest)) }
         ensures less { 0 < records → IfOk result (λ part. (left_in part < length self.rest) ⊎ IsDone part) }
     {
         let PartWalk {
@@ -114,6 +118,7 @@ impl PartWalk {
             mut rows,
             room,
         } = self;
+        rest.recall_order();
         let index = index.max(index_of(&rest, query.from()));
         let _more = walk_all(&rest, index, query, room, &mut rows)?;
         Ok(rows)
