@@ -162,3 +162,20 @@ pub begins_there : (end : List ℕ) (first : List ℕ × CellValue) (others es :
 begins_there end first others es true is stands rising = (first, others, stands, ap not (sym is))
 begins_there end first others es false is stands rising =
     subst (λ (l : Entries). NoneBelow (Some end) l) (sym stands) (begins_above end first others (sym is) (subst (λ (l : Entries). Rising bytes_cmp l) stands rising))
+
+-- the same from the first record that may be shown
+pub begun_answer : (q : QueryValue) (cells : Entries) (index room : ℕ) (rows : Entries) → rows ≡ [] → shown_rows q (drop index cells) ≡ shown_rows q cells
+    → walk_answer q (record { rows = rows; rest = drop index cells; room = room }) ≡ walk_answer q (record { rows = []; rest = cells; room = room })
+begun_answer q cells index room rows none shown = same_answer q room rows (drop index cells) [] cells (λ i. none i ++ shown i)
+
+-- over the part that was taken
+pub slice_answer : (q : QueryValue) (cells rest : Entries) (index end to room : ℕ) (rows : Entries) → rest ≡ slice_range cells index to → shown_rows q (drop end cells) ≡ [] → to ≡ max end index
+    → walk_answer q (record { rows = rows; rest = rest; room = room }) ≡ walk_answer q (record { rows = rows; rest = drop index cells; room = room })
+slice_answer q cells rest index end to room rows is none at =
+    same_answer q room rows rest rows (drop index cells) (ap (λ (l : Entries). rows ++ l) (ap (shown_rows q) is ∙ part_shows q cells index end to none at))
+
+-- and from the index of `from`
+pub later_answer : (q : QueryValue) (cells : Entries) (index at from room : ℕ) (rows : Entries) → Rising bytes_cmp cells → at ≡ lesser_at q.from cells → from ≡ max index at
+    → walk_answer q (record { rows = rows; rest = drop from cells; room = room }) ≡ walk_answer q (record { rows = rows; rest = drop index cells; room = room })
+later_answer q cells index at from room rows rising is greater =
+    same_answer q room rows (drop from cells) rows (drop index cells) (ap (λ (l : Entries). rows ++ l) (begin_later q cells index at from rising is greater))
