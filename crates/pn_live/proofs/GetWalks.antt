@@ -29,7 +29,7 @@ hand_of : (hand : Option Cells) (cells : List (Option CellValue)) → IfSome (at
 hand_of None cells has = tt
 hand_of (Some all) cells has = has
 
-of_hand : (hand : Option Cells) (cells : List (Option CellValue)) → AreAtHand hand cells → IfSome (at_hand hand) (λ all. all ≡ cells)
+pub of_hand : (hand : Option Cells) (cells : List (Option CellValue)) → AreAtHand hand cells → IfSome (at_hand hand) (λ all. all ≡ cells)
 of_hand None cells has = tt
 of_hand (Some all) cells has = has
 
