@@ -46,7 +46,7 @@ pub follows_more : {V : Type 0} (old mid : V) (more : List (LookMade V)) (made :
 follows_more old mid [] made follows here = (here ∙ follows, refl)
 follows_more old mid (first ∷ more) made follows here = (follows.0, follows_more first.new mid more made follows.1 here)
 
-module _ {bounds : Bounds} {keys : List (List ℕ)} {read : ℕ} {hand : Option Cells} {trace : List (LookMade LiveReaderValue)}
+module _ {bounds : Bounds} {keys : List (List ℕ)} {read : ℕ} {trace : List (LookMade LiveReaderValue)} (hand : Option Cells)
     (on : IsOnGet bounds (record { keys = keys; cells = at_hand hand; read = read }) trace) where
   abbrev seen : List Look
   seen = looks_in trace

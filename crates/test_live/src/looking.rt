@@ -135,13 +135,16 @@ fn a_look_past_its_entry_shows_what_the_entry_found(rt: HostRuntime) {
     assert!(rt; later.as_slice() == [8]);
 }
 
-// The versions of keys, of which one is read before a round and the others after it.
+// How many keys are left after the first, how many there are, and the numbers of their versions.
+type Got = (usize, usize, Vec<u64>);
+
+// Reads one key before a round, and the others after it.
 fn get_beside<R: Threads + Wait + Sync>(
     rt: &R,
     alloc: Global,
     live: &mut LiveRegion,
     reader: &mut LiveReader,
-) -> Option<(usize, Vec<u64>)> {
+) -> Option<Got> {
     if !take(rt, alloc, live, 1, "a n") {
         return None;
     }
@@ -157,7 +160,7 @@ fn get_beside<R: Threads + Wait + Sync>(
         return None;
     }
     let (keys, cells) = walk.end().ok()?;
-    Some((left + keys.len(), numbers_of(alloc, &cells)?))
+    Some((left, keys.len(), numbers_of(alloc, &cells)?))
 }
 
 fn numbers_of(alloc: Global, cells: &[Option<Cell>]) -> Option<Vec<u64>> {
@@ -168,7 +171,7 @@ fn numbers_of(alloc: Global, cells: &[Option<Cell>]) -> Option<Vec<u64>> {
     Some(numbers)
 }
 
-fn get_all<R: Threads + Wait + Sync>(rt: &R, alloc: Global) -> Option<(usize, Vec<u64>)> {
+fn get_all<R: Threads + Wait + Sync>(rt: &R, alloc: Global) -> Option<Got> {
     let (mut live, mut reader) = open_one(rt, alloc, layout(alloc, "m")?)?;
     let got = get_beside(rt, alloc, &mut live, &mut reader);
     end(rt, alloc, live);
@@ -178,9 +181,9 @@ fn get_all<R: Threads + Wait + Sync>(rt: &R, alloc: Global) -> Option<(usize, Ve
 #[test]
 fn a_get_goes_on_key_by_key(rt: HostRuntime) {
     let alloc = rt.alloc();
-    let Some((count, numbers)) = get_all(&rt, alloc) else {
+    let Some((left, count, numbers)) = get_all(&rt, alloc) else {
         panic!(rt; "no get");
     };
-    assert_eq!(rt; count, 5);
+    assert_eq!(rt; (left, count), (2, 3));
     assert!(rt; numbers.as_slice() == [5, 6, 6]);
 }

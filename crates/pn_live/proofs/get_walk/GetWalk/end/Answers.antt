@@ -8,9 +8,9 @@ pub returns-in-Some-clause-ends : goal.returns-in-Some-clause-ends
 returns-in-Some-clause-ends c = λ bounds trace is_on.
     let on = subst (λ (w : GetWalkValue). IsOnGet bounds w trace) (sym c.self.view_is) is_on in
     let all = ap (λ (w : GetWalkValue). w.read) c.self.view_is ∙ c.requires ∙ ap (λ (w : GetWalkValue). length w.keys) (sym c.self.view_is) in
-    subst (λ (w : GetWalkValue). EndsGet bounds w.keys _ trace) c.self.view_is (get_done on c.in-Some.cells c.in-Some.is all)
+    subst (λ (w : GetWalkValue). EndsGet bounds w.keys _ trace) c.self.view_is (get_done c.self.inside.cells on c.in-Some.cells c.in-Some.is all)
 
 pub returns-in-None-clause-ends : goal.returns-in-None-clause-ends
 returns-in-None-clause-ends c = λ bounds trace is_on.
     let on = subst (λ (w : GetWalkValue). IsOnGet bounds w trace) (sym c.self.view_is) is_on in
-    subst (λ (w : GetWalkValue). EndsGet bounds w.keys _ trace) c.self.view_is (get_done_without_memory on)
+    subst (λ (w : GetWalkValue). EndsGet bounds w.keys _ trace) c.self.view_is (get_done_without_memory c.self.inside.cells on)
