@@ -115,7 +115,7 @@ where
 
 fn new_messages(alloc: Global) -> Result<Arc<Messages>, AllocError> {
     let messages = Messages::new(alloc)?;
-    Arc::new(alloc, messages)
+    Ok(Arc::new(alloc, messages)?)
 }
 
 fn new_counters<R>(rt: &R, streams: Vec<StreamCounters>) -> Result<Arc<Counters>, AllocError>
@@ -124,7 +124,7 @@ where
 {
     let mut counters = Counters::new(rt.alloc(), streams)?;
     counters.memory = MemoryMeter::open(rt);
-    Arc::new(rt.alloc(), counters)
+    Ok(Arc::new(rt.alloc(), counters)?)
 }
 
 fn new_fault_log(
