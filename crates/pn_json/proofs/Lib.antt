@@ -1,3 +1,4 @@
+pub mod AddedTexts
 pub mod Inverses
 pub mod LookUps
 pub mod MembersByName

@@ -1,3 +1,4 @@
+pub mod Adding
 pub mod Answers
 pub mod Lines
 pub mod Members
