@@ -1,4 +1,4 @@
-pub mod AddedTexts
+pub mod AppendedTexts
 pub mod Inverses
 pub mod LookUps
 pub mod MembersByName

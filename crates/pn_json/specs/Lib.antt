@@ -1,5 +1,5 @@
-pub mod Adding
 pub mod Answers
+pub mod AppendedText
 pub mod Lines
 pub mod Members
 pub mod Prelude

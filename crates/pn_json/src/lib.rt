@@ -3,11 +3,13 @@
 //! What returns no `NoMemory` allocates nothing.
 #![tactic(auto)]
 
-mod adding;
+mod appending;
 mod line;
 mod members;
 
-pub use adding::{add_number, add_signed_number, add_string, add_text};
+pub use appending::{
+    append_comma, append_number, append_signed_number, append_string, append_text,
+};
 pub use line::{
     begin_line, finish_line, write_null_member, write_number_member, write_text_member,
 };

@@ -37,8 +37,8 @@ pub fn write_contents(writer: &mut Writer, contents: &[Content]) -> Result<(), N
     Ok(())
 }
 
-/// Writes a content: `{"fields":{..},"master":N}` or `{"deleted":true,"master":N}`.
-pub fn write_content(writer: &mut Writer, content: &Content) -> Result<(), NoMemory>
+// Writes a content: `{"fields":{..},"master":N}` or `{"deleted":true,"master":N}`.
+fn write_content(writer: &mut Writer, content: &Content) -> Result<(), NoMemory>
     ensures { OnOk result (Appends writer.old writer.new (value_tokens (content_data content.now))) }
 {
     writer.begin_object()?;

@@ -6,59 +6,69 @@ ghost use Rattle.std.specs.Fmt.{signed_decimal};
 ghost use Rattle.std.specs.List.{prefix_len};
 ghost use Rattle.json.specs.Print.{escape, escape_byte, escape_letter, quoted};
 ghost use Rattle.json.specs.Run.{is_plain};
-ghost use Rattle.pn_json.specs.Adding.{Adds};
+ghost use Rattle.serde_json.specs.Written.{comma_if};
+ghost use Rattle.pn_json.specs.AppendedText.{AppendsText};
 
 /// Adds a text as it is.
-pub fn add_text(out: &mut Vec<u8>, text: &str)
-    ensures { Adds out.old out.new text.now }
+pub fn append_text(out: &mut Vec<u8>, text: &str)
+    ensures { AppendsText out.old out.new text.now }
 {
-    add_bytes(out, text.as_bytes());
+    append_bytes(out, text.as_bytes());
 }
 
-/// Adds a text as a JSON string.
-pub fn add_string(out: &mut Vec<u8>, text: &str)
-    ensures { Adds out.old out.new (quoted text.now) }
-{
-    add_bytes(out, b"\"");
-    add_escaped(out, text.as_bytes());
-    add_bytes(out, b"\"");
-}
-
-/// Adds a whole number.
-pub fn add_number(out: &mut Vec<u8>, number: u64)
-    ensures { Adds out.old out.new (decimal number) }
-{
-    let mut buffer = itoa::Buffer::new();
-    add_bytes(out, buffer.format(number).as_bytes());
-}
-
-/// Adds a whole number with its sign.
-pub fn add_signed_number(out: &mut Vec<u8>, number: i64)
-    ensures { Adds out.old out.new (signed_decimal number) }
-{
-    let mut buffer = itoa::Buffer::new();
-    add_bytes(out, buffer.format(number).as_bytes());
-}
-
-// Where there is no room and no memory, nothing is added.
-fn add_bytes(out: &mut Vec<u8>, bytes: &[u8])
-    ensures { Adds out.old out.new bytes.now }
+/// Adds bytes. Where the buffer has no room, and no memory is found, they are left out.
+pub fn append_bytes(out: &mut Vec<u8>, bytes: &[u8])
+    ensures { AppendsText out.old out.new bytes.now }
 {
     let _ = out.extend_from_slice(bytes);
 }
 
+/// Adds a text as a JSON string.
+pub fn append_string(out: &mut Vec<u8>, text: &str)
+    ensures { AppendsText out.old out.new (quoted text.now) }
+{
+    append_bytes(out, b"\"");
+    append_escaped(out, text.as_bytes());
+    append_bytes(out, b"\"");
+}
+
+/// Adds a comma, unless what comes next is the first.
+pub fn append_comma(out: &mut Vec<u8>, later: bool)
+    ensures { AppendsText out.old out.new (comma_if later) }
+{
+    if later {
+        append_bytes(out, b",");
+    }
+}
+
+/// Adds a whole number.
+pub fn append_number(out: &mut Vec<u8>, number: u64)
+    ensures { AppendsText out.old out.new (decimal number) }
+{
+    let mut buffer = itoa::Buffer::new();
+    append_bytes(out, buffer.format(number).as_bytes());
+}
+
+/// Adds a whole number with its sign.
+pub fn append_signed_number(out: &mut Vec<u8>, number: i64)
+    ensures { AppendsText out.old out.new (signed_decimal number) }
+{
+    let mut buffer = itoa::Buffer::new();
+    append_bytes(out, buffer.format(number).as_bytes());
+}
+
 // Adds bytes of a string, with an escape for each that needs one.
-fn add_escaped(out: &mut Vec<u8>, bytes: &[u8])
-    ensures { Adds out.old out.new (escape bytes.now) }
+fn append_escaped(out: &mut Vec<u8>, bytes: &[u8])
+    ensures { AppendsText out.old out.new (escape bytes.now) }
 {
     let mut from = 0;
     'runs: while from < bytes.len() {
         let end = plain_end(bytes, from);
-        add_bytes(out, &bytes[from..end]);
+        append_bytes(out, &bytes[from..end]);
         if end == bytes.len() {
             return;
         }
-        add_escape(out, bytes[end]);
+        append_escape(out, bytes[end]);
         from = end + 1;
     }
 }
@@ -77,19 +87,19 @@ fn plain_end(bytes: &[u8], from: usize) -> usize
 }
 
 // Adds what stands for a byte in a string.
-fn add_escape(out: &mut Vec<u8>, byte: u8)
-    ensures { Adds out.old out.new (escape_byte byte) }
+fn append_escape(out: &mut Vec<u8>, byte: u8)
+    ensures { AppendsText out.old out.new (escape_byte byte) }
 {
     let letter = letter_of(byte);
     if letter > 0 {
-        add_bytes(out, &[b'\\', letter]);
+        append_bytes(out, &[b'\\', letter]);
     } else if byte < 0x20 {
-        add_bytes(
+        append_bytes(
             out,
             &[b'\\', b'u', b'0', b'0', hex(byte / 16), hex(byte % 16)],
         );
     } else {
-        add_bytes(out, &[byte]);
+        append_bytes(out, &[byte]);
     }
 }
 
