@@ -10,7 +10,7 @@ mod unchecked;
 mod write;
 
 pub use appending::{append_content, append_image, append_version};
-pub use content_writer::{write_body, write_contents, write_field_value, write_version};
+pub use content_writer::{write_body, write_field_value, write_version};
 pub use marks::{marks_of, marks_value, write_marks};
 pub use moved::image_from;
 pub use read::{image_of, read_image, read_value, try_image_from, version_of};

@@ -1,6 +1,7 @@
 -- The lines of a copy, counted and made one at a time.
 use Rattle.std.proofs.Common.{◌≡◌, ◌≢◌, ℕ, zero, suc, ◌+◌, ◌-◌, ◌<◌, ◌≤◌, ◌⊎◌, inl, inr, Bool, true, false, cond, ◌||◌, List, [], ◌∷◌, ◌++◌, map, length, take, drop, get_or, All, Option, Some, None, codes, decimal, refl, sym, ap, ◌∙◌, subst, append_assoc, append-nil, arith, length-append}
-use Rattle.std.specs.Prelude.{IfSome}
+use Rattle.std.specs.Prelude.{IfSome, Vec}
+use Rattle.std.specs.declared.alloc.Global.{Global}
 use Rattle.std.specs.FinMap.{keys}
 use Rattle.std.specs.List.{slice_get, list_any, AllByRecursion}
 use Rattle.std.proofs.lemmas.Grind.{flat_map-append}
@@ -8,21 +9,26 @@ use Rattle.std.proofs.lemmas.List.{length-map, take_all, take-append-drop}
 use Rattle.std.proofs.lemmas.List.Elements.{All-nil, All-cons}
 use Rattle.std.proofs.lemmas.List.Folds.{list_any-append}
 use Rattle.json.specs.Print.{quoted}
+use Rattle.serde_json.specs.Data.{Data}
 use Rattle.serde_json.specs.Written.{compact_text}
 use Rattle.serde_json.proofs.OnLiterals.{serde_json_on_literals}
 use Rattle.pn_line.specs.Reads.{IsUnbroken}
 use Rattle.pn_line.specs.Text.{lines_of, text_of}
 use Rattle.pn_join.specs.Marks.{Positions}
+use Rattle.pn_join.specs.Tables.{IsTable}
+use Rattle.pn_json.specs.AppendedText.{AppendsText, MakesPiece}
+use Rattle.pn_json.proofs.AppendedTexts.{appended_none}
 use Rattle.pn_record.specs.declared.image.Image.{Image}
 use Rattle.pn_record.specs.CellMap.{Entries}
 use Rattle.pn_record.specs.Cells.{spell, spell_cell}
 use Rattle.pn_record.specs.Limits.{ContentValue}
 use Rattle.pn_record.specs.Numbers.{holds_number}
+use Rattle.pn_record.specs.Order.{bytes_cmp}
 use Rattle.pn_record.specs.Sets.{CellValue, HasContents}
 use Rattle.pn_record.specs.Writing.{image_data}
 use Rattle.pn_tablet.specs.Copies.{TabletCopyValue}
 use Rattle.pn_tablet.specs.CopyLines.{head_data, mark_data, end_data}
-use Rattle.pn_tablet.specs.CopyMaking.{IsCountedIn, lines_of_copy, lines_between, copy_rest}
+use Rattle.pn_tablet.specs.CopyMaking.{IsCopyPlace, IsCountedIn, MakesLine, lines_of_copy, lines_between, copy_rest}
 use Rattle.pn_tablet.specs.CopyTexts.{mark_line, lines_after_head}
 use Rattle.pn_tablet.specs.CopyWriting.{line_data, line_text, lines_text, copy_text}
 use Rattle.pn_tablet.specs.Forms.{form_number, form_of}
@@ -52,10 +58,17 @@ copy_lines copy =
     let head = compact_text (head_data (head_of copy)) in
     let whole = head_first (head_data (head_of copy)) (texts says) (lines_text says) (text_of-texts says) in
     let split : lines_of (copy_text copy) ≡ head ∷ texts says =
-        ap lines_of whole ∙ lines_again (head ∷ texts says) (All-cons IsUnbroken head (texts says) (text-unbroken (head_data (head_of copy))) (texts-unbroken says)) in
+    ap lines_of whole ∙ lines_again (head ∷ texts says) (All-cons IsUnbroken head (texts says) (text-unbroken (head_data (head_of copy))) (texts-unbroken says)) in
     let last = map Record (spell copy.cells) ++ End (lines_between copy) ∷ [] in
-    omega (arith, ap length split, length-map says (λ line. compact_text (line_data line)), length-append (map mark_line copy.marks) last, length-append (map Record (spell copy.cells)) (End (lines_between copy) ∷ []),
-    length-map copy.marks mark_line, length-map (spell copy.cells) Record)
+    omega (
+      arith,
+      ap length split,
+      length-map says (λ line. compact_text (line_data line)),
+      length-append (map mark_line copy.marks) last,
+      length-append (map Record (spell copy.cells)) (End (lines_between copy) ∷ []),
+      length-map copy.marks mark_line,
+      length-map (spell copy.cells) Record,
+    )
 
 -- ---- elements of lists
 
@@ -65,6 +78,7 @@ drop_at {X} xs i x there = drop_suc xs i x there ∙ ap (λ (n : ℕ). x ∷ dro
   where
     next : suc i ≡ i + 1
     next = omega arith
+
     drop_suc : (ys : List X) (k : ℕ) (y : X) → slice_get ys k ≡ Some y → drop k ys ≡ y ∷ drop (suc k) ys
     drop_suc [] k y there = absurd (cc)
     drop_suc (z ∷ ys) zero y there = cc
@@ -105,6 +119,7 @@ drop_within {X} {Y} f xs n x ys here within = go xs n here within ∙ ap (λ (k 
   where
     next : suc n ≡ n + 1
     next = omega arith
+
     go : (zs : List X) (k : ℕ) → x ≡ get_or zs k x → k < length zs → drop k (map f zs ++ ys) ≡ f x ∷ drop (suc k) (map f zs ++ ys)
     go [] k here within = absurd (omega (arith, within))
     go (z ∷ zs) zero here within = ap (λ (y : X). f y ∷ (map f zs ++ ys)) (sym here)
@@ -215,8 +230,8 @@ counted_more cells rest entry was now counted left records images form =
       within = omega (arith, more.0, records);
       images_are = omega (arith, images, counted.images_are, ap length all, length-append before (spell_cell entry), length-map (keys entry.1.1) (image_of entry));
       form_is =
-        form ∙ ap (λ (f : Form). cond (list_any holds_number (keys entry.1.1)) Numbers f) counted.form_is ∙ form_more (list_any holds_number (keys entry.1.1)) (list_any holds before)
-        ∙ ap (λ (b : Bool). cond (list_any holds before || b) Numbers Texts) (sym (cell_numbered entry)) ∙ ap (λ (b : Bool). cond b Numbers Texts) (sym (list_any-append holds before (spell_cell entry))) ∙ ap form_of (sym all);
+          form ∙ ap (λ (f : Form). cond (list_any holds_number (keys entry.1.1)) Numbers f) counted.form_is ∙ form_more (list_any holds_number (keys entry.1.1)) (list_any holds before)
+          ∙ ap (λ (b : Bool). cond (list_any holds before || b) Numbers Texts) (sym (cell_numbered entry)) ∙ ap (λ (b : Bool). cond b Numbers Texts) (sym (list_any-append holds before (spell_cell entry))) ∙ ap form_of (sym all);
     }
 
 -- no more than there are
@@ -231,3 +246,32 @@ pub counted_all : (cells : Entries) (counted : Counted) → IsCountedIn cells co
 counted_all cells counted is over =
     let all = take_all counted.records cells over in
     (is.images_are ∙ ap (λ (l : Entries). length (spell l)) all, is.form_is ∙ ap (λ (l : Entries). form_of (spell l)) all)
+
+-- ---- a line that was added
+
+-- what holds of the element that there is
+pub at_some : {X : Type 0} (P : X → Type 0) (o : Option X) (x : X) → o ≡ Some x → IfSome o P → P x
+at_some {X} P o x there holds = subst (λ (p : Option X). IfSome p P) there holds
+
+pub in_some : {X : Type 0} (P : X → Type 0) (o : Option X) (x : X) → o ≡ Some x → P x → IfSome o P
+in_some {X} P o x there holds = subst (λ (p : Option X). IfSome p P) (sym there) holds
+
+pub made_line : {copy : TabletCopyValue} {place next : CopyPlace} {old new : Vec ℕ Global} (d : Data) → AppendsText old new (line_text d) → length (line_text d) ≤ 60000 → copy_rest copy place ≡ line_text d ++ copy_rest copy next → IsCopyPlace copy next
+    → MakesLine copy place old new next
+made_line d appended short split next = record {
+  line = record { piece = line_text d; appended = appended; split = split; short = short; some = inr (omega (arith, length-append (compact_text d) (10 ∷ []))) };
+  place_is = next;
+}
+
+pub head_rest : (copy : TabletCopyValue) (form : Form) → form ≡ form_of (spell copy.cells) → copy_rest copy Head ≡ line_text (head_data (form, copy.range)) ++ copy_rest copy (Mark 0)
+head_rest copy form is = ap (λ (f : Form). line_text (head_data (f, copy.range)) ++ lines_text (lines_after_head copy.marks (spell copy.cells))) (sym is)
+
+pub same_line : {copy : TabletCopyValue} {place other next : CopyPlace} {old new : Vec ℕ Global} → copy_rest copy place ≡ copy_rest copy other → MakesLine copy other old new next → MakesLine copy place old new next
+same_line {copy} {place} {other} {next} {old} {new} same made =
+    record { line = subst (λ (left : List ℕ). MakesPiece 60000 left (copy_rest copy next) old new) (sym same) made.line; place_is = made.place_is }
+
+pub none_left : (copy : TabletCopyValue) (v : Vec ℕ Global) → MakesLine copy Written v v Written
+none_left copy v = record { line = record { piece = []; appended = appended_none v; split = refl; short = omega arith; some = inl refl }; place_is = tt }
+
+pub first_content : (copy : TabletCopyValue) → IsTable bytes_cmp HasContents copy.cells → (index : ℕ) → IsCopyPlace copy (Image index 0)
+first_content copy table index = has_content copy.cells table.contents index

@@ -44,12 +44,7 @@ pub(crate) fn append_mark(out: &mut Vec<u8>, name: &StreamName, position: u64)
 }
 
 /// Adds the line of an image.
-pub(crate) fn append_image_line(
-    out: &mut Vec<u8>,
-    key: &Key,
-    version: Version,
-    content: &Content,
-)
+pub(crate) fn append_image_line(out: &mut Vec<u8>, key: &Key, version: Version, content: &Content)
     ensures added { AppendsText out.old out.new
         (line_text (image_data (record { key = key.now; version = version; content = content.now }))) }
     ensures short { length (line_text (image_data (record { key = key.now; version = version; content = content.now }))) ≤ 60000 }

@@ -42,6 +42,11 @@ abbrev pub rows_text : Bool → List Found → List ℕ → List ℕ
 rows_text later [] end = end
 rows_text later (found ∷ records) end = comma_if later ++ (record_text found ++ rows_text true records end)
 
+-- what comes before a content of a row
+abbrev pub before_text : ℕ → List ℕ
+before_text zero = codes "{\"contents\":["
+before_text (suc n) = codes ","
+
 -- what comes after the contents of a row
 abbrev pub row_end : List ℕ → CellValue → List ℕ
 row_end key cell =

@@ -1,13 +1,13 @@
 //! The rows of records as text, made a piece at a time in a buffer that has room for it.
 
-ghost use Rattle.std.specs.Prelude.{◌≡◌, ◌+◌, ◌≤◌, ◌↔◌, [], ◌++◌, false, length, map, option_map, vec_capacity, vec_len, IsTrue};
+ghost use Rattle.std.specs.Prelude.{◌≡◌, ◌==◌, ◌&&◌, ◌<◌, ◌≤◌, ◌↔◌, ◌^◌, [], false, length, nat_lt, option_map, IsTrue, Some};
 ghost use Rattle.std.specs.List.{slice_get};
 ghost use Rattle.std.specs.Option.{option_copied};
 ghost use Rattle.pn_json.specs.Prelude.{AppendsText, MakesPiece};
-ghost use Rattle.pn_protocol.specs.Reply.Making.{HasContent, IsPlaceOf, MakesRecord, end_of, found_in, place_rest, row_end, rows_text};
+ghost use Rattle.pn_protocol.specs.Reply.Making.{HasContent, IsPlaceOf, MakesRecord, before_text, end_of, found_in, place_rest, row_end, rows_text};
 ghost use Rattle.pn_protocol.specs.declared.reply.rows_text.Place.TheVariants.{Record};
 
-use crate::reply::capacity::prefetch_rows;
+use crate::reply::prefetch::prefetch_rows;
 use crate::reply::rows::state_word;
 use pn_json::{append_comma, append_string, append_text};
 use pn_record::{Cell, Key, append_content, append_version};
@@ -113,6 +113,17 @@ impl Shown {
         }
     }
 
+    // Recalls for the prover that the records can be counted.
+    fn recall_count(&self)
+        ensures { length (found_in self.now) < 2 ^ 64 }
+    {
+        let _ = match self {
+            Shown::One(..) => 1,
+            Shown::Keys(keys, _) => keys.len(),
+            Shown::Rows(rows) => rows.len(),
+        };
+    }
+
     // What comes after the records.
     fn end(&self) -> &'static str
         ensures { result.now ≡ end_of self.now }
@@ -146,7 +157,8 @@ fn append_from(out: &mut Vec<u8>, shown: &Shown, index: usize, content: usize) -
         return Place::End;
     };
     shown.prefetch_from(index);
-    append_comma(out, index > 0 && content == 0);
+    shown.recall_count();
+    append_comma(out, is_later_row(index, content));
     match append_record(out, key, cell, content) {
         0 => Place::Record {
             index: index + 1,
@@ -154,6 +166,13 @@ fn append_from(out: &mut Vec<u8>, shown: &Shown, index: usize, content: usize) -
         },
         content => Place::Record { index, content },
     }
+}
+
+// Whether a row begins at a content, and is not the first.
+fn is_later_row(index: usize, content: usize) -> bool
+    ensures { result ≡ (nat_lt 0 index && content == 0) }
+{
+    index > 0 && content == 0
 }
 
 // Adds the part of a record that begins with a content. The next content, or 0 after the last.
@@ -189,6 +208,7 @@ fn append_row_part(out: &mut Vec<u8>, key: &Key, cell: &Cell, content: usize) ->
 
 // What comes before a content of a row.
 fn before_content(content: usize) -> &'static str
+    ensures { result.now ≡ before_text content }
 {
     if content == 0 { "{\"contents\":[" } else { "," }
 }

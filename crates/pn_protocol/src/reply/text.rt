@@ -1,8 +1,8 @@
 //! The text of a reply, made a piece at a time in a buffer that has room for it.
 
-ghost use Rattle.std.specs.Prelude.{◌≡◌, ◌≢◌, ◌+◌, ◌-◌, ◌<◌, ◌≤◌, ◌↔◌, [], ◌++◌, drop, length, min, take, vec_capacity, vec_len, IsTrue};
+ghost use Rattle.std.specs.Prelude.{◌≡◌, ◌≢◌, ◌+◌, ◌-◌, ◌<◌, ◌≤◌, ◌↔◌, [], ◌++◌, false, drop, length, min, take, vec_capacity, vec_len, IsTrue};
 ghost use Rattle.pn_json.specs.Prelude.{AppendsText, MakesPiece};
-ghost use Rattle.pn_protocol.specs.Reply.Making.{head_bytes, rest_bytes};
+ghost use Rattle.pn_protocol.specs.Reply.Making.{end_of, found_in, head_bytes, rest_bytes, rows_text};
 ghost use Rattle.pn_protocol.specs.Reply.Texts.{reply_text};
 
 use crate::reply::rows_text::{RowsText, Shown};
@@ -58,26 +58,47 @@ impl ReplyText {
         ensures { result ≡ reply_text reply }
     {
         match reply {
-            Reply::Text(text) => ReplyText::of(Head::Long(text), Rest::Nothing),
-            Reply::NotTaken(text) => ReplyText::of(Head::Long(text), Rest::Nothing),
-            Reply::Page(page) => {
-                let rows = RowsText::new(Shown::Rows(page.rows));
-                ReplyText::of(Head::Long(page.head), Rest::Rows(rows))
+            Reply::Adopted(tablet) => ReplyText::short(number_reply(NumberName::Adopted, tablet)),
+            Reply::Changed(count) => ReplyText::short(number_reply(NumberName::Changed, count)),
+            Reply::Copy(copy) => {
+                let lines = number_reply(NumberName::Lines, copy.lines());
+                ReplyText::of(Head::Short(lines), Rest::Lines(copy))
             }
+            Reply::Lost(tablet) => ReplyText::short(number_reply(NumberName::Lost, tablet)),
+            Reply::NotTaken(text) => ReplyText::of(Head::Long(text), Rest::Nothing),
+            Reply::Page(page) => ReplyText::rows(Head::Long(page.head), Shown::Rows(page.rows)),
             Reply::Record { key, cell } => {
-                let rows = RowsText::new(Shown::One(key, cell));
-                ReplyText::of(Head::Short(text_reply("{\"row\":")), Rest::Rows(rows))
+                ReplyText::rows(Head::Short(text_reply("{\"row\":")), Shown::One(key, cell))
             }
             Reply::Records { keys, cells } => {
-                let rows = RowsText::new(Shown::Keys(keys, cells));
-                ReplyText::of(Head::Short(text_reply("{\"rows\":[")), Rest::Rows(rows))
+                ReplyText::rows(
+                    Head::Short(text_reply("{\"rows\":[")),
+                    Shown::Keys(keys, cells),
+                )
             }
-            Reply::Copy(copy) => {
-                let head = number_reply(NumberName::Lines, copy.lines());
-                ReplyText::of(Head::Short(head), Rest::Lines(copy))
-            }
-            reply => ReplyText::of(Head::Short(short_reply(&reply)), Rest::Nothing),
+            Reply::Refused(refusal) => ReplyText::short(refusal_reply(&refusal)),
+            Reply::Relaid(count) => ReplyText::short(number_reply(NumberName::Tablets, count)),
+            Reply::Silent => ReplyText::short(ShortReply::new()),
+            Reply::Stopping(seconds) => ReplyText::short(number_reply(
+                NumberName::Stopping,
+                seconds,
+            )),
+            Reply::Text(text) => ReplyText::of(Head::Long(text), Rest::Nothing),
         }
+    }
+
+    // One line.
+    fn short(line: ShortReply) -> ReplyText
+        ensures { result ≡ line }
+    {
+        ReplyText::of(Head::Short(line), Rest::Nothing)
+    }
+
+    // Rows after what comes before them.
+    fn rows(head: Head, shown: Shown) -> ReplyText
+        ensures { result ≡ head_bytes head ++ rows_text false (found_in shown) (end_of shown) }
+    {
+        ReplyText::of(head, Rest::Rows(RowsText::new(shown)))
     }
 
     fn of(head: Head, rest: Rest) -> ReplyText
@@ -163,17 +184,4 @@ fn append_some(out: &mut Vec<u8>, bytes: &[u8], from: usize) -> usize
     let end = from + (bytes.len() - from).min(MAX_PIECE_BYTES);
     append_bytes(out, &bytes[from..end]);
     end
-}
-
-// The one line of a reply that shows no record, or nothing for others.
-fn short_reply(reply: &Reply) -> ShortReply {
-    match reply {
-        Reply::Adopted(tablet) => number_reply(NumberName::Adopted, *tablet),
-        Reply::Changed(count) => number_reply(NumberName::Changed, *count),
-        Reply::Lost(tablet) => number_reply(NumberName::Lost, *tablet),
-        Reply::Relaid(count) => number_reply(NumberName::Tablets, *count),
-        Reply::Stopping(seconds) => number_reply(NumberName::Stopping, *seconds),
-        Reply::Refused(refusal) => refusal_reply(refusal),
-        _ => ShortReply::new(),
-    }
 }

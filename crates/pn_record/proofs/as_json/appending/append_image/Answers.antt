@@ -21,11 +21,11 @@ returns-clause-added c =
     let inside : Image = record { key = c.args.key.now; version = c.args.version; content = (body, c.content.inside.master) } in
     let last = appended_both c.append_text-4.ensures (appended_both c.append_version.ensures.added c.append_text-5.ensures) in
     let parts = appended_both c.append_text.ensures (appended_both c.append_body.ensures (appended_both c.append_text-2.ensures (appended_both c.append_string.ensures
-        (appended_both c.append_text-3.ensures (appended_both c.append_string-2.ensures last))))) in
+    (appended_both c.append_text-3.ensures (appended_both c.append_string-2.ensures last))))) in
     let same : codes "{" ++ (body_text body ++ (codes ",\"key\":" ++ (quoted c.as_str.result.now ++ (codes ",\"master\":" ++ (quoted c.as_str-2.result.now ++ (codes ",\"version\":" ++ (compact_text (version_data c.args.version) ++ codes "}")))))))
-        ≡ compact_text (image_data inside) =
-        (λ i. codes "{" ++ (body_text body ++ (codes ",\"key\":" ++ (quoted (c.as_str.ensures.text i) ++ (codes ",\"master\":" ++ (quoted (c.as_str-2.ensures.text i) ++ (codes ",\"version\":" ++ (compact_text (version_data c.args.version) ++ codes "}"))))))))
-        ∙ image_text inside in
+    ≡ compact_text (image_data inside) =
+    (λ i. codes "{" ++ (body_text body ++ (codes ",\"key\":" ++ (quoted (c.as_str.ensures.text i) ++ (codes ",\"master\":" ++ (quoted (c.as_str-2.ensures.text i) ++ (codes ",\"version\":" ++ (compact_text (version_data c.args.version) ++ codes "}"))))))))
+    ∙ image_text inside in
     subst (λ (content : ContentValue). AppendsText c.args.out.now c.append_text-5.new.out (compact_text (image_data (record { key = c.args.key.now; version = c.args.version; content = content })))) c.content.view_is
     (appended_as same parts)
 
@@ -35,5 +35,5 @@ returns-clause-short c =
     let numbered = and_from (is_key c.args.key.now) (is_version c.args.version) c.as_str.ensures.is_key c.append_version.ensures.limits in
     let fits = and_from (is_key c.args.key.now && is_version c.args.version) (is_content content) numbered c.content.invariant in
     let short : length (compact_text (image_data (record { key = c.args.key.now; version = c.args.version; content = content }))) ≤ 52000 =
-        omega (arith, length-image_data (record { key = c.args.key.now; version = c.args.version; content = content }) fits) in
+    omega (arith, length-image_data (record { key = c.args.key.now; version = c.args.version; content = content }) fits) in
     subst (λ (content : ContentValue). length (compact_text (image_data (record { key = c.args.key.now; version = c.args.version; content = content }))) ≤ 52000) c.content.view_is short
