@@ -100,12 +100,13 @@ pub content_then : (n next : ℕ) (key : List ℕ) (cell : CellValue) (shown : C
     → AppendsText old new (before_text n ++ compact_text (content_data shown)) → length (compact_text (content_data shown)) ≤ 52000 → MakesRecord (key, Some cell) n old new next
 content_then n next key cell shown old new here is within appended short =
     let after : suc n ≡ next = omega (arith, is) in
+    let before = length_before n in
     subst (λ (k : ℕ). MakesRecord (key, Some cell) n old new k) after (record {
       part = before_text n ++ compact_text (content_data shown);
       appended = appended;
       split = content_rest n key cell shown here (omega (arith, is, within));
-      short = omega (arith, length_before n, length-append (before_text n) (compact_text (content_data shown)), short);
-      some = omega (arith, length_before n, length-append (before_text n) (compact_text (content_data shown)));
+      short = omega (arith, length-append (before_text n) (compact_text (content_data shown)), short);
+      some = omega (arith, length-append (before_text n) (compact_text (content_data shown)));
       next_is = omega (arith, is, within);
     })
 
@@ -115,13 +116,14 @@ pub content_last : (n : ℕ) (key : List ℕ) (cell : CellValue) (shown : Conten
 content_last n key cell shown old new here within last appended short end =
     let text = before_text n ++ compact_text (content_data shown) in
     let none : drop (suc n) (keys cell.1) ≡ [] = drop_all (suc n) (keys cell.1) (omega (arith, last)) in
+    let before = length_before n in
     let over = ap (λ (contents : List ContentValue). text ++ (items_text true (items_of (map content_data contents)) ++ row_end key cell)) none in
     record {
       part = text ++ (93 ∷ [] ++ row_end key cell);
       appended = appended;
       split = content_rest n key cell shown here within ∙ over ∙ sym (append-nil (text ++ (93 ∷ [] ++ row_end key cell)));
-      short = omega (arith, length_before n, length-append (before_text n) (compact_text (content_data shown)), length-append text (93 ∷ row_end key cell), short, end);
-      some = omega (arith, length_before n, length-append (before_text n) (compact_text (content_data shown)), length-append text (93 ∷ row_end key cell));
+      short = omega (arith, length-append (before_text n) (compact_text (content_data shown)), length-append text (93 ∷ row_end key cell), short, end);
+      some = omega (arith, length-append (before_text n) (compact_text (content_data shown)), length-append text (93 ∷ row_end key cell));
       next_is = tt;
     }
 
