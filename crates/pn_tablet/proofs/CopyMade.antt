@@ -1,9 +1,10 @@
 -- The lines of a copy, counted and made one at a time.
-use Rattle.std.proofs.Common.{◌≡◌, ◌≢◌, ℕ, zero, suc, ◌+◌, ◌-◌, ◌<◌, ◌≤◌, ◌⊎◌, inl, inr, Bool, true, false, cond, ◌||◌, List, [], ◌∷◌, ◌++◌, map, length, take, drop, get_or, All, Option, Some, None, codes, decimal, refl, sym, ap, ◌∙◌, subst, append_assoc, append-nil, arith, length-append}
+use Rattle.std.proofs.Common.{◌≡◌, ◌≢◌, ℕ, zero, suc, ◌+◌, ◌-◌, ◌<◌, ◌≤◌, ◌⊎◌, inl, inr, Bool, true, false, cond, ltb, ◌||◌, List, [], ◌∷◌, ◌++◌, map, length, take, drop, get_or, All, Option, Some, None, codes, decimal, refl, sym, ap, ◌∙◌, subst, append_assoc, append-nil, arith, length-append}
 use Rattle.std.specs.Prelude.{IfSome, Vec}
 use Rattle.std.specs.declared.alloc.Global.{Global}
 use Rattle.std.specs.FinMap.{keys}
 use Rattle.std.specs.List.{slice_get, list_any, AllByRecursion}
+use Rattle.std.proofs.lemmas.Bool.{ltb-true, ltb-false}
 use Rattle.std.proofs.lemmas.Grind.{flat_map-append}
 use Rattle.std.proofs.lemmas.List.{length-map, take_all, take-append-drop}
 use Rattle.std.proofs.lemmas.List.Elements.{All-nil, All-cons}
@@ -275,3 +276,36 @@ none_left copy v = record { line = record { piece = []; appended = appended_none
 
 pub first_content : (copy : TabletCopyValue) → IsTable bytes_cmp HasContents copy.cells → (index : ℕ) → IsCopyPlace copy (Image index 0)
 first_content copy table index = has_content copy.cells table.contents index
+
+-- the line of a mark
+pub mark_next : (copy : TabletCopyValue) (index : ℕ) (name : List ℕ) (position p : ℕ) (old new : Vec ℕ Global) → Some (name, position) ≡ slice_get copy.marks index
+    → AppendsText old new (line_text (mark_data (name, p))) → length (line_text (mark_data (name, p))) ≤ 60000 → p ≡ position → MakesLine copy (Mark index) old new (Mark (index + 1))
+mark_next copy index name position p old new there appended short same =
+    made_line (mark_data (name, p)) appended short (mark_rest copy index (name, position) (sym there) ∙ ap (λ (n : ℕ). line_text (mark_data (name, n)) ++ copy_rest copy (Mark (index + 1))) (sym same)) tt
+
+-- the line of the end
+pub end_next : (copy : TabletCopyValue) (index content lines count : ℕ) (old new : Vec ℕ Global) → None ≡ slice_get copy.cells index → lines ≡ lines_of_copy copy → count ≡ lines - 2
+    → AppendsText old new (line_text (end_data count)) → length (line_text (end_data count)) ≤ 60000 → MakesLine copy (Image index content) old new Written
+end_next copy index content lines count old new none are is appended short =
+    let same : lines_between copy ≡ count = omega (arith, are, is, copy_lines copy) in
+    made_line (end_data count) appended short (no_image copy index content (sym none) ∙ ap (λ (n : ℕ). line_text (end_data n) ++ copy_rest copy Written) same) tt
+
+-- the line of an image, and the next place
+pub image_next : (copy : TabletCopyValue) (index content count : ℕ) (entry : List ℕ × CellValue) (shown : ContentValue) (next : CopyPlace) (old new : Vec ℕ Global) → IsTable bytes_cmp HasContents copy.cells → Some entry ≡ slice_get copy.cells index
+    → shown ≡ get_or (keys entry.1.1) content shown → content < length (keys entry.1.1) → AppendsText old new (line_text (image_data (record { key = entry.0; version = entry.1.0; content = shown })))
+    → length (line_text (image_data (record { key = entry.0; version = entry.1.0; content = shown }))) ≤ 60000 → count ≡ length (keys entry.1.1)
+    → next ≡ cond (ltb (content + 1) count) (Image index (content + 1)) (Image (index + 1) 0) → MakesLine copy (Image index content) old new next
+image_next copy index content count entry shown next old new table there here within appended short counted is =
+    subst (λ (place : CopyPlace). MakesLine copy (Image index content) old new place) (sym is) (by (ltb (content + 1) count) refl)
+  where
+    rest : copy_rest copy (Image index content) ≡ line_text (image_data (image_of entry shown)) ++ copy_rest copy (Image index (content + 1))
+    rest = image_rest copy index content entry shown (sym there) here within
+
+    by : (later : Bool) → ltb (content + 1) count ≡ later → MakesLine copy (Image index content) old new (cond later (Image index (content + 1)) (Image (index + 1) 0))
+    by true test =
+        made_line (image_data (image_of entry shown)) appended short rest
+        (in_some (λ (e : List ℕ × CellValue). content + 1 < length (keys e.1.1)) (slice_get copy.cells index) entry (sym there) (omega (arith, ltb-true (content + 1) count test, counted)))
+    by false test =
+        let last : content + 1 ≡ length (keys entry.1.1) = omega (arith, ltb-false (content + 1) count test, counted, within) in
+        made_line (image_data (image_of entry shown)) appended short
+        (rest ∙ ap (λ (l : List ℕ). line_text (image_data (image_of entry shown)) ++ l) (next_record copy index (content + 1) entry (sym there) last)) (first_content copy table (index + 1))

@@ -1,6 +1,6 @@
 //! Copies whose text is made a line at a time. Their lines are counted before.
 
-ghost use Rattle.std.specs.Prelude.{◌≡◌, ◌+◌, ◌<◌, ◌≤◌, ◌↔◌, ◌^◌, [], length, min, IfOk, IsTrue, OnErr, MatchResult, if◌then◌else◌};
+ghost use Rattle.std.specs.Prelude.{◌≡◌, ◌+◌, ◌<◌, ◌≤◌, ◌↔◌, ◌^◌, [], length, min, nat_lt, IfOk, IsTrue, OnErr, MatchResult, if◌then◌else◌};
 ghost use Rattle.std.specs.FinMap.{keys};
 ghost use Rattle.std.specs.List.{list_any};
 ghost use Rattle.pn_json.specs.Prelude.{MakesPiece};
@@ -268,15 +268,29 @@ fn append_image_at(
     requires place { IsCopyPlace copy.now (Image index content) }
     ensures { MakesLine copy.now (Image index content) out.old out.new result }
 {
-    recall_size(&copy.cells);
     copy.cells.recall_table();
-    let Some((key, cell)) = copy.cells.entry_at(index) else {
-        append_end(out, lines - 2);
-        return CopyPlace::Written;
-    };
-    let contents = cell.contents();
-    append_image_line(out, key, cell.version(), &contents[content]);
-    if content + 1 < contents.len() {
+    match copy.cells.entry_at(index) {
+        Some((key, cell)) => {
+            recall_size(&copy.cells);
+            let contents = cell.contents();
+            append_image_line(out, key, cell.version(), &contents[content]);
+            next_place(index, content, contents.len())
+        }
+        None => {
+            let count = lines - 2;
+            append_end(out, count);
+            CopyPlace::Written
+        }
+    }
+}
+
+// The place after a content of so many.
+fn next_place(index: usize, content: usize, count: usize) -> CopyPlace
+    requires index { index + 1 < 2 ^ 64 }
+    requires content { content < count }
+    ensures { result ≡ (if nat_lt (content + 1) count then Image index (content + 1) else Image (index + 1) 0) }
+{
+    if content + 1 < count {
         return CopyPlace::Image {
             index,
             content: content + 1,
