@@ -1,6 +1,6 @@
 -- The lines of a copy, counted and made one at a time.
 use Rattle.std.proofs.Common.{◌≡◌, ◌≢◌, ℕ, zero, suc, ◌+◌, ◌-◌, ◌<◌, ◌≤◌, ◌⊎◌, inl, inr, Bool, true, false, cond, ltb, ◌||◌, List, [], ◌∷◌, ◌++◌, map, length, take, drop, get_or, All, Option, Some, None, codes, decimal, refl, sym, ap, ◌∙◌, subst, append_assoc, append-nil, arith, length-append}
-use Rattle.std.specs.Prelude.{IfSome, Vec}
+use Rattle.std.specs.Prelude.{◌↔◌, IfSome, IsTrue, Vec, Result, Ok, Err, min}
 use Rattle.std.specs.declared.alloc.Global.{Global}
 use Rattle.std.specs.FinMap.{keys}
 use Rattle.std.specs.List.{slice_get, list_any, AllByRecursion}
@@ -15,6 +15,7 @@ use Rattle.serde_json.specs.Written.{compact_text}
 use Rattle.serde_json.proofs.OnLiterals.{serde_json_on_literals}
 use Rattle.pn_line.specs.Reads.{IsUnbroken}
 use Rattle.pn_line.specs.Text.{lines_of, text_of}
+use Rattle.pn_join.specs.declared.memory.NoMemory.{NoMemory}
 use Rattle.pn_join.specs.Marks.{Positions}
 use Rattle.pn_join.specs.Tables.{IsTable}
 use Rattle.pn_json.specs.AppendedText.{AppendsText, MakesPiece}
@@ -29,13 +30,15 @@ use Rattle.pn_record.specs.Sets.{CellValue, HasContents}
 use Rattle.pn_record.specs.Writing.{image_data}
 use Rattle.pn_tablet.specs.Copies.{TabletCopyValue}
 use Rattle.pn_tablet.specs.CopyLines.{head_data, mark_data, end_data}
-use Rattle.pn_tablet.specs.CopyMaking.{IsCopyPlace, IsCountedIn, MakesLine, lines_of_copy, lines_between, copy_rest}
+use Rattle.pn_tablet.specs.CopyMaking.{CopyCountValue, CountsOn, CountsTo, IsCopyPlace, IsCountedIn, MakesLine, lines_of_copy, lines_between, copy_rest}
 use Rattle.pn_tablet.specs.CopyTexts.{mark_line, lines_after_head}
 use Rattle.pn_tablet.specs.CopyWriting.{line_data, line_text, lines_text, copy_text}
 use Rattle.pn_tablet.specs.Forms.{form_number, form_of}
 use Rattle.pn_tablet.specs.Ranges.{key_data}
 use Rattle.pn_tablet.specs.declared.copy_line.CopyLine.{CopyLine}
 use Rattle.pn_tablet.specs.declared.copy_line.CopyLine.TheVariants.{Record, End}
+use Rattle.pn_tablet.specs.declared.copy_text.CopyStep.{CopyStep}
+use Rattle.pn_tablet.specs.declared.copy_text.CopyStep.TheVariants.{Done, Next}
 use Rattle.pn_tablet.specs.declared.copy_text.Counted.{Counted}
 use Rattle.pn_tablet.specs.declared.copy_text.CopyPlace.{CopyPlace}
 use Rattle.pn_tablet.specs.declared.copy_text.CopyPlace.TheVariants.{Head, Mark, Image, Written}
@@ -309,3 +312,25 @@ image_next copy index content count entry shown next old new table there here wi
         let last : content + 1 ≡ length (keys entry.1.1) = omega (arith, ltb-false (content + 1) count test, counted, within) in
         made_line (image_data (image_of entry shown)) appended short
         (rest ∙ ap (λ (l : List ℕ). line_text (image_data (image_of entry shown)) ++ l) (next_record copy index (content + 1) entry (sym there) last)) (first_content copy table (index + 1))
+
+-- ---- what is made
+
+written_of : (copy : TabletCopyValue) (place : CopyPlace) → copy_rest copy place ≡ [] → place ≡ Written
+written_of copy Head none = absurd (rest_some copy Head (λ e. cc) none)
+written_of copy (Mark index) none = absurd (rest_some copy (Mark index) (λ e. cc) none)
+written_of copy (Image index content) none = absurd (rest_some copy (Image index content) (λ e. cc) none)
+written_of copy Written none = refl
+
+-- nothing is left exactly after the last line
+pub made_where : (copy : TabletCopyValue) (place : CopyPlace) (made : Bool) → (IsTrue made ↔ (place ≡ Written)) → (IsTrue made ↔ (copy_rest copy place ≡ []))
+made_where copy place made is = (λ yes. ap (copy_rest copy) (is.0 yes), λ none. is.1 (written_of copy place none))
+
+-- what counting comes to after so many more records
+pub counts_on : (records : ℕ) (count : CopyCountValue) (counted : Counted) (result : Result CopyStep NoMemory) → counted.records ≡ min (count.index + records) (length count.copy.cells) → CountsTo count.copy counted result → CountsOn records count result
+counts_on records count counted (Ok (Done text)) is to = (to.0, to.1, omega (arith, is, to.2))
+counts_on records count counted (Ok (Next more)) is to = (to.0, omega (arith, is, to.1, to.2))
+counts_on records count counted (Err fault) is to = to
+
+-- too many images are too many lines
+pub many_lines : (copy : TabletCopyValue) (n : ℕ) → n ≤ length (spell copy.cells) → n ≤ lines_of_copy copy
+many_lines copy n many = omega (arith, many, copy_lines copy)

@@ -56,6 +56,12 @@ CountsOn records count (Ok (Done text)) = (text.copy ≡ count.copy) × (text.le
 CountsOn records count (Ok (Next more)) = (more.copy ≡ count.copy) × (more.index ≡ count.index + records)
 CountsOn records count (Err fault) = 2 ^ 64 ≤ lines_of_copy count.copy
 
+-- what counting comes to where so much is counted
+abbrev pub CountsTo : TabletCopyValue → Counted → Result CopyStep NoMemory → Type 0
+CountsTo copy counted (Ok (Done text)) = (text.copy ≡ copy) × (text.left ≡ copy_text copy) × (length copy.cells ≤ counted.records)
+CountsTo copy counted (Ok (Next more)) = (more.copy ≡ copy) × (more.index ≡ counted.records) × (counted.records < length copy.cells)
+CountsTo copy counted (Err fault) = 2 ^ 64 ≤ lines_of_copy copy
+
 -- how many lines are between the head of a copy and its end
 abbrev pub lines_between : TabletCopyValue → ℕ
 lines_between copy = length copy.marks + length (spell copy.cells)

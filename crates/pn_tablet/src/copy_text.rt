@@ -5,8 +5,8 @@ ghost use Rattle.std.specs.FinMap.{keys};
 ghost use Rattle.std.specs.List.{list_any};
 ghost use Rattle.pn_json.specs.Prelude.{MakesPiece};
 ghost use Rattle.pn_record.specs.Prelude.{holds_number as content_holds_number, spell};
-ghost use Rattle.pn_tablet.specs.CopyMaking.{CountsOn, IsCopyPlace, IsCountedIn, IsTextOf, lines_of_copy, MakesLine};
-ghost use Rattle.pn_tablet.specs.declared.copy_text.CopyPlace.TheVariants.{Image, Mark};
+ghost use Rattle.pn_tablet.specs.CopyMaking.{CountsOn, CountsTo, IsCopyPlace, IsCountedIn, IsTextOf, lines_of_copy, MakesLine};
+ghost use Rattle.pn_tablet.specs.declared.copy_text.CopyPlace.TheVariants.{Image, Mark, Written};
 ghost use Rattle.pn_tablet.specs.declared.form.Form.TheVariants.{Numbers};
 
 use crate::TabletCopy;
@@ -72,17 +72,29 @@ impl CopyCount {
         ensures { CountsOn records self result }
     {
         let CopyCount { copy, counted } = self;
-        let counted = count_some(&copy.cells, counted, records)?;
-        if counted.records < copy.cells.len() {
-            return Ok(CopyStep::Next(CopyCount { copy, counted }));
+        match count_some(&copy.cells, counted, records) {
+            Ok(counted) => step_of(copy, counted),
+            Err(fault) => Err(fault),
         }
-        let lines = count_lines(&copy, counted)?;
-        Ok(CopyStep::Done(CopyText {
+    }
+}
+
+// What counting comes to where so much is counted.
+fn step_of(copy: TabletCopy, counted: Counted) -> Result<CopyStep, NoMemory>
+    requires { IsCountedIn copy.cells counted }
+    ensures { CountsTo copy counted result }
+{
+    if counted.records < copy.cells.len() {
+        return Ok(CopyStep::Next(CopyCount { copy, counted }));
+    }
+    match count_lines(&copy, counted) {
+        Ok(lines) => Ok(CopyStep::Done(CopyText {
             copy,
             form: counted.form,
             lines,
             place: CopyPlace::Head,
-        }))
+        })),
+        Err(fault) => Err(fault),
     }
 }
 
@@ -194,10 +206,7 @@ impl CopyText {
     pub fn is_made(&self) -> bool
         ensures { IsTrue result ↔ (self.now.left ≡ []) }
     {
-        match self.place {
-            CopyPlace::Written => true,
-            _ => false,
-        }
+        is_written(self.place)
     }
 
     /// Adds the next line to what a buffer holds that has room for it, if one is left.
@@ -206,6 +215,16 @@ impl CopyText {
         ensures copy { self.new.copy ≡ self.old.copy }
     {
         self.place = append_next(out, &self.copy, self.form, self.lines, self.place);
+    }
+}
+
+// Whether no line comes after a place.
+fn is_written(place: CopyPlace) -> bool
+    ensures { IsTrue result ↔ (place ≡ Written) }
+{
+    match place {
+        CopyPlace::Written => true,
+        _ => false,
     }
 }
 
