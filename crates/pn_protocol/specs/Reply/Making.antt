@@ -1,5 +1,5 @@
 -- The text of a reply that is still to be made.
-use Rattle.std.specs.Prelude.{◌≡◌, ◌≤◌, ⊥, ◌<◌, ◌⊎◌, ℕ, zero, suc, Bool, true, nat_lt, List, [], ◌∷◌, ◌++◌, length, map, drop, codes, zip, Option, None, Some, IfSome, Vec}
+use Rattle.std.specs.Prelude.{◌≡◌, ◌≤◌, ◌+◌, ◌==◌, if◌then◌else◌, ⊥, ◌<◌, ◌⊎◌, ℕ, zero, suc, Bool, true, nat_lt, List, [], ◌∷◌, ◌++◌, length, map, drop, codes, zip, Option, None, Some, IfSome, Vec}
 use Rattle.std.specs.declared.alloc.Global.{Global}
 use Rattle.std.specs.FinMap.{keys}
 use Rattle.std.specs.List.{slice_get}
@@ -72,6 +72,10 @@ records_rest records end index (suc n) = rest_from (suc n) (drop index records) 
 abbrev pub place_rest : List Found → List ℕ → Place → List ℕ
 place_rest records end (Record index content) = records_rest records end index content
 place_rest records end End = []
+
+-- the place after a part of a record, by the next content, or 0 after the last
+abbrev pub next_place : ℕ → ℕ → Place
+next_place index next = if next == 0 then Record (index + 1) 0 else Record index next
 
 -- the content is one of the record's, or the first
 abbrev pub HasContent : ℕ → Found → Type 0

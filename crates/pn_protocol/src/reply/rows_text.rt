@@ -1,11 +1,11 @@
 //! The rows of records as text, made a piece at a time in a buffer that has room for it.
 
-ghost use Rattle.std.specs.Prelude.{◌≡◌, ◌==◌, ◌&&◌, ◌<◌, ◌≤◌, ◌↔◌, ◌^◌, [], false, length, nat_lt, option_map, IsTrue, Some};
+ghost use Rattle.std.specs.Prelude.{◌≡◌, ◌==◌, ◌&&◌, ◌+◌, ◌<◌, ◌≤◌, ◌↔◌, ◌^◌, [], false, length, nat_lt, option_map, IsTrue, Some};
 ghost use Rattle.std.specs.List.{slice_get};
 ghost use Rattle.std.specs.Option.{option_copied};
 ghost use Rattle.pn_json.specs.Prelude.{AppendsText, MakesPiece};
-ghost use Rattle.pn_protocol.specs.Reply.Making.{HasContent, IsPlaceOf, MakesRecord, before_text, end_of, found_in, place_rest, row_end, rows_text};
-ghost use Rattle.pn_protocol.specs.declared.reply.rows_text.Place.TheVariants.{Record};
+ghost use Rattle.pn_protocol.specs.Reply.Making.{HasContent, IsPlaceOf, MakesRecord, before_text, end_of, found_in, next_place, place_rest, row_end, rows_text};
+ghost use Rattle.pn_protocol.specs.declared.reply.rows_text.Place.TheVariants.{End, Record};
 
 use crate::reply::prefetch::prefetch_rows;
 use crate::reply::rows::state_word;
@@ -73,10 +73,7 @@ impl RowsText {
     pub(crate) fn is_made(&self) -> bool
         ensures { IsTrue result ↔ (self.now ≡ []) }
     {
-        match self.place {
-            Place::Record { .. } => false,
-            Place::End => true,
-        }
+        is_end(self.place)
     }
 
     /// Makes a piece after what a buffer holds that has room for it.
@@ -152,19 +149,45 @@ fn append_from(out: &mut Vec<u8>, shown: &Shown, index: usize, content: usize) -
         (place_rest (found_in shown.now) (end_of shown.now) result) out.old out.new }
     ensures place { IsPlaceOf (found_in shown.now) result }
 {
-    let Some((key, cell)) = shown.record_at(index) else {
-        append_text(out, shown.end());
-        return Place::End;
-    };
-    shown.prefetch_from(index);
-    shown.recall_count();
-    append_comma(out, is_later_row(index, content));
-    match append_record(out, key, cell, content) {
-        0 => Place::Record {
+    match shown.record_at(index) {
+        Some((key, cell)) => {
+            shown.prefetch_from(index);
+            shown.recall_count();
+            append_comma(out, is_later_row(index, content));
+            let next = append_record(out, key, cell, content);
+            next_place(index, next)
+        }
+        None => {
+            append_text(out, shown.end());
+            Place::End
+        }
+    }
+}
+
+// The place after a part of a record, by the next content, or 0 after the last.
+fn next_place(index: usize, next: usize) -> Place
+    requires { index + 1 < 2 ^ 64 }
+    ensures { result ≡ next_place index next }
+{
+    if next == 0 {
+        return Place::Record {
             index: index + 1,
             content: 0,
-        },
-        content => Place::Record { index, content },
+        };
+    }
+    Place::Record {
+        index,
+        content: next,
+    }
+}
+
+// Whether nothing comes after a place.
+fn is_end(place: Place) -> bool
+    ensures { IsTrue result ↔ (place ≡ End) }
+{
+    match place {
+        Place::Record { .. } => false,
+        Place::End => true,
     }
 }
 
