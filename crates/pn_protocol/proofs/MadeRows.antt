@@ -1,18 +1,21 @@
 -- The rows of records, made a piece at a time.
 use Rattle.std.proofs.Common.{◌≡◌, ◌≢◌, ⊥, ℕ, zero, suc, ◌+◌, ◌<◌, ◌≤◌, ◌⊎◌, inl, inr, Bool, true, false, cond, ◌&&◌, ◌==◌, ltb, List, [], ◌∷◌, ◌++◌, map, length, take, drop, get_or, zip, Option, Some, None, codes, refl, sym, ap, ◌∙◌, subst, append_assoc, append-nil, arith, length-append, length-drop, drop-drop, ◌-◌}
-use Rattle.std.specs.Prelude.{◌↔◌, IfSome, IsTrue, Vec, min}
+use Rattle.std.specs.Prelude.{◌↔◌, IfSome, IsTrue, Vec, Ok, min}
 use Rattle.std.specs.declared.alloc.Global.{Global}
 use Rattle.std.specs.FinMap.{keys}
 use Rattle.std.specs.List.{list_all, slice_get}
 use Rattle.std.proofs.lemmas.Bool.{and_parts, leb-true, eq-eqb, ne_eqb, lt-ltb}
 use Rattle.std.proofs.lemmas.List.{drop_all, length-take, take-append-drop}
-use Rattle.json.specs.Print.{quoted}
 use Rattle.serde_json.specs.Data.{Data, string, array, object, Items, no_members, member}
 use Rattle.serde_json.specs.View.{items_of}
 use Rattle.serde_json.specs.Written.{comma_if, compact_text, items_text}
 use Rattle.serde_json.proofs.OnLiterals.{serde_json_on_literals}
 use Rattle.pn_json.specs.AppendedText.{AppendsText, MakesPiece}
+use Rattle.json.specs.Print.{print, quoted}
+use Rattle.json.specs.Written.{Written}
+use Rattle.serde_json.proofs.Texts.{print-outline}
 use Rattle.pn_json.specs.Lines.{line_of}
+use Rattle.pn_json.specs.Tokens.{HasValue}
 use Rattle.pn_json.proofs.AppendedTexts.{appended_as, appended_both, appended_none}
 use Rattle.pn_record.specs.Limits.{ContentValue, is_key}
 use Rattle.pn_record.specs.CellMap.{Entries}
@@ -22,13 +25,21 @@ use Rattle.pn_record.specs.Writing.{content_data, version_data}
 use Rattle.pn_record.specs.declared.cell.CellState.{CellState}
 use Rattle.pn_record.specs.declared.cell.CellState.TheVariants.{One, Deleted, Conflict}
 use Rattle.pn_record.proofs.ImageText.{length-quoted}
+use Rattle.pn_scan.specs.Queries.{QueryValue}
+use Rattle.pn_tablet.specs.Copies.{TabletCopyValue}
+use Rattle.pn_tablet.specs.CopyMaking.{CopyTextValue, CountsOn, lines_of_copy}
+use Rattle.pn_tablet.specs.declared.copy_text.CopyStep.TheVariants.{Done}
+use Rattle.pn_protocol.specs.declared.reply.Reply.TheVariants.{Copy}
 use Rattle.pn_protocol.specs.declared.reply.rows_text.Place.{Place}
 use Rattle.pn_protocol.specs.declared.reply.rows_text.Place.TheVariants.{Record, End}
 use Rattle.pn_protocol.specs.declared.reply.rows_text.Shown.{Shown}
 use Rattle.pn_protocol.specs.declared.reply.rows_text.Shown.TheVariants as shown
 use Rattle.pn_protocol.specs.Reply.Making.{Found, HasContent, IsPlaceOf, MakesRecord, next_place, after_part, before_text, end_of, found_in, place_rest, record_data, record_rest, record_text, records_rest, rest_from, row_end, rows_text}
 use Rattle.pn_protocol.specs.Reply.Record.{get_data, read_data, row_or_null}
+use Rattle.pn_protocol.specs.Reply.Answers.{ShowsCopy}
 use Rattle.pn_protocol.specs.Reply.Rows.{row_data, state_word}
+use Rattle.pn_protocol.specs.Reply.Scan.{head_text, next_data, scan_data}
+use Rattle.pn_protocol.specs.Reply.Short.{lines_data}
 
 -- ---- lengths
 
@@ -337,3 +348,30 @@ all_made head rest made within none =
     no_bytes : (l : List ℕ) → length l ≡ 0 → l ≡ []
     no_bytes [] is = refl
     no_bytes (b ∷ l) is = absurd (omega (arith, is))
+
+-- ---- pages
+
+-- the value that was written is the whole text
+pub value_text : (d : Data) (line : Written) (text : List ℕ) → HasValue line d → text ≡ line.before ++ print line.tokens → text ≡ compact_text d
+value_text d line text has is =
+    let before = has.before in
+    let tokens = has.tokens in
+    is ∙ (λ i. before i ++ print (tokens i)) ∙ print-outline d
+
+-- a head, its rows and the end are the reply to a scan
+pub page_text : (rows : Entries) (next : Option QueryValue) → head_text next ++ (items_text false (items_of (map row_data rows)) ++ codes "}\n") ≡ line_of (scan_data (rows, next))
+unfolding line_of scan_data serde_json_on_literals
+page_text rows next =
+    let query = compact_text (next_data next) in
+    let shown = items_text false (items_of (map row_data rows)) in
+    ap (λ (l : List ℕ). codes "{\"next\":" ++ l)
+    (append_assoc query (codes ",\"rows\":[") (shown ++ codes "}\n")
+    ∙ ap (λ (l : List ℕ). query ++ (codes ",\"rows\":[" ++ l)) (sym (append_assoc shown (codes "}") (codes "\n")))
+    ∙ sym (append_assoc query (codes ",\"rows\":[" ++ (shown ++ codes "}")) (codes "\n")))
+
+-- the lines of a copy of which all are counted
+pub copy_made : (copy : TabletCopyValue) (records : ℕ) (text : CopyTextValue) → CountsOn records (record { copy = copy; index = 0 }) (Ok (Done text)) → ShowsCopy copy (Copy text)
+copy_made copy records text is =
+    let same = is.0 in
+    let all = is.1 in
+    inl (refl, λ i. line_of (lines_data (lines_of_copy (same i))) ++ all i)
