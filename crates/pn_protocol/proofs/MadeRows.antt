@@ -1,9 +1,9 @@
 -- The rows of records, made a piece at a time.
-use Rattle.std.proofs.Common.{◌≡◌, ◌≢◌, ⊥, ℕ, zero, suc, ◌+◌, ◌<◌, ◌≤◌, ◌⊎◌, inl, inr, Bool, true, false, cond, ◌&&◌, ◌==◌, ltb, List, [], ◌∷◌, ◌++◌, map, length, take, drop, get_or, zip, Option, Some, None, codes, refl, sym, ap, ◌∙◌, subst, append_assoc, append-nil, arith, length-append, length-drop, drop-drop, ◌-◌}
+use Rattle.std.proofs.Common.{◌≡◌, ◌≢◌, ℕ, zero, suc, ◌+◌, ◌<◌, ◌≤◌, inl, inr, Bool, true, false, cond, ◌&&◌, ◌==◌, ltb, List, [], ◌∷◌, ◌++◌, map, length, take, drop, get_or, zip, Option, Some, None, codes, refl, sym, ap, ◌∙◌, subst, append_assoc, append-nil, arith, length-append, length-drop, drop-drop, ◌-◌}
 use Rattle.std.specs.Prelude.{◌↔◌, IfSome, IsTrue, Vec, Ok, min}
 use Rattle.std.specs.declared.alloc.Global.{Global}
 use Rattle.std.specs.FinMap.{keys}
-use Rattle.std.specs.List.{list_all, slice_get}
+use Rattle.std.specs.List.{slice_get}
 use Rattle.std.proofs.lemmas.Bool.{and_parts, leb-true, eq-eqb, ne_eqb, lt-ltb}
 use Rattle.std.proofs.lemmas.List.{drop_all, length-take, take-append-drop}
 use Rattle.serde_json.specs.Data.{Data, string, array, object, Items, no_members, member}
@@ -16,7 +16,7 @@ use Rattle.json.specs.Written.{Written}
 use Rattle.serde_json.proofs.Texts.{print-outline}
 use Rattle.pn_json.specs.Lines.{line_of}
 use Rattle.pn_json.specs.Tokens.{HasValue}
-use Rattle.pn_json.proofs.AppendedTexts.{appended_as, appended_both, appended_none}
+use Rattle.pn_json.proofs.AppendedTexts.{appended_both, appended_none}
 use Rattle.pn_record.specs.Limits.{ContentValue, is_key}
 use Rattle.pn_record.specs.CellMap.{Entries}
 use Rattle.pn_record.specs.Sets.{CellValue}
@@ -34,8 +34,8 @@ use Rattle.pn_protocol.specs.declared.reply.rows_text.Place.{Place}
 use Rattle.pn_protocol.specs.declared.reply.rows_text.Place.TheVariants.{Record, End}
 use Rattle.pn_protocol.specs.declared.reply.rows_text.Shown.{Shown}
 use Rattle.pn_protocol.specs.declared.reply.rows_text.Shown.TheVariants as shown
-use Rattle.pn_protocol.specs.Reply.Making.{Found, HasContent, IsPlaceOf, MakesRecord, next_place, after_part, before_text, end_of, found_in, place_rest, record_data, record_rest, record_text, records_rest, rest_from, row_end, rows_text}
-use Rattle.pn_protocol.specs.Reply.Record.{get_data, read_data, row_or_null}
+use Rattle.pn_protocol.specs.Reply.Making.{Found, HasContent, IsPlaceOf, MakesRecord, next_place, after_part, before_text, end_of, found_in, place_rest, record_data, record_rest, record_text, rest_from, row_end, rows_text}
+use Rattle.pn_protocol.specs.Reply.Record.{get_data, read_data}
 use Rattle.pn_protocol.specs.Reply.Answers.{ShowsCopy}
 use Rattle.pn_protocol.specs.Reply.Rows.{row_data, state_word}
 use Rattle.pn_protocol.specs.Reply.Scan.{head_text, next_data, scan_data}
@@ -320,7 +320,8 @@ pub head_part : (head rest : List ℕ) (made end most : ℕ) (old new : Vec ℕ 
     → MakesPiece most (drop made head ++ rest) (drop end head ++ rest) old new
 head_part head rest made end most old new within is some appended =
     let part = take (end - made) (drop made head) in
-    let after : drop (end - made) (drop made head) ≡ drop end head = drop-drop (end - made) made head ∙ ap (λ (k : ℕ). drop k head) (omega (arith, is, within)) in
+    let same : made + (end - made) ≡ end = omega (arith, is, within) in
+    let after : drop (end - made) (drop made head) ≡ drop end head = drop-drop (end - made) made head ∙ ap (λ (k : ℕ). drop k head) same in
     let split : drop made head ≡ part ++ drop end head = sym (take-append-drop (end - made) (drop made head)) ∙ ap (λ (l : List ℕ). part ++ l) after in
     let left = length-drop made head in
     let size = length-take (end - made) (drop made head) in

@@ -1,5 +1,5 @@
 -- The text of a reply that is still to be made.
-use Rattle.std.specs.Prelude.{◌≡◌, ◌≤◌, ◌+◌, ◌==◌, if◌then◌else◌, ⊥, ◌<◌, ◌⊎◌, ℕ, zero, suc, Bool, true, nat_lt, List, [], ◌∷◌, ◌++◌, length, map, drop, codes, zip, Option, None, Some, IfSome, Vec}
+use Rattle.std.specs.Prelude.{◌≡◌, ◌≤◌, ◌+◌, ◌==◌, if◌then◌else◌, ◌<◌, ℕ, zero, suc, Bool, true, nat_lt, List, [], ◌∷◌, ◌++◌, length, map, drop, codes, zip, Option, None, Some, IfSome, Vec}
 use Rattle.std.specs.declared.alloc.Global.{Global}
 use Rattle.std.specs.FinMap.{keys}
 use Rattle.std.specs.List.{slice_get}

@@ -1,10 +1,8 @@
 -- A content, and after the last what ends the row.
-use Rattle.std.proofs.Common.{rules, ◌≡◌, ℕ, ◌+◌, ◌<◌, ◌≤◌, ◌++◌, List, get_or, length, ap, ◌∙◌, arith}
+use Rattle.std.proofs.Common.{rules, ◌≡◌, List, get_or, length, ap, ◌∙◌, arith}
 use Rattle.std.specs.FinMap.{keys}
-use Rattle.serde_json.specs.Written.{compact_text}
 use Rattle.pn_json.proofs.AppendedTexts.{appended_as, appended_both}
 use Rattle.pn_record.specs.Limits.{ContentValue}
-use Rattle.pn_record.specs.Writing.{content_data}
 use Rattle.pn_protocol.proofs.MadeRows.{content_last, content_then, content_within}
 use Rattle.pn_protocol.proofs.reply.rows_text.append_row_part.Goals as goal
 

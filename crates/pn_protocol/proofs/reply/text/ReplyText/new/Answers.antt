@@ -1,7 +1,7 @@
 -- What each reply begins with, and what comes after that.
-use Rattle.std.proofs.Common.{◌≡◌, ◌++◌, ℕ, List, [], ◌∷◌, codes, zip, false, ap, ◌∙◌, append-nil}
+use Rattle.std.proofs.Common.{◌++◌, ℕ, List, [], ◌∷◌, codes, zip, false, ap, ◌∙◌, append-nil}
 use Rattle.pn_json.specs.Lines.{line_of}
-use Rattle.pn_protocol.specs.Reply.Making.{rows_text, found_in}
+use Rattle.pn_protocol.specs.Reply.Making.{rows_text}
 use Rattle.pn_protocol.specs.Reply.Short.{lines_data}
 use Rattle.pn_protocol.proofs.MadeRows.{get_made, page_made, read_made}
 use Rattle.pn_protocol.proofs.reply.text.ReplyText.new.Goals as goal
