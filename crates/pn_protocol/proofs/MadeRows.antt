@@ -338,17 +338,33 @@ pub rest_part : (head left rest : List ℕ) (made most : ℕ) (old new : Vec ℕ
 rest_part head left rest made most old new over piece =
     subst (λ (l : List ℕ). MakesPiece most (l ++ left) (l ++ rest) old new) (sym (drop_all made head over)) piece
 
--- all is made exactly where the head and the rest are
-pub all_made : (head rest : List ℕ) (made : ℕ) → made ≤ length head → (drop made head ++ rest ≡ []) → (made ≡ length head) × (rest ≡ [])
-all_made head rest made within none =
-    let left = length-drop made head in
-    let all = ap length none in
-    let both = length-append (drop made head) rest in
-    (omega arith, no_bytes rest (omega arith))
-  where
-    no_bytes : (l : List ℕ) → length l ≡ 0 → l ≡ []
-    no_bytes [] is = refl
-    no_bytes (b ∷ l) is = absurd (omega (arith, is))
+-- while the head is not made, something is left
+pub head_left : (head rest : List ℕ) (made : ℕ) → made < length head → drop made head ++ rest ≢ []
+head_left head rest made within none = omega (arith, ap length none, length-append (drop made head) rest, length-drop made head)
+
+-- after the head, what is left is of the rest
+pub rest_left : (head rest : List ℕ) (made : ℕ) (all : Bool) → length head ≤ made → (IsTrue all ↔ (rest ≡ [])) → (IsTrue all ↔ (drop made head ++ rest ≡ []))
+rest_left head rest made all over is = subst (λ (l : List ℕ). IsTrue all ↔ (l ++ rest ≡ [])) (sym (drop_all made head over)) is
+
+-- a record, or the only one
+pub only_record : {X : Type 0} (x : X) (index : ℕ) → 0 < index → None ≡ slice_get (x ∷ []) index
+only_record x zero some = absurd (omega (arith, some))
+only_record x (suc n) some = refl
+
+pub first_record : {X : Type 0} (x : X) (index : ℕ) → index ≤ 0 → Some x ≡ slice_get (x ∷ []) index
+first_record x zero none = refl
+first_record x (suc n) none = absurd (omega (arith, none))
+
+pub zip_both : {X Y : Type 0} (xs : List X) (ys : List Y) (i : ℕ) (x : X) (y : Y) → slice_get xs i ≡ Some x → slice_get ys i ≡ Some y → slice_get (zip xs ys) i ≡ Some (x, y)
+zip_both [] ys i x y first second = absurd (cc)
+zip_both (z ∷ xs) [] i x y first second = absurd (cc)
+zip_both (z ∷ xs) (w ∷ ys) zero x y first second = cc
+zip_both (z ∷ xs) (w ∷ ys) (suc i) x y first second = zip_both xs ys i x y first second
+
+pub length-zip_le : {X Y : Type 0} (xs : List X) (ys : List Y) → length (zip xs ys) ≤ length xs
+length-zip_le [] ys = omega arith
+length-zip_le (x ∷ xs) [] = omega arith
+length-zip_le (x ∷ xs) (y ∷ ys) = omega (arith, length-zip_le xs ys)
 
 -- ---- pages
 

@@ -115,7 +115,11 @@ impl ReplyText {
     pub fn is_made(&self) -> bool
         ensures { IsTrue result ↔ (self.now ≡ []) }
     {
-        self.made == self.head.as_bytes().len() && self.rest.is_made()
+        let head = self.head.as_bytes();
+        if self.made < head.len() {
+            return false;
+        }
+        self.rest.is_made()
     }
 
     /// Makes a piece after what a buffer holds. It asks nothing of memory.
@@ -136,9 +140,9 @@ impl ReplyText {
         let head = self.head.as_bytes();
         if self.made < head.len() {
             self.made = append_some(out, head, self.made);
-        } else {
-            self.rest.append_piece(out);
+            return;
         }
+        self.rest.append_piece(out);
     }
 }
 

@@ -10,8 +10,8 @@ pub bounds-contents-content : goal.bounds-contents-content
 bounds-contents-content c =
     omega (arith, content_within c.args.content c.args.key.now c.args.cell.now c.requires (omega (arith, c.contents-contents.ensures.some, ap length c.contents-contents.ensures.contents)), ap length c.contents-contents.ensures.contents)
 
-pub returns-then-next-len : goal.returns-then-next-len
-returns-then-next-len c =
+pub returns-then-next-contents : goal.returns-then-next-contents
+returns-then-next-contents c =
     let shown : ContentValue = c.index-contents-content.result in
     let here : shown ≡ get_or (keys c.args.cell.now.1) c.args.content shown = c.index-contents-content.is ∙ ap (λ (l : List ContentValue). get_or l c.args.content shown) c.contents-contents.ensures.contents in
     let parts = appended_both (appended_as c.before_content.ensures c.append_text.ensures) c.append_content.ensures.added in
