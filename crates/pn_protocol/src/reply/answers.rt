@@ -1,7 +1,6 @@
 //! Replies to lookups and copies. Out of memory, the reply is that refusal.
 
-ghost use Rattle.std.specs.Prelude.{◌≡◌, MatchResult, IfOk};
-ghost use Rattle.pn_json.specs.Prelude.{line_of};
+ghost use Rattle.std.specs.Prelude.{◌≡◌, MatchResult};
 ghost use Rattle.pn_protocol.specs.declared.reply.Reply.TheVariants.{Text, Refused};
 ghost use Rattle.pn_protocol.specs.declared.refusal.Refusal.TheVariants.{Memory as no_memory};
 ghost use Rattle.pn_protocol.specs.Reply.Answers.{ShowsCopy, ShowsCopyOf, ShowsFound, ShowsPage};

@@ -7,7 +7,7 @@ ghost use Rattle.pn_protocol.specs.Reply.Texts.{reply_text};
 
 use crate::reply::rows_text::{RowsText, Shown};
 use crate::reply::short::text_reply;
-use crate::{NumberName, Reply, ShortReply, number_reply, refusal_reply};
+use crate::{NumberName, PageReply, Reply, ShortReply, number_reply, refusal_reply};
 use pn_json::append_bytes;
 use pn_tablet::CopyText;
 use std::marker::Model;
@@ -66,7 +66,10 @@ impl ReplyText {
             }
             Reply::Lost(tablet) => ReplyText::short(number_reply(NumberName::Lost, tablet)),
             Reply::NotTaken(text) => ReplyText::of(Head::Long(text), Rest::Nothing),
-            Reply::Page(page) => ReplyText::rows(Head::Long(page.head), Shown::Rows(page.rows)),
+            Reply::Page(PageReply { head, rows }) => ReplyText::rows(
+                Head::Long(head),
+                Shown::Rows(rows),
+            ),
             Reply::Record { key, cell } => {
                 ReplyText::rows(Head::Short(text_reply("{\"row\":")), Shown::One(key, cell))
             }

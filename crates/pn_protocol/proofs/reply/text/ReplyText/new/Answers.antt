@@ -14,7 +14,7 @@ pub returns-in-NotTaken : goal.returns-in-NotTaken
 returns-in-NotTaken c = c.of-in-NotTaken.ensures ∙ append-nil c.in-NotTaken.text.items
 
 pub returns-in-Page : goal.returns-in-Page
-returns-in-Page c = c.rows.ensures ∙ page_made c.in-Page.page.head.items c.in-Page.page.rows.items
+returns-in-Page c = c.rows.ensures ∙ page_made c.in-Page.head.items c.in-Page.rows.items
 
 pub returns-in-Record : goal.returns-in-Record
 returns-in-Record c =
