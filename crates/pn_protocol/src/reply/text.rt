@@ -1,9 +1,11 @@
 //! The text of a reply, made a piece at a time in a buffer that has room for it.
 
 ghost use Rattle.std.specs.Prelude.{◌≡◌, ◌≢◌, ◌+◌, ◌-◌, ◌<◌, ◌≤◌, ◌↔◌, [], ◌++◌, false, drop, length, min, take, vec_capacity, vec_len, IsTrue};
-ghost use Rattle.pn_json.specs.Prelude.{AppendsText, MakesPiece};
+ghost use Rattle.pn_json.specs.Prelude.{AppendsText, MakesPiece, line_of};
 ghost use Rattle.pn_protocol.specs.Reply.Making.{end_of, found_in, head_bytes, rest_bytes, rows_text};
+ghost use Rattle.pn_protocol.specs.Reply.Short.{number_reply_data};
 ghost use Rattle.pn_protocol.specs.Reply.Texts.{reply_text};
+ghost use Rattle.pn_protocol.specs.declared.reply.Reply.TheVariants.{Page};
 
 use crate::reply::rows_text::{RowsText, Shown};
 use crate::reply::short::text_reply;
@@ -58,36 +60,41 @@ impl ReplyText {
         ensures { result ≡ reply_text reply }
     {
         match reply {
-            Reply::Adopted(tablet) => ReplyText::short(number_reply(NumberName::Adopted, tablet)),
-            Reply::Changed(count) => ReplyText::short(number_reply(NumberName::Changed, count)),
+            Reply::Adopted(tablet) => ReplyText::number(NumberName::Adopted, tablet),
+            Reply::Changed(count) => ReplyText::number(NumberName::Changed, count),
             Reply::Copy(copy) => {
                 let lines = number_reply(NumberName::Lines, copy.lines());
                 ReplyText::of(Head::Short(lines), Rest::Lines(copy))
             }
-            Reply::Lost(tablet) => ReplyText::short(number_reply(NumberName::Lost, tablet)),
+            Reply::Lost(tablet) => ReplyText::number(NumberName::Lost, tablet),
             Reply::NotTaken(text) => ReplyText::of(Head::Long(text), Rest::Nothing),
-            Reply::Page(PageReply { head, rows }) => ReplyText::rows(
-                Head::Long(head),
-                Shown::Rows(rows),
-            ),
+            Reply::Page(page) => ReplyText::page(page),
             Reply::Record { key, cell } => {
-                ReplyText::rows(Head::Short(text_reply("{\"row\":")), Shown::One(key, cell))
+                ReplyText::rows(text_head("{\"row\":"), Shown::One(key, cell))
             }
             Reply::Records { keys, cells } => {
-                ReplyText::rows(
-                    Head::Short(text_reply("{\"rows\":[")),
-                    Shown::Keys(keys, cells),
-                )
+                ReplyText::rows(text_head("{\"rows\":["), Shown::Keys(keys, cells))
             }
             Reply::Refused(refusal) => ReplyText::short(refusal_reply(&refusal)),
-            Reply::Relaid(count) => ReplyText::short(number_reply(NumberName::Tablets, count)),
+            Reply::Relaid(count) => ReplyText::number(NumberName::Tablets, count),
             Reply::Silent => ReplyText::short(ShortReply::new()),
-            Reply::Stopping(seconds) => ReplyText::short(number_reply(
-                NumberName::Stopping,
-                seconds,
-            )),
+            Reply::Stopping(seconds) => ReplyText::number(NumberName::Stopping, seconds),
             Reply::Text(text) => ReplyText::of(Head::Long(text), Rest::Nothing),
         }
+    }
+
+    // The line of a number.
+    fn number(name: NumberName, number: u64) -> ReplyText
+        ensures { result ≡ line_of (number_reply_data name number) }
+    {
+        ReplyText::short(number_reply(name, number))
+    }
+
+    fn page(page: PageReply) -> ReplyText
+        ensures { result ≡ reply_text (Page page) }
+    {
+        let PageReply { head, rows } = page;
+        ReplyText::rows(Head::Long(head), Shown::Rows(rows))
     }
 
     // One line.
@@ -147,6 +154,14 @@ impl ReplyText {
         }
         self.rest.append_piece(out);
     }
+}
+
+// A text that fits a short reply.
+fn text_head(text: &str) -> Head
+    requires { length text.now ≤ 128 }
+    ensures { head_bytes result ≡ text.now }
+{
+    Head::Short(text_reply(text))
 }
 
 impl Head {

@@ -3,7 +3,7 @@ use Rattle.std.proofs.Common.{◌++◌, ℕ, List, [], ◌∷◌, codes, zip, fa
 use Rattle.pn_json.specs.Lines.{line_of}
 use Rattle.pn_protocol.specs.Reply.Making.{rows_text}
 use Rattle.pn_protocol.specs.Reply.Short.{lines_data}
-use Rattle.pn_protocol.proofs.MadeRows.{get_made, page_made, read_made}
+use Rattle.pn_protocol.proofs.MadeRows.{get_made, read_made}
 use Rattle.pn_protocol.proofs.reply.text.ReplyText.new.Goals as goal
 
 pub returns-in-Copy : goal.returns-in-Copy
@@ -13,16 +13,13 @@ returns-in-Copy c =
 pub returns-in-NotTaken : goal.returns-in-NotTaken
 returns-in-NotTaken c = c.of-in-NotTaken.ensures ∙ append-nil c.in-NotTaken.text.items
 
-pub returns-in-Page : goal.returns-in-Page
-returns-in-Page c = c.rows.ensures ∙ page_made c.in-Page.head.items c.in-Page.rows.items
-
 pub returns-in-Record : goal.returns-in-Record
 returns-in-Record c =
-    c.rows-in-Record.ensures ∙ ap (λ (head : List ℕ). head ++ rows_text false ((c.in-Record.key, c.in-Record.cell) ∷ []) (codes "}\n")) c.text_reply.ensures ∙ read_made c.in-Record.key c.in-Record.cell
+    c.rows.ensures ∙ ap (λ (head : List ℕ). head ++ rows_text false ((c.in-Record.key, c.in-Record.cell) ∷ []) (codes "}\n")) c.text_head.ensures ∙ read_made c.in-Record.key c.in-Record.cell
 
 pub returns-in-Records : goal.returns-in-Records
 returns-in-Records c =
-    c.rows-in-Records.ensures ∙ ap (λ (head : List ℕ). head ++ rows_text false (zip c.in-Records.keys.items c.in-Records.cells.items) (codes "]}\n")) c.text_reply-in-Records.ensures
+    c.rows-in-Records.ensures ∙ ap (λ (head : List ℕ). head ++ rows_text false (zip c.in-Records.keys.items c.in-Records.cells.items) (codes "]}\n")) c.text_head-in-Records.ensures
     ∙ get_made c.in-Records.keys.items c.in-Records.cells.items
 
 pub returns-in-Text : goal.returns-in-Text
