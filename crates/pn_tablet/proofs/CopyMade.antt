@@ -37,9 +37,9 @@ use Rattle.pn_tablet.specs.Forms.{form_number, form_of}
 use Rattle.pn_tablet.specs.Ranges.{key_data}
 use Rattle.pn_tablet.specs.declared.copy_line.CopyLine.{CopyLine}
 use Rattle.pn_tablet.specs.declared.copy_line.CopyLine.TheVariants.{Record, End}
-use Rattle.pn_tablet.specs.declared.copy_text.CopyStep.{CopyStep}
-use Rattle.pn_tablet.specs.declared.copy_text.CopyStep.TheVariants.{Done, Next}
-use Rattle.pn_tablet.specs.declared.copy_text.Counted.{Counted}
+use Rattle.pn_tablet.specs.declared.copy_count.CopyStep.{CopyStep}
+use Rattle.pn_tablet.specs.declared.copy_count.CopyStep.TheVariants.{Done, Next}
+use Rattle.pn_tablet.specs.declared.copy_count.Counted.{Counted}
 use Rattle.pn_tablet.specs.declared.copy_text.CopyPlace.{CopyPlace}
 use Rattle.pn_tablet.specs.declared.copy_text.CopyPlace.TheVariants.{Head, Mark, Image, Written}
 use Rattle.pn_tablet.specs.declared.form.Form.{Form}

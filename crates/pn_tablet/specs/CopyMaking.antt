@@ -14,10 +14,10 @@ use Rattle.pn_tablet.specs.CopyTexts.{mark_line}
 use Rattle.pn_tablet.specs.CopyWriting.{copy_text, lines_text}
 use Rattle.pn_tablet.specs.Forms.{form_of}
 use Rattle.pn_tablet.specs.Proofs.Coding.{copy_code}
-use Rattle.pn_tablet.specs.declared.copy_text.CopyStep.{CopyStep}
-use Rattle.pn_tablet.specs.declared.copy_text.CopyStep.TheVariants.{Done, Next}
+use Rattle.pn_tablet.specs.declared.copy_count.CopyStep.{CopyStep}
+use Rattle.pn_tablet.specs.declared.copy_count.CopyStep.TheVariants.{Done, Next}
 use Rattle.pn_tablet.specs.declared.copy_line.CopyLine.TheVariants.{Record, End}
-use Rattle.pn_tablet.specs.declared.copy_text.Counted.{Counted}
+use Rattle.pn_tablet.specs.declared.copy_count.Counted.{Counted}
 use Rattle.pn_tablet.specs.declared.copy_text.CopyPlace.{CopyPlace}
 use Rattle.pn_tablet.specs.declared.copy_text.CopyPlace.TheVariants.{Head, Mark, Image, Written}
 use Rattle.pn_tablet.specs.declared.form.Form.{Form}

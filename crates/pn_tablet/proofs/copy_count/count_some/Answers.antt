@@ -4,7 +4,7 @@ use Rattle.std.specs.FinMap.{keys}
 use Rattle.pn_record.specs.CellMap.{Entries}
 use Rattle.pn_record.specs.Sets.{CellValue}
 use Rattle.pn_tablet.proofs.CopyMade.{counted_more, counted_within, one_more_record}
-use Rattle.pn_tablet.proofs.copy_text.count_some.Goals as goal
+use Rattle.pn_tablet.proofs.copy_count.count_some.Goals as goal
 
 pub count_cell-requires : goal.count_cell-requires
 count_cell-requires c =

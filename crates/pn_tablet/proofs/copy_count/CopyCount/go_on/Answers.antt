@@ -3,7 +3,7 @@ use Rattle.std.proofs.Common.{◌≡◌, ◌+◌, ◌^◌, length, ap, ◌∙◌
 use Rattle.std.specs.Prelude.{min, Err}
 use Rattle.pn_tablet.specs.CopyMaking.{CopyCountValue, CountsOn}
 use Rattle.pn_tablet.proofs.CopyMade.{counts_on, many_lines}
-use Rattle.pn_tablet.proofs.copy_text.CopyCount.go_on.Goals as goal
+use Rattle.pn_tablet.proofs.copy_count.CopyCount.go_on.Goals as goal
 
 pub returns-in-Ok : goal.returns-in-Ok
 returns-in-Ok c =

@@ -2,7 +2,7 @@
 use Rattle.std.proofs.Common.{rules, ◌≡◌, ◌+◌, ◌^◌, ◌≤◌, arith}
 use Rattle.std.proofs.lemmas.Result.{MatchResult-weaker}
 use Rattle.pn_tablet.proofs.CopyMade.{copy_lines, counted_all}
-use Rattle.pn_tablet.proofs.copy_text.count_lines.Goals as goal
+use Rattle.pn_tablet.proofs.copy_count.count_lines.Goals as goal
 
 pub returns : goal.returns
 returns c =
