@@ -28,7 +28,7 @@ use Rattle.pn_record.proofs.ImageText.{length-quoted}
 use Rattle.pn_scan.specs.Queries.{QueryValue}
 use Rattle.pn_tablet.specs.Copies.{TabletCopyValue}
 use Rattle.pn_tablet.specs.CopyMaking.{CopyTextValue, CountsOn, lines_of_copy}
-use Rattle.pn_tablet.specs.declared.copy_text.CopyStep.TheVariants.{Done}
+use Rattle.pn_tablet.specs.declared.copy_count.CopyStep.TheVariants.{Done}
 use Rattle.pn_protocol.specs.declared.reply.Reply.TheVariants.{Copy}
 use Rattle.pn_protocol.specs.declared.reply.rows_text.Place.{Place}
 use Rattle.pn_protocol.specs.declared.reply.rows_text.Place.TheVariants.{Record, End}
