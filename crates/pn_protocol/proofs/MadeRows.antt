@@ -1,5 +1,5 @@
 -- The rows of records, made a piece at a time.
-use Rattle.std.proofs.Common.{◌≡◌, ◌≢◌, ℕ, zero, suc, ◌+◌, ◌<◌, ◌≤◌, inl, inr, Bool, true, false, cond, ◌&&◌, ◌==◌, ltb, List, [], ◌∷◌, ◌++◌, map, length, take, drop, get_or, zip, Option, Some, None, codes, refl, sym, ap, ◌∙◌, subst, append_assoc, append-nil, arith, length-append, length-drop, drop-drop, ◌-◌}
+use Rattle.std.proofs.Common.{◌≡◌, ◌≢◌, ℕ, zero, suc, ◌+◌, ◌<◌, ◌≤◌, inl, inr, Bool, true, false, cond, ◌&&◌, ◌==◌, leb, ltb, List, [], ◌∷◌, ◌++◌, map, length, take, drop, get_or, zip, Option, Some, None, codes, refl, sym, ap, ◌∙◌, subst, append_assoc, append-nil, arith, length-append, length-drop, drop-drop, ◌-◌}
 use Rattle.std.specs.Prelude.{◌↔◌, IfSome, IsTrue, Vec, Ok, min}
 use Rattle.std.specs.declared.alloc.Global.{Global}
 use Rattle.std.specs.FinMap.{keys}
@@ -50,7 +50,7 @@ length_state Conflict = omega arith
 
 pub length-row_end : (key : List ℕ) (cell : CellValue) → is_key key ≡ true → length (compact_text (version_data cell.0)) ≤ 64 → length (row_end key cell) ≤ 2000
 length-row_end key cell is version =
-    let long = and_parts _ _ is in
+    let long = and_parts (leb 1 (length key)) (leb (length key) 256) is in
     let after = compact_text (version_data cell.0) ++ codes "}" in
     let state = state_word (state_of cell) ++ (codes "\",\"version\":" ++ after) in
     omega (
