@@ -14,19 +14,7 @@ pub record ConnectionValue : Type 0 where
 abbrev pub new_connection : ConnectionValue
 new_connection = record { line = so_far []; held = []; replies = []; state = new_state }
 
-<<<<<<< HEAD
--- how a connection is stored in a proof: as a line loop and the input that is held
-abbrev pub connection_code : Coded ConnectionValue
-connection_code =
-    code_by (LineLoopValue × List ℕ) (coded× line_loop_code (coded_list coded_ℕ))
-    (λ k. (record { line = k.line; waits = k.waits; more = false; counts = k.counts }, k.held))
-    (λ p. record { line = p.0.line; held = p.1; waits = p.0.waits; counts = p.0.counts })
-    (λ _. refl)
-
--- the line loop of a session that is between two lines, with these replies and counts
-=======
 -- its line loop
->>>>>>> 74fd7359
 abbrev pub loop_of : ConnectionValue → LineLoopValue
 loop_of kept = record { line = kept.line; replies = kept.replies; state = kept.state }
 

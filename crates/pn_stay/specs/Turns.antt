@@ -17,42 +17,6 @@ use Rattle.pn_stay.specs.declared.connection_state.TurnOutcome.TheVariants.{Goes
 use Rattle.pn_stay.specs.declared.steps.Came.{Came}
 use Rattle.pn_stay.specs.declared.steps.Came.TheVariants as came
 
-<<<<<<< HEAD
--- what the connection whose buffers these are keeps: its replies wait, and those in the outbox of the buffers
-abbrev pub in_buffers : ThreadBuffers → List ℕ → ConnectionValue
-in_buffers buffers replies = record { line = buffers.lines.line; held = buffers.input; waits = replies ++ buffers.lines.waits; counts = buffers.lines.counts }
-
--- the line loop of the buffers, with these replies
-abbrev pub loop_in : ThreadBuffers → List ℕ → LineLoopValue
-loop_in buffers replies = record { line = buffers.lines.line; waits = replies ++ buffers.lines.waits; more = false; counts = buffers.lines.counts }
-
--- the connection goes on after the step
-abbrev pub GoesOn : Step → Type 0
-GoesOn Next = Unit {0}
-GoesOn Waits = Unit {0}
-GoesOn (Ends ended) = ⊥
-GoesOn OutOfMemory = ⊥
-
--- a connection waits for its socket where replies wait, and for input where none does; one whose end is decided waits for no input
-abbrev pub Pauses : ConnectionState → Pause → Type 0
-Pauses (Answering kept) Turn = kept.waits ≡ []
-Pauses (Answering kept) Input = kept.waits ≡ []
-Pauses (Answering kept) Output = kept.waits ≢ []
-Pauses (Closing closing) Turn = Unit {0}
-Pauses (Closing closing) Input = ⊥
-Pauses (Closing closing) Output = closing.replies ≢ []
-
--- where a connection goes on, it pauses as it should
-abbrev pub PausesWell : TurnOutcome → Type 0
-PausesWell (Goes connection pause) = Pauses connection pause
-PausesWell (Ended ended) = Unit {0}
-
--- these replies may wait in this pause
-abbrev pub IsPause : Pause → List ℕ → Type 0
-IsPause Turn waits = waits ≡ []
-IsPause Input waits = waits ≡ []
-IsPause Output waits = waits ≢ []
-=======
 -- what the connection at some buffers keeps
 abbrev pub in_buffers : ThreadBuffers → ConnectionValue
 in_buffers buffers = record { line = buffers.lines.line; held = buffers.input; replies = buffers.lines.replies; state = buffers.lines.state }
@@ -73,7 +37,6 @@ Pauses kept Output = kept.replies ≢ []
 abbrev pub PausesWell : ConnectionValue → TurnOutcome → Type 0
 PausesWell kept (Goes pause) = Pauses kept pause
 PausesWell kept (Ended ended) = Unit {0}
->>>>>>> 74fd7359
 
 module _ {V : Type 0} (handling : Handling V) where
   -- its loop stands over the input that is held and what is left of its source

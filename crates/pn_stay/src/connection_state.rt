@@ -13,15 +13,10 @@ mod storage;
 use crate::input_buffer::InputBuffer;
 use crate::steps::take_steps;
 use pn_join::NoMemory;
-<<<<<<< HEAD
-use pn_line::{LineBuffer, Sink, WriteFault};
-use pn_serve::{Counts, LineCounts, LineHandler, LineLoop, RunFault};
-=======
 use pn_line::{LineBuffer, Sink};
 use pn_serve::{
-    Counts, LineHandler, LineLoop, LineState, LineStats, ReplyBuffer, RunFault, SendOutcome, Step,
+    Counts, LineCounts, LineHandler, LineLoop, LineState, ReplyBuffer, RunFault, SendOutcome, Step,
 };
->>>>>>> 74fd7359
 use std::alloc::Global;
 use std::io::Read;
 use std::marker::Model;
@@ -38,13 +33,9 @@ const NO_LINES: LineCounts = LineCounts {
 pub struct ThreadBuffers {
     pub(crate) lines: LineLoop,
     pub(crate) input: InputBuffer,
-<<<<<<< HEAD
-    pub(crate) answered: LineCounts,
-=======
     // What the thread goes on with once a connection keeps the replies that its socket did not take.
     pub(crate) spare: Option<ReplyBuffer>,
-    pub(crate) answered: LineStats,
->>>>>>> 74fd7359
+    pub(crate) answered: LineCounts,
 }
 
 impl ThreadBuffers {
@@ -125,11 +116,7 @@ impl ConnectionState {
 
     /// One turn: goes on where the last one stopped, with a bounded number of lines, of records that are looked at, and of bytes.
     ///
-<<<<<<< HEAD
-    /// Where the socket leaves replies, nothing is read: what waits is an outbox and a reply at most, and the input of one read.
-=======
     /// Where the socket leaves replies nothing is read: at most 128 KB of them wait.
->>>>>>> 74fd7359
     pub fn turn<M: LineHandler, R: Read, W: Sink>(
         &mut self,
         buffers: &mut ThreadBuffers,

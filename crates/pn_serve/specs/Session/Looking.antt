@@ -6,6 +6,8 @@ use Rattle.pn_live.specs.Getting.{IsOnGet}
 use Rattle.pn_live.specs.Readers.{LiveReaderValue, LooksLive}
 use Rattle.pn_protocol.specs.Command.Lines.{lookup_at}
 use Rattle.pn_protocol.specs.Command.Meaning.{CommandValue, copy, get, scan}
+use Rattle.pn_protocol.specs.declared.command.kind.LineKind.{LineKind}
+use Rattle.pn_protocol.specs.declared.command.kind.LineKind.TheVariants as kinds
 use Rattle.pn_scan.specs.Candidates.{Look}
 use Rattle.pn_scan.specs.Paging.{IsOnPage, Moving, records_left}
 use Rattle.pn_tablet.specs.Copies.{TabletCopyValue}
@@ -53,3 +55,9 @@ abbrev pub left_of : Going → ℕ
 left_of (Page query walk) = records_left walk.part
 left_of (Keys walk) = 0
 left_of (Copy count) = length count.copy.cells - count.index
+
+-- the kind of a line that is looked up so far
+abbrev pub kind_of : Going → LineKind
+kind_of (Page query walk) = kinds.Scan
+kind_of (Keys walk) = kinds.Get
+kind_of (Copy count) = kinds.Copy

@@ -1,15 +1,20 @@
 //! A session's reader that counts the lines which it answers.
 
 ghost use Rattle.std.specs.Prelude.{◌≡◌};
+ghost use Rattle.pn_live.specs.Prelude.{LiveReaderValue};
 ghost use Rattle.pn_protocol.specs.Prelude.{is_refusal as refuses};
+ghost use Rattle.pn_scan.specs.Prelude.{IsPreorder, Moving};
+ghost use Rattle.pn_serve.specs.Lines.Going.{AnswersWith};
 ghost use Rattle.pn_serve.specs.Session.Lines.{AnswersLine};
+ghost use Rattle.pn_serve.specs.Session.Looking.{LooksFor};
 
-use crate::machine::line_handler::LineHandler;
+use crate::machine::line_handler::{Answer, LineHandler};
+use crate::sessions::going::Going;
 use crate::sessions::kinds::{NO_LINES, count_line};
 use crate::sessions::lookups::answer_with_kind;
 use pn_line::LineBuffer;
 use pn_live::LiveReader;
-use pn_protocol::{LineKinds, Reply};
+use pn_protocol::{LineKind, LineKinds, Reply};
 use std::alloc::Global;
 use std::marker::Model;
 use std::mem;
@@ -55,13 +60,23 @@ impl CountingReader {
         reader
     }
 
-    // Answers a line, and counts it.
-    fn answer_line(&mut self, alloc: Global, line: &[u8]) -> Reply
-        ensures { AnswersLine self.old line.now self.new result }
+    // Answers a line, or begins to look for the reply.
+    fn answer_line(&mut self, alloc: Global, line: &[u8]) -> Answer
+        ensures { (moves : Moving LiveReaderValue) → IsPreorder moves → AnswersWith (AnswersLine moves) (LooksFor moves) self.old line.now self.new result }
     {
-        let (kind, reply) = answer_with_kind(alloc, &mut self.reader, line);
-        count_line(&mut self.kinds, kind, is_refusal(&reply));
-        reply
+        let (kind, answer) = answer_with_kind(alloc, &mut self.reader, line);
+        self.count(kind, answer)
+    }
+
+    // Counts a line of a kind, once it has its reply.
+    fn count(&mut self, kind: LineKind, answer: Answer) -> Answer
+        ensures same { result ≡ answer }
+        ensures kept { self.new ≡ self.old }
+    {
+        if let Answer::Done(reply) = &answer {
+            count_line(&mut self.kinds, kind, is_refusal(reply));
+        }
+        answer
     }
 }
 
@@ -78,6 +93,7 @@ fn is_refusal(reply: &Reply) -> bool
 impl LineHandler for CountingReader {
     ghost use Rattle.pn_serve.specs.Session.Knowing.{KnowsNoLess};
     ghost use Rattle.pn_serve.specs.Session.Lines.{AnswersLine, EndsLines};
+    ghost use Rattle.pn_serve.specs.Session.Looking.{LooksFor, LooksForLast};
     ghost use Rattle.std.specs.Prelude.{⊤};
 
     ghost ready = { ⊤ };
@@ -86,17 +102,27 @@ impl LineHandler for CountingReader {
 
     ghost ends = { EndsLines };
 
+    ghost goes = { LooksFor };
+
+    ghost goes_last = { LooksForLast };
+
     ghost reader = { λ reader. reader };
 
-    fn answer(&mut self, alloc: Global, line: &LineBuffer) -> Reply {
+    fn answer(&mut self, alloc: Global, line: &LineBuffer) -> Answer {
         self.answer_line(alloc, line.bytes())
     }
 
-    fn answer_end(&mut self, alloc: Global, part: &LineBuffer) -> Reply {
+    fn answer_end(&mut self, alloc: Global, part: &LineBuffer) -> Answer {
         if part.is_empty() {
-            return Reply::Silent;
+            return Answer::Done(Reply::Silent);
         }
         self.answer_line(alloc, part.bytes())
+    }
+
+    fn go_on(&mut self, alloc: Global, going: Going, records: usize) -> (Answer, usize) {
+        let kind = going.kind();
+        let (answer, looked) = going.go_on(alloc, &mut self.reader, records);
+        (self.count(kind, answer), looked)
     }
 
     fn take_kinds(&mut self) -> LineKinds {

@@ -1,15 +1,16 @@
 //! Lookups of a session that are gone on with: a page, the records of keys, or a copy.
 
+ghost use Rattle.std.specs.Prelude.{◌≡◌};
 ghost use Rattle.pn_live.specs.Prelude.{LiveReaderValue};
 ghost use Rattle.pn_protocol.specs.Command.Meaning.{CommandValue};
 ghost use Rattle.pn_scan.specs.Prelude.{IsPreorder, Moving};
 ghost use Rattle.pn_serve.specs.Session.Knowing.{KnowsNoLess};
-ghost use Rattle.pn_serve.specs.Session.Looking.{LooksOn, LooksTo};
+ghost use Rattle.pn_serve.specs.Session.Looking.{LooksOn, LooksTo, kind_of};
 
 use crate::machine::line_handler::Answer;
 use pn_join::NoMemory;
 use pn_live::{GetWalk, LiveReader};
-use pn_protocol::{CommandFault, Refusal, Reply, answer_get, answer_scan, refuse};
+use pn_protocol::{CommandFault, LineKind, Refusal, Reply, answer_get, answer_scan, refuse};
 use pn_record::Key;
 use pn_scan::{PageStep, PageWalk, Query, ScanFault, View};
 use pn_tablet::{CopyCount, CopyStep, TabletCopy};
@@ -44,6 +45,17 @@ impl Going {
     /// A copy of which no line is counted.
     pub(super) fn copy(copy: TabletCopy) -> Going {
         Going::Copy(CopyCount::new(copy))
+    }
+
+    /// The kind of its line.
+    pub(super) fn kind(&self) -> LineKind
+        ensures { result ≡ kind_of self.now }
+    {
+        match self {
+            Going::Page(_, _) => LineKind::Scan,
+            Going::Keys(_) => LineKind::Get,
+            Going::Copy(_) => LineKind::Copy,
+        }
     }
 
     /// Looks at so many records more, and at few beside them. How many that counts for.

@@ -1,18 +1,13 @@
 //! Answers to the lookups of a session.
 
-<<<<<<< HEAD
 ghost use Rattle.std.specs.Prelude.{◌≡◌, ◌⊎◌};
-ghost use Rattle.pn_live.specs.Prelude.{tablets_of};
+ghost use Rattle.pn_live.specs.Prelude.{LiveReaderValue, tablets_of};
 ghost use Rattle.pn_protocol.specs.Prelude.{command_value, kind_at};
 ghost use Rattle.pn_protocol.specs.declared.refusal.Refusal.TheVariants.{Memory as no_memory};
 ghost use Rattle.pn_protocol.specs.declared.reply.Reply.TheVariants.{Refused};
-=======
-ghost use Rattle.std.specs.Prelude.{◌≡◌};
-ghost use Rattle.pn_live.specs.Prelude.{LiveReaderValue, tablets_of};
-ghost use Rattle.pn_protocol.specs.Prelude.{command_value};
 ghost use Rattle.pn_scan.specs.Prelude.{IsPreorder, Moving, Stays};
 ghost use Rattle.pn_serve.specs.Lines.Going.{AnswersWith};
->>>>>>> 74fd7359
+ghost use Rattle.pn_serve.specs.declared.machine.line_handler.Answer.TheVariants.{Done};
 ghost use Rattle.pn_serve.specs.Session.Lines.{AnswersLine, LooksUp};
 ghost use Rattle.pn_serve.specs.Session.Looking.{LooksFor, LooksTo};
 ghost use Rattle.pn_serve.specs.Session.Lookups.{LooksUpKey, LooksUpKeys, LooksUpPage, LooksUpCopy};
@@ -40,25 +35,23 @@ pub(super) fn answer_line(alloc: Global, reader: &mut LiveReader, line: &[u8]) -
     }
 }
 
-<<<<<<< HEAD
 /// Answers a line as `answer_line` does, and says of which kind it is.
 pub(super) fn answer_with_kind(
     alloc: Global,
     reader: &mut LiveReader,
     line: &[u8],
-) -> (LineKind, Reply)
-    ensures kind { (result.0 ≡ kind_at line.now) ⊎ (result.1 ≡ Refused no_memory) }
-    ensures answers { AnswersLine reader.old line.now reader.new result.1 }
+) -> (LineKind, Answer)
+    ensures kind { (result.0 ≡ kind_at line.now) ⊎ (result.1 ≡ Done (Refused no_memory)) }
+    ensures answers { (moves : Moving LiveReaderValue) → IsPreorder moves → AnswersWith (AnswersLine moves) (LooksFor moves) reader.old line.now reader.new result.1 }
     ensures same { tablets_of reader.new ≡ tablets_of reader.old }
 {
     let (kind, command) = kind_and_lookup_of(alloc, line);
     match command {
-        Ok(command) => (kind, look_up(alloc, reader, command)),
-        Err(refusal) => (kind, Reply::Refused(refusal)),
+        Ok(command) => (kind, begin(alloc, reader, command)),
+        Err(refusal) => (kind, Answer::Done(Reply::Refused(refusal))),
     }
 }
 
-=======
 // Answers a command, or begins to look for the answer.
 fn begin(alloc: Global, reader: &mut LiveReader, command: Command) -> Answer
     ensures begins { (moves : Moving LiveReaderValue) → IsPreorder moves → LooksTo moves reader.old (command_value command) reader.new result }
@@ -84,7 +77,6 @@ fn begin_copy(alloc: Global, reader: &mut LiveReader, need: &Marks, tablet: u64)
 }
 
 /// Answers a command by what the reader finds.
->>>>>>> 74fd7359
 pub(crate) fn look_up(alloc: Global, reader: &mut LiveReader, command: Command) -> Reply
     ensures looks_up { LooksUp Stays reader.old (command_value command) reader.new result }
     ensures same { tablets_of reader.new ≡ tablets_of reader.old }
