@@ -1,4 +1,5 @@
 -- The states of a line loop: it reads lines, and writes the replies of a handler.
+pub mod Bounds
 pub mod Coding
 pub mod Ends
 pub mod Going
@@ -8,4 +9,5 @@ pub mod Served
 pub mod States
 pub mod Stepping
 pub mod Stopped
+pub mod Taking
 pub mod Waiting

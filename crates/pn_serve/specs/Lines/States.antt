@@ -1,5 +1,5 @@
 -- The state of a line loop, and its start.
-use Rattle.std.specs.Prelude.{ℕ, Bool, true, false, List, [], ◌++◌, Option, Result}
+use Rattle.std.specs.Prelude.{ℕ, ◌+◌, ◌-◌, ◌^◌, min, Bool, true, false, List, [], ◌++◌, Option, Result}
 use Rattle.pn_line.specs.Line.{LineBufferValue, so_far}
 use Rattle.pn_serve.specs.declared.script.Counts.{Counts}
 use Rattle.pn_serve.specs.declared.script.RunFault.{RunFault}
@@ -15,6 +15,15 @@ pub record LineStateValue : Type 0 where
   pub out : Bool
   pub last : Bool
   pub counts : Counts
+
+-- one more, as far as that has 64 bits
+abbrev pub one_more : Bool → ℕ → ℕ
+one_more false count = count
+one_more true count = min (count + 1) (2 ^ 64 - 1)
+
+-- a reply was counted: whether it answers a line, and whether it refuses one
+abbrev pub counted : Bool → Bool → Counts → Counts
+counted line refused counts = record { lines = one_more line counts.lines; refused = one_more refused counts.refused }
 
 -- that of a loop that has answered no line
 abbrev pub new_state : LineStateValue

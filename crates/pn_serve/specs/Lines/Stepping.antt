@@ -66,19 +66,36 @@ module _ {V : Type 0} (handling : Handling V) where
     pub moved : handling.moves reached machine
     pub answered : AllAnswered Makes start lines written reached (waiting_in run)
     pub shown : HasShown run.state.more left
+    pub more_comes : run.state.last ≡ false
 
-  -- lines of the script were answered, and the next, or the last part, was begun
+  -- a whole line was read, and its looks were begun
+  pub record BeginsLine (script : List ℕ) (left : Option (List ℕ)) (lines : List (List ℕ)) (reached : V) (text : List ℕ) (between : V) (going : Going) (last : Bool) : Type 0 where
+    pub more_comes : last ≡ false
+    pub read : LinesRead script left (lines ++ text ∷ [])
+    pub begun : After handling.moves handling.goes reached text between going
+
+  -- the last part of a line was read, and its looks were begun
+  pub record BeginsLast (script : List ℕ) (left : Option (List ℕ)) (lines : List (List ℕ)) (reached : V) (text : List ℕ) (between : V) (going : Going) (last : Bool) : Type 0 where
+    pub is_last : last ≡ true
+    pub read : PartRead script left lines text
+    pub at_end : left ≡ Some []
+    pub some : text ≢ []
+    pub begun : After handling.moves handling.goes_last reached text between going
+
+  -- lines of the script were answered, and the next, or the last part, was begun: the text of all replies is made
   pub record IsLooking (start : Start V) (script : List ℕ) (left written : Option (List ℕ)) (machine : V) (run : LineLoopValue) (going : Going) : Type 0 where
     pub lines : List (List ℕ)
     pub text : List ℕ
-    pub read : ((run.state.last ≡ false) × LinesRead script left (lines ++ text ∷ [])) ⊎ ((run.state.last ≡ true) × (left ≡ Some []) × PartRead script left lines text)
+    pub made : run.state.left ≡ []
+    pub line_is : run.line ≡ so_far []
     pub short : All IsShort (text ∷ lines)
     pub bound : run.state.counts.lines < MAX_LINES
     pub reached : V
     pub between : V
     pub answered : AllAnswered Makes start lines written reached (waiting_in run)
-    pub begun : ((run.state.last ≡ false) × After handling.moves handling.goes reached text between going) ⊎ ((run.state.last ≡ true) × After handling.moves handling.goes_last reached text between going)
+    pub begun : BeginsLine script left lines reached text between going run.state.last ⊎ BeginsLast script left lines reached text between going run.state.last
     pub moved : handling.moves between machine
+    pub shown : HasShown run.state.more left
 
   -- the loop ended so, perhaps before what came after
   pub record HasEnded (start : Start V) (left written : Option (List ℕ)) (machine : V) (ended : Result Counts RunFault) : Type 0 where
@@ -100,37 +117,14 @@ module _ {V : Type 0} (handling : Handling V) where
   abbrev pub Stands : Start V → Option (List ℕ) → Option (List ℕ) → V → LineLoopValue → Type 0
   Stands start left written machine run = StandsAt run.state.stage start left written machine run
 
-  -- the loop stands, or has ended; without input it reads and nothing waits, without room something does
+  -- the loop stands, or has ended; without room something waits
   abbrev pub StepsTo : Start V → Option (List ℕ) → Option (List ℕ) → V → LineLoopValue → Step → Type 0
   StepsTo start left written machine run (Next units) = Stands start left written machine run
-  StepsTo start left written machine run NoInput = Stands start left written machine run × (run.state.stage ≡ Reading) × (waits_in run ≡ [])
+  StepsTo start left written machine run NoInput = Stands start left written machine run
   StepsTo start left written machine run NoRoom = Stands start left written machine run × (waits_in run ≢ [])
   StepsTo start left written machine run (Ends ended) = HasEnded start left written machine ended
-
--- unless replies are still to be handed on, no reply waits, and those that were written were handed on
-abbrev pub IsOutAs : LineLoopValue → Type 0 → Type 0
-IsOutAs run handed_on = run.state.out ≡ true → (waits_in run ≡ []) × ((run.state.counts.lines ≡ 0) ⊎ handed_on)
-
--- a step hands on a block at most
-abbrev pub HandsOnAtMost : ℕ → LineLoopValue → LineLoopValue → Type 0
-HandsOnAtMost most old new = length old.replies ≤ length new.replies + most
 
 -- the end of an input, if its bytes are known
 abbrev pub at_end : Option (List ℕ) → Option (List ℕ)
 at_end None = None
 at_end (Some script) = Some []
-
--- how many records a stage has still to look at before its next look
-abbrev pub records_at : Stage → ℕ
-records_at Reading = 0
-records_at (Looking going) = left_of going
-records_at (Ending ended) = 0
-
--- no more records than this were looked at of those that were left; those that a look begins with are as many at most
-abbrev pub LooksAtMost : ℕ → LineLoopValue → LineLoopValue → Type 0
-LooksAtMost most old new = records_at old.state.stage ≤ records_at new.state.stage + most
-
--- what a step did is counted: a line, the bytes of a line or of replies, and records that were looked at
-abbrev pub CountsUnits : LineLoopValue → LineLoopValue → Step → Type 0
-CountsUnits old new (Next units) = (new.state.counts.lines ≤ old.state.counts.lines + 1) × (old.line.count + length new.replies ≤ new.line.count + length old.replies + 1024 * (units + 1) + 65536)
-CountsUnits old new step = Unit {0}

@@ -4,7 +4,7 @@ ghost use Rattle.std.specs.Prelude.{◌≡◌, ◌≤◌, ◌+◌, ℕ, List};
 ghost use Rattle.pn_line.specs.Prelude.{so_far};
 ghost use Rattle.pn_live.specs.Prelude.{LiveReaderValue};
 ghost use Rattle.pn_scan.specs.Prelude.{IsPreorder, Moving};
-ghost use Rattle.pn_serve.specs.Lines.Going.{AnswersWith};
+ghost use Rattle.pn_serve.specs.Lines.Going.{AnswersLast, AnswersWith};
 ghost use Rattle.pn_serve.specs.Session.Knowing.{KnowsNoLess};
 
 use crate::sessions::going::Going;
@@ -54,7 +54,7 @@ pub trait LineHandler {
     /// Answers the end of the input, after a part of a line, or begins to look for the reply.
     fn answer_end(&mut self, alloc: Global, part: &LineBuffer) -> Answer
         requires { ready }
-        ensures ends { (moves : Moving Self) (text : List ℕ) → IsPreorder moves → part.now ≡ so_far text → AnswersWith (ends moves) (goes_last moves) self.old text self.new result }
+        ensures ends { (moves : Moving Self) (text : List ℕ) → IsPreorder moves → part.now ≡ so_far text → AnswersLast (ends moves) (goes_last moves) self.old text self.new result }
         ensures knows { KnowsNoLess (reader self.old) (reader self.new) };
 
     /// Goes on with a look, at so many records at most, or with the next look. How many records that counts for.
@@ -63,8 +63,16 @@ pub trait LineHandler {
         ensures lines { (moves : Moving Self) (was between : Self) (text : List ℕ) → IsPreorder moves → goes moves was text between going → moves between self.old
             → AnswersWith (makes moves) (goes moves) was text self.new result.0 }
         ensures last { (moves : Moving Self) (was between : Self) (text : List ℕ) → IsPreorder moves → goes_last moves was text between going → moves between self.old
-            → AnswersWith (ends moves) (goes_last moves) was text self.new result.0 }
+            → AnswersLast (ends moves) (goes_last moves) was text self.new result.0 }
         ensures knows { KnowsNoLess (reader self.old) (reader self.new) };
+
+    /// The reply in place of one that may be too long to be kept.
+    fn shorten(&self, reply: Reply) -> Reply
+        ensures makes { (moves : Moving Self) (was now : Self) (text : List ℕ) → makes moves was text now reply → makes moves was text now result }
+        ensures ends { (moves : Moving Self) (was now : Self) (text : List ℕ) → ends moves was text now reply → ends moves was text now result }
+    {
+        reply
+    }
 
     /// How many lines of each kind it answered since this was asked last, where it counts them.
     fn take_kinds(&mut self) -> LineKinds

@@ -1,14 +1,16 @@
 //! Replies that wait to be written: their bytes, in a buffer that is allocated once.
 
-ghost use Rattle.std.specs.Prelude.{◌≡◌, ◌≢◌, ◌+◌, ◌<◌, ◌≤◌, ◌↔◌, ◌++◌, [], length, IfOk, IfErr, IsTrue, OnOk, OnErr, MatchBool};
+ghost use Rattle.std.specs.Prelude.{◌≡◌, ◌≢◌, ◌+◌, ◌<◌, ◌≤◌, ◌↔◌, ◌++◌, [], length, drop, vec_len, vec_capacity, IfOk, IfErr, IsTrue, OnErr, MatchBool};
+ghost use Rattle.std.specs.Io.KnownBytes.{Keeps};
 ghost use Rattle.pn_line.specs.Prelude.{Sends, AppendsPrefix};
-ghost use Rattle.pn_serve.specs.Lines.Sending.{WouldBlock, IsSent};
+ghost use Rattle.pn_serve.specs.Lines.Sending.{WouldBlock, text_left};
 
 use pn_line::{Sink, WriteFault};
 use pn_protocol::{MAX_PIECE_BYTES, ReplyText};
 use std::alloc::{AllocError, Global};
 use std::io::ErrorKind;
 use std::marker::Model;
+use std::mem;
 
 /// The bytes of a block of the output: a file takes whole blocks faster. Where as many wait, no text is made.
 pub const BLOCK: usize = 65_536;
@@ -74,30 +76,45 @@ impl ReplyBuffer {
 
     /// Makes the text of a reply until a block waits, or all of it is made. Gives back what is still to be made.
     pub(crate) fn fill(&mut self, text: ReplyText) -> Option<ReplyText>
-        ensures { IsFilled self.old text self.new result }
+        ensures whole { self.new ++ text_left result ≡ self.old ++ text }
+        ensures grows { length self.old ≤ length self.new }
+        ensures some { length self.old < BLOCK → text ≢ [] → length (text_left result) < length text }
     {
-        self.close_gap();
         let mut text = text;
         'pieces: while !text.is_made() {
-            if self.bytes.len() >= BLOCK {
+            if self.len() >= BLOCK {
                 return Some(text);
             }
-            text.write_piece(&mut self.bytes);
+            self.take_piece(&mut text);
         }
         None
+    }
+
+    // Makes a piece of the text of a reply after the bytes that wait.
+    fn take_piece(&mut self, text: &mut ReplyText)
+        requires room { length self.old < BLOCK }
+        ensures whole { self.new ++ text.new ≡ self.old ++ text.old }
+        ensures some { text.old ≢ [] → length text.new < length text.old }
+    {
+        if self.start > 0 {
+            let start = mem::replace(&mut self.start, 0);
+            drop_first(&mut self.bytes, start);
+        }
+        text.write_piece(&mut self.bytes);
     }
 
     /// Writes the waiting bytes of the block that the next byte is in, and of none after it.
     pub(crate) fn send_block<W: Sink>(&mut self, writer: &mut W) -> Result<SendOutcome, WriteFault>
         ensures ok { IfOk result (λ _. Sends (W.contents writer.old) (W.contents writer.new) self.old self.new []) }
         ensures some { IfOk result (λ sent. sent ≡ SendOutcome.All → self.old ≢ [] → length self.new < length self.old) }
+        ensures waits { IfOk result (λ sent. sent ≡ SendOutcome.Waits → self.new ≢ []) }
         ensures few { length self.old ≤ length self.new + BLOCK }
         ensures err { OnErr result (AppendsPrefix (W.contents writer.old) (W.contents writer.new) self.old) }
         ensures fault { OnErr result W.may_fail }
         ensures stops { IfErr result (λ fault. ¬ (WouldBlock fault)) }
     {
-        let end = self.bytes.len().min(self.start + (BLOCK - self.offset));
-        self.send_to(writer, end)
+        let most = (BLOCK - self.offset).min(self.len());
+        self.send_some(writer, most)
     }
 
     /// Writes all that waits, and flushes the writer.
@@ -108,48 +125,64 @@ impl ReplyBuffer {
         ensures err { OnErr result (AppendsPrefix (W.contents writer.old) (W.contents writer.new) self.old) }
         ensures fault { OnErr result W.may_fail }
     {
-        let end = self.bytes.len();
-        let sent = self.send_to(writer, end)?;
-        if sent == SendOutcome::All {
-            writer.hand_on()?;
+        let all = self.len();
+        match self.send_some(writer, all)? {
+            SendOutcome::All => {
+                writer.hand_on()?;
+                Ok(SendOutcome::All)
+            }
+            SendOutcome::Waits => Ok(SendOutcome::Waits),
         }
-        Ok(sent)
     }
 
-    // Writes until no byte before an index waits, or the writer would block.
-    fn send_to<W: Sink>(&mut self, writer: &mut W, end: usize) -> Result<SendOutcome, WriteFault>
+    // Writes so many of the waiting bytes, unless the writer would block before.
+    fn send_some<W: Sink>(&mut self, writer: &mut W, most: usize) -> Result<SendOutcome, WriteFault>
+        requires { most ≤ length self.old }
         ensures ok { IfOk result (λ _. Sends (W.contents writer.old) (W.contents writer.new) self.old self.new []) }
+        ensures all { IfOk result (λ sent. sent ≡ SendOutcome.All → length self.new + most ≡ length self.old) }
+        ensures waits { IfOk result (λ sent. sent ≡ SendOutcome.Waits → length self.old < length self.new + most) }
+        ensures few { length self.old ≤ length self.new + most }
         ensures err { OnErr result (AppendsPrefix (W.contents writer.old) (W.contents writer.new) self.old) }
         ensures fault { OnErr result W.may_fail }
         ensures stops { IfErr result (λ fault. ¬ (WouldBlock fault)) }
     {
-        'writes: while self.start < end {
-            if let Err(fault) = self.send_once(writer, end) {
-                return wait_or_fail(fault);
+        let mut left = most;
+        'writes: while left > 0 {
+            match self.send_once(writer, left) {
+                Ok(count) => left -= count,
+                Err(fault) => return wait_or_fail(fault),
             }
         }
         Ok(SendOutcome::All)
     }
 
-    // Writes once. At least one byte is taken.
-    fn send_once<W: Sink>(&mut self, writer: &mut W, end: usize) -> Result<(), WriteFault> {
-        let count = writer.write_some(&self.bytes[self.start..end])?;
+    // Writes once, so many bytes at most, and tells how many. At least one byte is taken if one may be.
+    fn send_once<W: Sink>(&mut self, writer: &mut W, most: usize) -> Result<usize, WriteFault>
+        requires { most ≤ length self.old }
+        ensures ok { IfOk result (λ _. Sends (W.contents writer.old) (W.contents writer.new) self.old self.new []) }
+        ensures count { IfOk result (λ count. (length self.new + count ≡ length self.old) × (count ≤ most)) }
+        ensures some { IfOk result (λ count. 0 < most → 0 < count) }
+        ensures err { OnErr result (Keeps (W.contents writer.old) (W.contents writer.new)) }
+        ensures kept { OnErr result (self.new ≡ self.old) }
+        ensures fault { OnErr result W.may_fail }
+    {
+        let count = writer.write_some(&self.bytes[self.start..self.start + most])?;
         self.start += count;
         self.offset = (self.offset + count) % BLOCK;
-        Ok(())
+        Ok(count)
     }
+}
 
-    // Moves the waiting bytes to the front.
-    fn close_gap(&mut self)
-        ensures { self.new ≡ self.old }
-    {
-        if self.start > 0 {
-            let len = self.len();
-            self.bytes.copy_within(self.start.., 0);
-            self.bytes.truncate(len);
-            self.start = 0;
-        }
-    }
+// Drops the first bytes. The others move to the front, in the same memory.
+fn drop_first(bytes: &mut Vec<u8>, count: usize)
+    requires { count ≤ vec_len bytes.old }
+    ensures items { bytes.new.items ≡ drop count bytes.old.items }
+    ensures len { vec_len bytes.new + count ≡ vec_len bytes.old }
+    ensures capacity { vec_capacity bytes.new ≡ vec_capacity bytes.old }
+{
+    let left = bytes.len() - count;
+    bytes.copy_within(count.., 0);
+    bytes.truncate(left);
 }
 
 // A writer that would block takes no more for now. Another fault stays.

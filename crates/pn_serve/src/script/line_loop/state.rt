@@ -1,24 +1,26 @@
 //! Where a line loop is between two steps, and how it is put aside while its buffers serve another.
 
-ghost use Rattle.std.specs.Prelude.{◌≡◌, ◌↔◌, IsFalse, IsTrue, []};
-ghost use Rattle.pn_line.specs.Line.{so_far};
-ghost use Rattle.pn_serve.specs.Lines.States.{new_state, waits_in};
+ghost use Rattle.std.specs.Prelude.{◌≡◌, ◌≢◌, ◌↔◌, ◌+◌, ◌^◌, ◌-◌, min, IsFalse, IsTrue, [], if◌then◌else◌};
+ghost use Rattle.pn_line.specs.Prelude.{so_far};
+ghost use Rattle.pn_protocol.specs.Prelude.{is_refusal as refuses};
+ghost use Rattle.pn_serve.specs.Lines.Sending.{text_left};
+ghost use Rattle.pn_serve.specs.Lines.States.{counted, new_state, waits_in};
 
 use crate::script::line_loop::LineLoop;
 use crate::script::replies::ReplyBuffer;
 use crate::sessions::going::Going;
 use crate::{Counts, RunFault};
 use pn_line::LineBuffer;
-use pn_protocol::ReplyText;
+use pn_protocol::{Reply, ReplyText};
 use std::marker::Model;
 use std::mem;
 
 /// Where a line loop is between two steps, but for the line that is read and the bytes that wait.
 #[derive(Drop)]
 pub struct LineState {
-    pub(super) stage: Stage,
+    stage: Stage,
     // The reply whose text is not made to its end.
-    pub(super) text: Option<ReplyText>,
+    text: Option<ReplyText>,
     // Whether a further line was seen. If not, reading it may wait for input.
     pub(super) more: bool,
     // Whether all replies were handed on.
@@ -40,15 +42,12 @@ pub(super) enum Stage {
 }
 
 impl Model for LineState {
-    ghost use Rattle.std.specs.Prelude.{◌≤◌};
     ghost use Rattle.pn_serve.specs.Lines.States.{LineStateValue};
     ghost use Rattle.pn_serve.specs.Lines.Sending.{text_left};
 
     ghost Value = { LineStateValue };
 
     ghost view = { λ state. record { stage = state.stage; left = text_left state.text; more = state.more; out = state.is_out; last = state.is_last; counts = state.counts } };
-
-    ghost invariant = { λ state. state.counts.refused ≤ state.counts.lines + 1 };
 }
 
 impl LineState {
@@ -68,6 +67,68 @@ impl LineState {
             },
         }
     }
+
+    /// What is done next. The state is then one that reads.
+    pub(super) fn take_stage(&mut self) -> Stage
+        ensures stage { result ≡ self.old.stage }
+        ensures reads { self.new ≡ record self.old { stage = Stage.Reading } }
+    {
+        mem::replace(&mut self.stage, Stage::Reading)
+    }
+
+    /// What is done next is this.
+    pub(super) fn set_stage(&mut self, stage: Stage)
+        ensures { self.new ≡ record self.old { stage = stage } }
+    {
+        self.stage = stage;
+    }
+
+    /// Whether text of a reply is still to be made.
+    pub(super) fn has_text(&self) -> bool
+        ensures { IsTrue result ↔ (self.now.left ≢ []) }
+    {
+        match &self.text {
+            Some(text) => !text.is_made(),
+            None => false,
+        }
+    }
+
+    /// The text that is still to be made. The state then has none.
+    pub(super) fn take_text(&mut self) -> Option<ReplyText>
+        ensures text { text_left result ≡ self.old.left }
+        ensures taken { self.new ≡ record self.old { left = [] } }
+    {
+        self.text.take()
+    }
+
+    /// This text is still to be made.
+    pub(super) fn set_text(&mut self, text: Option<ReplyText>)
+        ensures { self.new ≡ record self.old { left = text_left text } }
+    {
+        self.text = text;
+    }
+
+    /// Counts a reply, and the line that it answers, if it answers one.
+    pub(super) fn count(&mut self, reply: &Reply, is_line: bool)
+        ensures { self.new ≡ record self.old { counts = counted is_line (refuses reply.now) self.old.counts } }
+    {
+        if is_line {
+            self.counts.lines = self.counts.lines.saturating_add(1);
+        }
+        if is_refusal(reply) {
+            self.counts.refused = self.counts.refused.saturating_add(1);
+        }
+    }
+}
+
+fn is_refusal(reply: &Reply) -> bool
+    ensures { result ≡ refuses reply.now }
+{
+    match reply {
+        Reply::Refused(_) => true,
+        Reply::NotTaken(_) => true,
+        _ => false,
+    }
 }
 
 impl LineLoop {
@@ -80,7 +141,7 @@ impl LineLoop {
 
     /// How many lines were answered, and how many refused.
     pub fn counts(&self) -> Counts
-        ensures { result ≡ self.now.counts }
+        ensures { result ≡ self.now.state.counts }
     {
         self.state.counts
     }
@@ -96,7 +157,7 @@ impl LineLoop {
     pub fn has_replies(&self) -> bool
         ensures { IsFalse result ↔ (waits_in self.now ≡ []) }
     {
-        !self.replies.is_empty() || self.state.text.is_some()
+        !self.replies.is_empty() || self.state.has_text()
     }
 
     /// Whether replies that the output does not take at once can be kept from now on. Where not, long ones are refused.

@@ -1,0 +1,74 @@
+-- How much a step does, what it leaves to be handed on, and by what faults a loop may end.
+use Rattle.std.specs.Prelude.{◌≡◌, ◌⊎◌, ◌<◌, ◌≤◌, ℕ, ◌+◌, ◌*◌, true, [], length, Result, Ok, Err}
+use Rattle.pn_serve.specs.declared.script.Counts.{Counts}
+use Rattle.pn_serve.specs.declared.script.RunFault.{RunFault}
+use Rattle.pn_serve.specs.declared.script.RunFault.TheVariants.{Read, Write, TooManyTurns, Memory}
+use Rattle.pn_serve.specs.declared.script.TheConstants.{MAX_LINES}
+use Rattle.pn_serve.specs.declared.script.line_loop.state.Stage.{Stage}
+use Rattle.pn_serve.specs.declared.script.line_loop.state.Stage.TheVariants.{Reading, Looking, Ending}
+use Rattle.pn_serve.specs.declared.script.line_loop.steps.Step.{Step}
+use Rattle.pn_serve.specs.declared.script.line_loop.steps.Step.TheVariants.{Next, NoInput, NoRoom, Ends}
+use Rattle.pn_serve.specs.Lines.States.{LineLoopValue, waits_in}
+use Rattle.pn_serve.specs.Lines.Waiting.{HandsOn}
+use Rattle.pn_serve.specs.Session.Looking.{left_of}
+
+-- where no input is at hand the loop reads, nothing waits, and all was handed on
+abbrev pub IsIdleAt : Step → LineLoopValue → Type 0
+IsIdleAt (Next units) run = Unit {0}
+IsIdleAt NoInput run = (run.state.stage ≡ Reading) × (waits_in run ≡ []) × (run.state.out ≡ true)
+IsIdleAt NoRoom run = Unit {0}
+IsIdleAt (Ends ended) run = Unit {0}
+
+-- unless replies are still to be handed on, no reply waits, and those that were written were handed on
+abbrev pub IsOutAs : LineLoopValue → Type 0 → Type 0
+IsOutAs run handed_on = run.state.out ≡ true → (waits_in run ≡ []) × ((run.state.counts.lines ≡ 0) ⊎ handed_on)
+
+-- where the loop ends, all that was written was handed on, unless the writer failed
+abbrev pub HandsOnStep : Step → Type 0 → Type 0
+HandsOnStep (Next units) handed_on = Unit {0}
+HandsOnStep NoInput handed_on = Unit {0}
+HandsOnStep NoRoom handed_on = Unit {0}
+HandsOnStep (Ends ended) handed_on = HandsOn ended handed_on
+
+-- a step hands on a block at most
+abbrev pub HandsOnAtMost : ℕ → LineLoopValue → LineLoopValue → Type 0
+HandsOnAtMost most old new = length old.replies ≤ length new.replies + most
+
+-- how many records a stage has still to look at before its next look
+abbrev pub records_at : Stage → ℕ
+records_at Reading = 0
+records_at (Looking going) = left_of going
+records_at (Ending ended) = 0
+
+-- no more records than this were looked at of those that were left; those that a look begins with are as many at most
+abbrev pub LooksAtMost : ℕ → LineLoopValue → LineLoopValue → Type 0
+LooksAtMost most old new = records_at old.state.stage ≤ records_at new.state.stage + most
+
+-- what a step did is counted: a line, the bytes of a line or of replies, and records that were looked at
+abbrev pub CountsUnits : LineLoopValue → LineLoopValue → Step → Type 0
+CountsUnits old new (Next units) = (new.state.counts.lines ≤ old.state.counts.lines + 1) × (old.line.count + length new.replies ≤ new.line.count + length old.replies + 1024 * (units + 1) + 65536)
+CountsUnits old new step = Unit {0}
+
+-- a loop may end so: with as many lines as may be answered, or by a fault that its source or its writer may have
+abbrev pub CanEndBy : Type 0 → Type 0 → Result Counts RunFault → Type 0
+CanEndBy read write (Ok counts) = counts.lines ≤ MAX_LINES
+CanEndBy read write (Err Read) = read
+CanEndBy read write (Err Write) = write
+CanEndBy read write (Err TooManyTurns) = Unit {0}
+CanEndBy read write (Err Memory) = ⊥
+
+-- one line more may be answered, or none and none is begun; and where the end is decided, the loop may end so
+abbrev pub ForeseesAt : Stage → Type 0 → Type 0 → LineLoopValue → Type 0
+ForeseesAt Reading read write run = (run.state.counts.lines < MAX_LINES) ⊎ ((run.state.counts.lines ≡ MAX_LINES) × (run.line.count ≡ 0))
+ForeseesAt (Looking going) read write run = run.state.counts.lines < MAX_LINES
+ForeseesAt (Ending ended) read write run = CanEndBy read write ended
+
+abbrev pub Foresees : Type 0 → Type 0 → LineLoopValue → Type 0
+Foresees read write run = ForeseesAt run.state.stage read write run
+
+-- so after a step, or the loop ended as it may
+abbrev pub ForeseesStep : Type 0 → Type 0 → LineLoopValue → Step → Type 0
+ForeseesStep read write run (Next units) = Foresees read write run
+ForeseesStep read write run NoInput = Foresees read write run
+ForeseesStep read write run NoRoom = Foresees read write run
+ForeseesStep read write run (Ends ended) = CanEndBy read write ended
