@@ -81,4 +81,8 @@ impl LineHandler for LiveReader {
     fn go_on(&mut self, alloc: Global, going: Going, records: usize) -> (Answer, usize) {
         going.go_on(alloc, self, records)
     }
+
+    fn shorten(&self, reply: Reply) -> Reply {
+        reply.or_memory()
+    }
 }

@@ -3,6 +3,7 @@
 ghost use Rattle.std.specs.Prelude.{◌≡◌, ◌≤◌, ◌+◌, ℕ, List};
 ghost use Rattle.pn_line.specs.Prelude.{so_far};
 ghost use Rattle.pn_live.specs.Prelude.{LiveReaderValue};
+ghost use Rattle.pn_protocol.specs.Prelude.{is_refusal as refuses};
 ghost use Rattle.pn_scan.specs.Prelude.{IsPreorder, Moving};
 ghost use Rattle.pn_serve.specs.Lines.Going.{AnswersLast, AnswersWith};
 ghost use Rattle.pn_serve.specs.Session.Knowing.{KnowsNoLess};
@@ -79,5 +80,16 @@ pub trait LineHandler {
         ensures kept { self.new ≡ self.old }
     {
         NO_LINES
+    }
+}
+
+/// Whether a reply is a refusal.
+pub(crate) fn is_refusal(reply: &Reply) -> bool
+    ensures { result ≡ refuses reply.now }
+{
+    match reply {
+        Reply::Refused(_) => true,
+        Reply::NotTaken(_) => true,
+        _ => false,
     }
 }

@@ -2,13 +2,12 @@
 
 ghost use Rattle.std.specs.Prelude.{◌≡◌};
 ghost use Rattle.pn_live.specs.Prelude.{LiveReaderValue};
-ghost use Rattle.pn_protocol.specs.Prelude.{is_refusal as refuses};
 ghost use Rattle.pn_scan.specs.Prelude.{IsPreorder, Moving};
 ghost use Rattle.pn_serve.specs.Lines.Going.{AnswersWith};
 ghost use Rattle.pn_serve.specs.Session.Lines.{AnswersLine};
 ghost use Rattle.pn_serve.specs.Session.Looking.{LooksFor};
 
-use crate::machine::line_handler::{Answer, LineHandler};
+use crate::machine::line_handler::{Answer, LineHandler, is_refusal};
 use crate::sessions::going::Going;
 use crate::sessions::kinds::{NO_LINES, count_line};
 use crate::sessions::lookups::answer_with_kind;
@@ -80,16 +79,6 @@ impl CountingReader {
     }
 }
 
-fn is_refusal(reply: &Reply) -> bool
-    ensures { result ≡ refuses reply.now }
-{
-    match reply {
-        Reply::Refused(_) => true,
-        Reply::NotTaken(_) => true,
-        _ => false,
-    }
-}
-
 impl LineHandler for CountingReader {
     ghost use Rattle.pn_serve.specs.Session.Knowing.{KnowsNoLess};
     ghost use Rattle.pn_serve.specs.Session.Lines.{AnswersLine, EndsLines};
@@ -123,6 +112,10 @@ impl LineHandler for CountingReader {
         let kind = going.kind();
         let (answer, looked) = going.go_on(alloc, &mut self.reader, records);
         (self.count(kind, answer), looked)
+    }
+
+    fn shorten(&self, reply: Reply) -> Reply {
+        reply.or_memory()
     }
 
     fn take_kinds(&mut self) -> LineKinds {

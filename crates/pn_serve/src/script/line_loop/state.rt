@@ -1,11 +1,13 @@
 //! Where a line loop is between two steps, and how it is put aside while its buffers serve another.
 
-ghost use Rattle.std.specs.Prelude.{◌≡◌, ◌≢◌, ◌↔◌, ◌+◌, ◌^◌, ◌-◌, min, IsFalse, IsTrue, [], if◌then◌else◌};
+ghost use Rattle.std.specs.Prelude.{◌≡◌, ◌≢◌, ◌↔◌, false, IsFalse, IsTrue, []};
 ghost use Rattle.pn_line.specs.Prelude.{so_far};
 ghost use Rattle.pn_protocol.specs.Prelude.{is_refusal as refuses};
 ghost use Rattle.pn_serve.specs.Lines.Sending.{text_left};
 ghost use Rattle.pn_serve.specs.Lines.States.{counted, new_state, waits_in};
+ghost use Rattle.pn_serve.specs.Lines.Taking.{stage_after};
 
+use crate::machine::line_handler::is_refusal;
 use crate::script::line_loop::LineLoop;
 use crate::script::replies::ReplyBuffer;
 use crate::sessions::going::Going;
@@ -108,9 +110,12 @@ impl LineState {
         self.text = text;
     }
 
-    /// Counts a reply, and the line that it answers, if it answers one.
-    pub(super) fn count(&mut self, reply: &Reply, is_line: bool)
-        ensures { self.new ≡ record self.old { counts = counted is_line (refuses reply.now) self.old.counts } }
+    /// A reply is counted, and the line that it answers, if it answers one. After the end of the input the loop ends then.
+    pub(super) fn take_reply(&mut self, reply: &Reply, is_line: bool)
+        requires { self.old.stage ≡ Stage.Reading }
+        ensures stage { self.new.stage ≡ stage_after self.old.last self.new.counts }
+        ensures counts { self.new.counts ≡ counted is_line (refuses reply.now) self.old.counts }
+        ensures others { self.new ≡ record self.old { stage = self.new.stage; out = false; counts = self.new.counts } }
     {
         if is_line {
             self.counts.lines = self.counts.lines.saturating_add(1);
@@ -118,16 +123,10 @@ impl LineState {
         if is_refusal(reply) {
             self.counts.refused = self.counts.refused.saturating_add(1);
         }
-    }
-}
-
-fn is_refusal(reply: &Reply) -> bool
-    ensures { result ≡ refuses reply.now }
-{
-    match reply {
-        Reply::Refused(_) => true,
-        Reply::NotTaken(_) => true,
-        _ => false,
+        self.is_out = false;
+        if self.is_last {
+            self.stage = Stage::Ending(Ok(self.counts));
+        }
     }
 }
 
