@@ -45,7 +45,7 @@ pub told_or : (left : Option (List ℕ)) (P : List ℕ → Type 0) (Q : Type 0) 
 told_or None P Q holds none some = none refl
 told_or (Some script) P Q holds none some = some script refl holds
 
-no_length : {A : Type 0} (xs : List A) → length xs ≤ 0 → xs ≡ []
+pub no_length : {A : Type 0} (xs : List A) → length xs ≤ 0 → xs ≡ []
 no_length [] short = refl
 no_length (x ∷ xs) short = absurd (omega (arith, short))
 
@@ -144,7 +144,7 @@ module _ {V : Type 0} (handling : Handling V) (pre : IsPreorder handling.moves) 
       read = is.read;
       short = is.short;
       line_is = sent.kept.line ∙ is.line_is;
-      bound = subst (λ (c : Counts). (c.lines < MAX_LINES) ⊎ (is.part ≡ [])) (sym sent.kept.counts) is.bound;
+      bound = subst (λ (c : Counts). (c.lines < MAX_LINES) ⊎ ((c.lines ≡ MAX_LINES) × (is.part ≡ []))) (sym sent.kept.counts) is.bound;
       reached = is.reached;
       moved = is.moved;
       answered = answered_sent is.lines is.reached is.answered;

@@ -1,5 +1,6 @@
 -- How much a step does, what it leaves to be handed on, and by what faults a loop may end.
 use Rattle.std.specs.Prelude.{◌≡◌, ◌⊎◌, ◌<◌, ◌≤◌, ℕ, ◌+◌, ◌*◌, true, [], length, Result, Ok, Err}
+use Rattle.pn_line.specs.declared.line_buffer.TheConstants.{ENDLESS}
 use Rattle.pn_serve.specs.declared.script.Counts.{Counts}
 use Rattle.pn_serve.specs.declared.script.RunFault.{RunFault}
 use Rattle.pn_serve.specs.declared.script.RunFault.TheVariants.{Read, Write, TooManyTurns, Memory}
@@ -12,10 +13,10 @@ use Rattle.pn_serve.specs.Lines.States.{LineLoopValue, waits_in}
 use Rattle.pn_serve.specs.Lines.Waiting.{HandsOn}
 use Rattle.pn_serve.specs.Session.Looking.{left_of}
 
--- where no input is at hand the loop reads, nothing waits, and all was handed on
+-- where no input is at hand the loop reads a line that may go on, nothing waits, and all was handed on
 abbrev pub IsIdleAt : Step → LineLoopValue → Type 0
 IsIdleAt (Next units) run = Unit {0}
-IsIdleAt NoInput run = (run.state.stage ≡ Reading) × (waits_in run ≡ []) × (run.state.out ≡ true)
+IsIdleAt NoInput run = (run.state.stage ≡ Reading) × (waits_in run ≡ []) × (run.state.out ≡ true) × (run.line.count < ENDLESS)
 IsIdleAt NoRoom run = Unit {0}
 IsIdleAt (Ends ended) run = Unit {0}
 

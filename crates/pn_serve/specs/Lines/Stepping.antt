@@ -61,7 +61,7 @@ module _ {V : Type 0} (handling : Handling V) where
     pub read : PartRead script left lines part
     pub short : All IsShort lines
     pub line_is : run.line ≡ so_far part
-    pub bound : (run.state.counts.lines < MAX_LINES) ⊎ (part ≡ [])
+    pub bound : (run.state.counts.lines < MAX_LINES) ⊎ ((run.state.counts.lines ≡ MAX_LINES) × (part ≡ []))
     pub reached : V
     pub moved : handling.moves reached machine
     pub answered : AllAnswered Makes start lines written reached (waiting_in run)

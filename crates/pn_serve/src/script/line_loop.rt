@@ -1,8 +1,9 @@
 //! The line loop: a machine that takes what its input has at hand, answers it line by line, and writes as much as its output
 //! takes. It waits for neither.
 
-ghost use Rattle.std.specs.Prelude.{◌≡◌, ◌⊎◌, ◌+◌, ◌≤◌, ℕ, List, [], Option, Bool, true, ◌≢◌, IfOk};
+ghost use Rattle.std.specs.Prelude.{◌≡◌, ◌⊎◌, ◌+◌, ◌<◌, ◌≤◌, ℕ, List, [], Option, Bool, true, ◌≢◌, IfOk};
 ghost use Rattle.pn_line.specs.Prelude.{so_far};
+ghost use Rattle.pn_line.specs.declared.line_buffer.TheConstants.{ENDLESS};
 ghost use Rattle.pn_scan.specs.Prelude.{IsPreorder, Moving};
 ghost use Rattle.pn_serve.specs.Lines.Bounds.{CountsUnits, Foresees, ForeseesStep, HandsOnAtMost, HandsOnStep, IsIdleAt, IsOutAs};
 ghost use Rattle.pn_serve.specs.Lines.States.{Start, new_loop, waits_in};
@@ -98,6 +99,7 @@ impl LineLoop {
         requires ready { M.ready }
         requires reading { self.old.state.stage ≡ Stage.Reading }
         requires idle { waits_in self.old ≡ [] }
+        requires below { self.old.line.count < ENDLESS }
         ensures stands { (moves : Moving M) (start : Start M) (written : Option (List ℕ)) → IsPreorder moves → Stands (by moves M.makes M.ends M.goes M.goes_last) start (at_end start.left) written machine.old self.old
             → Stands (by moves M.makes M.ends M.goes M.goes_last) start (at_end start.left) written machine.new self.new }
         ensures takes { (line : Bool) × (line ≡ true → self.old.line.count ≢ 0) × Takes line (record self.old { line = so_far []; state = record self.old.state { last = true } }) self.new }

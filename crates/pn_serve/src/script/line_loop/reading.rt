@@ -42,15 +42,15 @@ impl LineLoop {
         if !self.state.more && !self.state.is_out {
             return self.put_out(output);
         }
+        if self.line.len() >= ENDLESS {
+            return self.end_reading(RunFault::TooManyTurns);
+        }
         if self.state.counts.lines >= MAX_LINES {
             return match input.has_more() {
                 Ok(false) => self.wait_for_input(output),
                 Ok(true) => self.end_reading(RunFault::TooManyTurns),
                 Err(_) => self.end_reading(RunFault::Read),
             };
-        }
-        if self.line.len() >= ENDLESS {
-            return self.end_reading(RunFault::TooManyTurns);
         }
         self.take_piece(machine, input, output)
     }
