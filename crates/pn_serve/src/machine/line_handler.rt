@@ -4,9 +4,9 @@ ghost use Rattle.std.specs.Prelude.{◌≡◌, ◌≤◌, ◌+◌, ℕ, List};
 ghost use Rattle.pn_line.specs.Prelude.{so_far};
 ghost use Rattle.pn_live.specs.Prelude.{LiveReaderValue};
 ghost use Rattle.pn_protocol.specs.Prelude.{is_refusal as refuses};
-ghost use Rattle.pn_scan.specs.Prelude.{IsPreorder, Moving};
+ghost use Rattle.pn_scan.specs.Prelude.{Moving};
 ghost use Rattle.pn_serve.specs.Lines.Going.{AnswersLast, AnswersWith};
-ghost use Rattle.pn_serve.specs.Session.Knowing.{KnowsNoLess};
+ghost use Rattle.pn_serve.specs.Session.Knowing.{IsSteady, KnowsNoLess};
 
 use crate::sessions::going::Going;
 use crate::sessions::kinds::NO_LINES;
@@ -49,21 +49,21 @@ pub trait LineHandler {
     /// Answers a whole line with one reply, or begins to look for it.
     fn answer(&mut self, alloc: Global, line: &LineBuffer) -> Answer
         requires { ready }
-        ensures makes { (moves : Moving Self) (text : List ℕ) → IsPreorder moves → line.now ≡ so_far text → AnswersWith (makes moves) (goes moves) self.old text self.new result }
+        ensures makes { (moves : Moving Self) (text : List ℕ) → IsSteady reader moves → line.now ≡ so_far text → AnswersWith (makes moves) (goes moves) self.old text self.new result }
         ensures knows { KnowsNoLess (reader self.old) (reader self.new) };
 
     /// Answers the end of the input, after a part of a line, or begins to look for the reply.
     fn answer_end(&mut self, alloc: Global, part: &LineBuffer) -> Answer
         requires { ready }
-        ensures ends { (moves : Moving Self) (text : List ℕ) → IsPreorder moves → part.now ≡ so_far text → AnswersLast (ends moves) (goes_last moves) self.old text self.new result }
+        ensures ends { (moves : Moving Self) (text : List ℕ) → IsSteady reader moves → part.now ≡ so_far text → AnswersLast (ends moves) (goes_last moves) self.old text self.new result }
         ensures knows { KnowsNoLess (reader self.old) (reader self.new) };
 
     /// Goes on with a look, at so many records at most, or with the next look. How many records that counts for.
     fn go_on(&mut self, alloc: Global, going: Going, records: usize) -> (Answer, usize)
         requires { ready }
-        ensures lines { (moves : Moving Self) (was between : Self) (text : List ℕ) → IsPreorder moves → goes moves was text between going → moves between self.old
+        ensures lines { (moves : Moving Self) (was between : Self) (text : List ℕ) → IsSteady reader moves → goes moves was text between going → moves between self.old
             → AnswersWith (makes moves) (goes moves) was text self.new result.0 }
-        ensures last { (moves : Moving Self) (was between : Self) (text : List ℕ) → IsPreorder moves → goes_last moves was text between going → moves between self.old
+        ensures last { (moves : Moving Self) (was between : Self) (text : List ℕ) → IsSteady reader moves → goes_last moves was text between going → moves between self.old
             → AnswersLast (ends moves) (goes_last moves) was text self.new result.0 }
         ensures knows { KnowsNoLess (reader self.old) (reader self.new) };
 

@@ -2,7 +2,7 @@
 
 ghost use Rattle.std.specs.Prelude.{◌≡◌};
 ghost use Rattle.pn_live.specs.Prelude.{LiveReaderValue};
-ghost use Rattle.pn_scan.specs.Prelude.{IsPreorder, Moving};
+ghost use Rattle.pn_scan.specs.Prelude.{Moving};
 ghost use Rattle.pn_serve.specs.Lines.Going.{AnswersWith};
 ghost use Rattle.pn_serve.specs.Session.Lines.{AnswersLine};
 ghost use Rattle.pn_serve.specs.Session.Looking.{LooksFor};
@@ -61,7 +61,7 @@ impl CountingReader {
 
     // Answers a line, or begins to look for the reply.
     fn answer_line(&mut self, alloc: Global, line: &[u8]) -> Answer
-        ensures { (moves : Moving LiveReaderValue) → IsPreorder moves → AnswersWith (AnswersLine moves) (LooksFor moves) self.old line.now self.new result }
+        ensures { (moves : Moving LiveReaderValue) → IsSteady (λ reader. reader) moves → AnswersWith (AnswersLine moves) (LooksFor moves) self.old line.now self.new result }
     {
         let (kind, answer) = answer_with_kind(alloc, &mut self.reader, line);
         self.count(kind, answer)
@@ -80,7 +80,7 @@ impl CountingReader {
 }
 
 impl LineHandler for CountingReader {
-    ghost use Rattle.pn_serve.specs.Session.Knowing.{KnowsNoLess};
+    ghost use Rattle.pn_serve.specs.Session.Knowing.{IsSteady, KnowsNoLess};
     ghost use Rattle.pn_serve.specs.Session.Lines.{AnswersLine, EndsLines};
     ghost use Rattle.pn_serve.specs.Session.Looking.{LooksFor, LooksForLast};
     ghost use Rattle.std.specs.Prelude.{⊤};

@@ -2,11 +2,11 @@
 
 ghost use Rattle.std.specs.Prelude.{◌≡◌, ◌+◌, ◌*◌, ◌≤◌, ◌<◌, ℕ, List, [], length, Bool};
 ghost use Rattle.pn_line.specs.Prelude.{so_far};
-ghost use Rattle.pn_scan.specs.Prelude.{IsPreorder, Moving};
+ghost use Rattle.pn_scan.specs.Prelude.{Moving};
 ghost use Rattle.pn_serve.specs.Lines.Going.{AnswersLast, AnswersWith};
 ghost use Rattle.pn_serve.specs.Lines.States.{waits_in};
 ghost use Rattle.pn_serve.specs.Lines.Taking.{HasReply, Takes, TakesLine};
-ghost use Rattle.pn_serve.specs.Session.Knowing.{KnowsNoLess};
+ghost use Rattle.pn_serve.specs.Session.Knowing.{IsSteady, KnowsNoLess};
 
 use crate::machine::line_handler::{Answer, LineHandler};
 use crate::script::line_loop::state::Stage;
@@ -21,7 +21,7 @@ impl LineLoop {
         requires ready { M.ready }
         requires reading { self.old.state.stage ≡ Stage.Reading }
         requires made { self.old.state.left ≡ [] }
-        ensures line { (moves : Moving M) (text : List ℕ) → IsPreorder moves → self.old.line ≡ so_far text
+        ensures line { (moves : Moving M) (text : List ℕ) → IsSteady M.reader moves → self.old.line ≡ so_far text
             → TakesLine (AnswersWith (M.makes moves) (M.goes moves)) true machine.old text machine.new (record self.old { line = so_far [] }) self.new }
         ensures takes { Takes true (record self.old { line = so_far [] }) self.new }
         ensures units { self.old.line.count + length self.new.replies ≤ length self.old.replies + 1024 * (result + 1) + 65536 }
@@ -43,9 +43,9 @@ impl LineLoop {
         requires ready { M.ready }
         requires reading { self.old.state.stage ≡ Stage.Reading }
         requires made { self.old.state.left ≡ [] }
-        ensures line { (moves : Moving M) (was between : M) (text : List ℕ) → IsPreorder moves → M.goes moves was text between going → moves between machine.old
+        ensures line { (moves : Moving M) (was between : M) (text : List ℕ) → IsSteady M.reader moves → M.goes moves was text between going → moves between machine.old
             → TakesLine (AnswersWith (M.makes moves) (M.goes moves)) true was text machine.new self.old self.new }
-        ensures last { (moves : Moving M) (was between : M) (text : List ℕ) → IsPreorder moves → M.goes_last moves was text between going → moves between machine.old
+        ensures last { (moves : Moving M) (was between : M) (text : List ℕ) → IsSteady M.reader moves → M.goes_last moves was text between going → moves between machine.old
             → TakesLine (AnswersLast (M.ends moves) (M.goes_last moves)) true was text machine.new self.old self.new }
         ensures takes { Takes true self.old self.new }
         ensures units { length self.new.replies < length self.old.replies + 1024 * (result + 1) }

@@ -1,12 +1,12 @@
 //! How a line loop takes what its input has at hand.
 
 ghost use Rattle.std.specs.Prelude.{◌≡◌, ◌⊎◌, ◌+◌, ◌≤◌, ◌<◌, ℕ, List, [], Option, Err};
-ghost use Rattle.pn_scan.specs.Prelude.{IsPreorder, Moving};
+ghost use Rattle.pn_scan.specs.Prelude.{Moving};
 ghost use Rattle.pn_serve.specs.Lines.Bounds.{CountsUnits, Foresees, ForeseesStep, HandsOnAtMost, HandsOnStep, IsIdleAt, IsOutAs};
 ghost use Rattle.pn_serve.specs.Lines.States.{Start};
 ghost use Rattle.pn_serve.specs.Lines.Stepping.{by, with_rest, Stands, StepsTo};
 ghost use Rattle.pn_serve.specs.declared.script.replies.TheConstants.{BLOCK};
-ghost use Rattle.pn_serve.specs.Session.Knowing.{KnowsNoLess};
+ghost use Rattle.pn_serve.specs.Session.Knowing.{IsSteady, KnowsNoLess};
 
 use crate::RunFault;
 use crate::machine::line_handler::LineHandler;
@@ -27,7 +27,7 @@ impl LineLoop {
         requires ready { M.ready }
         requires reading { self.old.state.stage ≡ Stage.Reading }
         requires made { self.old.state.left ≡ [] }
-        ensures steps { (moves : Moving M) (start : Start M) (rest : Option (List ℕ)) → IsPreorder moves → Stands (by moves M.makes M.ends M.goes M.goes_last) start (with_rest (S.left input.old) rest) (W.contents output.old) machine.old self.old
+        ensures steps { (moves : Moving M) (start : Start M) (rest : Option (List ℕ)) → IsSteady M.reader moves → Stands (by moves M.makes M.ends M.goes M.goes_last) start (with_rest (S.left input.old) rest) (W.contents output.old) machine.old self.old
             → StepsTo (by moves M.makes M.ends M.goes M.goes_last) start (with_rest (S.left input.new) rest) (W.contents output.new) machine.new self.new result }
         ensures idle { IsIdleAt result self.new }
         ensures out { IsOutAs self.old (W.is_handed_on output.old) → IsOutAs self.new (W.is_handed_on output.new) }
@@ -67,7 +67,7 @@ impl LineLoop {
         requires made { self.old.state.left ≡ [] }
         requires more { self.old.state.counts.lines < MAX_LINES }
         requires below { self.old.line.count < ENDLESS }
-        ensures steps { (moves : Moving M) (start : Start M) (rest : Option (List ℕ)) → IsPreorder moves → Stands (by moves M.makes M.ends M.goes M.goes_last) start (with_rest (S.left input.old) rest) (W.contents output.old) machine.old self.old
+        ensures steps { (moves : Moving M) (start : Start M) (rest : Option (List ℕ)) → IsSteady M.reader moves → Stands (by moves M.makes M.ends M.goes M.goes_last) start (with_rest (S.left input.old) rest) (W.contents output.old) machine.old self.old
             → StepsTo (by moves M.makes M.ends M.goes M.goes_last) start (with_rest (S.left input.new) rest) (W.contents output.new) machine.new self.new result }
         ensures idle { IsIdleAt result self.new }
         ensures out { IsOutAs self.old (W.is_handed_on output.old) → IsOutAs self.new (W.is_handed_on output.new) }
