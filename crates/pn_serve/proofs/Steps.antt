@@ -33,6 +33,15 @@ use Rattle.pn_serve.proofs.Serving.{OnTold, AllAnswered-line, all_ended, refusal
 use Rattle.pn_serve.proofs.Stopping.{Broken_here, Cut_end, Cut_here, Exceeded_bytes, Exceeded_lines, no_part}
 use Rattle.pn_serve.proofs.Standing.{EndsOnceSent-untold, LinesRead-end, PartRead-more, at_told, at_untold, no_length, one_more-is, told_or}
 
+cons_nil : (b : ℕ) (bs : List ℕ) → b ∷ bs ≡ [] → ⊥
+cons_nil b bs is = cc
+
+true_false : true ≡ false → ⊥
+true_false is = cc
+
+abbrev no_bytes : List ℕ
+no_bytes = []
+
 -- the lines so far and one more are short
 one_short : (lines : List (List ℕ)) (text : List ℕ) → All IsShort (text ∷ lines) → All IsShort (lines ++ text ∷ [])
 one_short lines text short = All-append IsShort lines (text ∷ []) (All-tail IsShort text lines short) (All-cons IsShort text [] (All-head IsShort text lines short) (All-nil IsShort))
@@ -52,12 +61,15 @@ one_last : (line : Bool) (part : List ℕ) → (line ≡ true → part ≢ []) �
 one_last true [] some none = absurd (some refl refl)
 one_last true (b ∷ part) some none = refl
 one_last false [] some none = refl
-one_last false (b ∷ part) some none = absurd (let e = none refl in cc)
+one_last false (b ∷ part) some none = absurd (cons_nil b part (none refl))
+
+untold_none : (rest : List ℕ) → None ≡ Some rest → ⊥
+untold_none rest is = cc
 
 -- a newline that was seen is still there after a part without one
 shown_part : (more : Bool) (left leaves : Option (List ℕ)) (rest taken : List ℕ) → left ≡ Some rest → Consumes left leaves (taken ++ []) → IsUnbroken taken → HasShown more left → HasShown more leaves
 shown_part false left leaves rest taken is consumes unbroken shown = tt
-shown_part true None leaves rest taken is consumes unbroken shown = absurd (let e = is in cc)
+shown_part true None leaves rest taken is consumes unbroken shown = absurd (untold_none rest is)
 shown_part true (Some x) None rest taken is consumes unbroken shown = tt
 shown_part true (Some x) (Some y) rest taken is consumes unbroken shown =
     let all : x ≡ taken ++ y = consumes ∙ ap (λ (t : List ℕ). t ++ y) (append-nil taken) in
@@ -65,7 +77,7 @@ shown_part true (Some x) (Some y) rest taken is consumes unbroken shown =
 
 -- a newline that was seen where bytes are known
 shown_at : (left : Option (List ℕ)) (more : Bool) (leaves : Option (List ℕ)) (rest : List ℕ) → left ≡ Some rest → OnSome left (HasShown more leaves) → HasShown more leaves
-shown_at None more leaves rest is shown = absurd (let e = is in cc)
+shown_at None more leaves rest is shown = absurd (untold_none rest is)
 shown_at (Some x) more leaves rest is shown = shown
 
 PartRead-kept : (script : List ℕ) (left leaves : Option (List ℕ)) (lines : List (List ℕ)) (part : List ℕ) → PartRead script left lines part → Keeps left leaves → PartRead script leaves lines part
@@ -78,6 +90,12 @@ PartRead-kept script left leaves lines part read kept = record {
 }
 
 module _ {V : Type 0} (handling : Handling V) (pre : IsPreorder handling.moves) (start : Start V) where
+  reads_now : (script : List ℕ) → start.left ≡ Some script → (left written : Option (List ℕ)) (machine : V) (run : LineLoopValue) → IsReading handling start script left written machine run → StandsAt handling Reading start left written machine run
+  reads_now script told left written machine run is = at_told start.left script (λ (s : List ℕ). IsReading handling start s left written machine run) told is
+
+  looks_now : (script : List ℕ) → start.left ≡ Some script → (left written : Option (List ℕ)) (machine : V) (run : LineLoopValue) (going : Going) → IsLooking handling start script left written machine run going → StandsAt handling (Looking going) start left written machine run
+  looks_now script told left written machine run going is = at_told start.left script (λ (s : List ℕ). IsLooking handling start s left written machine run going) told is
+
   -- what a reply does to the counts
   module _ (line : Bool) (old new : LineLoopValue) (reply : Reply) (takes : HasReply line old reply new) (few : old.state.counts.lines ≤ 1000000) (fit : old.state.counts.refused ≤ old.state.counts.lines) where
     lines_more : new.state.counts.lines ≡ old.state.counts.lines + one_if line
@@ -92,7 +110,7 @@ module _ {V : Type 0} (handling : Handling V) (pre : IsPreorder handling.moves) 
       (answered : AllAnswered (Makes handling) start lines written reached (waiting_in old)) (line_is : old.line ≡ so_far []) (more_comes : old.state.last ≡ false) (shown : HasShown old.state.more left) where
     pub Stands-replied : (new : LineLoopValue) (reply : Reply) → Makes handling reached text now reply → HasReply true old reply new → Stands handling start left written now new
     Stands-replied new reply made takes =
-        subst (λ (s : Stage). StandsAt handling s start left written now new) (sym reads) (at_told start.left script _ told record {
+        subst (λ (s : Stage). StandsAt handling s start left written now new) (sym reads) (reads_now script told left written now new record {
           lines = lines ++ text ∷ [];
           part = [];
           read = no_part read;
@@ -113,7 +131,7 @@ module _ {V : Type 0} (handling : Handling V) (pre : IsPreorder handling.moves) 
         count : new.state.counts.lines ≡ old.state.counts.lines + 1
         count = lines_more true old new reply takes (omega (arith, few)) fit
 
-        bound : (new.state.counts.lines < MAX_LINES) ⊎ ((new.state.counts.lines ≡ MAX_LINES) × (let none : List ℕ = [] in none ≡ []))
+        bound : (new.state.counts.lines < MAX_LINES) ⊎ ((new.state.counts.lines ≡ MAX_LINES) × (no_bytes ≡ []))
         bound = elim (cases_lt new.state.counts.lines MAX_LINES) [
           | inl below ↦ inl below
           | inr most ↦ inr (omega (arith, most, count, few), refl)
@@ -126,7 +144,7 @@ module _ {V : Type 0} (handling : Handling V) (pre : IsPreorder handling.moves) 
     pub Stands-begun : (new : LineLoopValue) (going : Going) (between : V) → old.state.left ≡ [] → new ≡ record old { state = record old.state { stage = Looking going } }
         → After handling.moves handling.goes reached text between going → handling.moves between now → Stands handling start left written now new
     Stands-begun new going between made is begun moved =
-        subst (λ (r : LineLoopValue). Stands handling start left written now r) (sym is) (at_told start.left script _ told record {
+        subst (λ (r : LineLoopValue). Stands handling start left written now r) (sym is) (looks_now script told left written now (record old { state = record old.state { stage = Looking going } }) going record {
           lines = lines;
           text = text;
           made = made;
@@ -154,7 +172,7 @@ module _ {V : Type 0} (handling : Handling V) (pre : IsPreorder handling.moves) 
     pub Stands-ended : (line : Bool) (new : LineLoopValue) (reply : Reply) → one_if line ≡ length (last_line part) → MakesLast handling reached part now reply → HasReply line old reply new → Stands handling start left written now new
     Stands-ended line new reply one made takes =
         let stage : new.state.stage ≡ Ending (Ok new.state.counts) = takes.stage ∙ ap (λ (b : Bool). stage_after b new.state.counts) is_last in
-        subst (λ (s : Stage). StandsAt handling s start left written now new) (sym stage) record {
+        let once : EndsOnceSent handling start left written (waits_in new) now (Ok new.state.counts) = record {
           all = λ after sent. record {
             reached = now;
             moved = pre.stays now;
@@ -166,7 +184,8 @@ module _ {V : Type 0} (handling : Handling V) (pre : IsPreorder handling.moves) 
             moved = pre.stays now;
             ends_by = at_told start.left script _ told (Cut_end (Makes handling) (MakesLast handling) start script left written after reached now (waiting_in old) (waiting_in new) lines part reply answered read end made takes.waits sent);
           };
-        }
+        } in
+        subst (λ (s : Stage). StandsAt handling s start left written now new) (sym stage) once
       where
         few_all : length (lines ++ last_line part) ≤ 1000000
         few_all = few_last lines part (⊎_elim (λ below. inl (omega (arith, below, answered.lines_are))) (λ most. inr (omega (arith, most.0, answered.lines_are), most.1)) few)
@@ -175,7 +194,7 @@ module _ {V : Type 0} (handling : Handling V) (pre : IsPreorder handling.moves) 
     pub Stands-begun_last : (new : LineLoopValue) (going : Going) (between : V) → old.state.left ≡ [] → old.line ≡ so_far [] → part ≢ [] → HasShown old.state.more left → new ≡ record old { state = record old.state { stage = Looking going } }
         → After handling.moves handling.goes_last reached part between going → handling.moves between now → Stands handling start left written now new
     Stands-begun_last new going between made line_is some shown is begun moved =
-        subst (λ (r : LineLoopValue). Stands handling start left written now r) (sym is) (at_told start.left script _ told record {
+        subst (λ (r : LineLoopValue). Stands handling start left written now r) (sym is) (looks_now script told left written now (record old { state = record old.state { stage = Looking going } }) going record {
           lines = lines;
           text = part;
           made = made;
@@ -332,7 +351,7 @@ module _ {V : Type 0} (handling : Handling V) (pre : IsPreorder handling.moves) 
           Stands-ended script told left written lines part reached now old read end short few answered is_last line new reply one (record { between = was; moved = moved; done = made_by }) takes
       by [] same (Begun going) begun is = absurd (subst (λ (t : List ℕ). AnswersLast handling.ends handling.goes_last was t now (Begun going)) (sym same) begun)
       by (b ∷ text) same (Begun going) begun is =
-          let some : part ≢ [] = λ none. (let e = same ∙ none in cc) in
+          let some : part ≢ [] = λ none. cons_nil b text (same ∙ none) in
           Stands-begun_last script told left written lines part reached now old read end short few answered is_last new going now made line_is some shown is
           (record { between = was; moved = moved; done = subst (λ (t : List ℕ). handling.goes_last was t now going) same (subst (λ (t : List ℕ). AnswersLast handling.ends handling.goes_last was t now (Begun going)) (sym same) begun) }) (pre.stays now)
 
@@ -357,7 +376,7 @@ module _ {V : Type 0} (handling : Handling V) (pre : IsPreorder handling.moves) 
       by script told is (inr begins) =
           let after = begins.begun in
           answered_last script told left written is.lines is.text is.reached after.between now true mid new begins.read begins.at_end is.short (inl is.bound) is.answered is.line_is begins.is_last is.shown is.made
-          (one_last true is.text (λ same. begins.some) (λ other. absurd (let e = other in cc))) after.moved (last after.between is.between is.text after.done is.moved)
+          (one_last true is.text (λ same. begins.some) (λ other. absurd (true_false other))) after.moved (last after.between is.between is.text after.done is.moved)
 
   -- the input is at its end
   pub Steps-end : (written : Option (List ℕ)) (was now : V) (old new : LineLoopValue) (line : Bool) → old.state.stage ≡ Reading → Stands handling start (at_end start.left) written was old → old.state.left ≡ [] → old.line.count < ENDLESS

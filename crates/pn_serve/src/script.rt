@@ -2,10 +2,9 @@
 
 ghost use Rattle.std.specs.Prelude.{◌≡◌, ◌≢◌, ◌+◌, ◌≤◌, IfOk, IfErr, OnOk, IsErrOf};
 ghost use Rattle.pn_serve.specs.declared.script.RunFault.TheVariants.{Write, Memory};
-ghost use Rattle.pn_serve.specs.Lines.Ends.{EndsBy};
+ghost use Rattle.pn_serve.specs.Lines.Stepping.{HasEnded, by};
 ghost use Rattle.pn_serve.specs.Lines.Waiting.{HandsOn, looks_of_input};
 ghost use Rattle.pn_region.specs.Prelude.{new_region};
-ghost use Rattle.pn_scan.specs.Prelude.{Stays};
 ghost use Rattle.pn_serve.specs.Lines.States.{new_loop, start_at};
 ghost use Rattle.pn_serve.specs.Machine.Outcomes.{new_machine};
 ghost use Rattle.pn_serve.specs.Runs.Ends.{Ends, run_start};
@@ -134,7 +133,7 @@ pub(crate) fn answer_lines<M: LineHandler, S: Source, W: Sink>(
 ) -> Result<Counts, RunFault>
     requires ready { M.ready }
     requires new { lines.old ≡ new_loop }
-    ensures ends { EndsBy (M.makes Stays) (M.ends Stays) (start_at machine.old (S.left input.old) (W.contents output.old)) (S.left input.new) (W.contents output.new) machine.new result }
+    ensures ends { HasEnded (by M.moves M.makes M.ends M.goes M.goes_last) (start_at machine.old (S.left input.old) (W.contents output.old)) (S.left input.new) (W.contents output.new) machine.new result }
     ensures read { IsErrOf result RunFault.Read → S.may_fail }
     ensures write { IsErrOf result RunFault.Write → W.may_fail }
     ensures knows { KnowsNoLess (M.reader machine.old) (M.reader machine.new) }

@@ -50,20 +50,24 @@ pub fn session<S: Source, W: Sink>(
 }
 
 impl LineHandler for LiveReader {
-    ghost use Rattle.pn_serve.specs.Session.Knowing.{KnowsNoLess};
+    ghost use Rattle.pn_scan.specs.Prelude.{Stays};
+    ghost use Rattle.pn_serve.specs.Session.Knowing.{IsSteady, KnowsNoLess};
     ghost use Rattle.pn_serve.specs.Session.Lines.{AnswersLine, EndsLines};
     ghost use Rattle.pn_serve.specs.Session.Looking.{LooksFor, LooksForLast};
     ghost use Rattle.std.specs.Prelude.{⊤};
 
     ghost ready = { ⊤ };
 
-    ghost makes = { AnswersLine };
+    // A session has its reader alone.
+    ghost moves = { Stays };
 
-    ghost ends = { EndsLines };
+    ghost makes = { AnswersLine Stays };
 
-    ghost goes = { LooksFor };
+    ghost ends = { EndsLines Stays };
 
-    ghost goes_last = { LooksForLast };
+    ghost goes = { LooksFor Stays };
+
+    ghost goes_last = { LooksForLast Stays };
 
     ghost reader = { λ reader. reader };
 
@@ -81,6 +85,8 @@ impl LineHandler for LiveReader {
     fn go_on(&mut self, alloc: Global, going: Going, records: usize) -> (Answer, usize) {
         going.go_on(alloc, self, records)
     }
+
+    fn recall_moves(&self) {}
 
     fn shorten(&self, reply: Reply) -> Reply {
         reply.or_memory()

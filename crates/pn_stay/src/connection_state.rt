@@ -1,7 +1,6 @@
 //! The state of a connection: it is answered as a session is, in turns, between which it keeps as little as it can.
 
 ghost use Rattle.std.specs.Prelude.{◌≡◌, ◌+◌, ◌-◌, ◌^◌, ◌≤◌, ℕ, List, [], Option, min};
-ghost use Rattle.pn_scan.specs.Prelude.{Moving};
 ghost use Rattle.pn_serve.specs.Lines.Stepping.{by};
 ghost use Rattle.pn_serve.specs.Lines.States.{Start};
 ghost use Rattle.pn_stay.specs.Connections.{new_connection};
@@ -125,8 +124,8 @@ impl ConnectionState {
         output: &mut W,
     ) -> TurnOutcome
         requires ready { M.ready }
-        ensures turns { (moves : Moving M) (start : Start M) → IsSteady M.reader moves → Continues (by moves M.makes M.ends M.goes M.goes_last) start (R.remaining input.old) (W.contents output.old) machine.old self.old
-            → TurnsTo (by moves M.makes M.ends M.goes M.goes_last) start (R.remaining input.new) (W.contents output.new) machine.new self.new result }
+        ensures turns { (start : Start M) → IsSteady M.reader M.moves → Continues (by M.moves M.makes M.ends M.goes M.goes_last) start (R.remaining input.old) (W.contents output.old) machine.old self.old
+            → TurnsTo (by M.moves M.makes M.ends M.goes M.goes_last) start (R.remaining input.new) (W.contents output.new) machine.new self.new result }
         ensures pauses { PausesWell self.new result }
         ensures knows { KnowsNoLess (M.reader machine.old) (M.reader machine.new) }
     {

@@ -15,13 +15,15 @@ impl LineHandler for Echo {
 
     ghost ready = { ⊤ };
 
-    ghost makes = { λ _ _ _ _ _. ⊤ };
+    ghost moves = { λ _ _. ⊤ };
 
-    ghost ends = { λ _ _ _ _ _. ⊤ };
+    ghost makes = { λ _ _ _ _. ⊤ };
 
-    ghost goes = { λ _ _ _ _ _. ⊤ };
+    ghost ends = { λ _ _ _ _. ⊤ };
 
-    ghost goes_last = { λ _ _ _ _ _. ⊤ };
+    ghost goes = { λ _ _ _ _. ⊥ };
+
+    ghost goes_last = { λ _ _ _ _. ⊥ };
 
     ghost reader = { λ _. no_reader };
 
@@ -44,4 +46,6 @@ impl LineHandler for Echo {
     fn go_on(&mut self, _alloc: Global, _going: Going, _records: usize) -> (Answer, usize) {
         (Answer::Done(Reply::Silent), 0)
     }
+
+    fn recall_moves(&self) {}
 }

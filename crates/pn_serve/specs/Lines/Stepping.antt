@@ -36,9 +36,9 @@ pub record Handling (V : Type 0) : Type 1 where
   pub goes : V → List ℕ → V → Going → Type 0
   pub goes_last : V → List ℕ → V → Going → Type 0
 
--- a handler's relations, by what may become of it between two looks
-abbrev pub by : {V : Type 0} → Moving V → (Moving V → V → List ℕ → V → Reply → Type 0) → (Moving V → V → List ℕ → V → Reply → Type 0) → (Moving V → V → List ℕ → V → Going → Type 0) → (Moving V → V → List ℕ → V → Going → Type 0) → Handling V
-by moves makes ends goes goes_last = record { moves = moves; makes = makes moves; ends = ends moves; goes = goes moves; goes_last = goes_last moves }
+-- a handler's relations
+abbrev pub by : {V : Type 0} → Moving V → (V → List ℕ → V → Reply → Type 0) → (V → List ℕ → V → Reply → Type 0) → (V → List ℕ → V → Going → Type 0) → (V → List ℕ → V → Going → Type 0) → Handling V
+by moves makes ends goes goes_last = record { moves = moves; makes = makes; ends = ends; goes = goes; goes_last = goes_last }
 
 -- this came after what came between
 pub record After {V R : Type 0} (moves : Moving V) (does : V → List ℕ → V → R → Type 0) (was : V) (text : List ℕ) (now : V) (answer : R) : Type 0 where

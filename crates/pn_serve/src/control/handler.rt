@@ -110,18 +110,22 @@ impl<'a, R, C: Drop> ControlHandler<'a, R, C> {
 }
 
 impl<'a, R: Wait + Clock, C: StatsSource + Drop> LineHandler for ControlHandler<'a, R, C> {
+    ghost use Rattle.pn_scan.specs.Prelude.{Stays};
     ghost use Rattle.pn_serve.specs.Control.Lines.{AnswersControl, EndsControl};
+    ghost use Rattle.pn_serve.specs.Session.Knowing.{IsSteady};
     ghost use Rattle.std.specs.Prelude.{⊤};
 
     ghost ready = { ⊤ };
 
-    ghost makes = { λ _. AnswersControl };
+    ghost moves = { Stays };
 
-    ghost ends = { λ _. EndsControl };
+    ghost makes = { AnswersControl };
 
-    ghost goes = { λ _ _ _ _ _. ⊥ };
+    ghost ends = { EndsControl };
 
-    ghost goes_last = { λ _ _ _ _ _. ⊥ };
+    ghost goes = { λ _ _ _ _. ⊥ };
+
+    ghost goes_last = { λ _ _ _ _. ⊥ };
 
     ghost reader = { λ session. session.reader };
 
@@ -171,4 +175,6 @@ impl<'a, R: Wait + Clock, C: StatsSource + Drop> LineHandler for ControlHandler<
     fn go_on(&mut self, _alloc: Global, _going: Going, _records: usize) -> (Answer, usize) {
         (Answer::Done(Reply::Silent), 0)
     }
+
+    fn recall_moves(&self) {}
 }

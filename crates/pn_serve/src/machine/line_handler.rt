@@ -4,7 +4,6 @@ ghost use Rattle.std.specs.Prelude.{◌≡◌, ◌≤◌, ◌+◌, ℕ, List};
 ghost use Rattle.pn_line.specs.Prelude.{so_far};
 ghost use Rattle.pn_live.specs.Prelude.{LiveReaderValue};
 ghost use Rattle.pn_protocol.specs.Prelude.{is_refusal as refuses};
-ghost use Rattle.pn_scan.specs.Prelude.{Moving};
 ghost use Rattle.pn_serve.specs.Lines.Going.{AnswersLast, AnswersWith};
 ghost use Rattle.pn_serve.specs.Session.Knowing.{IsSteady, KnowsNoLess};
 
@@ -31,17 +30,20 @@ pub trait LineHandler {
     // What must hold of its type parameters.
     ghost ready: { Type 0 };
 
-    // By what may become of it between two looks: relates the state before, the line, the state after and the reply.
-    ghost makes: { Moving Self → Self → List ℕ → Self → Reply → Type 0 };
+    // What may become of it between two looks.
+    ghost moves: { Self → Self → Type 0 };
+
+    // Relates the state before, the line, the state after and the reply.
+    ghost makes: { Self → List ℕ → Self → Reply → Type 0 };
 
     // The same for the last part of a line.
-    ghost ends: { Moving Self → Self → List ℕ → Self → Reply → Type 0 };
+    ghost ends: { Self → List ℕ → Self → Reply → Type 0 };
 
-    // By the same: relates the state before, a line that was begun, the state now, and the look that is to be gone on with.
-    ghost goes: { Moving Self → Self → List ℕ → Self → Going → Type 0 };
+    // Relates the state before, a line that was begun, the state now, and the look that is to be gone on with.
+    ghost goes: { Self → List ℕ → Self → Going → Type 0 };
 
     // The same for the last part of a line.
-    ghost goes_last: { Moving Self → Self → List ℕ → Self → Going → Type 0 };
+    ghost goes_last: { Self → List ℕ → Self → Going → Type 0 };
 
     // The reader that it answers from, if any.
     ghost reader: { Self → LiveReaderValue };
@@ -49,28 +51,32 @@ pub trait LineHandler {
     /// Answers a whole line with one reply, or begins to look for it.
     fn answer(&mut self, alloc: Global, line: &LineBuffer) -> Answer
         requires { ready }
-        ensures makes { (moves : Moving Self) (text : List ℕ) → IsSteady reader moves → line.now ≡ so_far text → AnswersWith (makes moves) (goes moves) self.old text self.new result }
+        ensures makes { (text : List ℕ) → line.now ≡ so_far text → AnswersWith makes goes self.old text self.new result }
         ensures knows { KnowsNoLess (reader self.old) (reader self.new) };
 
     /// Answers the end of the input, after a part of a line, or begins to look for the reply.
     fn answer_end(&mut self, alloc: Global, part: &LineBuffer) -> Answer
         requires { ready }
-        ensures ends { (moves : Moving Self) (text : List ℕ) → IsSteady reader moves → part.now ≡ so_far text → AnswersLast (ends moves) (goes_last moves) self.old text self.new result }
+        ensures ends { (text : List ℕ) → part.now ≡ so_far text → AnswersLast ends goes_last self.old text self.new result }
         ensures knows { KnowsNoLess (reader self.old) (reader self.new) };
 
     /// Goes on with a look, at so many records at most, or with the next look. How many records that counts for.
     fn go_on(&mut self, alloc: Global, going: Going, records: usize) -> (Answer, usize)
         requires { ready }
-        ensures lines { (moves : Moving Self) (was between : Self) (text : List ℕ) → IsSteady reader moves → goes moves was text between going → moves between self.old
-            → AnswersWith (makes moves) (goes moves) was text self.new result.0 }
-        ensures last { (moves : Moving Self) (was between : Self) (text : List ℕ) → IsSteady reader moves → goes_last moves was text between going → moves between self.old
-            → AnswersLast (ends moves) (goes_last moves) was text self.new result.0 }
+        ensures lines { (was between : Self) (text : List ℕ) → goes was text between going → moves between self.old
+            → AnswersWith makes goes was text self.new result.0 }
+        ensures last { (was between : Self) (text : List ℕ) → goes_last was text between going → moves between self.old
+            → AnswersLast ends goes_last was text self.new result.0 }
         ensures knows { KnowsNoLess (reader self.old) (reader self.new) };
+
+    // It may stay as it is between two looks, what may become of it twice may become of it once, and its reader reads the same tablets.
+    fn recall_moves(&self)
+        ensures { IsSteady reader moves };
 
     /// The reply in place of one that may be too long to be kept.
     fn shorten(&self, reply: Reply) -> Reply
-        ensures makes { (moves : Moving Self) (was now : Self) (text : List ℕ) → makes moves was text now reply → makes moves was text now result }
-        ensures ends { (moves : Moving Self) (was now : Self) (text : List ℕ) → ends moves was text now reply → ends moves was text now result }
+        ensures makes { (was now : Self) (text : List ℕ) → makes was text now reply → makes was text now result }
+        ensures ends { (was now : Self) (text : List ℕ) → ends was text now reply → ends was text now result }
     {
         reply
     }

@@ -65,6 +65,7 @@ impl<'a, R: Threads + Sync> ScriptHandler<'a, R> {
 }
 
 impl<'a, R: Threads + Sync> LineHandler for ScriptHandler<'a, R> {
+    ghost use Rattle.pn_scan.specs.Prelude.{Stays};
     ghost use Rattle.pn_serve.specs.Machine.Answers.{Answers, Concludes};
     ghost use Rattle.pn_serve.specs.Session.Knowing.{no_reader};
     ghost use Rattle.std.specs.Thread.{IsSync};
@@ -72,13 +73,15 @@ impl<'a, R: Threads + Sync> LineHandler for ScriptHandler<'a, R> {
     // Threads can share the runtime.
     ghost ready = { IsSync R.row };
 
-    ghost makes = { λ _. Answers };
+    ghost moves = { Stays };
 
-    ghost ends = { λ _. Concludes };
+    ghost makes = { Answers };
 
-    ghost goes = { λ _ _ _ _ _. ⊥ };
+    ghost ends = { Concludes };
 
-    ghost goes_last = { λ _ _ _ _ _. ⊥ };
+    ghost goes = { λ _ _ _ _. ⊥ };
+
+    ghost goes_last = { λ _ _ _ _. ⊥ };
 
     ghost reader = { λ _. no_reader };
 
@@ -110,4 +113,6 @@ impl<'a, R: Threads + Sync> LineHandler for ScriptHandler<'a, R> {
     fn go_on(&mut self, _alloc: Global, _going: Going, _records: usize) -> (Answer, usize) {
         (Answer::Done(Reply::Silent), 0)
     }
+
+    fn recall_moves(&self) {}
 }

@@ -4,7 +4,6 @@
 ghost use Rattle.std.specs.Prelude.{◌≡◌, ◌⊎◌, ◌+◌, ◌<◌, ◌≤◌, ℕ, List, [], Option, Bool, true, ◌≢◌, IfOk};
 ghost use Rattle.pn_line.specs.Prelude.{so_far};
 ghost use Rattle.pn_line.specs.declared.line_buffer.TheConstants.{ENDLESS};
-ghost use Rattle.pn_scan.specs.Prelude.{Moving};
 ghost use Rattle.pn_serve.specs.Lines.Bounds.{CountsUnits, Foresees, ForeseesStep, HandsOnAtMost, HandsOnStep, IsIdleAt, IsOutAs};
 ghost use Rattle.pn_serve.specs.Lines.States.{Start, new_loop, waits_in};
 ghost use Rattle.pn_serve.specs.Lines.Stepping.{at_end, by, with_rest, Stands, StepsTo};
@@ -72,8 +71,8 @@ impl LineLoop {
         units: u32,
     ) -> Step
         requires ready { M.ready }
-        ensures steps { (moves : Moving M) (start : Start M) (rest : Option (List ℕ)) → IsSteady M.reader moves → Stands (by moves M.makes M.ends M.goes M.goes_last) start (with_rest (S.left input.old) rest) (W.contents output.old) machine.old self.old
-            → StepsTo (by moves M.makes M.ends M.goes M.goes_last) start (with_rest (S.left input.new) rest) (W.contents output.new) machine.new self.new result }
+        ensures steps { (start : Start M) (rest : Option (List ℕ)) → IsSteady M.reader M.moves → Stands (by M.moves M.makes M.ends M.goes M.goes_last) start (with_rest (S.left input.old) rest) (W.contents output.old) machine.old self.old
+            → StepsTo (by M.moves M.makes M.ends M.goes M.goes_last) start (with_rest (S.left input.new) rest) (W.contents output.new) machine.new self.new result }
         ensures idle { IsIdleAt result self.new }
         ensures out { IsOutAs self.old (W.is_handed_on output.old) → IsOutAs self.new (W.is_handed_on output.new) }
         ensures handed_on { HandsOnStep result (W.is_handed_on output.new) }
@@ -100,8 +99,8 @@ impl LineLoop {
         requires reading { self.old.state.stage ≡ Stage.Reading }
         requires idle { waits_in self.old ≡ [] }
         requires below { self.old.line.count < ENDLESS }
-        ensures stands { (moves : Moving M) (start : Start M) (written : Option (List ℕ)) → IsSteady M.reader moves → Stands (by moves M.makes M.ends M.goes M.goes_last) start (at_end start.left) written machine.old self.old
-            → Stands (by moves M.makes M.ends M.goes M.goes_last) start (at_end start.left) written machine.new self.new }
+        ensures stands { (start : Start M) (written : Option (List ℕ)) → IsSteady M.reader M.moves → Stands (by M.moves M.makes M.ends M.goes M.goes_last) start (at_end start.left) written machine.old self.old
+            → Stands (by M.moves M.makes M.ends M.goes M.goes_last) start (at_end start.left) written machine.new self.new }
         ensures takes { (line : Bool) × (line ≡ true → self.old.line.count ≢ 0) × Takes line (record self.old { line = so_far []; state = record self.old.state { last = true } }) self.new }
         ensures knows { KnowsNoLess (M.reader machine.old) (M.reader machine.new) }
     {

@@ -1,8 +1,6 @@
 //! A session's reader that counts the lines which it answers.
 
 ghost use Rattle.std.specs.Prelude.{◌≡◌};
-ghost use Rattle.pn_live.specs.Prelude.{LiveReaderValue};
-ghost use Rattle.pn_scan.specs.Prelude.{Moving};
 ghost use Rattle.pn_serve.specs.Lines.Going.{AnswersWith};
 ghost use Rattle.pn_serve.specs.Session.Lines.{AnswersLine};
 ghost use Rattle.pn_serve.specs.Session.Looking.{LooksFor};
@@ -61,7 +59,7 @@ impl CountingReader {
 
     // Answers a line, or begins to look for the reply.
     fn answer_line(&mut self, alloc: Global, line: &[u8]) -> Answer
-        ensures { (moves : Moving LiveReaderValue) → IsSteady (λ reader. reader) moves → AnswersWith (AnswersLine moves) (LooksFor moves) self.old line.now self.new result }
+        ensures { AnswersWith (AnswersLine KnowsNoLess) (LooksFor KnowsNoLess) self.old line.now self.new result }
     {
         let (kind, answer) = answer_with_kind(alloc, &mut self.reader, line);
         self.count(kind, answer)
@@ -87,13 +85,16 @@ impl LineHandler for CountingReader {
 
     ghost ready = { ⊤ };
 
-    ghost makes = { AnswersLine };
+    // Several connections share it: between two looks of one the others look.
+    ghost moves = { KnowsNoLess };
 
-    ghost ends = { EndsLines };
+    ghost makes = { AnswersLine KnowsNoLess };
 
-    ghost goes = { LooksFor };
+    ghost ends = { EndsLines KnowsNoLess };
 
-    ghost goes_last = { LooksForLast };
+    ghost goes = { LooksFor KnowsNoLess };
+
+    ghost goes_last = { LooksForLast KnowsNoLess };
 
     ghost reader = { λ reader. reader };
 
@@ -113,6 +114,9 @@ impl LineHandler for CountingReader {
         let (answer, looked) = going.go_on(alloc, &mut self.reader, records);
         (self.count(kind, answer), looked)
     }
+
+    #[tactic(auto, using(crate::proofs::Knowing::knows_itself, crate::proofs::Knowing::knows_on))]
+    fn recall_moves(&self) {}
 
     fn shorten(&self, reply: Reply) -> Reply {
         reply.or_memory()

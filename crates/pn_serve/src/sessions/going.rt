@@ -3,8 +3,8 @@
 ghost use Rattle.std.specs.Prelude.{◌≡◌};
 ghost use Rattle.pn_live.specs.Prelude.{LiveReaderValue};
 ghost use Rattle.pn_protocol.specs.Command.Meaning.{CommandValue};
-ghost use Rattle.pn_scan.specs.Prelude.{Moving};
-ghost use Rattle.pn_serve.specs.Session.Knowing.{IsSteady, KnowsNoLess};
+ghost use Rattle.pn_scan.specs.Prelude.{Stays};
+ghost use Rattle.pn_serve.specs.Session.Knowing.{KnowsNoLess};
 ghost use Rattle.pn_serve.specs.Session.Looking.{LooksOn, LooksTo, kind_of};
 
 use crate::machine::line_handler::Answer;
@@ -65,8 +65,8 @@ impl Going {
         reader: &mut LiveReader,
         records: usize,
     ) -> (Answer, usize)
-        ensures goes { (moves : Moving LiveReaderValue) (was between : LiveReaderValue) (command : CommandValue) → IsSteady (λ reader. reader) moves → LooksOn moves was command between self → moves between reader.old
-            → LooksTo moves was command reader.new result.0 }
+        ensures alone { (was between : LiveReaderValue) (command : CommandValue) → LooksOn Stays was command between self → Stays between reader.old → LooksTo Stays was command reader.new result.0 }
+        ensures shared { (was between : LiveReaderValue) (command : CommandValue) → LooksOn KnowsNoLess was command between self → KnowsNoLess between reader.old → LooksTo KnowsNoLess was command reader.new result.0 }
         ensures knows { KnowsNoLess reader.old reader.new }
     {
         match self {

@@ -1,12 +1,11 @@
 //! Answers to the lookups of a session.
 
 ghost use Rattle.std.specs.Prelude.{◌≡◌, ◌⊎◌};
-ghost use Rattle.pn_live.specs.Prelude.{LiveReaderValue, tablets_of};
-ghost use Rattle.pn_protocol.specs.Prelude.{command_value, kind_at};
+ghost use Rattle.pn_live.specs.Prelude.{tablets_of};
+ghost use Rattle.pn_protocol.specs.Prelude.{command_value, copy as copy_asked, kind_at};
 ghost use Rattle.pn_protocol.specs.declared.refusal.Refusal.TheVariants.{Memory as no_memory};
 ghost use Rattle.pn_protocol.specs.declared.reply.Reply.TheVariants.{Refused};
-ghost use Rattle.pn_serve.specs.Session.Knowing.{IsSteady};
-ghost use Rattle.pn_scan.specs.Prelude.{Moving, Stays};
+ghost use Rattle.pn_scan.specs.Prelude.{Stays};
 ghost use Rattle.pn_serve.specs.Lines.Going.{AnswersWith};
 ghost use Rattle.pn_serve.specs.declared.machine.line_handler.Answer.TheVariants.{Done};
 ghost use Rattle.pn_serve.specs.Session.Lines.{AnswersLine, LooksUp};
@@ -27,7 +26,7 @@ use std::alloc::Global;
 
 /// Answers a line by what the reader finds, or begins to look for it.
 pub(super) fn answer_line(alloc: Global, reader: &mut LiveReader, line: &[u8]) -> Answer
-    ensures answers { (moves : Moving LiveReaderValue) → IsSteady (λ reader. reader) moves → AnswersWith (AnswersLine moves) (LooksFor moves) reader.old line.now reader.new result }
+    ensures answers { AnswersWith (AnswersLine Stays) (LooksFor Stays) reader.old line.now reader.new result }
     ensures same { tablets_of reader.new ≡ tablets_of reader.old }
 {
     match lookup_of(alloc, line) {
@@ -43,7 +42,7 @@ pub(super) fn answer_with_kind(
     line: &[u8],
 ) -> (LineKind, Answer)
     ensures kind { (result.0 ≡ kind_at line.now) ⊎ (result.1 ≡ Done (Refused no_memory)) }
-    ensures answers { (moves : Moving LiveReaderValue) → IsSteady (λ reader. reader) moves → AnswersWith (AnswersLine moves) (LooksFor moves) reader.old line.now reader.new result.1 }
+    ensures answers { AnswersWith (AnswersLine Stays) (LooksFor Stays) reader.old line.now reader.new result.1 }
     ensures same { tablets_of reader.new ≡ tablets_of reader.old }
 {
     let (kind, command) = kind_and_lookup_of(alloc, line);
@@ -55,7 +54,7 @@ pub(super) fn answer_with_kind(
 
 // Answers a command, or begins to look for the answer.
 fn begin(alloc: Global, reader: &mut LiveReader, command: Command) -> Answer
-    ensures begins { (moves : Moving LiveReaderValue) → IsSteady (λ reader. reader) moves → LooksTo moves reader.old (command_value command) reader.new result }
+    ensures begins { LooksTo Stays reader.old (command_value command) reader.new result }
     ensures same { tablets_of reader.new ≡ tablets_of reader.old }
 {
     match command {
@@ -67,7 +66,10 @@ fn begin(alloc: Global, reader: &mut LiveReader, command: Command) -> Answer
 }
 
 // Takes a copy, of which the lines are then counted.
-fn begin_copy(alloc: Global, reader: &mut LiveReader, need: &Marks, tablet: u64) -> Answer {
+fn begin_copy(alloc: Global, reader: &mut LiveReader, need: &Marks, tablet: u64) -> Answer
+    ensures begins { LooksTo Stays reader.old (copy_asked need.now tablet) reader.new result }
+    ensures same { tablets_of reader.new ≡ tablets_of reader.old }
+{
     if tablet >= reader.layout().count() as u64 {
         return Answer::Done(Reply::Refused(Refusal::OutOfRange(Part::Tablet)));
     }

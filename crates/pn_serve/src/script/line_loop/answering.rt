@@ -2,11 +2,10 @@
 
 ghost use Rattle.std.specs.Prelude.{◌≡◌, ◌+◌, ◌*◌, ◌≤◌, ◌<◌, ℕ, List, [], length, Bool};
 ghost use Rattle.pn_line.specs.Prelude.{so_far};
-ghost use Rattle.pn_scan.specs.Prelude.{Moving};
 ghost use Rattle.pn_serve.specs.Lines.Going.{AnswersLast, AnswersWith};
 ghost use Rattle.pn_serve.specs.Lines.States.{waits_in};
 ghost use Rattle.pn_serve.specs.Lines.Taking.{HasReply, Takes, TakesLine};
-ghost use Rattle.pn_serve.specs.Session.Knowing.{IsSteady, KnowsNoLess};
+ghost use Rattle.pn_serve.specs.Session.Knowing.{KnowsNoLess};
 
 use crate::machine::line_handler::{Answer, LineHandler};
 use crate::script::line_loop::state::Stage;
@@ -21,8 +20,8 @@ impl LineLoop {
         requires ready { M.ready }
         requires reading { self.old.state.stage ≡ Stage.Reading }
         requires made { self.old.state.left ≡ [] }
-        ensures line { (moves : Moving M) (text : List ℕ) → IsSteady M.reader moves → self.old.line ≡ so_far text
-            → TakesLine (AnswersWith (M.makes moves) (M.goes moves)) true machine.old text machine.new (record self.old { line = so_far [] }) self.new }
+        ensures line { (text : List ℕ) → self.old.line ≡ so_far text
+            → TakesLine (AnswersWith M.makes M.goes) true machine.old text machine.new (record self.old { line = so_far [] }) self.new }
         ensures takes { Takes true (record self.old { line = so_far [] }) self.new }
         ensures units { self.old.line.count + length self.new.replies ≤ length self.old.replies + 1024 * (result + 1) + 65536 }
         ensures knows { KnowsNoLess (M.reader machine.old) (M.reader machine.new) }
@@ -43,10 +42,10 @@ impl LineLoop {
         requires ready { M.ready }
         requires reading { self.old.state.stage ≡ Stage.Reading }
         requires made { self.old.state.left ≡ [] }
-        ensures line { (moves : Moving M) (was between : M) (text : List ℕ) → IsSteady M.reader moves → M.goes moves was text between going → moves between machine.old
-            → TakesLine (AnswersWith (M.makes moves) (M.goes moves)) true was text machine.new self.old self.new }
-        ensures last { (moves : Moving M) (was between : M) (text : List ℕ) → IsSteady M.reader moves → M.goes_last moves was text between going → moves between machine.old
-            → TakesLine (AnswersLast (M.ends moves) (M.goes_last moves)) true was text machine.new self.old self.new }
+        ensures line { (was between : M) (text : List ℕ) → M.goes was text between going → M.moves between machine.old
+            → TakesLine (AnswersWith M.makes M.goes) true was text machine.new self.old self.new }
+        ensures last { (was between : M) (text : List ℕ) → M.goes_last was text between going → M.moves between machine.old
+            → TakesLine (AnswersLast M.ends M.goes_last) true was text machine.new self.old self.new }
         ensures takes { Takes true self.old self.new }
         ensures units { length self.new.replies < length self.old.replies + 1024 * (result + 1) }
         ensures knows { KnowsNoLess (M.reader machine.old) (M.reader machine.new) }
@@ -65,10 +64,10 @@ impl LineLoop {
     ) -> u32
         requires reading { self.old.state.stage ≡ Stage.Reading }
         requires made { self.old.state.left ≡ [] }
-        ensures line { (moves : Moving M) (was now : M) (text : List ℕ) → AnswersWith (M.makes moves) (M.goes moves) was text now answer
-            → TakesLine (AnswersWith (M.makes moves) (M.goes moves)) is_line was text now self.old self.new }
-        ensures last { (moves : Moving M) (was now : M) (text : List ℕ) → AnswersLast (M.ends moves) (M.goes_last moves) was text now answer
-            → TakesLine (AnswersLast (M.ends moves) (M.goes_last moves)) is_line was text now self.old self.new }
+        ensures line { (was now : M) (text : List ℕ) → AnswersWith M.makes M.goes was text now answer
+            → TakesLine (AnswersWith M.makes M.goes) is_line was text now self.old self.new }
+        ensures last { (was now : M) (text : List ℕ) → AnswersLast M.ends M.goes_last was text now answer
+            → TakesLine (AnswersLast M.ends M.goes_last) is_line was text now self.old self.new }
         ensures takes { Takes is_line self.old self.new }
         ensures units { length self.new.replies < length self.old.replies + 1024 * (result + 1) }
     {

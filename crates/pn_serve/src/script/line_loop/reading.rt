@@ -1,7 +1,6 @@
 //! How a line loop takes what its input has at hand.
 
 ghost use Rattle.std.specs.Prelude.{◌≡◌, ◌⊎◌, ◌+◌, ◌≤◌, ◌<◌, ℕ, List, [], Option, Err};
-ghost use Rattle.pn_scan.specs.Prelude.{Moving};
 ghost use Rattle.pn_serve.specs.Lines.Bounds.{CountsUnits, Foresees, ForeseesStep, HandsOnAtMost, HandsOnStep, IsIdleAt, IsOutAs};
 ghost use Rattle.pn_serve.specs.Lines.States.{Start};
 ghost use Rattle.pn_serve.specs.Lines.Stepping.{by, with_rest, Stands, StepsTo};
@@ -27,8 +26,8 @@ impl LineLoop {
         requires ready { M.ready }
         requires reading { self.old.state.stage ≡ Stage.Reading }
         requires made { self.old.state.left ≡ [] }
-        ensures steps { (moves : Moving M) (start : Start M) (rest : Option (List ℕ)) → IsSteady M.reader moves → Stands (by moves M.makes M.ends M.goes M.goes_last) start (with_rest (S.left input.old) rest) (W.contents output.old) machine.old self.old
-            → StepsTo (by moves M.makes M.ends M.goes M.goes_last) start (with_rest (S.left input.new) rest) (W.contents output.new) machine.new self.new result }
+        ensures steps { (start : Start M) (rest : Option (List ℕ)) → IsSteady M.reader M.moves → Stands (by M.moves M.makes M.ends M.goes M.goes_last) start (with_rest (S.left input.old) rest) (W.contents output.old) machine.old self.old
+            → StepsTo (by M.moves M.makes M.ends M.goes M.goes_last) start (with_rest (S.left input.new) rest) (W.contents output.new) machine.new self.new result }
         ensures idle { IsIdleAt result self.new }
         ensures out { IsOutAs self.old (W.is_handed_on output.old) → IsOutAs self.new (W.is_handed_on output.new) }
         ensures handed_on { HandsOnStep result (W.is_handed_on output.new) }
@@ -67,8 +66,8 @@ impl LineLoop {
         requires made { self.old.state.left ≡ [] }
         requires more { self.old.state.counts.lines < MAX_LINES }
         requires below { self.old.line.count < ENDLESS }
-        ensures steps { (moves : Moving M) (start : Start M) (rest : Option (List ℕ)) → IsSteady M.reader moves → Stands (by moves M.makes M.ends M.goes M.goes_last) start (with_rest (S.left input.old) rest) (W.contents output.old) machine.old self.old
-            → StepsTo (by moves M.makes M.ends M.goes M.goes_last) start (with_rest (S.left input.new) rest) (W.contents output.new) machine.new self.new result }
+        ensures steps { (start : Start M) (rest : Option (List ℕ)) → IsSteady M.reader M.moves → Stands (by M.moves M.makes M.ends M.goes M.goes_last) start (with_rest (S.left input.old) rest) (W.contents output.old) machine.old self.old
+            → StepsTo (by M.moves M.makes M.ends M.goes M.goes_last) start (with_rest (S.left input.new) rest) (W.contents output.new) machine.new self.new result }
         ensures idle { IsIdleAt result self.new }
         ensures out { IsOutAs self.old (W.is_handed_on output.old) → IsOutAs self.new (W.is_handed_on output.new) }
         ensures handed_on { HandsOnStep result (W.is_handed_on output.new) }
