@@ -1,6 +1,5 @@
 -- Replies.
 pub mod Answers
-pub mod Capacity
 pub mod Errors
 pub mod Faults
 pub mod LineStats

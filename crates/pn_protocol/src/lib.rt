@@ -13,13 +13,11 @@ pub use refusal::{Part, Refusal};
 pub use reply::answers::{answer_copy, answer_get, answer_read, answer_scan, answer_text};
 pub use reply::line_stats::{LineCounts, LineKinds, LineStats};
 pub use reply::notices::notices_reply;
-pub use reply::pieces::MAX_PIECE_BYTES;
 pub use reply::refusals::{CommandFault, refuse};
-pub use reply::scan::scan_reply;
 pub use reply::short::{NumberName, ShortReply, number_reply, refusal_reply, served_reply};
 pub use reply::stats::{
     ConnectionStats, Stats, StreamFaultStats, StreamState, StreamStats, TabletStats, stats_reply,
 };
 pub use reply::tablets::{ShownTablets, marks_reply, tablets_reply};
-pub use reply::text::ReplyText;
+pub use reply::text::{MAX_PIECE_BYTES, ReplyText};
 pub use reply::{PageReply, Reply};

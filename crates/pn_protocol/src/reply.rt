@@ -3,13 +3,13 @@
 ghost use Rattle.pn_protocol.specs.Reply.Making.{IsShortFor};
 
 pub(crate) mod answers;
-mod capacity;
 mod errors;
 pub(crate) mod line_stats;
 pub(crate) mod notices;
-pub(crate) mod pieces;
+mod prefetch;
 pub(crate) mod refusals;
 mod rows;
+pub(crate) mod rows_text;
 pub(crate) mod scan;
 pub(crate) mod short;
 mod shown;

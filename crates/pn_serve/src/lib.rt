@@ -30,7 +30,7 @@ pub use pn_protocol::{
     Command, CommandFault, ConnectionStats, ControlCommand, LineCounts, LineKinds, LineStats,
     NumberName, Part, Refusal, Reply, ShortReply, Stats, StreamFaultStats, StreamState,
     StreamStats, TabletStats, a_control_line_is_one_command, a_line_is_one_command, command_of,
-    control_of, number_reply, refusal_reply, refuse, scan_reply,
+    control_of, number_reply, refusal_reply, refuse,
 };
 pub use repeat_laws::{
     a_repeated_deliver_leaves_no_trace_of_a_refused_one, repeated_delivers_leave_the_same_region,

@@ -7,6 +7,7 @@ mod copy;
 mod copy_draft;
 pub mod copy_laws;
 mod copy_line;
+mod copy_line_appending;
 mod copy_line_writing;
 mod copy_reading;
 mod copy_text;

@@ -8,7 +8,7 @@ ghost use Rattle.pn_protocol.specs.Reply.Answers.{ShowsFound, ShowsPage, ShowsCo
 ghost use Rattle.pn_protocol.specs.Reply.Record.{get_data, read_data};
 ghost use Rattle.pn_protocol.specs.Reply.Scan.{scan_data};
 
-use crate::reply::scan::write_head;
+use crate::reply::scan::page_head;
 use crate::{CommandFault, PageReply, Refusal, Reply, refuse};
 use pn_join::NoMemory;
 use pn_record::{Cell, Key};
@@ -54,7 +54,7 @@ fn page_reply(alloc: Global, page: Page) -> Reply
     ensures { ShowsPage (page.rows.items, page.next) result }
 {
     let Page { rows, next } = page;
-    match write_head(alloc, next.as_ref()) {
+    match page_head(alloc, next.as_ref()) {
         Ok(head) => Reply::Page(PageReply { head, rows }),
         Err(_) => Reply::Refused(Refusal::Memory),
     }

@@ -56,6 +56,16 @@ impl ShortReply {
     }
 }
 
+/// A text that fits.
+pub(crate) fn text_reply(text: &str) -> ShortReply
+    requires { length text.now ≤ CAPACITY }
+    ensures { result ≡ text.now }
+{
+    let mut reply = ShortReply::new();
+    reply.push(text);
+    reply
+}
+
 /// The reply to a line that was refused, as `{"error":"bad-shape","member":"key"}`.
 #[tactic(auto, unfolding(pn_json::specs::Lines::line_of, crate::specs::Reply::Short::refusal_data, serde_json::proofs::OnLiterals::serde_json_on_literals))]
 pub fn refusal_reply(refusal: &Refusal) -> ShortReply

@@ -1,45 +1,55 @@
 //! The text of a reply, made a piece at a time in a buffer that has room for it.
 
-ghost use Rattle.std.specs.Prelude.{◌≡◌, ◌≢◌, ◌+◌, ◌<◌, ◌≤◌, ◌↔◌, [], ◌++◌, length, vec_capacity, vec_len, IsTrue};
-ghost use Rattle.pn_protocol.specs.Reply.Making.{rest_of, IsPlaceIn, WritesTo};
+ghost use Rattle.std.specs.Prelude.{◌≡◌, ◌≢◌, ◌+◌, ◌-◌, ◌<◌, ◌≤◌, ◌↔◌, [], ◌++◌, false, drop, length, min, take, vec_capacity, vec_len, IsTrue};
+ghost use Rattle.pn_json.specs.Prelude.{AppendsText, MakesPiece};
+ghost use Rattle.pn_protocol.specs.Reply.Making.{end_of, found_in, head_bytes, rest_bytes, rows_text};
 ghost use Rattle.pn_protocol.specs.Reply.Texts.{reply_text};
 
-use crate::reply::capacity::prefetch_rows;
-use crate::reply::pieces::{MAX_PIECE_BYTES, write_bytes, write_record_piece, write_text};
-use crate::reply::scan::ROWS_AT_HAND;
+use crate::reply::rows_text::{RowsText, Shown};
+use crate::reply::short::text_reply;
 use crate::{NumberName, Reply, ShortReply, number_reply, refusal_reply};
-use pn_record::{Cell, Key};
+use pn_json::append_bytes;
+use pn_tablet::CopyText;
 use std::marker::Model;
 
-/// A reply of which the text is made in pieces.
+/// The most bytes of a piece: more than a content takes with its key.
+pub const MAX_PIECE_BYTES: usize = 65_536;
+
+/// A reply of which the text is made in pieces: what it begins with, and what comes after that.
 #[derive(Drop)]
 pub struct ReplyText {
-    reply: Reply,
-    place: Place,
+    head: Head,
+    // How many bytes of the head are made.
+    made: usize,
+    rest: Rest,
+}
+
+/// What a reply begins with.
+#[derive(Drop)]
+enum Head {
+    Short(ShortReply),
+    Long(Vec<u8>),
+}
+
+/// What comes after the head of a reply.
+#[derive(Drop)]
+enum Rest {
+    Nothing,
+    /// Rows of records.
+    Rows(RowsText),
+    /// The lines of a copy.
+    Lines(CopyText),
 }
 
 impl Model for ReplyText {
-    ghost use Rattle.std.specs.Prelude.{ℕ, List};
-    ghost use Rattle.pn_protocol.specs.Reply.Making.{rest_of, IsPlaceIn};
+    ghost use Rattle.std.specs.Prelude.{ℕ, List, ◌≤◌, ◌++◌, drop, length};
+    ghost use Rattle.pn_protocol.specs.Reply.Making.{head_bytes, rest_bytes};
 
     ghost Value = { List ℕ };
 
-    ghost view = { λ text. rest_of text.reply text.place };
+    ghost view = { λ text. drop text.made (head_bytes text.head) ++ rest_bytes text.rest };
 
-    ghost invariant = { λ text. IsPlaceIn text.reply text.place };
-}
-
-/// How far a reply's text is made.
-#[derive(Clone, Copy, Debug, PartialEq, Eq)]
-enum Place {
-    /// So many of the bytes that it begins with.
-    Bytes(usize),
-    /// All before a content of a record.
-    Record { index: usize, content: usize },
-    /// All before the lines of a copy that are not made.
-    Lines,
-    /// All.
-    End,
+    ghost invariant = { λ text. text.made ≤ length (head_bytes text.head) };
 }
 
 impl ReplyText {
@@ -47,159 +57,131 @@ impl ReplyText {
     pub fn new(reply: Reply) -> ReplyText
         ensures { result ≡ reply_text reply }
     {
-        let place = match &reply {
-            Reply::Silent => Place::End,
-            _ => Place::Bytes(0),
-        };
-        ReplyText { reply, place }
+        match reply {
+            Reply::Adopted(tablet) => ReplyText::short(number_reply(NumberName::Adopted, tablet)),
+            Reply::Changed(count) => ReplyText::short(number_reply(NumberName::Changed, count)),
+            Reply::Copy(copy) => {
+                let lines = number_reply(NumberName::Lines, copy.lines());
+                ReplyText::of(Head::Short(lines), Rest::Lines(copy))
+            }
+            Reply::Lost(tablet) => ReplyText::short(number_reply(NumberName::Lost, tablet)),
+            Reply::NotTaken(text) => ReplyText::of(Head::Long(text), Rest::Nothing),
+            Reply::Page(page) => ReplyText::rows(Head::Long(page.head), Shown::Rows(page.rows)),
+            Reply::Record { key, cell } => {
+                ReplyText::rows(Head::Short(text_reply("{\"row\":")), Shown::One(key, cell))
+            }
+            Reply::Records { keys, cells } => {
+                ReplyText::rows(
+                    Head::Short(text_reply("{\"rows\":[")),
+                    Shown::Keys(keys, cells),
+                )
+            }
+            Reply::Refused(refusal) => ReplyText::short(refusal_reply(&refusal)),
+            Reply::Relaid(count) => ReplyText::short(number_reply(NumberName::Tablets, count)),
+            Reply::Silent => ReplyText::short(ShortReply::new()),
+            Reply::Stopping(seconds) => ReplyText::short(number_reply(
+                NumberName::Stopping,
+                seconds,
+            )),
+            Reply::Text(text) => ReplyText::of(Head::Long(text), Rest::Nothing),
+        }
+    }
+
+    // One line.
+    fn short(line: ShortReply) -> ReplyText
+        ensures { result ≡ line }
+    {
+        ReplyText::of(Head::Short(line), Rest::Nothing)
+    }
+
+    // Rows after what comes before them.
+    fn rows(head: Head, shown: Shown) -> ReplyText
+        ensures { result ≡ head_bytes head ++ rows_text false (found_in shown) (end_of shown) }
+    {
+        ReplyText::of(head, Rest::Rows(RowsText::new(shown)))
+    }
+
+    fn of(head: Head, rest: Rest) -> ReplyText
+        ensures { result ≡ head_bytes head ++ rest_bytes rest }
+    {
+        ReplyText {
+            head,
+            made: 0,
+            rest,
+        }
     }
 
     /// Whether all is made.
     pub fn is_made(&self) -> bool
         ensures { IsTrue result ↔ (self.now ≡ []) }
     {
-        match (&self.reply, self.place) {
-            (Reply::Text(text) | Reply::NotTaken(text), Place::Bytes(made)) => made == text.len(),
-            (Reply::Copy(copy), Place::Lines) => copy.is_made(),
-            (_, Place::Bytes(_) | Place::Record { .. } | Place::Lines) => false,
-            (_, Place::End) => true,
-        }
+        self.made == self.head.as_bytes().len() && self.rest.is_made()
     }
 
-    /// Makes a piece after what a buffer holds. It takes no memory.
+    /// Makes a piece after what a buffer holds. It asks nothing of memory.
     pub fn write_piece(&mut self, out: &mut Vec<u8>)
         requires room { vec_len out.old + MAX_PIECE_BYTES ≤ vec_capacity out.old }
         ensures whole { out.new.items ++ self.new ≡ out.old.items ++ self.old }
         ensures piece { vec_len out.new ≤ vec_len out.old + MAX_PIECE_BYTES }
-        ensures capacity { vec_capacity out.new ≡ vec_capacity out.old }
+        ensures capacity { vec_capacity out.old ≤ vec_capacity out.new }
         ensures some { self.old ≢ [] → length self.new < length self.old }
     {
-        match self.place {
-            Place::Bytes(made) => self.place = write_begin(out, &self.reply, made),
-            Place::Record { index, content } => {
-                self.place = write_record(out, &self.reply, index, content);
-            }
-            Place::Lines => self.write_lines(out),
-            Place::End => {}
-        }
+        self.append_piece(out);
     }
 
-    // Writes some lines of a copy.
-    fn write_lines(&mut self, out: &mut Vec<u8>) {
-        if let Reply::Copy(copy) = &mut self.reply {
-            copy.write_some(out);
+    // Makes a piece of the head, or of what comes after it.
+    fn append_piece(&mut self, out: &mut Vec<u8>)
+        ensures { MakesPiece 65536 self.old self.new out.old out.new }
+    {
+        let head = self.head.as_bytes();
+        if self.made < head.len() {
+            self.made = append_some(out, head, self.made);
+        } else {
+            self.rest.append_piece(out);
         }
     }
 }
 
-// Writes bytes that a reply begins with.
-fn write_begin(out: &mut Vec<u8>, reply: &Reply, made: usize) -> Place
-    ensures { WritesTo reply.now (Place.Bytes made) out.old.items out.new.items result }
+impl Head {
+    fn as_bytes(&self) -> &[u8]
+        ensures { result.now ≡ head_bytes self.now }
+    {
+        match self {
+            Head::Short(text) => text.as_bytes(),
+            Head::Long(text) => text.as_slice(),
+        }
+    }
+}
+
+impl Rest {
+    fn is_made(&self) -> bool
+        ensures { IsTrue result ↔ (rest_bytes self.now ≡ []) }
+    {
+        match self {
+            Rest::Nothing => true,
+            Rest::Rows(rows) => rows.is_made(),
+            Rest::Lines(copy) => copy.is_made(),
+        }
+    }
+
+    fn append_piece(&mut self, out: &mut Vec<u8>)
+        ensures { MakesPiece 65536 (rest_bytes self.old) (rest_bytes self.new) out.old out.new }
+    {
+        match self {
+            Rest::Nothing => {}
+            Rest::Rows(rows) => rows.append_piece(out),
+            Rest::Lines(copy) => copy.append_line(out),
+        }
+    }
+}
+
+// Adds as many of the bytes from an index on as a piece may have. Up to which index they were added.
+fn append_some(out: &mut Vec<u8>, bytes: &[u8], from: usize) -> usize
+    requires within { from ≤ length bytes.now }
+    ensures end { result ≡ from + min (length bytes.now - from) MAX_PIECE_BYTES }
+    ensures added { AppendsText out.old out.new (take (result - from) (drop from bytes.now)) }
 {
-    match reply {
-        Reply::Text(text) | Reply::NotTaken(text) => Place::Bytes(write_bytes(out, text, made)),
-        Reply::Page(page) => {
-            let made = write_bytes(out, &page.head, made);
-            if made < page.head.len() {
-                return Place::Bytes(made);
-            }
-            Place::Record {
-                index: 0,
-                content: 0,
-            }
-        }
-        Reply::Record { .. } => {
-            write_text(out, "{\"row\":");
-            write_record(out, reply, 0, 0)
-        }
-        Reply::Records { .. } => {
-            write_text(out, "{\"rows\":[");
-            write_record(out, reply, 0, 0)
-        }
-        Reply::Copy(copy) => {
-            write_bytes(
-                out,
-                number_reply(NumberName::Lines, copy.lines()).as_bytes(),
-                0,
-            );
-            Place::Lines
-        }
-        reply => {
-            write_bytes(out, short_reply(reply).as_bytes(), 0);
-            Place::End
-        }
-    }
-}
-
-// Writes the part of a record that begins with a content, or what comes after the last record.
-fn write_record(out: &mut Vec<u8>, reply: &Reply, index: usize, content: usize) -> Place
-    ensures { WritesTo reply.now (record { index = index; content = content }) out.old.items out.new.items result }
-{
-    let Some((key, cell)) = record_of(reply, index) else {
-        write_text(out, end_of(reply));
-        return Place::End;
-    };
-    if index > 0 && content == 0 {
-        write_text(out, ",");
-    }
-    prefetch_from(reply, index);
-    match write_record_piece(out, key, cell, content) {
-        0 => Place::Record {
-            index: index + 1,
-            content: 0,
-        },
-        content => Place::Record { index, content },
-    }
-}
-
-// The record of an index, if there are as many.
-fn record_of<'a>(reply: &'a Reply, index: usize) -> Option<(&'a Key, Option<&'a Cell>)> {
-    match reply {
-        Reply::Record { key, cell } => {
-            if index > 0 {
-                return None;
-            }
-            Some((key, cell.as_ref()))
-        }
-        Reply::Records { keys, cells } => match (keys.get(index), cells.get(index)) {
-            (Some(key), Some(cell)) => Some((key, cell.as_ref())),
-            _ => None,
-        },
-        Reply::Page(page) => match page.rows.get(index) {
-            Some(row) => Some((&row.key, Some(&row.cell))),
-            None => None,
-        },
-        _ => None,
-    }
-}
-
-// What comes after the last record.
-fn end_of(reply: &Reply) -> &'static str {
-    match reply {
-        Reply::Record { .. } => "}\n",
-        _ => "]}\n",
-    }
-}
-
-// Prefetches rows of a page, some at a time. No clause depends on it.
-fn prefetch_from(reply: &Reply, index: usize) {
-    if let Reply::Page(page) = reply {
-        if index % ROWS_AT_HAND == 0 {
-            let end = page.rows.len().min(index + ROWS_AT_HAND);
-            prefetch_rows(&page.rows[index..end]);
-        }
-    }
-}
-
-// The one line of a reply that shows no record.
-fn short_reply(reply: &Reply) -> ShortReply {
-    match reply {
-        Reply::Adopted(tablet) => number_reply(NumberName::Adopted, *tablet),
-        Reply::Changed(count) => number_reply(NumberName::Changed, *count),
-        Reply::Lost(tablet) => number_reply(NumberName::Lost, *tablet),
-        Reply::Relaid(count) => number_reply(NumberName::Tablets, *count),
-        Reply::Stopping(seconds) => number_reply(NumberName::Stopping, *seconds),
-        Reply::Refused(refusal) => refusal_reply(refusal),
-        _ => ShortReply::new(),
-    }
+    let end = from + (bytes.len() - from).min(MAX_PIECE_BYTES);
+    append_bytes(out, &bytes[from..end]);
+    end
 }
