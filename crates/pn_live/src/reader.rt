@@ -1,14 +1,12 @@
 //! Readers of a live region.
 
-ghost use Rattle.std.specs.Prelude.{◌≡◌, ◌+◌, ◌-◌, ◌≤◌, ◌<◌, ◌++◌, ◌∷◌, [], true, false, List, map, Option, Some, Ok, Err, IfOk, IfErr, IfSome, IsSomeAnd, IsOkAnd, IsErrOf, length, vec_capacity, vec_len};
+ghost use Rattle.std.specs.Prelude.{◌≡◌, ◌+◌, ◌≤◌, ◌<◌, ◌++◌, ◌∷◌, [], true, false, List, map, Option, Some, Ok, Err, IfOk, IfErr, IfSome, IsSomeAnd, IsOkAnd, IsErrOf, length, vec_capacity, vec_len};
 ghost use Rattle.pn_tablet.specs.Prelude.{tablet_of, TabletStateValue};
 ghost use Rattle.pn_scan.specs.Prelude.{Look, first_page, IsRead, IsGet, IsScan};
 ghost use Rattle.pn_scan.specs.Views.{is_memory};
-ghost use Rattle.pn_scan.specs.Prelude.{IsPreorder, Moving};
 ghost use Rattle.pn_live.specs.Copying.{IsCopied};
 ghost use Rattle.pn_live.specs.Counting.{IsCounted};
-ghost use Rattle.pn_live.specs.Getting.{GetsOn, IsNewGet, IsOnGet};
-ghost use Rattle.pn_live.specs.Readers.{LiveReaderValue, LooksLive, IsFrontFor, AreTabletReadersOf, tablets_of};
+ghost use Rattle.pn_live.specs.Readers.{LooksLive, IsFrontFor, AreTabletReadersOf, tablets_of};
 ghost use Rattle.pn_live.specs.TabletReaders.{AllLearn};
 
 use crate::front::{Front, TabletNote};
@@ -157,76 +155,6 @@ fn learn_all(tablet_readers: &mut [TabletReader], notes: Vec<TabletNote>)
     }
 }
 
-/// Keys of which some were read.
-#[derive(Drop)]
-pub struct GetWalk {
-    keys: Vec<Key>,
-    // The cells of the keys that were read, or none once memory ran out.
-    cells: Option<Vec<Option<Cell>>>,
-    read: usize,
-}
-
-impl Model for GetWalk {
-    ghost use Rattle.std.specs.Prelude.{◌≡◌, ◌≤◌, option_map, length, vec_capacity, vec_len, IfSome};
-    ghost use Rattle.pn_live.specs.Getting.{GetWalkValue};
-
-    ghost Value = { GetWalkValue };
-
-    ghost view = { λ walk. record { keys = walk.keys.items; cells = option_map (λ cells. cells.items) walk.cells; read = walk.read } };
-
-    ghost invariant = { λ walk. (walk.read ≤ length walk.keys.items) × IfSome walk.cells (λ cells. (vec_len cells ≡ walk.read) × (length walk.keys.items ≤ vec_capacity cells)) };
-}
-
-impl GetWalk {
-    /// Keys of which none was read.
-    pub fn new(alloc: Global, keys: Vec<Key>) -> GetWalk
-        ensures { IsNewGet keys.items result }
-    {
-        let cells = Vec::with_capacity(alloc, keys.len()).ok();
-        GetWalk {
-            keys,
-            cells,
-            read: 0,
-        }
-    }
-
-    /// How many keys are still to be read.
-    pub fn left(&self) -> usize
-        ensures { result ≡ length self.now.keys - self.now.read }
-    {
-        self.keys.len() - self.read
-    }
-
-    /// Reads so many more keys at most, each by an entry of its own. Where memory runs out, the other keys are still read, since the
-    /// fault of a tablet is answered first.
-    pub fn go_on(self, reader: &mut LiveReader, most: usize) -> Result<GetWalk, ScanFault>
-        ensures goes { (moves : Moving LiveReaderValue) (was between : LiveReaderValue) (seen : List Look) → IsPreorder moves → IsOnGet moves was between self seen → moves between reader.old
-            → GetsOn moves was reader.new self.keys result seen }
-        ensures few { IfOk result (λ walk. walk.read ≤ self.read + most) }
-        ensures same { tablets_of reader.new ≡ tablets_of reader.old }
-    {
-        let GetWalk { keys, cells, read } = self;
-        let end = read + (keys.len() - read).min(most);
-        let cells = read_cells(reader, &keys[read..end], cells)?;
-        Ok(GetWalk {
-            keys,
-            cells,
-            read: end,
-        })
-    }
-
-    /// The keys and their cells, once all were read.
-    pub fn end(self) -> Result<(Vec<Key>, Vec<Option<Cell>>), ScanFault>
-        requires { self.read ≡ length self.keys }
-    {
-        let GetWalk { keys, cells, .. } = self;
-        match cells {
-            Some(cells) => Ok((keys, cells)),
-            None => Err(ScanFault::Memory),
-        }
-    }
-}
-
 // The cells of keys in order, each read by an entry of its own. Where memory runs out, the other keys are still read,
 // since the fault of a tablet is answered first.
 fn get_cells(
@@ -237,26 +165,15 @@ fn get_cells(
     ensures { (seen : List Look) × IsGet LooksLive reader.old.layout keys.now reader.old reader.new (λ cells. cells.items) result seen
         × (IsErrOf result ScanFault.Memory → length seen ≡ length keys.now) }
 {
-    let cells = Vec::with_capacity(alloc, keys.len()).ok();
-    let cells = read_cells(reader, keys, cells)?;
-    cells.ok_or(ScanFault::Memory)
-}
-
-// The cells with those of more keys, each read by an entry of its own, or none once memory ran out.
-fn read_cells(
-    reader: &mut LiveReader,
-    keys: &[Key],
-    cells: Option<Vec<Option<Cell>>>,
-) -> Result<Option<Vec<Option<Cell>>>, ScanFault> {
-    let mut cells = cells;
+    let mut cells = Vec::with_capacity(alloc, keys.len()).ok();
     for key in keys {
         cells = with_cell(cells, reader.cell(key))?;
     }
-    Ok(cells)
+    cells.ok_or(ScanFault::Memory)
 }
 
 // The cells with one more, or none once memory ran out.
-fn with_cell(
+pub(crate) fn with_cell(
     cells: Option<Vec<Option<Cell>>>,
     read: Result<Option<Cell>, ScanFault>,
 ) -> Result<Option<Vec<Option<Cell>>>, ScanFault>

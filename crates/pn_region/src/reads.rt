@@ -34,8 +34,7 @@ impl View for &Region {
         room: usize,
         _records: usize,
     ) -> PartResult {
-        let state = self.state(tablet);
-        part_of(alloc, state, tablet, query, room, usize::MAX)
+        part_of(alloc, self.state(tablet), tablet, query, room, usize::MAX)
     }
 
     fn cell(&mut self, key: &Key) -> Result<Option<Cell>, ScanFault> {

@@ -1,4 +1,5 @@
 pub mod Candidates
+pub mod Coding
 pub mod ConditionReading
 pub mod ConditionWords
 pub mod Conditions
@@ -14,5 +15,6 @@ pub mod Shown
 pub mod UncheckedQueries
 pub mod Views
 pub mod Visits
+pub mod WalkValues
 pub mod Walking
 pub mod Walks

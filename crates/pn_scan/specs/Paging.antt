@@ -1,17 +1,39 @@
 -- Pages that are gone on with, between whose looks the view may move.
-use Rattle.std.specs.Prelude.{◌≡◌, ◌⊎◌, ◌<◌, ◌≤◌, ℕ, suc, ◌+◌, ◌-◌, List, [], ◌++◌, length, map, take, Option, None, Some, Result, Ok, Err}
-use Rattle.std.specs.List.{range_with_len}
+use Rattle.std.specs.Prelude.{◌≡◌, ◌⊎◌, ◌<◌, ◌≤◌, ℕ, suc, ◌+◌, ◌-◌, List, [], ◌∷◌, ◌++◌, length, map, take, Option, None, Some, IfSome, Result, Ok, Err, OnOk, OnErr}
+use Rattle.std.specs.List.{AllByRecursion, range_with_len}
 use Rattle.pn_record.specs.CellMap.{Entries}
 use Rattle.pn_tablet.specs.Layouts.{Bounds}
-use Rattle.pn_scan.specs.Candidates.{Look, candidates, rows_in}
-use Rattle.pn_scan.specs.Pages.{PageValue, first_page, first_refusal}
-use Rattle.pn_scan.specs.Parts.{PartWalkValue, walk_answer}
+use Rattle.pn_scan.specs.Candidates.{Look, candidates, rows_in, visited}
+use Rattle.pn_scan.specs.Pages.{PageValue, first_page, first_refusal, unless}
+use Rattle.pn_scan.specs.Parts.{walk_answer}
 use Rattle.pn_scan.specs.Queries.{QueryValue}
-use Rattle.pn_scan.specs.Views.{Looks}
-use Rattle.pn_scan.specs.Visits.{IsScan, IsVisit}
+use Rattle.pn_scan.specs.Views.{Answers}
+use Rattle.pn_scan.specs.Visits.{IsVisit, IsWhole}
+use Rattle.pn_scan.specs.WalkValues.{PageWalkValue, PartWalkValue}
 use Rattle.pn_scan.specs.declared.fault.ScanFault.{ScanFault}
-use Rattle.pn_scan.specs.declared.pages.PageStep.{PageStep}
-use Rattle.pn_scan.specs.declared.pages.PageStep.TheVariants.{Done, Next}
+use Rattle.pn_scan.specs.declared.page_walk.PageStep.{PageStep}
+use Rattle.pn_scan.specs.declared.page_walk.PageStep.TheVariants.{Done, Next}
+use Rattle.pn_scan.specs.declared.walk.Part.{Part}
+use Rattle.pn_scan.specs.declared.walk.Part.TheVariants.{Done as FoundAll, Rest}
+
+-- a look as it was made: the view before it, the tablet and what was found, and the view after it
+pub record LookMade (V : Type 0) : Type 0 where
+  pub old : V
+  pub look : Look
+  pub new : V
+
+-- looks that a view made
+abbrev pub AreMade : {V : Type 0} → (V → Look → V → Type 0) → List (LookMade V) → Type 0
+AreMade looks trace = AllByRecursion (λ made. looks made.old made.look made.new) trace
+
+-- what they found
+abbrev pub looks_in : {V : Type 0} → List (LookMade V) → List Look
+looks_in trace = map (λ made. made.look) trace
+
+-- they lead from one view to another, and nothing came between them
+abbrev pub Follows : {V : Type 0} → V → List (LookMade V) → V → Type 0
+Follows old [] new = new ≡ old
+Follows old (made ∷ more) new = (made.old ≡ old) × Follows made.new more new
 
 -- what may become of a view between two looks
 abbrev pub Moving : Type 0 → Type 1
@@ -26,18 +48,16 @@ pub record IsPreorder {V : Type 0} (moves : Moving V) : Type 0 where
   pub stays : (v : V) → moves v v
   pub goes_on : (a b c : V) → moves a b → moves b c → moves a c
 
+-- before the first look, between looks, and after the last the view only moved
+abbrev pub Gaps : {V : Type 0} → Moving V → V → List (LookMade V) → V → Type 0
+Gaps moves was [] now = moves was now
+Gaps moves was (made ∷ more) now = moves was made.old × Gaps moves made.new more now
+
 -- a look, after what came between
 pub record LooksAfter {V : Type 0} (moves : Moving V) (looks : V → Look → V → Type 0) (old : V) (look : Look) (new : V) : Type 0 where
   pub between : V
   pub moved : moves old between
   pub looked : looks between look new
-
--- the rows of the tablets that were read, the look into the one that is, and the numbers that are still to be looked into
-pub record PageWalkValue : Type 0 where
-  pub rows : Entries
-  pub part : Option PartWalkValue
-  pub next : ℕ
-  pub end : ℕ
 
 -- the rows of a look that is gone on with, once it has its answer
 abbrev pub rows_to_come : QueryValue → Option PartWalkValue → Entries
@@ -54,33 +74,33 @@ abbrev pub steps_left : Option PartWalkValue → ℕ
 steps_left None = 0
 steps_left (Some walk) = suc (length walk.rest)
 
--- the look has room for what the page still takes
-abbrev pub HasRoom : QueryValue → Entries → Option PartWalkValue → Type 0
-HasRoom query rows None = Unit {0}
-HasRoom query rows (Some walk) = (length rows ≤ query.limit) × (walk.room ≡ query.limit + 1 - length rows)
+-- the look that is gone on with, if one is
+abbrev pub going_in : Part → Option PartWalkValue
+going_in (FoundAll rows more looked) = None
+going_in (Rest walk) = Some walk
 
--- by these looks, among which the last is perhaps gone on with, a page is as far as the walk
-pub record IsOnPage {V : Type 0} (moves : Moving V) (looks : V → Look → V → Type 0) (bounds : Bounds) (query : QueryValue) (was now : V) (walk : PageWalkValue) (seen : List Look) : Type 0 where
-  pub reached : V
-  pub looked : Looks (LooksAfter moves looks) was seen reached
-  pub moved : moves reached now
-  pub visit : IsVisit bounds query seen
-  pub none_refused : first_refusal seen ≡ None
-  pub to_come : candidates bounds query ≡ map (λ look. look.0) seen ++ range_with_len walk.next (walk.end - walk.next)
-  pub rows_are : walk.rows ++ rows_to_come query walk.part ≡ take (query.limit + 1) (rows_in query seen)
-  pub room : HasRoom query walk.rows walk.part
+-- by these looks, the last of which is perhaps gone on with, a page is as far as the walk
+pub record IsOnPage {V : Type 0} (looks : V → Look → V → Type 0) (bounds : Bounds) (query : QueryValue) (walk : PageWalkValue) (trace : List (LookMade V)) : Type 0 where
+  pub made : AreMade looks trace
+  pub visit : IsVisit bounds query (looks_in trace)
+  pub none_refused : first_refusal (looks_in trace) ≡ None
+  pub to_come : candidates bounds query ≡ map (λ look. look.0) (looks_in trace) ++ range_with_len walk.next (walk.end - walk.next)
+  pub rows_are : walk.rows ++ rows_to_come query walk.part ≡ take (query.limit + 1) (rows_in query (looks_in trace))
+  pub begun : IfSome walk.part (λ part. 0 < length trace)
 
--- the page was found, or why there is none, by these looks
-pub record EndsPage {V : Type 0} (moves : Moving V) (looks : V → Look → V → Type 0) (bounds : Bounds) (query : QueryValue) (was now : V) (answer : Result PageValue ScanFault) (seen : List Look) : Type 0 where
-  pub reached : V
-  pub scanned : IsScan (LooksAfter moves looks) bounds query was reached (λ page. page) answer (first_page query) seen
-  pub moved : moves reached now
+-- the page was found, or why there is none, by these looks; no fault comes before a look
+pub record EndsPage {V : Type 0} (looks : V → Look → V → Type 0) (bounds : Bounds) (query : QueryValue) (answer : Result PageValue ScanFault) (trace : List (LookMade V)) : Type 0 where
+  pub made : AreMade looks trace
+  pub visit : IsVisit bounds query (looks_in trace)
+  pub answers : Answers (λ page. page) answer (unless (first_refusal (visited bounds query (looks_in trace))) (first_page query (rows_in query (looks_in trace))))
+  pub whole : OnOk answer (IsWhole bounds query (looks_in trace))
+  pub begun : OnErr answer (0 < length trace)
 
 -- after more looks the page is found, or refused, or is to be gone on with
-abbrev pub PagesTo : {V : Type 0} → Moving V → (V → Look → V → Type 0) → Bounds → QueryValue → V → V → Result PageStep ScanFault → List Look → Type 0
-PagesTo moves looks bounds query was now (Ok (Done page)) seen = (more : List Look) × EndsPage moves looks bounds query was now (Ok (page.rows.items, page.next)) (seen ++ more)
-PagesTo moves looks bounds query was now (Ok (Next walk)) seen = (more : List Look) × IsOnPage moves looks bounds query was now walk (seen ++ more)
-PagesTo moves looks bounds query was now (Err fault) seen = (more : List Look) × EndsPage moves looks bounds query was now (Err fault) (seen ++ more)
+abbrev pub PagesTo : {V : Type 0} → (V → Look → V → Type 0) → Bounds → QueryValue → V → V → Result PageStep ScanFault → List (LookMade V) → Type 0
+PagesTo {V} looks bounds query old new (Ok (Done page)) trace = (more : List (LookMade V)) × Follows old more new × EndsPage looks bounds query (Ok (page.rows.items, page.next)) (trace ++ more)
+PagesTo {V} looks bounds query old new (Ok (Next walk)) trace = (more : List (LookMade V)) × Follows old more new × IsOnPage looks bounds query walk (trace ++ more)
+PagesTo {V} looks bounds query old new (Err fault) trace = (more : List (LookMade V)) × Follows old more new × EndsPage looks bounds query (Err fault) (trace ++ more)
 
 -- a page of which nothing was looked for
 abbrev pub IsNewWalk : Bounds → QueryValue → PageWalkValue → Type 0

@@ -1,16 +1,11 @@
 -- Looks into one tablet that are gone on with: each is shown by the answer that it comes to.
-use Rattle.std.specs.Prelude.{ℕ, Bool, nat_lt, List, [], ◌++◌, length, take, Option, None, Some}
+use Rattle.std.specs.Prelude.{◌≤◌, ℕ, ◌+◌, Bool, nat_lt, List, [], ◌++◌, length, take, Option, None, Some}
 use Rattle.pn_record.specs.CellMap.{Entries}
 use Rattle.pn_scan.specs.Queries.{QueryValue}
 use Rattle.pn_scan.specs.Shown.{shown_rows}
+use Rattle.pn_scan.specs.WalkValues.{PartWalkValue}
 use Rattle.pn_scan.specs.declared.walk.Part.{Part}
 use Rattle.pn_scan.specs.declared.walk.Part.TheVariants.{Done, Rest}
-
--- the rows that were found, the records that are still to be looked at, and for how many rows there is room
-pub record PartWalkValue : Type 0 where
-  pub rows : Entries
-  pub rest : Entries
-  pub room : ℕ
 
 -- the first rows that a tablet shows, and whether it shows more
 abbrev pub PartValue : Type 0
@@ -34,3 +29,8 @@ left_in (Rest walk) = length walk.rest
 abbrev pub IsDone : Part → Type 0
 IsDone (Done rows more looked) = Unit {0}
 IsDone (Rest walk) = ⊥
+
+-- of so many records that were left, at most so many were looked at
+abbrev pub LooksAtMost : ℕ → ℕ → Part → Type 0
+LooksAtMost records left (Done rows more looked) = looked ≤ records
+LooksAtMost records left (Rest walk) = left ≤ length walk.rest + records

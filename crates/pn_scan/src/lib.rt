@@ -5,6 +5,7 @@ mod condition;
 mod fault;
 mod filter;
 pub mod laws;
+mod page_walk;
 mod pages;
 mod part;
 mod query;
@@ -19,7 +20,8 @@ mod walk;
 
 pub use condition::Condition;
 pub use fault::ScanFault;
-pub use pages::{PageStep, PageWalk, page};
+pub use page_walk::{PageStep, PageWalk};
+pub use pages::page;
 pub use part::{cell_of, part_of};
 pub use query::{MAX_CONDITIONS, MAX_PAGE_ROWS, Query};
 pub use query_reading::{QueryFault, read_query};

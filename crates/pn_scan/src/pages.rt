@@ -1,136 +1,24 @@
 //! Pages of the rows of a query, read tablet by tablet.
 
-ghost use Rattle.std.specs.Prelude.{◌≡◌, ℕ, ◌+◌, ◌-◌, ◌<◌, ◌≤◌, ◌++◌, List, length, take, option_map, nat_lt, Some, None, IfOk, OnErr};
+ghost use Rattle.std.specs.Prelude.{◌≡◌, ℕ, ◌+◌, ◌-◌, ◌<◌, ◌≤◌, ◌++◌, List, length, take, max, option_map, nat_lt, Option, Some, None, IfOk, OnErr};
 ghost use Rattle.std.specs.List.{range_with_len, last_or};
 ghost use Rattle.std.specs.Option.{option_copied};
 ghost use Rattle.pn_record.specs.Prelude.{Entries};
-ghost use Rattle.pn_tablet.specs.Prelude.{tablet_ends};
+ghost use Rattle.pn_tablet.specs.Prelude.{tablet_ends, TabletStateValue};
 ghost use Rattle.pn_scan.specs.Queries.{query_after};
 ghost use Rattle.pn_scan.specs.Candidates.{Look, candidates as all_candidates, first_tablet as named_tablet, begins_before as bound_before};
 ghost use Rattle.pn_scan.specs.Pages.{first_page};
-ghost use Rattle.pn_scan.specs.Paging.{IsNearer, IsNewWalk, IsOnPage, IsPreorder, Moving, PagesTo};
-ghost use Rattle.pn_scan.specs.Visits.{IsScan};
+ghost use Rattle.pn_scan.specs.Views.{LooksOnce};
+ghost use Rattle.pn_scan.specs.Visits.{IsScan, rows_after};
 
-use crate::{Page, Part, PartWalk, Query, Row, ScanFault, View};
+use crate::{Page, Query, Row, ScanFault, View};
 use pn_join::NoMemory;
 use pn_record::Key;
 use pn_tablet::Layout;
 use std::alloc::Global;
-use std::marker::Model;
 
-/// What a page comes to where it is gone on with.
-#[derive(Drop)]
-pub enum PageStep {
-    /// The page.
-    Done(Page),
-    /// It is to be gone on with.
-    Next(PageWalk),
-}
-
-/// A page that is looked for: the rows of the tablets that were read, and the look into the one that is.
-#[derive(Drop)]
-pub struct PageWalk {
-    rows: Vec<Row>,
-    // The look that is gone on with, if one is.
-    part: Option<PartWalk>,
-    // The tablets that are still to be looked into, from the first number up to the second.
-    tablet: usize,
-    end: usize,
-    // How many records the last step looked at.
-    looked: usize,
-}
-
-impl Model for PageWalk {
-    ghost use Rattle.pn_scan.specs.Paging.{PageWalkValue};
-
-    ghost Value = { PageWalkValue };
-
-    ghost view = { λ walk. record { rows = walk.rows.items; part = walk.part; next = walk.tablet; end = walk.end } };
-}
-
-impl PageWalk {
-    /// A page of a query of which nothing was looked for.
-    pub fn new(alloc: Global, layout: &Layout, query: &Query) -> PageWalk
-        ensures { IsNewWalk layout.now query.now result }
-    {
-        let (tablet, end) = candidates(layout, query);
-        PageWalk {
-            rows: Vec::new(alloc),
-            part: None,
-            tablet,
-            end,
-            looked: 0,
-        }
-    }
-
-    /// How many records the last step looked at.
-    pub fn looked(&self) -> usize {
-        self.looked
-    }
-
-    /// Looks at so many more records at most, or into the next tablet.
-    pub fn go_on<V: View>(
-        self,
-        alloc: Global,
-        view: &mut V,
-        query: &Query,
-        records: usize,
-    ) -> Result<PageStep, ScanFault>
-        ensures goes { (moves : Moving V) (was between : V) (seen : List Look) → IsPreorder moves → IsOnPage moves V.looks (V.bounds view.old) query.now was between self seen → moves between view.old
-            → PagesTo moves V.looks (V.bounds view.old) query.now was view.new result seen }
-        ensures nearer { 0 < records → IfOk result (IsNearer self) }
-        ensures layout { V.bounds view.new ≡ V.bounds view.old }
-    {
-        let mut walk = self;
-        match walk.part.take() {
-            Some(part) => {
-                let part = part.go_on(query, records)?;
-                Ok(PageStep::Next(walk.with_part(part, records)?))
-            }
-            None => walk.look_further(alloc, view, query, records),
-        }
-    }
-
-    // Looks into the next tablet, unless nothing is left to look for.
-    fn look_further<V: View>(
-        self,
-        alloc: Global,
-        view: &mut V,
-        query: &Query,
-        records: usize,
-    ) -> Result<PageStep, ScanFault> {
-        let end = self.end.min(view.layout().count());
-        if self.tablet >= end || self.rows.len() > query.limit() {
-            return Ok(PageStep::Done(page_of(alloc, query, self.rows)?));
-        }
-        let mut walk = self;
-        let room = query.limit() + 1 - walk.rows.len();
-        let part = view.part(alloc, walk.tablet, query, room, records)?;
-        walk.tablet += 1;
-        Ok(PageStep::Next(walk.with_part(part, records)?))
-    }
-
-    // With what the look into a tablet has come to, which went over so many records unless it is done.
-    fn with_part(self, part: Part, records: usize) -> Result<PageWalk, NoMemory> {
-        let PageWalk {
-            rows,
-            tablet,
-            end,
-            ..
-        } = self;
-        let (rows, part, looked) = match part {
-            Part::Done(more, _, looked) => (put_after(rows, more)?, None, looked),
-            Part::Rest(part) => (rows, Some(part), records),
-        };
-        Ok(PageWalk {
-            rows,
-            part,
-            tablet,
-            end,
-            looked,
-        })
-    }
-}
+/// How many records a look of a page takes, where the tablets may change meanwhile, before it is gone on with.
+const LOOK_RECORDS: usize = 1_024;
 
 /// The first rows of a query, at most its limit, and the query for the next page exactly where there is more.
 ///
@@ -143,16 +31,47 @@ pub fn page<V: View>(alloc: Global, view: &mut V, query: &Query) -> Result<Page,
         (first_page query.now) seen }
     ensures layout { V.bounds view.new ≡ V.bounds view.old }
 {
-    let mut walk = PageWalk::new(alloc, view.layout(), query);
-    'looks: loop {
-        match walk.go_on(alloc, view, query, usize::MAX)? {
-            PageStep::Done(page) => return Ok(page),
-            PageStep::Next(next) => walk = next,
-        }
-    }
+    let rows = gather_rows(alloc, view, query)?;
+    Ok(page_of(alloc, query, rows)?)
 }
 
-fn put_after(mut rows: Vec<Row>, mut more: Vec<Row>) -> Result<Vec<Row>, NoMemory>
+// The rows of a page, and the one after them, if there is one.
+fn gather_rows<V: View>(alloc: Global, view: &mut V, query: &Query) -> Result<Vec<Row>, ScanFault>
+    ensures scan { (seen : List Look) × IsScan V.looks (V.bounds view.old) query.now view.old view.new (λ rows. rows.items) result
+        (take (query.now.limit + 1)) seen }
+    ensures layout { V.bounds view.new ≡ V.bounds view.old }
+{
+    let (first, end) = candidates(view.layout(), query);
+    let mut rows = Vec::new(alloc);
+    for tablet in first..end {
+        rows = read_on(alloc, view, tablet, query, rows)?;
+        if rows.len() > query.limit() {
+            return Ok(rows);
+        }
+    }
+    Ok(rows)
+}
+
+// The rows with those of one more tablet, up to one more than a page has.
+fn read_on<V: View>(
+    alloc: Global,
+    view: &mut V,
+    tablet: usize,
+    query: &Query,
+    rows: Vec<Row>,
+) -> Result<Vec<Row>, ScanFault>
+    requires tablet { tablet ≤ length (V.bounds view.old) }
+    requires few { length rows.items ≤ query.now.limit }
+    ensures look { (found : Option TabletStateValue) × LooksOnce V.looks (V.bounds view.old) view.old view.new (λ rows. rows.items) result
+        (rows_after query.now rows.items) (tablet, found) }
+    ensures layout { V.bounds view.new ≡ V.bounds view.old }
+{
+    let room = query.limit() + 1 - rows.len();
+    let part = view.part(alloc, tablet, query, room, LOOK_RECORDS)?;
+    Ok(put_after(rows, part.into_rows(query)?)?)
+}
+
+pub(crate) fn put_after(mut rows: Vec<Row>, mut more: Vec<Row>) -> Result<Vec<Row>, NoMemory>
     ensures { IfOk result (λ all. all.items ≡ rows.items ++ more.items) }
 {
     if rows.is_empty() {
@@ -163,7 +82,7 @@ fn put_after(mut rows: Vec<Row>, mut more: Vec<Row>) -> Result<Vec<Row>, NoMemor
 }
 
 // The candidates of a query, from the first number up to the second.
-fn candidates(layout: &Layout, query: &Query) -> (usize, usize)
+pub(crate) fn candidates(layout: &Layout, query: &Query) -> (usize, usize)
     ensures all { all_candidates layout.now query.now ≡ range_with_len result.0 (result.1 - result.0) }
     ensures within { result.1 ≤ length layout.now + 1 }
 {
@@ -208,7 +127,7 @@ fn begins_before(from: Option<&Key>, to: &Key) -> bool
 }
 
 // The page of rows, of which there may be one more than the limit.
-fn page_of(alloc: Global, query: &Query, mut rows: Vec<Row>) -> Result<Page, NoMemory>
+pub(crate) fn page_of(alloc: Global, query: &Query, mut rows: Vec<Row>) -> Result<Page, NoMemory>
     ensures full { OnErr result (query.now.limit < length rows.items) }
     ensures page { IfOk result (λ page. (all : Entries) → rows.items ≡ take (query.now.limit + 1) all → (page.rows.items, page.next) ≡ first_page query.now all) }
 {

@@ -12,7 +12,7 @@ ghost use Rattle.pn_scan.specs.Shown.{shown_rows};
 ghost use Rattle.pn_record.specs.Prelude.{bytes_cmp};
 ghost use Rattle.pn_tablet.specs.Prelude.{is_from};
 
-use crate::walk::{PartWalk, Walked, walk_some};
+use crate::walk::{PartWalk, Walked, walk_all, walk_some};
 use crate::{Part, PartResult, Query, Row, ScanFault};
 use pn_join::{Dup, NoMemory};
 use pn_record::{Cell, Key, Records};
@@ -34,24 +34,22 @@ pub fn part_of(
     ensures { Answers (part_at query.now) result (rows_at query.now room (tablet, Some state.now)) }
 {
     check_serving(state, tablet)?;
-    let cells = state.cells();
-    let index = first_index(cells, query);
-    Ok(begin_walk(alloc, cells, index, query, room, records)?)
+    Ok(begin_walk(alloc, state.cells(), query, room, records)?)
 }
 
-// Looks at records from an index on, and takes the others where these are too many.
+// A walk from the first key that may be shown, found by a search, to the end of the range, one row past the room, or past so many
+// records.
 fn begin_walk(
     alloc: Global,
     cells: &Records,
-    index: usize,
     query: &Query,
     room: usize,
     records: usize,
 ) -> Result<Part, NoMemory>
-    requires index { index ≤ length cells.now }
-    ensures { IfOk result (λ part. part_at query.now part ≡ walk_answer query.now (record { rows = []; rest = drop index cells.now; room = room })) }
+    ensures { IfOk result (λ part. part_at query.now part ≡ walk_answer query.now (record { rows = []; rest = cells.now; room = room })) }
 {
     let mut rows = Vec::with_capacity(alloc, room.min(cells.len()))?;
+    let index = first_index(cells, query);
     prefetch_cells(cells, index, query, room.min(records));
     match walk_some(cells, index, query, room, records, &mut rows)? {
         Walked::All(more, looked) => Ok(Part::Done(rows, more, looked)),
@@ -69,15 +67,16 @@ fn take_rest(
 ) -> Result<Part, NoMemory>
     requires index { index ≤ length cells.now }
     requires few { length rows.items ≤ room }
+    requires from { AllByRecursion (λ e. is_from query.now.from e.0 ≡ true) (drop index cells.now) }
     ensures { IfOk result (λ part. part_at query.now part ≡ walk_answer query.now (record { rows = rows.items; rest = drop index cells.now; room = room })) }
 {
     let mut rows = rows;
     match cells.slice(index, end_of_range(cells, query).max(index)) {
         Ok(rest) => Ok(Part::Rest(PartWalk::new(rest, rows, room))),
-        Err(_) => match walk_some(cells, index, query, room, usize::MAX, &mut rows)? {
-            Walked::All(more, looked) => Ok(Part::Done(rows, more, looked)),
-            Walked::To(_) => unreachable!(),
-        },
+        Err(_) => {
+            let more = walk_all(cells, index, query, room, &mut rows)?;
+            Ok(Part::Done(rows, more, cells.len() - index))
+        }
     }
 }
 
@@ -86,6 +85,7 @@ fn end_of_range(cells: &Records, query: &Query) -> usize
     ensures within { result ≤ length cells.now }
     ensures shown { shown_rows query.now (drop result cells.now) ≡ [] }
 {
+    cells.recall_order();
     match query.to() {
         Some(to) => cells.lower_bound(to),
         None => cells.len(),
@@ -133,7 +133,7 @@ fn first_index(cells: &Records, query: &Query) -> usize
     index_of(cells, query.from()).max(index_of(cells, query.after()))
 }
 
-fn index_of(cells: &Records, key: Option<&Key>) -> usize
+pub(crate) fn index_of(cells: &Records, key: Option<&Key>) -> usize
     ensures index { result ≡ option_map_or (λ key. count_by (λ e. is_lt (bytes_cmp e.0 key)) cells.now) (option_copied key.entry) 0 }
 {
     match key {

@@ -1,16 +1,18 @@
 //! Looks into one tablet that are gone on with.
 
-ghost use Rattle.std.specs.Prelude.{◌≡◌, ◌+◌, ◌<◌, ◌≤◌, ◌⊎◌, drop, length, IfOk};
-ghost use Rattle.pn_scan.specs.Walking.{WalksTo};
-ghost use Rattle.pn_scan.specs.Parts.{part_at, walk_answer, left_in, IsDone};
+ghost use Rattle.std.specs.Prelude.{◌≡◌, ◌+◌, ◌<◌, ◌≤◌, ◌^◌, ◌⊎◌, true, false, drop, length, IfOk};
+ghost use Rattle.std.specs.List.{AllByRecursion};
+ghost use Rattle.std.specs.Option.{option_copied};
+ghost use Rattle.pn_tablet.specs.Prelude.{is_from};
+ghost use Rattle.pn_scan.specs.Walking.{BeginsBelow, WalksTo};
+ghost use Rattle.pn_scan.specs.Parts.{part_at, walk_answer, left_in, IsDone, LooksAtMost};
 
 use crate::filter::is_shown;
-use crate::part::row_of;
+use crate::part::{index_of, row_of};
 use crate::{Query, Row};
 use pn_join::NoMemory;
-use pn_record::Records;
+use pn_record::{Key, Records};
 use pn_tablet::is_before;
-use std::alloc::Global;
 use std::marker::Model;
 
 /// What a look into a tablet has of its answer.
@@ -20,6 +22,18 @@ pub enum Part {
     Done(Vec<Row>, bool, usize),
     /// The look is to be gone on with, over what it took of the tablet.
     Rest(PartWalk),
+}
+
+impl Part {
+    /// The first rows, once all is looked at.
+    pub fn into_rows(self, query: &Query) -> Result<Vec<Row>, NoMemory>
+        ensures { IfOk result (λ rows. rows.items ≡ (part_at query.now self).0) }
+    {
+        match self {
+            Part::Done(rows, _, _) => Ok(rows),
+            Part::Rest(walk) => walk.into_rows(query),
+        }
+    }
 }
 
 /// The rows that a look found so far, and the records of its tablet that it has still to look at, as they were found. They are its
@@ -34,13 +48,18 @@ pub struct PartWalk {
 }
 
 impl Model for PartWalk {
-    ghost use Rattle.pn_scan.specs.Parts.{PartWalkValue};
+    ghost use Rattle.std.specs.Prelude.{◌≤◌, drop, length};
+    ghost use Rattle.pn_scan.specs.WalkValues.{PartWalkValue};
 
     ghost Value = { PartWalkValue };
 
+    ghost use Rattle.pn_scan.specs.Coding.{part_walk_code};
+
+    ghost coded = { part_walk_code };
+
     ghost view = { λ walk. record { rows = walk.rows.items; rest = drop walk.index walk.rest; room = walk.room } };
 
-    ghost invariant = { λ walk. (length walk.rows.items ≤ walk.room) × (walk.index ≤ length walk.rest) };
+    ghost invariant = { λ walk. length walk.rows.items ≤ walk.room };
 }
 
 impl PartWalk {
@@ -60,16 +79,24 @@ impl PartWalk {
     /// Looks at so many more records at most. The answer that it comes to stays.
     pub fn go_on(self, query: &Query, records: usize) -> Result<Part, NoMemory>
         ensures same { IfOk result (λ part. part_at query.now part ≡ walk_answer query.now self) }
-        ensures few { IfOk result (λ part. length self.rest ≤ left_in part + records) }
+        ensures few { IfOk result (LooksAtMost records (length self.rest)) }
         ensures less { 0 < records → IfOk result (λ part. (left_in part < length self.rest) ⊎ IsDone part) }
     {
         let PartWalk {
             rest,
             index,
-            rows,
+            mut rows,
             room,
         } = self;
-        let mut rows = rows;
+        recall_len(&rest);
+        if begins_below(&rest, index, query.from()) {
+            return Ok(Part::Rest(PartWalk {
+                rest,
+                index: index + records.min(1),
+                rows,
+                room,
+            }));
+        }
         match walk_some(&rest, index, query, room, records, &mut rows)? {
             Walked::All(more, looked) => Ok(Part::Done(rows, more, looked)),
             Walked::To(index) => Ok(Part::Rest(PartWalk {
@@ -80,6 +107,42 @@ impl PartWalk {
             })),
         }
     }
+
+    // The first rows, once all is looked at.
+    fn into_rows(self, query: &Query) -> Result<Vec<Row>, NoMemory>
+        ensures { IfOk result (λ rows. rows.items ≡ (walk_answer query.now self).0) }
+    {
+        let PartWalk {
+            rest,
+            index,
+            mut rows,
+            room,
+        } = self;
+        rest.recall_order();
+        let index = index.max(index_of(&rest, query.from()));
+        let _more = walk_all(&rest, index, query, room, &mut rows)?;
+        Ok(rows)
+    }
+}
+
+// Whether the record at an index, if there is one, is below `from`. None is in what a look took of its tablet for the query.
+fn begins_below(cells: &Records, index: usize, from: Option<&Key>) -> bool
+    ensures { BeginsBelow (option_copied from.entry) (drop index cells.now) result }
+{
+    let Some(from) = from else {
+        return false;
+    };
+    match cells.iter_from(index).next() {
+        Some((key, _)) => key < from,
+        None => false,
+    }
+}
+
+// Recalls for the prover that records can be counted.
+fn recall_len(cells: &Records)
+    ensures { length cells.now < 2 ^ 64 }
+{
+    let _ = cells.len();
 }
 
 /// How far a walk over records came.
@@ -100,8 +163,9 @@ pub(crate) fn walk_some(
     records: usize,
     rows: &mut Vec<Row>,
 ) -> Result<Walked, NoMemory>
-    requires index { index ≤ length cells.now }
+    requires len { length cells.now < 2 ^ 64 }
     requires few { length rows.old.items ≤ room }
+    requires from { AllByRecursion (λ e. is_from query.now.from e.0 ≡ true) (drop index cells.now) }
     ensures { IfOk result (WalksTo query.now (drop index cells.now) index records room rows.old.items rows.new.items) }
 {
     let mut looked = 0;
@@ -121,4 +185,23 @@ pub(crate) fn walk_some(
         }
     }
     Ok(Walked::All(false, looked))
+}
+
+/// Adds the rows that a query shows of all records from an index on, as far as there is room. Whether there are more.
+pub(crate) fn walk_all(
+    cells: &Records,
+    index: usize,
+    query: &Query,
+    room: usize,
+    rows: &mut Vec<Row>,
+) -> Result<bool, NoMemory>
+    requires few { length rows.old.items ≤ room }
+    requires from { AllByRecursion (λ e. is_from query.now.from e.0 ≡ true) (drop index cells.now) }
+    ensures { IfOk result (λ more. (rows.new.items, more) ≡ walk_answer query.now (record { rows = rows.old.items; rest = drop index cells.now; room = room })) }
+{
+    let records = cells.len().saturating_sub(index);
+    match walk_some(cells, index, query, room, records, rows)? {
+        Walked::All(more, _) => Ok(more),
+        Walked::To(_) => unreachable!(),
+    }
 }

@@ -8,8 +8,7 @@ use Rattle.pn_protocol.specs.Command.Lines.{lookup_at}
 use Rattle.pn_protocol.specs.Command.Meaning.{CommandValue, copy, get, scan}
 use Rattle.pn_protocol.specs.declared.command.kind.LineKind.{LineKind}
 use Rattle.pn_protocol.specs.declared.command.kind.LineKind.TheVariants as kinds
-use Rattle.pn_scan.specs.Candidates.{Look}
-use Rattle.pn_scan.specs.Paging.{IsOnPage, Moving, records_left}
+use Rattle.pn_scan.specs.Paging.{Gaps, IsOnPage, LookMade, Moving, records_left}
 use Rattle.pn_tablet.specs.Copies.{TabletCopyValue}
 use Rattle.pn_tablet.specs.Tablets.{TabletStateValue}
 use Rattle.pn_serve.specs.declared.machine.line_handler.Answer.{Answer}
@@ -29,8 +28,8 @@ pub record IsOnCopy (moves : Moving LiveReaderValue) (was now : LiveReaderValue)
 
 -- a command is looked up so far
 abbrev pub LooksOn : Moving LiveReaderValue → LiveReaderValue → CommandValue → LiveReaderValue → Going → Type 0
-LooksOn moves was (scan query) now (Page asked walk) = (asked ≡ query) × ((seen : List Look) × IsOnPage moves LooksLive was.layout query was now walk seen)
-LooksOn moves was (get keys) now (Keys walk) = (walk.keys ≡ keys) × ((seen : List Look) × IsOnGet moves was now walk seen)
+LooksOn moves was (scan query) now (Page asked walk) = (asked ≡ query) × ((trace : List (LookMade LiveReaderValue)) × IsOnPage LooksLive was.layout query walk trace × Gaps moves was trace now)
+LooksOn moves was (get keys) now (Keys walk) = (walk.keys ≡ keys) × ((trace : List (LookMade LiveReaderValue)) × IsOnGet was.layout walk trace × Gaps moves was trace now)
 LooksOn moves was (copy need tablet) now (Copy count) = IsOnCopy moves was now count.copy
 LooksOn moves was command now going = ⊥
 
