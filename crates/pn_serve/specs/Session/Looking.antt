@@ -1,5 +1,5 @@
 -- Lookups of a session that are gone on with.
-use Rattle.std.specs.Prelude.{◌≡◌, ◌-◌, ℕ, List, [], ◌∷◌, length, Option, Some, Result, Ok}
+use Rattle.std.specs.Prelude.{◌≡◌, ◌≤◌, ◌-◌, ℕ, List, [], ◌∷◌, length, Option, Some, Result, Ok}
 use Rattle.pn_join.specs.Marks.{Positions}
 use Rattle.pn_live.specs.Copying.{IsCopied}
 use Rattle.pn_live.specs.Getting.{IsOnGet}
@@ -18,9 +18,8 @@ use Rattle.pn_serve.specs.declared.sessions.going.Going.TheVariants.{Page, Keys,
 use Rattle.pn_serve.specs.Session.Lines.{LooksUp}
 
 -- a copy was taken by one look, after which the reader may move, and is what is counted
-pub record IsOnCopy (moves : Moving LiveReaderValue) (was now : LiveReaderValue) (taken : TabletCopyValue) : Type 0 where
-  pub need : Positions
-  pub tablet : ℕ
+pub record IsOnCopy (moves : Moving LiveReaderValue) (was : LiveReaderValue) (need : Positions) (tablet : ℕ) (now : LiveReaderValue) (taken : TabletCopyValue) : Type 0 where
+  pub within : tablet ≤ length was.layout
   pub found : Option TabletStateValue
   pub reached : LiveReaderValue
   pub copied : IsCopied was need reached (Ok taken) (tablet, found)
@@ -30,7 +29,7 @@ pub record IsOnCopy (moves : Moving LiveReaderValue) (was now : LiveReaderValue)
 abbrev pub LooksOn : Moving LiveReaderValue → LiveReaderValue → CommandValue → LiveReaderValue → Going → Type 0
 LooksOn moves was (scan query) now (Page asked walk) = (asked ≡ query) × ((trace : List (LookMade LiveReaderValue)) × IsOnPage LooksLive was.layout query walk trace × Gaps moves was trace now)
 LooksOn moves was (get keys) now (Keys walk) = (walk.keys ≡ keys) × ((trace : List (LookMade LiveReaderValue)) × IsOnGet was.layout walk trace × Gaps moves was trace now)
-LooksOn moves was (copy need tablet) now (Copy count) = IsOnCopy moves was now count.copy
+LooksOn moves was (copy need tablet) now (Copy count) = IsOnCopy moves was need tablet now count.copy
 LooksOn moves was command now going = ⊥
 
 -- a command has its reply, or is looked up so far
