@@ -28,8 +28,9 @@ use Rattle.pn_serve.specs.declared.sessions.going.Going.{Going}
 use Rattle.pn_serve.specs.Lines.Served.{IsShort, AllAnswered}
 use Rattle.pn_serve.specs.Lines.States.{LineLoopValue, Start, Waiting, counted, one_more, waiting_in, waits_in}
 use Rattle.pn_serve.specs.Lines.Stepping.{After, BeginsLast, BeginsLine, EndsOnceSent, Handling, HasEnded, IsLooking, IsReading, Makes, MakesLast, Stands, StandsAt, StepsTo, with_rest}
-use Rattle.pn_serve.specs.Lines.Taking.{HasKept, IsSent, SendsTo}
+use Rattle.pn_serve.specs.Lines.Taking.{EndsTo, IsSent, SendsTo, WaitsTo}
 use Rattle.pn_serve.specs.Script.Written.{one_if}
+use Rattle.pn_serve.proofs.Buffers.{AppendsPrefix-sends}
 use Rattle.pn_serve.proofs.Serving.{OnTold, AllAnswered-sent}
 use Rattle.pn_serve.proofs.Stopping.{Cut_here}
 
@@ -209,7 +210,7 @@ module _ {V : Type 0} (handling : Handling V) (pre : IsPreorder handling.moves) 
     sent_to : (step : Step) → ((sent : AppendsPrefix before after (waits_in old)) → HasEnded handling start left after machine (Err Write)) → SendsTo old before new after step → StepsTo handling start left after machine new step
     sent_to (Next units) cut sends = Stands-sent left before after machine old new sends stands
     sent_to NoInput cut sends = absurd sends
-    sent_to NoRoom cut sends = (Stands-sent left before after machine old new sends.0 stands, sends.1)
+    sent_to NoRoom cut sends = (Stands-sent left before after machine old new sends.0 stands, sends.1, cut (AppendsPrefix-sends before after (waits_in old) (waits_in new) sends.0.sends))
     sent_to (Ends ended) cut sends = subst (λ (e : Result Counts RunFault). HasEnded handling start left after machine e) (sym sends.0) (cut sends.1)
 
     pub Steps-written : (step : Step) → old.state.left ≢ [] → SendsTo old before new after step → StepsTo handling start left after machine new step
@@ -218,3 +219,20 @@ module _ {V : Type 0} (handling : Handling V) (pre : IsPreorder handling.moves) 
     pub Steps-put_out : (step : Step) → old.state.stage ≡ Reading → SendsTo old before new after step → StepsTo handling start left after machine new step
     Steps-put_out step reading sends =
         sent_to step (λ sent. cut_reading left before after machine old sent (subst (λ (s : Stage). StandsAt handling s start left before machine old) reading stands)) sends
+
+    -- where no input is at hand
+    pub Steps-waited : (step : Step) → old.state.stage ≡ Reading → WaitsTo old before new after step → StepsTo handling start left after machine new step
+    Steps-waited (Next units) reading waits = absurd waits
+    Steps-waited NoInput reading waits = Stands-sent left before after machine old new waits.0 stands
+    Steps-waited NoRoom reading waits = Steps-put_out NoRoom reading waits
+    Steps-waited (Ends ended) reading waits = Steps-put_out (Ends ended) reading waits
+
+  -- where the end is decided
+  module _ (left before after : Option (List ℕ)) (machine : V) (old new : LineLoopValue) (ended : Result Counts RunFault) (once : EndsOnceSent handling start left before (waits_in old) machine ended) where
+    pub Steps-ended : (step : Step) → EndsTo ended old before new after step → StepsTo handling start left after machine new step
+    Steps-ended (Next units) ends = absurd ends
+    Steps-ended NoInput ends = absurd ends
+    Steps-ended NoRoom ends =
+        (Stands-sent left before after machine (record old { state = record old.state { stage = Ending ended } }) new ends.0 once, ends.1, once.cut after (AppendsPrefix-sends before after (waits_in old) (waits_in new) ends.0.sends))
+    Steps-ended (Ends other) (inl all) = subst (λ (e : Result Counts RunFault). HasEnded handling start left after machine e) (sym all.0) (once.all after all.1)
+    Steps-ended (Ends other) (inr cut) = subst (λ (e : Result Counts RunFault). HasEnded handling start left after machine e) (sym cut.0) (once.cut after cut.1)

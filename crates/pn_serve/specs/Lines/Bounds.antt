@@ -50,6 +50,15 @@ abbrev pub CountsUnits : LineLoopValue → LineLoopValue → Step → Type 0
 CountsUnits old new (Next units) = (new.state.counts.lines ≤ old.state.counts.lines + 1) × (old.line.count + length new.replies ≤ new.line.count + length old.replies + 1024 * (units + 1) + 65536)
 CountsUnits old new step = Unit {0}
 
+-- how much is still to be written and made
+abbrev pub work_in : LineLoopValue → ℕ
+work_in run = length (waits_in run) + length run.state.left
+
+-- a step that writes leaves less
+abbrev pub WorksOn : LineLoopValue → LineLoopValue → Step → Type 0
+WorksOn old new (Next units) = work_in new < work_in old
+WorksOn old new step = Unit {0}
+
 -- a loop may end so: with as many lines as may be answered, or by a fault that its source or its writer may have
 abbrev pub CanEndBy : Type 0 → Type 0 → Result Counts RunFault → Type 0
 CanEndBy read write (Ok counts) = counts.lines ≤ MAX_LINES

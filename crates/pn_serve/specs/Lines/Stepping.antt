@@ -117,11 +117,11 @@ module _ {V : Type 0} (handling : Handling V) where
   abbrev pub Stands : Start V → Option (List ℕ) → Option (List ℕ) → V → LineLoopValue → Type 0
   Stands start left written machine run = StandsAt run.state.stage start left written machine run
 
-  -- the loop stands, or has ended; without room something waits
+  -- the loop stands, or has ended; without room something waits, and where the writer takes no more it has ended so
   abbrev pub StepsTo : Start V → Option (List ℕ) → Option (List ℕ) → V → LineLoopValue → Step → Type 0
   StepsTo start left written machine run (Next units) = Stands start left written machine run
   StepsTo start left written machine run NoInput = Stands start left written machine run
-  StepsTo start left written machine run NoRoom = Stands start left written machine run × (waits_in run ≢ [])
+  StepsTo start left written machine run NoRoom = Stands start left written machine run × (waits_in run ≢ []) × HasEnded start left written machine (Err Write)
   StepsTo start left written machine run (Ends ended) = HasEnded start left written machine ended
 
 -- the end of an input, if its bytes are known

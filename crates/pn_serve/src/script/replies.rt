@@ -107,7 +107,7 @@ impl ReplyBuffer {
     pub(crate) fn send_block<W: Sink>(&mut self, writer: &mut W) -> Result<SendOutcome, WriteFault>
         ensures ok { IfOk result (λ _. Sends (W.contents writer.old) (W.contents writer.new) self.old self.new []) }
         ensures some { IfOk result (λ sent. sent ≡ SendOutcome.All → self.old ≢ [] → length self.new < length self.old) }
-        ensures waits { IfOk result (λ sent. sent ≡ SendOutcome.Waits → self.new ≢ []) }
+        ensures waits { IfOk result (λ sent. sent ≡ SendOutcome.Waits → (self.new ≢ []) × W.may_fail) }
         ensures few { length self.old ≤ length self.new + BLOCK }
         ensures err { OnErr result (AppendsPrefix (W.contents writer.old) (W.contents writer.new) self.old) }
         ensures fault { OnErr result W.may_fail }
@@ -121,6 +121,7 @@ impl ReplyBuffer {
     pub fn flush<W: Sink>(&mut self, writer: &mut W) -> Result<SendOutcome, WriteFault>
         ensures ok { IfOk result (λ _. Sends (W.contents writer.old) (W.contents writer.new) self.old self.new []) }
         ensures all { IfOk result (λ sent. (sent ≡ SendOutcome.All) ↔ (self.new ≡ [])) }
+        ensures waits { IfOk result (λ sent. sent ≡ SendOutcome.Waits → W.may_fail) }
         ensures handed_on { IfOk result (λ sent. sent ≡ SendOutcome.All → W.is_handed_on writer.new) }
         ensures err { OnErr result (AppendsPrefix (W.contents writer.old) (W.contents writer.new) self.old) }
         ensures fault { OnErr result W.may_fail }
@@ -140,7 +141,7 @@ impl ReplyBuffer {
         requires { most ≤ length self.old }
         ensures ok { IfOk result (λ _. Sends (W.contents writer.old) (W.contents writer.new) self.old self.new []) }
         ensures all { IfOk result (λ sent. sent ≡ SendOutcome.All → length self.new + most ≡ length self.old) }
-        ensures waits { IfOk result (λ sent. sent ≡ SendOutcome.Waits → length self.old < length self.new + most) }
+        ensures waits { IfOk result (λ sent. sent ≡ SendOutcome.Waits → (length self.old < length self.new + most) × W.may_fail) }
         ensures few { length self.old ≤ length self.new + most }
         ensures err { OnErr result (AppendsPrefix (W.contents writer.old) (W.contents writer.new) self.old) }
         ensures fault { OnErr result W.may_fail }

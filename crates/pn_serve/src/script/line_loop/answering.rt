@@ -1,10 +1,11 @@
 //! How a line loop answers a line, and makes the text of its reply.
 
-ghost use Rattle.std.specs.Prelude.{◌≡◌, ◌+◌, ◌*◌, ◌≤◌, ◌<◌, ℕ, List, [], length, Bool};
+ghost use Rattle.std.specs.Prelude.{◌≡◌, ◌≢◌, ◌+◌, ◌*◌, ◌≤◌, ◌<◌, ℕ, List, [], length, Bool};
 ghost use Rattle.pn_line.specs.Prelude.{so_far};
 ghost use Rattle.pn_serve.specs.Lines.Going.{AnswersLast, AnswersWith};
 ghost use Rattle.pn_serve.specs.Lines.States.{waits_in};
 ghost use Rattle.pn_serve.specs.Lines.Taking.{HasReply, Takes, TakesLine};
+ghost use Rattle.pn_serve.specs.declared.script.replies.TheConstants.{BLOCK};
 ghost use Rattle.pn_serve.specs.Session.Knowing.{KnowsNoLess};
 
 use crate::machine::line_handler::{Answer, LineHandler};
@@ -103,6 +104,7 @@ impl LineLoop {
         ensures kept { self.new ≡ record self.old { replies = self.new.replies; state = record self.old.state { left = self.new.state.left } } }
         ensures whole { waits_in self.new ≡ waits_in self.old }
         ensures grows { length self.old.replies ≤ length self.new.replies }
+        ensures some { length self.old.replies < BLOCK → self.old.state.left ≢ [] → length self.new.state.left < length self.old.state.left }
         ensures units { length self.new.replies < length self.old.replies + 1024 * (result + 1) }
     {
         let before = self.replies.len();

@@ -35,6 +35,7 @@ impl LineLoop {
         ensures counted { CountsUnits self.old self.new result }
         ensures looks { S.looks input.new ≤ S.looks input.old + 1 }
         ensures end { result ≡ Step.NoInput → S.may_end }
+        ensures room { result ≡ Step.NoRoom → W.may_fail }
         ensures foresees { Foresees S.may_fail W.may_fail self.old → ForeseesStep S.may_fail W.may_fail self.new result }
         ensures knows { KnowsNoLess (M.reader machine.old) (M.reader machine.new) }
     {
@@ -75,6 +76,7 @@ impl LineLoop {
         ensures counted { CountsUnits self.old self.new result }
         ensures looks { S.looks input.new ≤ S.looks input.old + 1 }
         ensures end { result ≡ Step.NoInput → S.may_end }
+        ensures room { result ≡ Step.NoRoom → W.may_fail }
         ensures foresees { ForeseesStep S.may_fail W.may_fail self.new result }
         ensures knows { KnowsNoLess (M.reader machine.old) (M.reader machine.new) }
     {

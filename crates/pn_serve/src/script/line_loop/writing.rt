@@ -2,7 +2,7 @@
 
 ghost use Rattle.std.specs.Prelude.{◌≡◌, ◌≢◌, ◌⊎◌, [], true, Result, Err, IfOk, OnErr};
 ghost use Rattle.pn_line.specs.Prelude.{AppendsPrefix};
-ghost use Rattle.pn_serve.specs.Lines.Bounds.{CountsUnits, HandsOnAtMost, HandsOnStep};
+ghost use Rattle.pn_serve.specs.Lines.Bounds.{CountsUnits, HandsOnAtMost, HandsOnStep, WorksOn};
 ghost use Rattle.pn_serve.specs.Lines.States.{waits_in};
 ghost use Rattle.pn_serve.specs.Lines.Taking.{EndsTo, IsSent, SendsTo, WaitsTo};
 ghost use Rattle.pn_serve.specs.declared.script.Counts.{Counts};
@@ -17,10 +17,13 @@ use pn_line::{Sink, WriteFault};
 impl LineLoop {
     /// Writes a block of what waits, and makes as much of a reply's text as there is room for then.
     pub(super) fn write_on<W: Sink>(&mut self, output: &mut W) -> Step
+        requires { self.old.state.left ≢ [] }
         ensures sends { SendsTo self.old (W.contents output.old) self.new (W.contents output.new) result }
         ensures few { HandsOnAtMost BLOCK self.old self.new }
         ensures counted { CountsUnits self.old self.new result }
+        ensures works { WorksOn self.old self.new result }
         ensures out { self.new.state.out ≡ self.old.state.out }
+        ensures room { result ≡ Step.NoRoom → W.may_fail }
         ensures fault { result ≡ Step.Ends (Err RunFault.Write) → W.may_fail }
     {
         match self.replies.send_block(output) {
@@ -36,6 +39,7 @@ impl LineLoop {
         ensures waits { WaitsTo self.old (W.contents output.old) self.new (W.contents output.new) result }
         ensures out { self.new.state.out ≡ true → (waits_in self.new ≡ []) × ((self.new ≡ self.old) ⊎ W.is_handed_on output.new) }
         ensures idle { result ≡ Step.NoInput → self.new.state.out ≡ true }
+        ensures room { result ≡ Step.NoRoom → W.may_fail }
         ensures fault { result ≡ Step.Ends (Err RunFault.Write) → W.may_fail }
     {
         if self.state.is_out && !self.has_replies() {
@@ -53,6 +57,7 @@ impl LineLoop {
         ensures sends { SendsTo self.old (W.contents output.old) self.new (W.contents output.new) result }
         ensures out { self.new.state.out ≡ true → (waits_in self.new ≡ []) × W.is_handed_on output.new }
         ensures all { result ≡ Step.Next 0 → self.new.state.out ≡ true }
+        ensures room { result ≡ Step.NoRoom → W.may_fail }
         ensures fault { result ≡ Step.Ends (Err RunFault.Write) → W.may_fail }
     {
         match self.flush(output) {
@@ -72,6 +77,7 @@ impl LineLoop {
         ensures ends { EndsTo ended self.old (W.contents output.old) self.new (W.contents output.new) result }
         ensures out { self.new.state.out ≡ true → (waits_in self.new ≡ []) × W.is_handed_on output.new }
         ensures handed_on { HandsOnStep result (W.is_handed_on output.new) }
+        ensures room { result ≡ Step.NoRoom → W.may_fail }
         ensures fault { (other : Result Counts RunFault) → result ≡ Step.Ends other → (other ≡ ended) ⊎ W.may_fail }
     {
         match self.flush(output) {
@@ -88,7 +94,7 @@ impl LineLoop {
     pub fn flush<W: Sink>(&mut self, output: &mut W) -> Result<SendOutcome, WriteFault>
         ensures ok { IfOk result (λ _. IsSent self.old (W.contents output.old) self.new (W.contents output.new)) }
         ensures all { IfOk result (λ sent. sent ≡ SendOutcome.All → self.new.replies ≡ []) }
-        ensures waits { IfOk result (λ sent. sent ≡ SendOutcome.Waits → self.new.replies ≢ []) }
+        ensures waits { IfOk result (λ sent. sent ≡ SendOutcome.Waits → (self.new.replies ≢ []) × W.may_fail) }
         ensures handed_on { IfOk result (λ sent. sent ≡ SendOutcome.All → W.is_handed_on output.new) }
         ensures out { self.new.state.out ≡ true → (waits_in self.new ≡ []) × W.is_handed_on output.new }
         ensures once { IfOk result (λ sent. sent ≡ SendOutcome.All → self.old.state.left ≡ [] → self.new.state.out ≡ true) }
