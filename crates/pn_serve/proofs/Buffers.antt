@@ -1,6 +1,6 @@
 -- What is taken from the front of bytes that wait.
 use Rattle.std.proofs.Common.{◌≡◌, ℕ, ◌+◌, ◌-◌, ◌<◌, ◌≤◌, Option, Some, List, [], ◌∷◌, ◌++◌, length, take, drop, refl, sym, ap, ◌∙◌, subst, arith, length-append, append_assoc, append-nil, take-append-drop}
-use Rattle.std.proofs.lemmas.List.{drop-drop, length-drop, take-take}
+use Rattle.std.proofs.lemmas.List.{drop-drop, length-drop, length-take, take-take}
 use Rattle.std.specs.Io.KnownBytes.{Appends, Keeps}
 use Rattle.std.proofs.KnownBytes.{Appends-kept, Appends-nil}
 use Rattle.pn_line.specs.Sent.{AppendsPrefix, Sends}
@@ -43,3 +43,7 @@ Sends-more before after waited waits more sends = record {
 -- bytes that wait are as many as a buffer has after its start
 pub count_from : (all : List ℕ) (start : ℕ) → length (drop start all) ≡ length all - start
 count_from all start = length-drop start all
+
+-- of so many bytes at most no more were taken
+pub few_of : (count most start : ℕ) (l : List ℕ) → count ≤ length (take ((start + most) - start) l) → count ≤ most
+few_of count most start l within = omega (arith, within, length-take ((start + most) - start) l)
