@@ -16,7 +16,7 @@ pub(crate) mod replies;
 use crate::Settings;
 use crate::machine::line_handler::LineHandler;
 use crate::machine::script_handler::ScriptHandler;
-use crate::script::line_loop::{LineLoop, TURN_UNITS};
+use crate::script::line_loop::LineLoop;
 use pn_line::{Sink, Source, WriteFault};
 use std::alloc::Global;
 use std::mem;
@@ -143,9 +143,8 @@ pub(crate) fn answer_lines<M: LineHandler, S: Source, W: Sink>(
     ensures end { OnOk result S.may_end }
     ensures begun { IfErr result (λ fault. fault ≢ RunFault.Memory) }
 {
-    'steps: loop {
-        let step = lines.step(machine, input, output, TURN_UNITS);
-        if let Some(ended) = lines.end_after(step, machine) {
+    'reads: loop {
+        if let Some(ended) = lines.advance(machine, input, output) {
             return ended;
         }
     }

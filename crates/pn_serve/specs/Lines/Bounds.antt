@@ -1,5 +1,5 @@
 -- How much a step does, what it leaves to be handed on, and by what faults a loop may end.
-use Rattle.std.specs.Prelude.{◌≡◌, ◌⊎◌, ◌<◌, ◌≤◌, ℕ, ◌+◌, ◌*◌, true, [], length, Result, Ok, Err}
+use Rattle.std.specs.Prelude.{◌≡◌, ◌⊎◌, ◌<◌, ◌≤◌, ℕ, ◌+◌, ◌-◌, ◌*◌, Bool, true, false, if◌then◌else◌, [], length, Option, None, Some, Result, Ok, Err}
 use Rattle.pn_line.specs.declared.line_buffer.TheConstants.{ENDLESS}
 use Rattle.pn_serve.specs.declared.script.Counts.{Counts}
 use Rattle.pn_serve.specs.declared.script.RunFault.{RunFault}
@@ -34,6 +34,11 @@ HandsOnStep (Ends ended) handed_on = HandsOn ended handed_on
 -- a step hands on a block at most
 abbrev pub HandsOnAtMost : ℕ → LineLoopValue → LineLoopValue → Type 0
 HandsOnAtMost most old new = length old.replies ≤ length new.replies + most
+
+-- 1 for what is not so
+abbrev pub one_unless : Bool → ℕ
+one_unless true = 0
+one_unless false = 1
 
 -- how many records a stage has still to look at before its next look
 abbrev pub records_at : Stage → ℕ
@@ -82,3 +87,36 @@ ForeseesStep read write run (Next units) = Foresees read write run
 ForeseesStep read write run NoInput = Foresees read write run
 ForeseesStep read write run NoRoom = Foresees read write run
 ForeseesStep read write run (Ends ended) = CanEndBy read write ended
+
+-- where the loop ended, all that was written was handed on, unless the writer failed
+abbrev pub HandsOnRun : Option (Result Counts RunFault) → Type 0 → Type 0
+HandsOnRun None handed_on = Unit {0}
+HandsOnRun (Some ended) handed_on = HandsOn ended handed_on
+
+-- the loop goes on as foreseen, or ended as it may
+abbrev pub ForeseesRun : Type 0 → Type 0 → LineLoopValue → Option (Result Counts RunFault) → Type 0
+ForeseesRun read write run None = Foresees read write run
+ForeseesRun read write run (Some ended) = CanEndBy read write ended
+
+-- a look is to be gone on with
+abbrev pub IsLookingAt : Stage → Type 0
+IsLookingAt Reading = ⊥
+IsLookingAt (Looking going) = Unit {0}
+IsLookingAt (Ending ended) = ⊥
+
+-- no look is to be gone on with, and no text is to be made
+abbrev pub IsSettled : LineLoopValue → Type 0
+IsSettled run = (IsLookingAt run.state.stage → ⊥) × (run.state.left ≡ [])
+
+-- the most looks at a source that are left, for these lines that were answered and these bytes of the next that were read
+abbrev pub looks_at : ℕ → ℕ → ℕ
+looks_at lines bytes = (MAX_LINES - lines) * (ENDLESS + 1) + (ENDLESS - bytes) + 1
+
+-- how many steps that settle a loop may still take: one for each look and one to hand on after it, and the last
+abbrev pub reads_at : Stage → LineLoopValue → ℕ
+reads_at Reading run = 2 * looks_at run.state.counts.lines run.line.count + one_unless run.state.out
+reads_at (Looking going) run = if run.state.last then 1 else (2 * looks_at (run.state.counts.lines + 1) 0 + 1)
+reads_at (Ending ended) run = 1
+
+abbrev pub reads_left : LineLoopValue → ℕ
+reads_left run = reads_at run.state.stage run

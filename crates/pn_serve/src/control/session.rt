@@ -9,7 +9,7 @@ ghost use Rattle.pn_serve.specs.Session.Knowing.{KnowsNoLess};
 use crate::control::handler::ControlHandler;
 use crate::control::mailboxes::ControlMailboxes;
 use crate::script::MAX_LINES;
-use crate::script::line_loop::{LineLoop, TURN_UNITS};
+use crate::script::line_loop::LineLoop;
 use crate::{Counts, RunFault};
 use pn_join::NoMemory;
 use pn_line::{Sink, Source};
@@ -106,9 +106,8 @@ fn answer_lines<R: Wait + Clock, C: StatsSource + Drop, S: Source, W: Sink>(
     ensures looks { S.looks input.new ≤ S.looks input.old + looks_of_input }
     ensures begun { IfErr result (λ fault. fault ≢ RunFault.Memory) }
 {
-    'steps: loop {
-        let step = lines.step(handler, input, output, TURN_UNITS);
-        if let Some(ended) = lines.end_after(step, handler) {
+    'reads: loop {
+        if let Some(ended) = lines.advance(handler, input, output) {
             return ended;
         }
         if handler.is_closed() {

@@ -13,6 +13,7 @@ ghost use Rattle.pn_serve.specs.Session.Knowing.{IsSteady, KnowsNoLess};
 
 mod answering;
 mod reading;
+mod running;
 mod state;
 mod steps;
 mod writing;
@@ -111,24 +112,6 @@ impl LineLoop {
         let answer = machine.answer_end(self.alloc, &self.line);
         self.line.start();
         let _ = self.take_answer(machine, answer, is_line);
-    }
-
-    /// How a loop ends whose input and output do not wait, after a step: an input with no more at hand is at its end, and an output
-    /// that takes no more for now has failed.
-    pub(crate) fn end_after<M: LineHandler>(
-        &mut self,
-        step: Step,
-        machine: &mut M,
-    ) -> Option<Result<Counts, RunFault>> {
-        match step {
-            Step::Next(_) => None,
-            Step::NoInput => {
-                self.end_input(machine);
-                None
-            }
-            Step::NoRoom => Some(Err(RunFault::Write)),
-            Step::Ends(ended) => Some(ended),
-        }
     }
 
     /// The loop ends so, once its replies are written.

@@ -5,6 +5,7 @@ ghost use Rattle.pn_line.specs.Prelude.{so_far};
 ghost use Rattle.pn_protocol.specs.Prelude.{is_refusal as refuses};
 ghost use Rattle.pn_serve.specs.Lines.Sending.{text_left};
 ghost use Rattle.pn_serve.specs.Lines.States.{counted, new_state, waits_in};
+ghost use Rattle.pn_serve.specs.Lines.Bounds.{IsLookingAt};
 ghost use Rattle.pn_serve.specs.Lines.Taking.{stage_after};
 
 use crate::machine::line_handler::is_refusal;
@@ -83,6 +84,16 @@ impl LineState {
         ensures { self.new ≡ record self.old { stage = stage } }
     {
         self.stage = stage;
+    }
+
+    /// Whether a look is to be gone on with.
+    pub(super) fn is_looking(&self) -> bool
+        ensures { IsTrue result ↔ IsLookingAt self.now.stage }
+    {
+        match &self.stage {
+            Stage::Looking(_) => true,
+            _ => false,
+        }
     }
 
     /// Whether text of a reply is still to be made.
