@@ -110,7 +110,16 @@ IsSettled run = (IsLookingAt run.state.stage → ⊥) × (run.state.left ≡ [])
 
 -- the most looks at a source that are left, for these lines that were answered and these bytes of the next that were read
 abbrev pub looks_at : ℕ → ℕ → ℕ
-looks_at lines bytes = (MAX_LINES - lines) * (ENDLESS + 1) + (ENDLESS - bytes) + 1
+looks_at lines bytes = (MAX_LINES - lines) * (ENDLESS + 1) - bytes + 1
+
+-- the most looks at a source that a loop has left
+abbrev pub looks_left_at : Stage → LineLoopValue → ℕ
+looks_left_at Reading run = looks_at run.state.counts.lines run.line.count
+looks_left_at (Looking going) run = if run.state.last then 0 else looks_at (run.state.counts.lines + 1) 0
+looks_left_at (Ending ended) run = 0
+
+abbrev pub looks_left : LineLoopValue → ℕ
+looks_left run = looks_left_at run.state.stage run
 
 -- how many steps that settle a loop may still take: one for each look and one to hand on after it, and the last
 abbrev pub reads_at : Stage → LineLoopValue → ℕ

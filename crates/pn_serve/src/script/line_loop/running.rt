@@ -1,7 +1,7 @@
 //! A line loop whose input and output do not wait: what they have not at hand will not come.
 
-ghost use Rattle.std.specs.Prelude.{◌≡◌, ◌≢◌, ◌⊎◌, ◌+◌, ◌<◌, ◌≤◌, ℕ, List, [], Option, IfSome};
-ghost use Rattle.pn_serve.specs.Lines.Bounds.{ForeseesRun, Foresees, HandsOnRun, IsOutAs, IsSettled, reads_left};
+ghost use Rattle.std.specs.Prelude.{◌≡◌, ◌+◌, ◌<◌, ◌≤◌, ℕ, List, Option, None};
+ghost use Rattle.pn_serve.specs.Lines.Bounds.{ForeseesRun, Foresees, HandsOnRun, IsOutAs, IsSettled, looks_left, reads_left};
 ghost use Rattle.pn_serve.specs.Lines.States.{Start};
 ghost use Rattle.pn_serve.specs.Lines.Stepping.{by, with_rest, RunsTo, Stands};
 ghost use Rattle.pn_serve.specs.Session.Knowing.{IsSteady, KnowsNoLess};
@@ -29,7 +29,7 @@ impl LineLoop {
             → RunsTo (by M.moves M.makes M.ends M.goes M.goes_last) start (with_rest (S.left input.new) rest) (W.contents output.new) machine.new self.new result }
         ensures settled { result ≡ None → IsSettled self.new }
         ensures reads { result ≡ None → reads_left self.new < reads_left self.old }
-        ensures looks { S.looks input.new + reads_left self.new ≤ S.looks input.old + reads_left self.old }
+        ensures looks { S.looks input.new + looks_left self.new ≤ S.looks input.old + looks_left self.old }
         ensures out { IsOutAs self.old (W.is_handed_on output.old) → IsOutAs self.new (W.is_handed_on output.new) }
         ensures handed_on { HandsOnRun result (W.is_handed_on output.new) }
         ensures foresees { Foresees S.may_fail W.may_fail self.old → ForeseesRun S.may_fail W.may_fail self.new result }
