@@ -143,6 +143,7 @@ pub(crate) fn answer_lines<M: LineHandler, S: Source, W: Sink>(
     ensures end { OnOk result S.may_end }
     ensures begun { IfErr result (λ fault. fault ≢ RunFault.Memory) }
 {
+    machine.recall_moves();
     'reads: loop {
         if let Some(ended) = lines.advance(machine, input, output) {
             return ended;
