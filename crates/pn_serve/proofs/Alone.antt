@@ -10,7 +10,8 @@ use Rattle.pn_serve.specs.declared.sessions.going.Going.{Going}
 use Rattle.pn_serve.specs.Lines.Ends.{EndsBy, Ended}
 use Rattle.pn_serve.specs.Lines.Served.{AllAnswer}
 use Rattle.pn_serve.specs.Lines.States.{Start}
-use Rattle.pn_serve.specs.Lines.Stepping.{After, HasEnded, by}
+use Rattle.pn_serve.specs.Lines.After.{After}
+use Rattle.pn_serve.specs.Lines.Stepping.{HasEnded, by}
 use Rattle.pn_serve.specs.Lines.Stopped.{Broken, Cut, Exceeded}
 use Rattle.pn_serve.proofs.Serving.{OnTold}
 

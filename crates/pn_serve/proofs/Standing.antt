@@ -27,7 +27,8 @@ use Rattle.pn_serve.specs.declared.script.line_loop.steps.Step.TheVariants.{Next
 use Rattle.pn_serve.specs.declared.sessions.going.Going.{Going}
 use Rattle.pn_serve.specs.Lines.Served.{IsShort, AllAnswered}
 use Rattle.pn_serve.specs.Lines.States.{LineLoopValue, Start, Waiting, counted, one_more, waiting_in, waits_in}
-use Rattle.pn_serve.specs.Lines.Stepping.{After, BeginsLast, BeginsLine, EndsOnceSent, Handling, HasEnded, IsLooking, IsReading, Makes, MakesLast, Stands, StandsAt, StepsTo, with_rest}
+use Rattle.pn_serve.specs.Lines.After.{After}
+use Rattle.pn_serve.specs.Lines.Stepping.{BeginsLast, BeginsLine, EndsOnceSent, Handling, HasEnded, IsLooking, IsReading, Makes, MakesLast, Stands, StandsAt, StepsTo, with_rest}
 use Rattle.pn_serve.specs.Lines.Taking.{EndsTo, IsSent, SendsTo, WaitsTo}
 use Rattle.pn_serve.specs.Script.Written.{one_if}
 use Rattle.pn_serve.proofs.Buffers.{AppendsPrefix-sends}

@@ -26,7 +26,8 @@ use Rattle.pn_serve.specs.declared.sessions.going.Going.{Going}
 use Rattle.pn_serve.specs.Lines.Going.{AnswersLast, AnswersWith}
 use Rattle.pn_serve.specs.Lines.Served.{IsShort, AllAnswered}
 use Rattle.pn_serve.specs.Lines.States.{LineLoopValue, Start, Waiting, counted, waiting_in, waits_in}
-use Rattle.pn_serve.specs.Lines.Stepping.{After, BeginsLast, BeginsLine, EndsOnceSent, Handling, HasEnded, IsLooking, IsReading, Makes, MakesLast, Stands, StandsAt, at_end}
+use Rattle.pn_serve.specs.Lines.After.{After}
+use Rattle.pn_serve.specs.Lines.Stepping.{BeginsLast, BeginsLine, EndsOnceSent, Handling, HasEnded, IsLooking, IsReading, Makes, MakesLast, Stands, StandsAt, at_end}
 use Rattle.pn_serve.specs.Lines.Taking.{HasReply, Takes, TakesAnswer, TakesLine, stage_after}
 use Rattle.pn_serve.specs.Script.Written.{one_if}
 use Rattle.pn_serve.proofs.Serving.{OnTold, AllAnswered-line, all_ended, refusals_fit, few_lines, of_known, stays}

@@ -1,4 +1,5 @@
 -- The states of a line loop: it reads lines, and writes the replies of a handler.
+pub mod After
 pub mod Bounds
 pub mod Coding
 pub mod Ends

@@ -88,6 +88,8 @@ impl LineHandler for LiveReader {
 
     fn recall_moves(&self) {}
 
+    fn recall_refused(&self, _going: &Going) {}
+
     fn shorten(&self, reply: Reply) -> Reply {
         reply.or_memory()
     }

@@ -148,21 +148,26 @@ fn send_and_step<M: LineHandler, R: Read, W: Sink>(
     requires ready { M.ready }
     ensures knows { KnowsNoLess (M.reader machine.old) (M.reader machine.new) }
 {
-    let sent = send_waiting(buffers, output);
+    let sent = send_waiting(buffers, machine, output);
     if sent != Step::Next(0) {
         return sent;
     }
     match take_steps(buffers, machine, input, output) {
-        Step::Next(_) => send_waiting(buffers, output),
+        Step::Next(_) => send_waiting(buffers, machine, output),
         step => step,
     }
 }
 
 // Sends what waits. `Next` where nothing is left of it.
-fn send_waiting<W: Sink>(buffers: &mut ThreadBuffers, output: &mut W) -> Step {
+fn send_waiting<M: LineHandler, W: Sink>(
+    buffers: &mut ThreadBuffers,
+    machine: &M,
+    output: &mut W,
+) -> Step {
     if buffers.lines.is_sent() {
         return Step::Next(0);
     }
+    buffers.lines.recall_cut(machine);
     match buffers.lines.flush(output) {
         Ok(SendOutcome::All) => Step::Next(0),
         Ok(SendOutcome::Waits) => Step::NoRoom,

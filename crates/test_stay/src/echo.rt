@@ -48,4 +48,6 @@ impl LineHandler for Echo {
     }
 
     fn recall_moves(&self) {}
+
+    fn recall_refused(&self, _going: &Going) {}
 }

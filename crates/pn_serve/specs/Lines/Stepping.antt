@@ -17,6 +17,7 @@ use Rattle.pn_serve.specs.declared.script.line_loop.state.Stage.TheVariants.{Rea
 use Rattle.pn_serve.specs.declared.script.line_loop.steps.Step.{Step}
 use Rattle.pn_serve.specs.declared.script.line_loop.steps.Step.TheVariants.{Next, NoInput, NoRoom, Ends}
 use Rattle.pn_serve.specs.declared.sessions.going.Going.{Going}
+use Rattle.pn_serve.specs.Lines.After.{After}
 use Rattle.pn_serve.specs.Lines.Ends.{EndsBy}
 use Rattle.pn_serve.specs.Lines.Served.{AllAnswered, IsShort}
 use Rattle.pn_serve.specs.Session.Looking.{left_of}
@@ -39,12 +40,6 @@ pub record Handling (V : Type 0) : Type 1 where
 -- a handler's relations
 abbrev pub by : {V : Type 0} → Moving V → (V → List ℕ → V → Reply → Type 0) → (V → List ℕ → V → Reply → Type 0) → (V → List ℕ → V → Going → Type 0) → (V → List ℕ → V → Going → Type 0) → Handling V
 by moves makes ends goes goes_last = record { moves = moves; makes = makes; ends = ends; goes = goes; goes_last = goes_last }
-
--- this came after what came between
-pub record After {V R : Type 0} (moves : Moving V) (does : V → List ℕ → V → R → Type 0) (was : V) (text : List ℕ) (now : V) (answer : R) : Type 0 where
-  pub between : V
-  pub moved : moves was between
-  pub done : does between text now answer
 
 module _ {V : Type 0} (handling : Handling V) where
   -- lines, after what came before each

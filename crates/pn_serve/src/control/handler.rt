@@ -177,4 +177,6 @@ impl<'a, R: Wait + Clock, C: StatsSource + Drop> LineHandler for ControlHandler<
     }
 
     fn recall_moves(&self) {}
+
+    fn recall_refused(&self, _going: &Going) {}
 }

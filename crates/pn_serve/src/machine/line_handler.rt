@@ -4,6 +4,9 @@ ghost use Rattle.std.specs.Prelude.{◌≡◌, ◌≤◌, ◌+◌, ℕ, List};
 ghost use Rattle.pn_line.specs.Prelude.{so_far};
 ghost use Rattle.pn_live.specs.Prelude.{LiveReaderValue};
 ghost use Rattle.pn_protocol.specs.Prelude.{is_refusal as refuses};
+ghost use Rattle.pn_protocol.specs.declared.refusal.Refusal.TheVariants.{Memory};
+ghost use Rattle.pn_protocol.specs.declared.reply.Reply.TheVariants.{Refused};
+ghost use Rattle.pn_serve.specs.Lines.After.{After};
 ghost use Rattle.pn_serve.specs.Lines.Going.{AnswersLast, AnswersWith};
 ghost use Rattle.pn_serve.specs.Session.Knowing.{IsSteady, KnowsNoLess};
 
@@ -72,6 +75,11 @@ pub trait LineHandler {
     // It may stay as it is between two looks, what may become of it twice may become of it once, and its reader reads the same tablets.
     fn recall_moves(&self)
         ensures { IsSteady reader moves };
+
+    // A look that is given up leaves its line refused, as where memory runs out.
+    fn recall_refused(&self, going: &Going)
+        ensures lines { (was between : Self) (text : List ℕ) → goes was text between going.now → moves between self.now → After moves makes was text self.now (Refused Memory) }
+        ensures last { (was between : Self) (text : List ℕ) → goes_last was text between going.now → moves between self.now → After moves ends was text self.now (Refused Memory) };
 
     /// The reply in place of one that may be too long to be kept.
     fn shorten(&self, reply: Reply) -> Reply

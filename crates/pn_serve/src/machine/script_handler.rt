@@ -115,4 +115,6 @@ impl<'a, R: Threads + Sync> LineHandler for ScriptHandler<'a, R> {
     }
 
     fn recall_moves(&self) {}
+
+    fn recall_refused(&self, _going: &Going) {}
 }

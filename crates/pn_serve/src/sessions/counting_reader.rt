@@ -118,6 +118,8 @@ impl LineHandler for CountingReader {
     #[tactic(auto, using(crate::proofs::Knowing::knows_itself, crate::proofs::Knowing::knows_on))]
     fn recall_moves(&self) {}
 
+    fn recall_refused(&self, _going: &Going) {}
+
     fn shorten(&self, reply: Reply) -> Reply {
         reply.or_memory()
     }

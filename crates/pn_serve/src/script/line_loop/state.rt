@@ -1,14 +1,17 @@
 //! Where a line loop is between two steps, and how it is put aside while its buffers serve another.
 
-ghost use Rattle.std.specs.Prelude.{◌≡◌, ◌≢◌, ◌↔◌, false, IsFalse, IsTrue, []};
+ghost use Rattle.std.specs.Prelude.{ℕ, List, ◌≡◌, ◌≢◌, ◌↔◌, false, IsFalse, IsTrue, []};
 ghost use Rattle.pn_line.specs.Prelude.{so_far};
 ghost use Rattle.pn_protocol.specs.Prelude.{is_refusal as refuses};
+ghost use Rattle.pn_protocol.specs.declared.refusal.Refusal.TheVariants.{Memory};
+ghost use Rattle.pn_protocol.specs.declared.reply.Reply.TheVariants.{Refused};
+ghost use Rattle.pn_serve.specs.Lines.After.{After};
 ghost use Rattle.pn_serve.specs.Lines.Sending.{text_left};
 ghost use Rattle.pn_serve.specs.Lines.States.{counted, new_state, waits_in};
 ghost use Rattle.pn_serve.specs.Lines.Bounds.{IsLookingAt};
 ghost use Rattle.pn_serve.specs.Lines.Taking.{stage_after};
 
-use crate::machine::line_handler::is_refusal;
+use crate::machine::line_handler::{LineHandler, is_refusal};
 use crate::script::line_loop::LineLoop;
 use crate::script::replies::ReplyBuffer;
 use crate::sessions::going::Going;
@@ -93,6 +96,16 @@ impl LineState {
         match &self.stage {
             Stage::Looking(_) => true,
             _ => false,
+        }
+    }
+
+    // A look that is given up leaves its line refused.
+    pub(super) fn recall_refused<M: LineHandler>(&self, machine: &M)
+        ensures line { (was between : M) (text : List ℕ) (going : Going) → self.now.stage ≡ Stage.Looking going → M.goes was text between going → M.moves between machine.now → After M.moves M.makes was text machine.now (Refused Memory) }
+        ensures last { (was between : M) (text : List ℕ) (going : Going) → self.now.stage ≡ Stage.Looking going → M.goes_last was text between going → M.moves between machine.now → After M.moves M.ends was text machine.now (Refused Memory) }
+    {
+        if let Stage::Looking(going) = &self.stage {
+            machine.recall_refused(going);
         }
     }
 

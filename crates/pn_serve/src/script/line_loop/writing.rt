@@ -1,14 +1,17 @@
 //! How a line loop writes what waits.
 
-ghost use Rattle.std.specs.Prelude.{◌≡◌, ◌≢◌, ◌⊎◌, [], true, Result, Err, IfOk, OnErr};
+ghost use Rattle.std.specs.Prelude.{◌≡◌, ◌≢◌, ◌⊎◌, ℕ, List, [], true, Option, Result, Err, IfOk, OnErr};
 ghost use Rattle.pn_line.specs.Prelude.{AppendsPrefix};
 ghost use Rattle.pn_serve.specs.Lines.Bounds.{CountsUnits, HandsOnAtMost, HandsOnStep, WorksOn};
-ghost use Rattle.pn_serve.specs.Lines.States.{waits_in};
+ghost use Rattle.pn_serve.specs.Lines.States.{Start, waits_in};
+ghost use Rattle.pn_serve.specs.Lines.Stepping.{by, HasEnded, Stands};
 ghost use Rattle.pn_serve.specs.Lines.Taking.{EndsTo, IsSent, SendsTo, WaitsTo};
 ghost use Rattle.pn_serve.specs.declared.script.Counts.{Counts};
 ghost use Rattle.pn_serve.specs.declared.script.RunFault.{RunFault};
 ghost use Rattle.pn_serve.specs.declared.script.replies.TheConstants.{BLOCK};
+ghost use Rattle.pn_serve.specs.Session.Knowing.{IsSteady};
 
+use crate::machine::line_handler::LineHandler;
 use crate::script::line_loop::{LineLoop, Step};
 use crate::script::replies::SendOutcome;
 use crate::{Counts, RunFault};
@@ -107,5 +110,13 @@ impl LineLoop {
             self.state.is_out = !self.state.has_text();
         }
         Ok(sent)
+    }
+
+    // Where the output fails as what waits is written, the loop has ended so. A look is given up then.
+    pub fn recall_cut<M: LineHandler>(&self, machine: &M)
+        ensures { (start : Start M) (left before after : Option (List ℕ)) → IsSteady M.reader M.moves → Stands (by M.moves M.makes M.ends M.goes M.goes_last) start left before machine.now self.now → AppendsPrefix before after (waits_in self.now)
+            → HasEnded (by M.moves M.makes M.ends M.goes M.goes_last) start left after machine.now (Err RunFault.Write) }
+    {
+        self.state.recall_refused(machine);
     }
 }
