@@ -12,6 +12,9 @@ use Rattle.pn_line.specs.Reads.{HasShown, IsUnbroken, Takes as ReadTakes}
 use Rattle.pn_line.specs.Sent.{AppendsPrefix}
 use Rattle.pn_line.specs.Text.{last_line}
 use Rattle.pn_protocol.specs.declared.reply.Reply.{Reply}
+use Rattle.pn_line.proofs.SentLaws.{AppendsPrefix-more, Sends-cut_flush}
+use Rattle.pn_protocol.specs.declared.refusal.Refusal.TheVariants.{Memory}
+use Rattle.pn_protocol.specs.declared.reply.Reply.TheVariants.{Refused}
 use Rattle.pn_protocol.specs.Reply.Texts.{is_refusal, reply_text}
 use Rattle.pn_scan.specs.Paging.{IsPreorder}
 use Rattle.pn_serve.specs.declared.machine.line_handler.Answer.{Answer}
@@ -30,9 +33,11 @@ use Rattle.pn_serve.specs.Lines.After.{After}
 use Rattle.pn_serve.specs.Lines.Stepping.{BeginsLast, BeginsLine, EndsOnceSent, Handling, HasEnded, IsLooking, IsReading, Makes, MakesLast, Stands, StandsAt, at_end}
 use Rattle.pn_serve.specs.Lines.Taking.{HasReply, Takes, TakesAnswer, TakesLine, stage_after}
 use Rattle.pn_serve.specs.Script.Written.{one_if}
-use Rattle.pn_serve.proofs.Serving.{OnTold, AllAnswered-line, all_ended, refusals_fit, few_lines, of_known, stays}
+use Rattle.pn_serve.specs.Lines.Replies.{texts_of}
+use Rattle.pn_serve.specs.Lines.Stopped.{Cut}
+use Rattle.pn_serve.proofs.Serving.{answer_push, texts_push, OnTold, AllAnswered-line, all_ended, refusals_fit, few_lines, of_known, stays}
 use Rattle.pn_serve.proofs.Stopping.{Broken_here, Cut_end, Cut_here, Exceeded_bytes, Exceeded_lines, no_part}
-use Rattle.pn_serve.proofs.Standing.{EndsOnceSent-untold, LinesRead-end, PartRead-more, at_told, at_untold, no_length, one_more-is, told_or}
+use Rattle.pn_serve.proofs.Standing.{EndsOnceSent-untold, HasEnded-untold, LinesRead-end, PartRead-more, at_told, at_untold, no_length, one_more-is, told_or}
 
 cons_nil : (b : ℕ) (bs : List ℕ) → b ∷ bs ≡ [] → ⊥
 cons_nil b bs is = cc
@@ -393,3 +398,49 @@ module _ {V : Type 0} (handling : Handling V) (pre : IsPreorder handling.moves) 
       let one : one_if line ≡ length (last_line is.part) = one_last line is.part (λ same empty. some same (count ∙ ap length empty)) (λ same. no_length is.part (omega (arith, none same, count))) in
       answered_last script told (at_end start.left) written is.lines is.part is.reached was now line (record old { line = so_far []; state = record old.state { last = true } }) new is.read end (All-cons IsShort is.part is.lines short is.short)
       is.bound is.answered refl refl is.shown made one is.moved (answers is.part is.line_is))
+
+  -- the writer failed while a look is gone on with, which is then given up
+  module _ (left before after : Option (List ℕ)) (machine : V) (run : LineLoopValue) (going : Going) (sent : AppendsPrefix before after (waits_in run)) (stands : StandsAt handling (Looking going) start left before machine run)
+      (line : (begun between : V) (text : List ℕ) → handling.goes begun text between going → handling.moves between machine → After handling.moves handling.makes begun text machine (Refused Memory))
+      (last : (begun between : V) (text : List ℕ) → handling.goes_last begun text between going → handling.moves between machine → After handling.moves handling.ends begun text machine (Refused Memory)) where
+    pub cut_looking : HasEnded handling start left after machine (Err Write)
+    cut_looking =
+        told_or start.left _ _ stands (λ none. HasEnded-untold handling pre start left after machine (Err Write) none (λ same. cc))
+        (λ script told is. record { reached = machine; moved = pre.stays machine; ends_by = at_told start.left script (λ (s : List ℕ). Cut (Makes handling) (MakesLast handling) start s left after machine) told (by script is is.begun) })
+      where
+        given_up : (does : V → List ℕ → V → Reply → Type 0) (reached between : V) (text : List ℕ) → handling.moves reached between → After handling.moves does between text machine (Refused Memory) → After handling.moves does reached text machine (Refused Memory)
+        given_up does reached between text moved after = record { between = after.between; moved = pre.goes_on reached between after.between moved after.moved; done = after.done }
+
+        by : (script : List ℕ) (is : IsLooking handling start script left before machine run going) → BeginsLine handling script left is.lines is.reached is.text is.between going run.state.last ⊎ BeginsLast handling script left is.lines is.reached is.text is.between going run.state.last
+            → Cut (Makes handling) (MakesLast handling) start script left after machine
+        by script is (inl begins) =
+            let begun = begins.begun in
+            let replies = is.answered.replies in
+            let refused : Reply = Refused Memory in
+            let made = given_up handling.makes is.reached begun.between is.text begun.moved (line begun.between is.between is.text begun.done is.moved) in
+            let prefix = AppendsPrefix-more (reply_text refused) (Sends-cut_flush is.answered.sends sent) in record {
+              lines = is.lines ++ is.text ∷ [];
+              part = [];
+              read = no_part begins.read;
+              replies = replies ++ refused ∷ [];
+              reached = machine;
+              made = answer_push (Makes handling) start.machine is.lines replies is.reached is.text refused machine is.answered.made made;
+              last = [];
+              ended = inl (refl, refl);
+              prefix = subst (λ (bs : List ℕ). AppendsPrefix start.written after bs) (sym (texts_push replies refused) ∙ sym (append-nil (texts_of (replies ++ refused ∷ [])))) prefix;
+            }
+        by script is (inr begins) =
+            let begun = begins.begun in
+            let replies = is.answered.replies in
+            let refused : Reply = Refused Memory in
+            let made = given_up handling.ends is.reached begun.between is.text begun.moved (last begun.between is.between is.text begun.done is.moved) in record {
+              lines = is.lines;
+              part = is.text;
+              read = begins.read;
+              replies = replies;
+              reached = is.reached;
+              made = is.answered.made;
+              last = reply_text refused;
+              ended = inr (begins.at_end, (refused, refl, made));
+              prefix = AppendsPrefix-more (reply_text refused) (Sends-cut_flush is.answered.sends sent);
+            }

@@ -148,12 +148,12 @@ fn send_and_step<M: LineHandler, R: Read, W: Sink>(
     requires ready { M.ready }
     ensures knows { KnowsNoLess (M.reader machine.old) (M.reader machine.new) }
 {
-    let sent = send_waiting(buffers, machine, output);
+    let sent = send_waiting(buffers, &*machine, output);
     if sent != Step::Next(0) {
         return sent;
     }
     match take_steps(buffers, machine, input, output) {
-        Step::Next(_) => send_waiting(buffers, machine, output),
+        Step::Next(_) => send_waiting(buffers, &*machine, output),
         step => step,
     }
 }
