@@ -1,5 +1,5 @@
 -- A line loop that has its handler alone ends as its lines do, one after another.
-use Rattle.std.proofs.Common.{◌≡◌, ℕ, Option, List, [], ◌∷◌, inl, inr, sym, subst}
+use Rattle.std.proofs.Common.{ℕ, Option, List, [], ◌∷◌, inl, inr, sym, subst}
 use Rattle.std.specs.Prelude.{Result, Ok, Err}
 use Rattle.pn_protocol.specs.declared.reply.Reply.{Reply}
 use Rattle.pn_scan.specs.Paging.{Stays}

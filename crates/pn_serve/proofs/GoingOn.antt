@@ -1,10 +1,9 @@
 -- Lookups that are gone on with come to their replies.
-use Rattle.std.proofs.Common.{◌≡◌, ℕ, List, [], ◌++◌, Option, refl, sym, ap, ◌∙◌, subst, length}
+use Rattle.std.proofs.Common.{ℕ, List, [], ◌++◌, Option, refl, sym, subst}
 use Rattle.std.specs.Prelude.{Result, Ok, Err}
 use Rattle.pn_record.specs.Sets.{CellValue}
 use Rattle.pn_tablet.specs.Layouts.{Bounds}
-use Rattle.pn_scan.specs.Pages.{first_page}
-use Rattle.pn_scan.specs.Paging.{Follows, Gaps, IsOnPage, IsPreorder, LookMade, LooksAfter, Moving, PagesTo, looks_in}
+use Rattle.pn_scan.specs.Paging.{Gaps, IsPreorder, LookMade, LooksAfter, Moving, PagesTo, looks_in}
 use Rattle.pn_scan.specs.Queries.{QueryValue}
 use Rattle.pn_scan.specs.Reads.{IsGet}
 use Rattle.pn_scan.specs.declared.fault.ScanFault.{ScanFault}
@@ -12,13 +11,13 @@ use Rattle.pn_scan.specs.declared.page_walk.PageStep.{PageStep}
 use Rattle.pn_scan.specs.declared.page_walk.PageStep.TheVariants as pages
 use Rattle.pn_scan.specs.WalkValues.{PageWalkValue}
 use Rattle.pn_scan.proofs.Paging.{gaps_more, looks_after, scanned}
-use Rattle.pn_live.specs.Getting.{EndsGet, GetWalkValue, GetsOn, IsOnGet}
+use Rattle.pn_live.specs.Getting.{EndsGet}
 use Rattle.pn_live.specs.Readers.{LiveReaderValue, LooksLive}
 use Rattle.pn_protocol.specs.Command.Meaning.{get, scan}
 use Rattle.pn_serve.specs.declared.machine.line_handler.Answer.{Answer}
 use Rattle.pn_serve.specs.declared.machine.line_handler.Answer.TheVariants.{Done, Going as Begun}
 use Rattle.pn_serve.specs.declared.sessions.going.Going.{Going}
-use Rattle.pn_serve.specs.declared.sessions.going.Going.TheVariants.{Page, Keys}
+use Rattle.pn_serve.specs.declared.sessions.going.Going.TheVariants.{Page}
 use Rattle.pn_serve.specs.Session.Looking.{LooksOn, LooksTo, PageAnswer}
 
 module _ (moves : Moving LiveReaderValue) (pre : IsPreorder moves) (was between old new : LiveReaderValue) (moved : moves between old) where

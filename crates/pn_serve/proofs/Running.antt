@@ -1,15 +1,14 @@
 -- A line loop begins, and runs to its end.
-use Rattle.std.proofs.Common.{◌≡◌, ℕ, Option, None, Some, List, [], ◌++◌, inl, refl, sym, ap, ◌∙◌, subst, arith, append-nil}
+use Rattle.std.proofs.Common.{◌≡◌, ℕ, Option, None, Some, List, [], inl, refl, sym, ap, subst, arith, append-nil}
 use Rattle.std.specs.Prelude.{Result}
 use Rattle.std.proofs.lemmas.List.Elements.{All-nil}
-use Rattle.pn_line.specs.LinesRead.{PartRead}
 use Rattle.pn_line.proofs.LinesReadLaws.{LinesRead-none}
 use Rattle.pn_scan.specs.Paging.{IsPreorder}
 use Rattle.pn_serve.specs.declared.script.Counts.{Counts}
 use Rattle.pn_serve.specs.declared.script.RunFault.{RunFault}
 use Rattle.pn_serve.specs.Lines.Served.{IsShort}
 use Rattle.pn_serve.specs.Lines.States.{LineLoopValue, Start, new_loop, start_at, waiting_in}
-use Rattle.pn_serve.specs.Lines.Stepping.{Handling, HasEnded, IsReading, Makes, RunsTo, Stands, with_rest}
+use Rattle.pn_serve.specs.Lines.Stepping.{Handling, IsReading, Makes, RunsTo, Stands, with_rest}
 use Rattle.pn_serve.proofs.Serving.{AllAnswered-none}
 use Rattle.pn_serve.proofs.Stopping.{no_part}
 

@@ -7,7 +7,7 @@ use Rattle.std.proofs.lemmas.Bool.Decides.{nat_tests}
 use Rattle.std.proofs.lemmas.List.Elements.{All-nil, All-cons, All-append}
 use Rattle.pn_line.specs.Line.{LineBufferValue, so_far}
 use Rattle.pn_line.specs.LinesRead.{LinesRead, PartRead}
-use Rattle.pn_line.specs.Reads.{Takes, IsUnbroken}
+use Rattle.pn_line.specs.Reads.{IsUnbroken}
 use Rattle.pn_line.specs.Text.{lines_of, text_of, last_line}
 use Rattle.pn_line.specs.Sent.{Sends}
 use Rattle.pn_line.proofs.SentLaws.{Sends-none, Sends-trans, Sends-flushed}

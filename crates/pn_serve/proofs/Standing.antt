@@ -1,20 +1,17 @@
 -- Where a line loop stands after each part of a step.
-use Rattle.std.proofs.Common.{◌≡◌, ◌≢◌, ◌⊎◌, ◌+◌, ◌<◌, ◌≤◌, ℕ, min, Bool, true, false, Option, None, Some, List, [], ◌∷◌, ◌++◌, length, All, Contains, IfSome, OnSome, inl, inr, refl, sym, ap, ◌∙◌, subst, arith, append_assoc, append-nil, length-append, ⊎_elim}
+use Rattle.std.proofs.Common.{◌≡◌, ◌≢◌, ◌⊎◌, ◌+◌, ◌<◌, ◌≤◌, ℕ, Bool, true, false, Option, None, Some, List, [], ◌∷◌, ◌++◌, length, IfSome, inl, inr, refl, sym, ap, ◌∙◌, subst, arith, append_assoc, append-nil}
 use Rattle.std.specs.Prelude.{Result, Ok, Err}
-use Rattle.std.specs.Io.KnownBytes.{Appends, Consumes, IsAtEnd, Keeps}
-use Rattle.std.proofs.KnownBytes.{Appends-trans, Consumes-nil}
-use Rattle.std.proofs.lemmas.List.Elements.{All-nil, All-cons, All-head, All-tail, All-append}
-use Rattle.pn_line.specs.declared.line_buffer.TheConstants.{ENDLESS}
+use Rattle.std.specs.Io.KnownBytes.{Appends, Consumes, Keeps}
+use Rattle.std.proofs.KnownBytes.{Appends-trans}
+use Rattle.std.proofs.lemmas.List.Elements.{All-nil, All-cons, All-append}
 use Rattle.pn_line.specs.Line.{LineBufferValue, so_far}
 use Rattle.pn_line.specs.LinesRead.{LinesRead, PartRead}
 use Rattle.pn_line.specs.Reads.{HasShown, Takes}
-use Rattle.pn_line.specs.Sent.{AppendsPrefix, Sends}
-use Rattle.pn_line.specs.Text.{last_line, text_of}
-use Rattle.pn_line.proofs.KnownLaws.{ReadsPart, ReadsPart-from_takes}
+use Rattle.pn_line.specs.Sent.{AppendsPrefix}
+use Rattle.pn_line.specs.Text.{text_of}
+use Rattle.pn_line.proofs.KnownLaws.{ReadsPart-from_takes}
 use Rattle.pn_line.proofs.SentLaws.{AppendsPrefix-after}
 use Rattle.pn_line.proofs.TextLaws.{text_of-push}
-use Rattle.pn_protocol.specs.declared.reply.Reply.{Reply}
-use Rattle.pn_protocol.specs.Reply.Texts.{is_refusal, reply_text}
 use Rattle.pn_scan.specs.Paging.{IsPreorder}
 use Rattle.pn_serve.specs.declared.script.Counts.{Counts}
 use Rattle.pn_serve.specs.declared.script.RunFault.{RunFault}
@@ -25,9 +22,8 @@ use Rattle.pn_serve.specs.declared.script.line_loop.state.Stage.TheVariants.{Rea
 use Rattle.pn_serve.specs.declared.script.line_loop.steps.Step.{Step}
 use Rattle.pn_serve.specs.declared.script.line_loop.steps.Step.TheVariants.{Next, NoInput, NoRoom, Ends}
 use Rattle.pn_serve.specs.declared.sessions.going.Going.{Going}
-use Rattle.pn_serve.specs.Lines.Served.{IsShort, AllAnswered}
-use Rattle.pn_serve.specs.Lines.States.{LineLoopValue, Start, Waiting, counted, one_more, waiting_in, waits_in}
-use Rattle.pn_serve.specs.Lines.After.{After}
+use Rattle.pn_serve.specs.Lines.Served.{AllAnswered}
+use Rattle.pn_serve.specs.Lines.States.{LineLoopValue, Start, one_more, waiting_in, waits_in}
 use Rattle.pn_serve.specs.Lines.Stepping.{BeginsLast, BeginsLine, EndsOnceSent, Handling, HasEnded, IsLooking, IsReading, Makes, MakesLast, Stands, StandsAt, StepsTo, with_rest}
 use Rattle.pn_serve.specs.Lines.Taking.{EndsTo, IsSent, SendsTo, WaitsTo}
 use Rattle.pn_serve.specs.Script.Written.{one_if}

@@ -1,12 +1,12 @@
 -- What was written if a script is not answered to its end.
-use Rattle.std.proofs.Common.{◌≡◌, ◌≢◌, ℕ, ◌<◌, ◌≤◌, Option, None, Some, List, [], ◌∷◌, ◌++◌, length, inl, inr, refl, sym, ap, ◌∙◌, subst, arith, append-nil, All}
+use Rattle.std.proofs.Common.{◌≡◌, ◌≢◌, ℕ, ◌<◌, ◌≤◌, Option, Some, List, [], ◌∷◌, ◌++◌, length, inl, inr, refl, sym, ap, ◌∙◌, subst, arith, append-nil, All}
 use Rattle.std.specs.Io.KnownBytes.{Appends}
 use Rattle.std.proofs.lemmas.Bool.{cases_eq}
 use Rattle.std.proofs.lemmas.List.Elements.{All-nil}
 use Rattle.pn_line.specs.LinesRead.{LinesRead, PartRead}
 use Rattle.pn_line.specs.Reads.{IsUnbroken}
 use Rattle.pn_line.specs.Sent.{AppendsPrefix}
-use Rattle.pn_line.specs.Text.{lines_of, text_of, onto_first}
+use Rattle.pn_line.specs.Text.{lines_of, onto_first}
 use Rattle.pn_line.proofs.SentLaws.{Sends-flushed, Sends-cut_flush}
 use Rattle.pn_line.proofs.TextLaws.{lines_of-line, lines_of-byte, lines_of-text, lines_of-begun}
 use Rattle.pn_serve.specs.Lines.Stopped.{Broken, Cut, Exceeded}

@@ -1,9 +1,9 @@
 -- What a line loop has once some of what waits was written.
-use Rattle.std.proofs.Common.{◌≡◌, ◌≢◌, ℕ, ◌+◌, ◌≤◌, Bool, Option, List, [], ◌∷◌, ◌++◌, length, refl, sym, ap, ◌∙◌, subst, arith, length-append, append-nil}
+use Rattle.std.proofs.Common.{◌≡◌, ◌≢◌, ℕ, ◌+◌, ◌≤◌, Bool, Option, List, [], ◌∷◌, ◌++◌, length, refl, sym, ap, subst, arith, length-append}
 use Rattle.pn_line.specs.Sent.{AppendsPrefix, Sends}
 use Rattle.pn_line.proofs.SentLaws.{AppendsPrefix-more}
 use Rattle.pn_serve.specs.Lines.States.{LineLoopValue, waits_in}
-use Rattle.pn_serve.specs.Lines.Taking.{HasKept, IsSent}
+use Rattle.pn_serve.specs.Lines.Taking.{IsSent}
 use Rattle.pn_serve.proofs.Buffers.{Sends-more}
 
 -- something comes before more
