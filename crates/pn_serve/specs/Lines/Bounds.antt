@@ -31,7 +31,7 @@ HandsOnStep NoInput handed_on = Unit {0}
 HandsOnStep NoRoom handed_on = Unit {0}
 HandsOnStep (Ends ended) handed_on = HandsOn ended handed_on
 
--- a step hands on a block at most
+-- a step hands on so many bytes at most
 abbrev pub HandsOnAtMost : ℕ → LineLoopValue → LineLoopValue → Type 0
 HandsOnAtMost most old new = length old.replies ≤ length new.replies + most
 
@@ -75,7 +75,7 @@ CanEndBy read write (Err Memory) = ⊥
 -- one line more may be answered, or none and none is begun; and where the end is decided, the loop may end so
 abbrev pub ForeseesAt : Stage → Type 0 → Type 0 → LineLoopValue → Type 0
 ForeseesAt Reading read write run = (run.state.counts.lines < MAX_LINES) ⊎ ((run.state.counts.lines ≡ MAX_LINES) × (run.line.count ≡ 0))
-ForeseesAt (Looking going) read write run = run.state.counts.lines < MAX_LINES
+ForeseesAt (Looking going) read write run = (run.state.counts.lines < MAX_LINES) × (run.line.count ≡ 0)
 ForeseesAt (Ending ended) read write run = CanEndBy read write ended
 
 abbrev pub Foresees : Type 0 → Type 0 → LineLoopValue → Type 0

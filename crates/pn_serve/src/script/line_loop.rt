@@ -1,14 +1,15 @@
 //! The line loop: a machine that takes what its input has at hand, answers it line by line, and writes as much as its output
 //! takes. It waits for neither.
 
-ghost use Rattle.std.specs.Prelude.{◌≡◌, ◌⊎◌, ◌+◌, ◌<◌, ◌≤◌, ℕ, List, [], Option, Bool, true, ◌≢◌, IfOk};
+ghost use Rattle.std.specs.Prelude.{◌≡◌, ◌⊎◌, ◌+◌, ◌<◌, ◌≤◌, ℕ, List, [], Option, true, false, ◌≢◌, IfOk};
 ghost use Rattle.pn_line.specs.Prelude.{so_far};
 ghost use Rattle.pn_line.specs.declared.line_buffer.TheConstants.{ENDLESS};
 ghost use Rattle.pn_serve.specs.Lines.Bounds.{CountsUnits, Foresees, ForeseesStep, HandsOnAtMost, HandsOnStep, IsIdleAt, IsOutAs, WorksOn};
 ghost use Rattle.pn_serve.specs.Lines.States.{Start, new_loop, waits_in};
 ghost use Rattle.pn_serve.specs.Lines.Stepping.{at_end, by, with_rest, Stands, StepsTo};
-ghost use Rattle.pn_serve.specs.Lines.Taking.{Takes};
-ghost use Rattle.pn_serve.specs.declared.script.replies.TheConstants.{BLOCK};
+ghost use Rattle.pn_serve.specs.Lines.Taking.{HasReply, Takes};
+ghost use Rattle.pn_protocol.specs.declared.reply.Reply.{Reply};
+ghost use Rattle.pn_serve.specs.declared.script.replies.TheConstants.{REPLY_CAPACITY};
 ghost use Rattle.pn_serve.specs.Session.Knowing.{IsSteady, KnowsNoLess};
 
 mod answering;
@@ -77,7 +78,7 @@ impl LineLoop {
         ensures idle { IsIdleAt result self.new }
         ensures out { IsOutAs self.old (W.is_handed_on output.old) → IsOutAs self.new (W.is_handed_on output.new) }
         ensures handed_on { HandsOnStep result (W.is_handed_on output.new) }
-        ensures few { HandsOnAtMost BLOCK self.old self.new ⊎ (self.new.replies ≡ []) }
+        ensures few { HandsOnAtMost REPLY_CAPACITY self.old self.new }
         ensures counted { CountsUnits self.old self.new result }
         ensures works { self.old.state.left ≢ [] → WorksOn self.old self.new result }
         ensures looks { S.looks input.new ≤ S.looks input.old + 1 }
@@ -104,10 +105,14 @@ impl LineLoop {
         requires below { self.old.line.count < ENDLESS }
         ensures stands { (start : Start M) (written : Option (List ℕ)) → IsSteady M.reader M.moves → Stands (by M.moves M.makes M.ends M.goes M.goes_last) start (at_end start.left) written machine.old self.old
             → Stands (by M.moves M.makes M.ends M.goes M.goes_last) start (at_end start.left) written machine.new self.new }
-        ensures takes { (line : Bool) × (line ≡ true → self.old.line.count ≢ 0) × Takes line (record self.old { line = so_far []; state = record self.old.state { last = true } }) self.new }
+        ensures some { self.old.line.count ≢ 0 → Takes true (record self.old { line = so_far []; state = record self.old.state { last = true } }) self.new }
+        ensures none { self.old.line.count ≡ 0 → (reply : Reply) × HasReply false (record self.old { line = so_far []; state = record self.old.state { last = true } }) reply self.new }
         ensures knows { KnowsNoLess (M.reader machine.old) (M.reader machine.new) }
     {
         let is_line = !self.line.is_empty();
+        if !is_line {
+            self.line.start();
+        }
         self.state.is_last = true;
         let answer = machine.answer_end(self.alloc, &self.line);
         self.line.start();

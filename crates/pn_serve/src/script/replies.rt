@@ -62,7 +62,8 @@ impl ReplyBuffer {
 
     /// How many bytes wait.
     pub fn len(&self) -> usize
-        ensures { result ≡ length self.now }
+        ensures count { result ≡ length self.now }
+        ensures within { result ≤ REPLY_CAPACITY }
     {
         self.bytes.len() - self.start
     }

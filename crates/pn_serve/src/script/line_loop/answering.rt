@@ -71,6 +71,7 @@ impl LineLoop {
             → TakesLine (AnswersLast M.ends M.goes_last) is_line was text now self.old self.new }
         ensures takes { Takes is_line self.old self.new }
         ensures units { length self.new.replies < length self.old.replies + 1024 * (result + 1) }
+        ensures few { result ≤ 128 }
     {
         match answer {
             Answer::Done(reply) => {
@@ -93,6 +94,7 @@ impl LineLoop {
         requires made { self.old.state.left ≡ [] }
         ensures takes { HasReply is_line self.old reply self.new }
         ensures units { length self.new.replies < length self.old.replies + 1024 * (result + 1) }
+        ensures few { result ≤ 128 }
     {
         self.state.take_reply(&reply, is_line);
         self.state.set_text(Some(ReplyText::new(reply)));
@@ -106,6 +108,7 @@ impl LineLoop {
         ensures grows { length self.old.replies ≤ length self.new.replies }
         ensures some { length self.old.replies < BLOCK → self.old.state.left ≢ [] → length self.new.state.left < length self.old.state.left }
         ensures units { length self.new.replies < length self.old.replies + 1024 * (result + 1) }
+        ensures few { result ≤ 128 }
     {
         let before = self.replies.len();
         if let Some(text) = self.state.take_text() {

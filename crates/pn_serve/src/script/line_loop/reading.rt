@@ -4,7 +4,7 @@ ghost use Rattle.std.specs.Prelude.{◌≡◌, ◌⊎◌, ◌+◌, ◌≤◌, �
 ghost use Rattle.pn_serve.specs.Lines.Bounds.{CountsUnits, Foresees, ForeseesStep, HandsOnAtMost, HandsOnStep, IsIdleAt, IsOutAs};
 ghost use Rattle.pn_serve.specs.Lines.States.{Start};
 ghost use Rattle.pn_serve.specs.Lines.Stepping.{by, with_rest, Stands, StepsTo};
-ghost use Rattle.pn_serve.specs.declared.script.replies.TheConstants.{BLOCK};
+ghost use Rattle.pn_serve.specs.declared.script.replies.TheConstants.{REPLY_CAPACITY};
 ghost use Rattle.pn_serve.specs.Session.Knowing.{IsSteady, KnowsNoLess};
 
 use crate::RunFault;
@@ -31,7 +31,7 @@ impl LineLoop {
         ensures idle { IsIdleAt result self.new }
         ensures out { IsOutAs self.old (W.is_handed_on output.old) → IsOutAs self.new (W.is_handed_on output.new) }
         ensures handed_on { HandsOnStep result (W.is_handed_on output.new) }
-        ensures few { HandsOnAtMost BLOCK self.old self.new ⊎ (self.new.replies ≡ []) }
+        ensures few { HandsOnAtMost REPLY_CAPACITY self.old self.new }
         ensures counted { CountsUnits self.old self.new result }
         ensures looks { S.looks input.new ≤ S.looks input.old + 1 }
         ensures end { result ≡ Step.NoInput → S.may_end }
@@ -72,7 +72,7 @@ impl LineLoop {
         ensures idle { IsIdleAt result self.new }
         ensures out { IsOutAs self.old (W.is_handed_on output.old) → IsOutAs self.new (W.is_handed_on output.new) }
         ensures handed_on { HandsOnStep result (W.is_handed_on output.new) }
-        ensures few { HandsOnAtMost BLOCK self.old self.new ⊎ (self.new.replies ≡ []) }
+        ensures few { HandsOnAtMost REPLY_CAPACITY self.old self.new }
         ensures counted { CountsUnits self.old self.new result }
         ensures looks { S.looks input.new ≤ S.looks input.old + 1 }
         ensures end { result ≡ Step.NoInput → S.may_end }

@@ -2,7 +2,7 @@
 
 ghost use Rattle.std.specs.Prelude.{◌≡◌, ◌≢◌, ◌⊎◌, ℕ, List, [], true, Option, Result, Err, IfOk, OnErr};
 ghost use Rattle.pn_line.specs.Prelude.{AppendsPrefix};
-ghost use Rattle.pn_serve.specs.Lines.Bounds.{CountsUnits, HandsOnAtMost, HandsOnStep, WorksOn};
+ghost use Rattle.pn_serve.specs.Lines.Bounds.{CountsUnits, HandsOnAtMost, HandsOnStep, IsOutAs, WorksOn};
 ghost use Rattle.pn_serve.specs.Lines.States.{Start, waits_in};
 ghost use Rattle.pn_serve.specs.Lines.Stepping.{by, HasEnded, Stands};
 ghost use Rattle.pn_serve.specs.Lines.Taking.{EndsTo, IsSent, SendsTo, WaitsTo};
@@ -40,7 +40,7 @@ impl LineLoop {
     pub(super) fn wait_for_input<W: Sink>(&mut self, output: &mut W) -> Step
         requires made { self.old.state.left ≡ [] }
         ensures waits { WaitsTo self.old (W.contents output.old) self.new (W.contents output.new) result }
-        ensures out { self.new.state.out ≡ true → (waits_in self.new ≡ []) × ((self.new ≡ self.old) ⊎ W.is_handed_on output.new) }
+        ensures out { IsOutAs self.old (W.is_handed_on output.old) → IsOutAs self.new (W.is_handed_on output.new) }
         ensures idle { result ≡ Step.NoInput → self.new.state.out ≡ true }
         ensures room { result ≡ Step.NoRoom → W.may_fail }
         ensures fault { result ≡ Step.Ends (Err RunFault.Write) → W.may_fail }
