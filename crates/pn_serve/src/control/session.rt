@@ -110,9 +110,8 @@ fn answer_lines<R: Wait + Clock, C: StatsSource + Drop, S: Source, W: Sink>(
         if let Some(ended) = lines.advance(handler, input, output) {
             return ended;
         }
-        if handler.is_closed() {
-            let counts = lines.counts();
-            lines.end_by(Ok(counts));
+        if handler.is_closed() && lines.is_between_lines() {
+            return lines.close(output);
         }
     }
 }

@@ -8,13 +8,13 @@ use Rattle.pn_serve.proofs.script.answer_lines.Given as goal
 
 abbrev pub invariant-reads : goal.invariant-reads
 invariant-reads g l = record {
-  stands = Stands (by g.M.LineHandler.moves g.M.LineHandler.makes g.M.LineHandler.ends g.M.LineHandler.goes g.M.LineHandler.goes_last)
+  stands : Stands (by g.M.LineHandler.moves g.M.LineHandler.makes g.M.LineHandler.ends g.M.LineHandler.goes g.M.LineHandler.goes_last)
       (start_at l.initial.machine (g.S.Source.left l.initial.input) (g.W.Sink.contents l.initial.output)) (g.S.Source.left l.input) (g.W.Sink.contents l.output) l.machine l.lines;
-  settled = IsSettled l.lines;
-  looks = g.S.Source.looks l.input + looks_left l.lines ≤ g.S.Source.looks l.initial.input + looks_left new_loop;
-  out = IsOutAs l.lines (g.W.Sink.is_handed_on l.output);
-  foresees = Foresees g.S.Source.may_fail g.W.Sink.may_fail l.lines;
-  knows = KnowsNoLess (g.M.LineHandler.reader l.initial.machine) (g.M.LineHandler.reader l.machine);
+  settled : IsSettled l.lines;
+  looks : g.S.Source.looks l.input + looks_left l.lines ≤ g.S.Source.looks l.initial.input + looks_left new_loop;
+  out : IsOutAs l.lines (g.W.Sink.is_handed_on l.output);
+  foresees : Foresees g.S.Source.may_fail g.W.Sink.may_fail l.lines;
+  knows : KnowsNoLess (g.M.LineHandler.reader l.initial.machine) (g.M.LineHandler.reader l.machine);
 }
 
 abbrev pub decreases-reads : goal.decreases-reads

@@ -1,13 +1,18 @@
 //! A line loop whose input and output do not wait: what they have not at hand will not come.
 
-ghost use Rattle.std.specs.Prelude.{◌≡◌, ◌+◌, ◌<◌, ◌≤◌, ℕ, List, Option, None};
+ghost use Rattle.std.specs.Prelude.{◌≡◌, ◌↔◌, ◌+◌, ◌<◌, ◌≤◌, ℕ, List, Option, None, IfOk, IfErr, OnErr, IsTrue};
+ghost use Rattle.std.specs.Io.KnownBytes.{Appends};
+ghost use Rattle.pn_line.specs.Prelude.{AppendsPrefix};
 ghost use Rattle.pn_serve.specs.Lines.Bounds.{ForeseesRun, Foresees, HandsOnRun, IsOutAs, IsSettled, looks_left, reads_left};
-ghost use Rattle.pn_serve.specs.Lines.States.{Start};
+ghost use Rattle.pn_serve.specs.Lines.States.{Start, waits_in};
 ghost use Rattle.pn_serve.specs.Lines.Stepping.{by, with_rest, RunsTo, Stands};
+ghost use Rattle.pn_serve.specs.Lines.Waiting.{HandsOn};
 ghost use Rattle.pn_serve.specs.Session.Knowing.{IsSteady, KnowsNoLess};
 
 use crate::machine::line_handler::LineHandler;
+use crate::script::line_loop::state::Stage;
 use crate::script::line_loop::{LineLoop, Step, TURN_UNITS};
+use crate::script::replies::SendOutcome;
 use crate::{Counts, RunFault};
 use pn_line::{Sink, Source};
 
@@ -91,6 +96,27 @@ impl LineLoop {
             }
             Step::NoRoom => Some(Err(RunFault::Write)),
             Step::Ends(ended) => Some(ended),
+        }
+    }
+
+    /// Whether it reads, and has no byte of the next line.
+    pub(crate) fn is_between_lines(&self) -> bool
+        ensures { IsTrue result ↔ ((self.now.state.stage ≡ Stage.Reading) × (self.now.line.count ≡ 0)) }
+    {
+        self.state.is_reading() && self.line.is_empty()
+    }
+
+    /// Ends between two lines, once what waits is written.
+    pub(crate) fn close<W: Sink>(&mut self, output: &mut W) -> Result<Counts, RunFault>
+        requires made { self.old.state.left ≡ [] }
+        ensures ok { IfOk result (λ counts. (counts ≡ self.old.state.counts) × Appends (W.contents output.old) (W.contents output.new) (waits_in self.old)) }
+        ensures err { OnErr result (AppendsPrefix (W.contents output.old) (W.contents output.new) (waits_in self.old)) }
+        ensures fault { IfErr result (λ fault. (fault ≡ RunFault.Write) × W.may_fail) }
+        ensures handed_on { HandsOn result (W.is_handed_on output.new) }
+    {
+        match self.flush(output) {
+            Ok(SendOutcome::All) => Ok(self.counts()),
+            _ => Err(RunFault::Write),
         }
     }
 }

@@ -89,6 +89,16 @@ impl LineState {
         self.stage = stage;
     }
 
+    /// Whether the input is read.
+    pub(super) fn is_reading(&self) -> bool
+        ensures { IsTrue result ↔ (self.now.stage ≡ Stage.Reading) }
+    {
+        match &self.stage {
+            Stage::Reading => true,
+            _ => false,
+        }
+    }
+
     /// Whether a look is to be gone on with.
     pub(super) fn is_looking(&self) -> bool
         ensures { IsTrue result ↔ IsLookingAt self.now.stage }
