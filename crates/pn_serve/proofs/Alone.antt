@@ -20,7 +20,7 @@ module _ {V : Type 0} (makes ends : V → List ℕ → V → Reply → Type 0) w
   at_once : (does : V → List ℕ → V → Reply → Type 0) (was : V) (text : List ℕ) (now : V) (reply : Reply) → After Stays does was text now reply → does was text now reply
   at_once does was text now reply after = subst (λ (v : V). does v text now reply) after.moved after.done
 
-  all_at_once : (was : V) (lines : List (List ℕ)) (replies : List Reply) (now : V) → AllAnswer (After Stays makes) was lines replies now → AllAnswer makes was lines replies now
+  pub all_at_once : (was : V) (lines : List (List ℕ)) (replies : List Reply) (now : V) → AllAnswer (After Stays makes) was lines replies now → AllAnswer makes was lines replies now
   all_at_once was [] [] now all = all
   all_at_once was [] (reply ∷ replies) now all = absurd all
   all_at_once was (line ∷ lines) [] now all = absurd all
