@@ -116,7 +116,7 @@ impl LineLoop {
         self.state.is_last = true;
         let answer = machine.answer_end(self.alloc, &self.line);
         self.line.start();
-        let _ = self.take_answer(machine, answer, is_line);
+        let _ = self.take_answer(&*machine, answer, is_line);
     }
 
     /// The loop ends so, once its replies are written.

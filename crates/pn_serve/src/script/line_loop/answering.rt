@@ -30,7 +30,7 @@ impl LineLoop {
         let parsed = units_of(self.line.len());
         let answer = machine.answer(self.alloc, &self.line);
         self.line.start();
-        parsed.saturating_add(self.take_answer(machine, answer, true))
+        parsed.saturating_add(self.take_answer(&*machine, answer, true))
     }
 
     /// Goes on with a look. How many units that took.
@@ -52,7 +52,7 @@ impl LineLoop {
         ensures knows { KnowsNoLess (M.reader machine.old) (M.reader machine.new) }
     {
         let (answer, looked) = machine.go_on(self.alloc, going, records_of(units));
-        self.take_answer(machine, answer, true)
+        self.take_answer(&*machine, answer, true)
             .max(units_of_records(looked))
     }
 

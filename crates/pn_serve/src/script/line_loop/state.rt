@@ -6,6 +6,7 @@ ghost use Rattle.pn_protocol.specs.Prelude.{is_refusal as refuses};
 ghost use Rattle.pn_protocol.specs.declared.refusal.Refusal.TheVariants.{Memory};
 ghost use Rattle.pn_protocol.specs.declared.reply.Reply.TheVariants.{Refused};
 ghost use Rattle.pn_serve.specs.Lines.After.{After};
+ghost use Rattle.pn_serve.specs.declared.sessions.going.Going.{Going};
 ghost use Rattle.pn_serve.specs.Lines.Sending.{text_left};
 ghost use Rattle.pn_serve.specs.Lines.States.{counted, new_state, waits_in};
 ghost use Rattle.pn_serve.specs.Lines.Bounds.{IsLookingAt};
