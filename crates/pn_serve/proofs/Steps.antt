@@ -20,7 +20,7 @@ use Rattle.pn_serve.specs.declared.sessions.going.Going.{Going}
 use Rattle.pn_serve.specs.Lines.Going.{AnswersLast, AnswersWith}
 use Rattle.pn_serve.specs.Lines.Served.{IsShort, AllAnswered}
 use Rattle.pn_serve.specs.Lines.States.{LineLoopValue, Start, waiting_in, waits_in}
-use Rattle.pn_serve.specs.Lines.Stepping.{BeginsLast, BeginsLine, EndsOnceSent, Handling, HasEnded, IsLooking, IsReading, Makes, MakesLast, Stands, StandsAt, at_end}
+use Rattle.pn_serve.specs.Lines.Stepping.{BeginsLast, BeginsLine, EndsOnceSent, Handling, HasEnded, IsLooking, IsReading, Makes, MakesLast, Stands, StandsAt}
 use Rattle.pn_serve.specs.Lines.Taking.{Takes, TakesAnswer, TakesLine, stage_after}
 use Rattle.pn_serve.specs.Script.Written.{one_if}
 use Rattle.pn_serve.proofs.Serving.{OnTold, of_known, stays}
@@ -199,16 +199,16 @@ module _ {V : Type 0} (handling : Handling V) (pre : IsPreorder handling.moves) 
           (one_last true is.text (λ same. begins.some) (λ other. absurd (true_false other))) after.moved (last after.between is.between is.text after.done is.moved)
 
   -- the input is at its end
-  pub Steps-end : (written : Option (List ℕ)) (was now : V) (old new : LineLoopValue) (line : Bool) → old.state.stage ≡ Reading → Stands handling start (at_end start.left) written was old → old.state.left ≡ [] → old.line.count < ENDLESS
+  pub Steps-end : (left written : Option (List ℕ)) (was now : V) (old new : LineLoopValue) (line : Bool) → IfSome start.left (λ _. left ≡ Some []) → old.state.stage ≡ Reading → Stands handling start left written was old → old.state.left ≡ [] → old.line.count < ENDLESS
       → (line ≡ true → old.line.count ≢ 0) → (line ≡ false → old.line.count ≡ 0) → Takes line (record old { line = so_far []; state = record old.state { last = true } }) new
       → ((text : List ℕ) → old.line ≡ so_far text → TakesLine (AnswersLast handling.ends handling.goes_last) line was text now (record old { line = so_far []; state = record old.state { last = true } }) new)
-      → Stands handling start (at_end start.left) written now new
-  Steps-end written was now old new line reading stands made below some none shape answers =
-      told_or start.left _ _ (subst (λ (s : Stage). StandsAt handling s start (at_end start.left) written was old) reading stands) (λ untold. Stands-untold (at_end start.left) written now line _ new untold shape)
+      → Stands handling start left written now new
+  Steps-end left written was now old new line ended reading stands made below some none shape answers =
+      told_or start.left _ _ (subst (λ (s : Stage). StandsAt handling s start left written was old) reading stands) (λ untold. Stands-untold left written now line _ new untold shape)
       (λ script told is.
       let count : old.line.count ≡ length is.part = ap (λ (l : LineBufferValue). l.count) is.line_is in
       let short : IsShort is.part = omega (arith, below, count) in
-      let end : at_end start.left ≡ Some [] = ap at_end told in
+      let end : left ≡ Some [] = of_known start.left script (λ _. left ≡ Some []) told ended in
       let one : one_if line ≡ length (last_line is.part) = one_last line is.part (λ same empty. some same (count ∙ ap length empty)) (λ same. no_length is.part (omega (arith, none same, count))) in
-      answered_last script told (at_end start.left) written is.lines is.part is.reached was now line (record old { line = so_far []; state = record old.state { last = true } }) new is.read end (All-cons IsShort is.part is.lines short is.short)
+      answered_last script told left written is.lines is.part is.reached was now line (record old { line = so_far []; state = record old.state { last = true } }) new is.read end (All-cons IsShort is.part is.lines short is.short)
       is.bound is.answered refl refl is.shown made one is.moved (answers is.part is.line_is))

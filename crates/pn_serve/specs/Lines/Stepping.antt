@@ -123,8 +123,3 @@ module _ {V : Type 0} (handling : Handling V) where
   abbrev pub RunsTo : Start V → Option (List ℕ) → Option (List ℕ) → V → LineLoopValue → Option (Result Counts RunFault) → Type 0
   RunsTo start left written machine run None = Stands start left written machine run
   RunsTo start left written machine run (Some ended) = HasEnded start left written machine ended
-
--- the end of an input, if its bytes are known
-abbrev pub at_end : Option (List ℕ) → Option (List ℕ)
-at_end None = None
-at_end (Some script) = Some []

@@ -1,12 +1,13 @@
 //! The line loop: a machine that takes what its input has at hand, answers it line by line, and writes as much as its output
 //! takes. It waits for neither.
 
-ghost use Rattle.std.specs.Prelude.{◌≡◌, ◌⊎◌, ◌+◌, ◌<◌, ◌≤◌, ℕ, List, [], Option, true, false, ◌≢◌, IfOk};
+ghost use Rattle.std.specs.Prelude.{◌≡◌, ◌⊎◌, ◌+◌, ◌<◌, ◌≤◌, ℕ, List, [], Option, Some, true, false, ◌≢◌, IfOk, IfSome, OnSome};
+ghost use Rattle.std.specs.Io.KnownBytes.{IsAtEnd};
 ghost use Rattle.pn_line.specs.Prelude.{so_far};
 ghost use Rattle.pn_line.specs.declared.line_buffer.TheConstants.{ENDLESS};
 ghost use Rattle.pn_serve.specs.Lines.Bounds.{CountsUnits, Foresees, ForeseesStep, HandsOnAtMost, HandsOnStep, IsIdleAt, IsOutAs, WorksOn};
 ghost use Rattle.pn_serve.specs.Lines.States.{Start, new_loop, waits_in};
-ghost use Rattle.pn_serve.specs.Lines.Stepping.{at_end, by, with_rest, Stands, StepsTo};
+ghost use Rattle.pn_serve.specs.Lines.Stepping.{by, with_rest, Stands, StepsTo};
 ghost use Rattle.pn_serve.specs.Lines.Taking.{HasReply, Takes};
 ghost use Rattle.pn_protocol.specs.declared.reply.Reply.{Reply};
 ghost use Rattle.pn_serve.specs.declared.script.replies.TheConstants.{REPLY_CAPACITY};
@@ -83,6 +84,7 @@ impl LineLoop {
         ensures works { self.old.state.left ≢ [] → WorksOn self.old self.new result }
         ensures looks { S.looks input.new ≤ S.looks input.old + 1 }
         ensures end { result ≡ Step.NoInput → S.may_end }
+        ensures at_end { result ≡ Step.NoInput → OnSome (S.left input.old) (IsAtEnd (S.left input.new)) }
         ensures room { result ≡ Step.NoRoom → W.may_fail }
         ensures foresees { Foresees S.may_fail W.may_fail self.old → ForeseesStep S.may_fail W.may_fail self.new result }
         ensures knows { KnowsNoLess (M.reader machine.old) (M.reader machine.new) }
@@ -103,8 +105,8 @@ impl LineLoop {
         requires reading { self.old.state.stage ≡ Stage.Reading }
         requires idle { waits_in self.old ≡ [] }
         requires below { self.old.line.count < ENDLESS }
-        ensures stands { (start : Start M) (written : Option (List ℕ)) → IsSteady M.reader M.moves → Stands (by M.moves M.makes M.ends M.goes M.goes_last) start (at_end start.left) written machine.old self.old
-            → Stands (by M.moves M.makes M.ends M.goes M.goes_last) start (at_end start.left) written machine.new self.new }
+        ensures stands { (start : Start M) (left written : Option (List ℕ)) → IsSteady M.reader M.moves → IfSome start.left (λ _. left ≡ Some []) → Stands (by M.moves M.makes M.ends M.goes M.goes_last) start left written machine.old self.old
+            → Stands (by M.moves M.makes M.ends M.goes M.goes_last) start left written machine.new self.new }
         ensures some { self.old.line.count ≢ 0 → Takes true (record self.old { line = so_far []; state = record self.old.state { last = true } }) self.new }
         ensures none { self.old.line.count ≡ 0 → (reply : Reply) × HasReply false (record self.old { line = so_far []; state = record self.old.state { last = true } }) reply self.new }
         ensures knows { KnowsNoLess (M.reader machine.old) (M.reader machine.new) }

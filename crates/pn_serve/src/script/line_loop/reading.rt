@@ -1,6 +1,7 @@
 //! How a line loop takes what its input has at hand.
 
-ghost use Rattle.std.specs.Prelude.{◌≡◌, ◌⊎◌, ◌+◌, ◌≤◌, ◌<◌, ℕ, List, [], Option, Err};
+ghost use Rattle.std.specs.Prelude.{◌≡◌, ◌⊎◌, ◌+◌, ◌≤◌, ◌<◌, ℕ, List, [], Option, Err, OnSome};
+ghost use Rattle.std.specs.Io.KnownBytes.{IsAtEnd};
 ghost use Rattle.pn_serve.specs.Lines.Bounds.{CountsUnits, Foresees, ForeseesStep, HandsOnAtMost, HandsOnStep, IsIdleAt, IsOutAs};
 ghost use Rattle.pn_serve.specs.Lines.States.{Start};
 ghost use Rattle.pn_serve.specs.Lines.Stepping.{by, with_rest, Stands, StepsTo};
@@ -35,6 +36,7 @@ impl LineLoop {
         ensures counted { CountsUnits self.old self.new result }
         ensures looks { S.looks input.new ≤ S.looks input.old + 1 }
         ensures end { result ≡ Step.NoInput → S.may_end }
+        ensures at_end { result ≡ Step.NoInput → OnSome (S.left input.old) (IsAtEnd (S.left input.new)) }
         ensures room { result ≡ Step.NoRoom → W.may_fail }
         ensures foresees { Foresees S.may_fail W.may_fail self.old → ForeseesStep S.may_fail W.may_fail self.new result }
         ensures knows { KnowsNoLess (M.reader machine.old) (M.reader machine.new) }
@@ -76,6 +78,7 @@ impl LineLoop {
         ensures counted { CountsUnits self.old self.new result }
         ensures looks { S.looks input.new ≤ S.looks input.old + 1 }
         ensures end { result ≡ Step.NoInput → S.may_end }
+        ensures at_end { result ≡ Step.NoInput → OnSome (S.left input.old) (IsAtEnd (S.left input.new)) }
         ensures room { result ≡ Step.NoRoom → W.may_fail }
         ensures foresees { ForeseesStep S.may_fail W.may_fail self.new result }
         ensures knows { KnowsNoLess (M.reader machine.old) (M.reader machine.new) }

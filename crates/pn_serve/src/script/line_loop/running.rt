@@ -1,11 +1,11 @@
 //! A line loop whose input and output do not wait: what they have not at hand will not come.
 
-ghost use Rattle.std.specs.Prelude.{◌≡◌, ◌↔◌, ◌+◌, ◌<◌, ◌≤◌, ℕ, List, Option, None, IfOk, IfErr, OnErr, IsTrue};
+ghost use Rattle.std.specs.Prelude.{◌≡◌, ◌≢◌, ◌↔◌, ◌+◌, ◌<◌, ◌≤◌, ℕ, List, [], Option, None, Some, IfOk, IfErr, IfSome, OnErr, IsTrue};
 ghost use Rattle.std.specs.Io.KnownBytes.{Appends};
 ghost use Rattle.pn_line.specs.Prelude.{AppendsPrefix};
-ghost use Rattle.pn_serve.specs.Lines.Bounds.{ForeseesRun, Foresees, HandsOnRun, IsOutAs, IsSettled, looks_left, reads_left};
+ghost use Rattle.pn_serve.specs.Lines.Bounds.{ForeseesRun, Foresees, HandsOnRun, IsIdleAt, IsOutAs, IsSettled, looks_left, reads_left};
 ghost use Rattle.pn_serve.specs.Lines.States.{Start, waits_in};
-ghost use Rattle.pn_serve.specs.Lines.Stepping.{by, with_rest, RunsTo, Stands};
+ghost use Rattle.pn_serve.specs.Lines.Stepping.{by, RunsTo, Stands, StepsTo};
 ghost use Rattle.pn_serve.specs.Lines.Waiting.{HandsOn};
 ghost use Rattle.pn_serve.specs.Session.Knowing.{IsSteady, KnowsNoLess};
 
@@ -30,8 +30,8 @@ impl LineLoop {
     ) -> Ended
         requires ready { M.ready }
         requires settled { IsSettled self.old }
-        ensures runs { (start : Start M) (rest : Option (List ℕ)) → IsSteady M.reader M.moves → Stands (by M.moves M.makes M.ends M.goes M.goes_last) start (with_rest (S.left input.old) rest) (W.contents output.old) machine.old self.old
-            → RunsTo (by M.moves M.makes M.ends M.goes M.goes_last) start (with_rest (S.left input.new) rest) (W.contents output.new) machine.new self.new result }
+        ensures runs { (start : Start M) → IsSteady M.reader M.moves → Stands (by M.moves M.makes M.ends M.goes M.goes_last) start (S.left input.old) (W.contents output.old) machine.old self.old
+            → RunsTo (by M.moves M.makes M.ends M.goes M.goes_last) start (S.left input.new) (W.contents output.new) machine.new self.new result }
         ensures settled { result ≡ None → IsSettled self.new }
         ensures reads { result ≡ None → reads_left self.new < reads_left self.old }
         ensures looks { S.looks input.new + looks_left self.new ≤ S.looks input.old + looks_left self.old }
@@ -54,7 +54,14 @@ impl LineLoop {
         machine: &mut M,
         input: &mut S,
         output: &mut W,
-    ) -> Ended {
+    ) -> Ended
+        requires ready { M.ready }
+        ensures runs { (start : Start M) → IsSteady M.reader M.moves → Stands (by M.moves M.makes M.ends M.goes M.goes_last) start (S.left input.old) (W.contents output.old) machine.old self.old
+            → RunsTo (by M.moves M.makes M.ends M.goes M.goes_last) start (S.left input.new) (W.contents output.new) machine.new self.new result }
+        ensures settled { result ≡ None → IsSettled self.new }
+        ensures looks { input.new ≡ input.old }
+        ensures knows { KnowsNoLess (M.reader machine.old) (M.reader machine.new) }
+    {
         'looks: loop {
             let ended = self.write_out(machine, input, output);
             if ended.is_some() || !self.state.is_looking() {
@@ -74,7 +81,15 @@ impl LineLoop {
         machine: &mut M,
         input: &mut S,
         output: &mut W,
-    ) -> Ended {
+    ) -> Ended
+        requires ready { M.ready }
+        ensures runs { (start : Start M) → IsSteady M.reader M.moves → Stands (by M.moves M.makes M.ends M.goes M.goes_last) start (S.left input.old) (W.contents output.old) machine.old self.old
+            → RunsTo (by M.moves M.makes M.ends M.goes M.goes_last) start (S.left input.new) (W.contents output.new) machine.new self.new result }
+        ensures made { result ≡ None → self.new.state.left ≡ [] }
+        ensures stage { result ≡ None → self.new.state.stage ≡ self.old.state.stage }
+        ensures looks { input.new ≡ input.old }
+        ensures knows { KnowsNoLess (M.reader machine.old) (M.reader machine.new) }
+    {
         'pieces: while self.state.has_text() {
             let step = self.step(machine, input, output, TURN_UNITS);
             let ended = self.end_after(step, machine);
@@ -87,7 +102,14 @@ impl LineLoop {
 
     /// How a loop ends whose input and output do not wait, after a step: an input with no more at hand is at its end, and an output
     /// that takes no more for now has failed.
-    fn end_after<M: LineHandler>(&mut self, step: Step, machine: &mut M) -> Ended {
+    fn end_after<M: LineHandler>(&mut self, step: Step, machine: &mut M) -> Ended
+        requires ready { M.ready }
+        requires idle { IsIdleAt step self.old }
+        ensures runs { (start : Start M) (left written : Option (List ℕ)) → IsSteady M.reader M.moves → (step ≡ Step.NoInput → IfSome start.left (λ _. left ≡ Some []))
+            → StepsTo (by M.moves M.makes M.ends M.goes M.goes_last) start left written machine.old self.old step → RunsTo (by M.moves M.makes M.ends M.goes M.goes_last) start left written machine.new self.new result }
+        ensures same { step ≢ Step.NoInput → self.new ≡ self.old }
+        ensures knows { KnowsNoLess (M.reader machine.old) (M.reader machine.new) }
+    {
         match step {
             Step::Next(_) => None,
             Step::NoInput => {
