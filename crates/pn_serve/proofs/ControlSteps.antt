@@ -27,7 +27,7 @@ use Rattle.pn_protocol.specs.declared.command.Command.TheVariants as words
 use Rattle.pn_protocol.specs.declared.refusal.Refusal.{Refusal}
 use Rattle.pn_protocol.specs.declared.refusal.Refusal.TheVariants.{TooLong, NotJson, BadShape, ReadOnly, OutOfRange, Memory}
 use Rattle.pn_protocol.specs.declared.reply.Reply.{Reply}
-use Rattle.pn_protocol.specs.declared.reply.Reply.TheVariants.{Adopted, Changed, Copied, Lost, Relaid, Stopping, Silent, Text, Refused, NotTaken}
+use Rattle.pn_protocol.specs.declared.reply.Reply.TheVariants.{Adopted, Changed, Copy, Lost, Page, Record, Records, Relaid, Stopping, Silent, Text, Refused, NotTaken}
 use Rattle.pn_protocol.specs.declared.reply.refusals.CommandFault.TheVariants.{CopyText}
 use Rattle.pn_serve.specs.Control.Commands.{said_by}
 use Rattle.pn_serve.specs.Control.Steps.{AdoptsRead, ObeysControl, ObeysScript, RepliesWith, Says, ShowsCounts, StepsAs, StepsBy, StepsLast, Lasts}
@@ -60,7 +60,10 @@ pub read_fault : (text : List ℕ) (why : CopyTextFault) (shown : Reply) → (wh
 read_fault text why (NotTaken said) is refuses = inl (subst (λ (r : Result TabletCopyValue CopyTextFault). AdoptsRead r (Replies (NotTaken said))) (sym (is refuses.0)) refuses)
 read_fault text why (Adopted tablet) is refuses = inr (ap Replies refuses)
 read_fault text why (Changed count) is refuses = inr (ap Replies refuses)
-read_fault text why (Copied lines copied) is refuses = inr (ap Replies refuses)
+read_fault text why (Copy copy) is refuses = inr (ap Replies refuses)
+read_fault text why (Page page) is refuses = inr (ap Replies refuses)
+read_fault text why (Record key cell) is refuses = inr (ap Replies refuses)
+read_fault text why (Records keys cells) is refuses = inr (ap Replies refuses)
 read_fault text why (Lost tablet) is refuses = inr (ap Replies refuses)
 read_fault text why (Relaid count) is refuses = inr (ap Replies refuses)
 read_fault text why (Stopping seconds) is refuses = inr (ap Replies refuses)

@@ -13,7 +13,7 @@ use Rattle.pn_serve.specs.declared.script.line_loop.state.Stage.TheVariants.{Loo
 use Rattle.pn_serve.specs.declared.sessions.going.Going.{Going}
 use Rattle.pn_serve.specs.Lines.States.{LineLoopValue, Start, waits_in}
 use Rattle.pn_serve.specs.Lines.After.{After}
-use Rattle.pn_serve.specs.Lines.Stepping.{BeginsLast, BeginsLine, Handling, HasEnded, IsLooking, Makes, MakesLast, StandsAt, at_end}
+use Rattle.pn_serve.specs.Lines.Stepping.{BeginsLast, BeginsLine, Handling, HasEnded, IsLooking, Makes, MakesLast, StandsAt}
 use Rattle.pn_serve.specs.Lines.Replies.{texts_of}
 use Rattle.pn_serve.specs.Lines.Stopped.{Cut}
 use Rattle.pn_serve.proofs.Serving.{answer_push, texts_push, stays}

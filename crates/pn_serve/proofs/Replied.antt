@@ -20,14 +20,14 @@ use Rattle.pn_serve.specs.declared.sessions.going.Going.{Going}
 use Rattle.pn_serve.specs.Lines.Served.{IsShort, AllAnswered}
 use Rattle.pn_serve.specs.Lines.States.{LineLoopValue, Start, waiting_in, waits_in}
 use Rattle.pn_serve.specs.Lines.After.{After}
-use Rattle.pn_serve.specs.Lines.Stepping.{EndsOnceSent, Handling, IsLooking, IsReading, Makes, MakesLast, Stands, StandsAt, at_end}
+use Rattle.pn_serve.specs.Lines.Stepping.{EndsOnceSent, Handling, IsLooking, IsReading, Makes, MakesLast, Stands, StandsAt}
 use Rattle.pn_serve.specs.Lines.Taking.{HasReply, stage_after}
 use Rattle.pn_serve.specs.Script.Written.{one_if}
 use Rattle.pn_serve.proofs.Serving.{AllAnswered-line, all_ended, refusals_fit, few_lines, stays}
 use Rattle.pn_serve.proofs.Stopping.{Cut_end, no_part}
 use Rattle.pn_serve.proofs.Standing.{at_told, one_more-is}
 
-cons_nil : (b : ℕ) (bs : List ℕ) → b ∷ bs ≡ [] → ⊥
+pub cons_nil : (b : ℕ) (bs : List ℕ) → b ∷ bs ≡ [] → ⊥
 cons_nil b bs is = cc
 
 pub true_false : true ≡ false → ⊥

@@ -26,7 +26,7 @@ use Rattle.pn_serve.specs.Script.Written.{one_if}
 use Rattle.pn_serve.proofs.Serving.{OnTold, of_known, stays}
 use Rattle.pn_serve.proofs.Stopping.{Broken_here, Cut_here, Exceeded_bytes, Exceeded_lines}
 use Rattle.pn_serve.proofs.Standing.{EndsOnceSent-untold, LinesRead-end, PartRead-more, at_told, at_untold, no_length, told_or}
-use Rattle.pn_serve.proofs.Replied.{PartRead-kept, Stands-begun, Stands-begun_last, Stands-ended, Stands-replied, one_last, shown_at, shown_part, true_false}
+use Rattle.pn_serve.proofs.Replied.{cons_nil, PartRead-kept, Stands-begun, Stands-begun_last, Stands-ended, Stands-replied, one_last, shown_at, shown_part, true_false}
 
 module _ {V : Type 0} (handling : Handling V) (pre : IsPreorder handling.moves) (start : Start V) where
   -- a fault ends the loop once all is sent
