@@ -3,7 +3,7 @@ use Rattle.std.proofs.Common.{◌≡◌, ℕ, List, [], ◌∷◌, inl, inr, ref
 use Rattle.std.specs.Prelude.{Result, Ok, Err}
 use Rattle.pn_tablet.specs.Layouts.{tablet_of}
 use Rattle.pn_scan.specs.Candidates.{Look}
-use Rattle.pn_scan.specs.Paging.{AreMade, Gaps, LookMade, LooksAfter, Moving, Stays}
+use Rattle.pn_scan.specs.Paging.{AreMade, Gaps, IsPreorder, LookMade, LooksAfter, Moving, Stays}
 use Rattle.pn_scan.specs.Views.{Looks}
 use Rattle.pn_live.specs.Readers.{LiveReaderValue, LooksLive}
 use Rattle.pn_live.proofs.Knowing.{all_know_themselves, all_know_on, looks_know, looks_same}
@@ -28,6 +28,10 @@ knows_on a b c p q = record {
   tablets = q.tablets ∙ p.tablets;
   known = all_know_on a.tablet_readers b.tablet_readers c.tablet_readers p.known q.known;
 }
+
+-- what others do with a reader between two looks may be nothing, and may go on
+pub knows_preorder : IsPreorder KnowsNoLess
+knows_preorder = record { stays = knows_itself; goes_on = knows_on }
 
 pub knows_same : (old new : LiveReaderValue) → new ≡ old → KnowsNoLess old new
 knows_same old new same = subst (KnowsNoLess old) (sym same) (knows_itself old)
