@@ -23,8 +23,8 @@ PREFIX ?= /usr/local
 DESTDIR ?=
 DEBS ?= out
 
-# The tests of live regions, of which one is run with each of its allocations refused.
-LIVE := crates/test_live/out/test_live_tests
+# The program of the cases of live regions, of which one is run with each of its allocations refused.
+LIVE := crates/test_serving/out/test_serving
 
 # The program that answers many scripts in one input.
 SCRIPTS := crates/test_rows/out/test_rows
@@ -77,7 +77,7 @@ $(SCRIPTS): $(SOURCES)
 	@cd crates/test_rows && rt run < stdin > /dev/null
 
 $(LIVE): $(SOURCES)
-	@cd crates/test_live && rt test > /dev/null
+	@cd crates/test_serving && rt run < stdin > /dev/null
 
 # Gathers the licences of the kit's libraries that the program links. Without the toolchain those of before stay.
 licences:

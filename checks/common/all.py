@@ -2,7 +2,7 @@
 
   checks/run all PROGRAM SCRIPTS LIVE [--soak SECONDS] [--only NAME]...
 
-SCRIPTS is the program of crates/test_rows, LIVE that of the tests of live regions. Parts that take one processor run beside one
+SCRIPTS is the program of crates/test_rows, LIVE that of crates/test_serving. Parts that take one processor run beside one
 another, and then each of the others alone. Exit status 0 where each part holds, or is skipped for what the machine lacks.
 """
 from common.parts import RUN, Part, run_parts

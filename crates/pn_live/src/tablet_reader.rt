@@ -2,7 +2,7 @@
 
 ghost use Rattle.std.specs.Prelude.{◌≡◌, MatchResult, Option};
 ghost use Rattle.pn_tablet.specs.Prelude.{TabletStateValue};
-ghost use Rattle.pn_scan.specs.Prelude.{rows_at, cell_at};
+ghost use Rattle.pn_scan.specs.Prelude.{rows_at, cell_at, part_at};
 ghost use Rattle.pn_live.specs.Copying.{IsOneCopy};
 ghost use Rattle.pn_live.specs.Counting.{IsOneCount};
 ghost use Rattle.pn_live.specs.Looks.{IsOneLook, left_by};
@@ -108,14 +108,21 @@ impl TabletReader {
     }
 
     /// The first `room` rows that a query shows in the state that one entry finds, as `part_of`; `NoEntry` where
-    /// the entry is refused.
-    pub fn part(&mut self, alloc: Global, tablet: usize, query: &Query, room: usize) -> PartResult
-        ensures { (found : Option TabletStateValue) × IsOneLook self.old self.new (λ part. (part.0.items, part.1)) result (rows_at query.now room) tablet found }
+    /// the entry is refused. The entry looks at `records` records at most.
+    pub fn part(
+        &mut self,
+        alloc: Global,
+        tablet: usize,
+        query: &Query,
+        room: usize,
+        records: usize,
+    ) -> PartResult
+        ensures { (found : Option TabletStateValue) × IsOneLook self.old self.new (part_at query.now) result (rows_at query.now room) tablet found }
     {
         replace_with(
             self,
             query,
-            |reader, query| reader.look_up_part(alloc, tablet, query, room),
+            |reader, query| reader.look_up_part(alloc, tablet, query, room, records),
         )
     }
 
@@ -125,12 +132,13 @@ impl TabletReader {
         tablet: usize,
         query: &Query,
         room: usize,
+        records: usize,
     ) -> (TabletReader, PartResult)
-        ensures { (found : Option TabletStateValue) × IsOneLook self result.0 (λ part. (part.0.items, part.1)) result.1 (rows_at query.now room) tablet found }
+        ensures { (found : Option TabletStateValue) × IsOneLook self result.0 (part_at query.now) result.1 (rows_at query.now room) tablet found }
     {
         match self.enter() {
             Ok(guard) => {
-                let answer = part_of(alloc, guard.state(), tablet, query, room);
+                let answer = part_of(alloc, guard.state(), tablet, query, room, records);
                 (TabletReader::leave(guard), answer)
             }
             Err(reader) => (reader, Err(ScanFault::NoEntry)),

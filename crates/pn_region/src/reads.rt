@@ -25,8 +25,16 @@ impl View for &Region {
         Region::layout(self)
     }
 
-    fn part(&mut self, alloc: Global, tablet: usize, query: &Query, room: usize) -> PartResult {
-        part_of(alloc, self.state(tablet), tablet, query, room)
+    // The tablets stay, so no look is cut short.
+    fn part(
+        &mut self,
+        alloc: Global,
+        tablet: usize,
+        query: &Query,
+        room: usize,
+        _records: usize,
+    ) -> PartResult {
+        part_of(alloc, self.state(tablet), tablet, query, room, usize::MAX)
     }
 
     fn cell(&mut self, key: &Key) -> Result<Option<Cell>, ScanFault> {

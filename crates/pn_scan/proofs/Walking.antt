@@ -17,11 +17,11 @@ use Rattle.pn_tablet.specs.Ranges.{is_below, is_from, is_before}
 use Rattle.pn_scan.specs.Queries.{QueryValue}
 use Rattle.pn_scan.specs.Shown.{is_after, is_asked, is_shown, has_shown, shown_rows}
 
-and_mid : (a b c : Bool) → b ≡ false → (a && b && c) ≡ false
+pub and_mid : (a b c : Bool) → b ≡ false → (a && b && c) ≡ false
 and_mid true b c p = ap (λ x. x && c) p
 and_mid false b c p = refl
 
-and_first : (a b c : Bool) → a ≡ false → (a && b && c) ≡ false
+pub and_first : (a b c : Bool) → a ≡ false → (a && b && c) ≡ false
 and_first a b c p = ap (λ x. x && b && c) p
 
 and_last : (a b c : Bool) → c ≡ false → (a && b && c) ≡ false
@@ -49,7 +49,7 @@ pub hidden_first : (q : QueryValue) (e : List ℕ × CellValue) (es : Entries) �
 hidden_first q e es hidden = ap (λ b. cond b (e ∷ shown_rows q es) (shown_rows q es)) hidden
 
 -- a key above one that is not below the end is not below it either
-past_end : (to : Option (List ℕ)) (key other : List ℕ) → bytes_cmp key other ≡ Less → is_before to key ≡ false → is_before to other ≡ false
+pub past_end : (to : Option (List ℕ)) (key other : List ℕ) → bytes_cmp key other ≡ Less → is_before to key ≡ false → is_before to other ≡ false
 past_end None key other rises past = past
 past_end (Some to) key other rises past =
     elim (is_below other to) as (λ b. is_below other to ≡ b → b ≡ false) [
@@ -82,7 +82,7 @@ none_lesser key low (e ∷ es) above below =
     omega (arith, lesser-cons key e es false above_too, none_lesser key low es above below.1)
 
 -- where no key less than this one is shown, the walk may begin at it
-begin_past : (q : QueryValue) (key : List ℕ) (es : Entries) (n : ℕ) → ((e : List ℕ × CellValue) → is_below e.0 key ≡ true → is_shown q e ≡ false)
+pub begin_past : (q : QueryValue) (key : List ℕ) (es : Entries) (n : ℕ) → ((e : List ℕ × CellValue) → is_below e.0 key ≡ true → is_shown q e ≡ false)
     → Rising bytes_cmp es → n ≤ lesser key es → shown_rows q (drop n es) ≡ shown_rows q es
 begin_past q key es zero hidden rising few = refl
 begin_past q key [] (suc n) hidden rising few = refl
@@ -127,7 +127,7 @@ begin_there q es a b rising is_a is_b =
 abbrev pub NoneBelow : Option (List ℕ) → Entries → Type 0
 NoneBelow end es = AllByRecursion (λ e. is_from end e.0 ≡ true) es
 
-open_below : (es : Entries) → NoneBelow None es
+pub open_below : (es : Entries) → NoneBelow None es
 open_below [] = tt
 open_below (e ∷ es) = (refl, open_below es)
 

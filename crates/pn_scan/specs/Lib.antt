@@ -1,8 +1,11 @@
 pub mod Candidates
+pub mod Coding
 pub mod ConditionReading
 pub mod ConditionWords
 pub mod Conditions
 pub mod Pages
+pub mod Paging
+pub mod Parts
 pub mod Prelude
 pub mod Queries
 pub mod QueryJson
@@ -12,4 +15,6 @@ pub mod Shown
 pub mod UncheckedQueries
 pub mod Views
 pub mod Visits
+pub mod WalkValues
+pub mod Walking
 pub mod Walks

@@ -1,24 +1,26 @@
 //! Reads of one tablet.
 
-ghost use Rattle.std.specs.Prelude.{◌≡◌, true, take, drop, length, count_by, nat_lt, Some, IfOk, IsTrue};
+ghost use Rattle.std.specs.Prelude.{◌≡◌, ◌≤◌, [], true, drop, length, count_by, Some, IfOk, IsTrue};
 ghost use Rattle.std.specs.FinMap.{is_sorted};
 ghost use Rattle.std.specs.Option.{option_copied, option_map_or};
 ghost use Rattle.std.specs.List.{AllByRecursion};
 ghost use Rattle.std.specs.Ordering.{is_lt};
 ghost use Rattle.pn_scan.specs.Pages.{refusal, unless};
+ghost use Rattle.pn_scan.specs.Parts.{part_at, walk_answer};
 ghost use Rattle.pn_scan.specs.Views.{Answers, rows_at, cell_at};
 ghost use Rattle.pn_scan.specs.Shown.{shown_rows};
 ghost use Rattle.pn_record.specs.Prelude.{bytes_cmp};
 ghost use Rattle.pn_tablet.specs.Prelude.{is_from};
 
-use crate::filter::is_shown;
-use crate::{PartResult, Query, Row, ScanFault};
+use crate::walk::{PartWalk, Walked, walk_all, walk_some};
+use crate::{Part, PartResult, Query, Row, ScanFault};
 use pn_join::{Dup, NoMemory};
 use pn_record::{Cell, Key, Records};
 use pn_tablet::{Status, TabletState, is_before};
 use std::alloc::Global;
 
-/// The first `room` rows that a query shows of a tablet, and whether it shows more. It copies keys and shares contents.
+/// The first `room` rows that a query shows of a tablet, and whether it shows more. It copies keys and shares contents. It looks
+/// at `records` records at most; where that is not enough it takes the others by sharing them, and is to be gone on with.
 ///
 /// `Recovering`, with the number given, exactly where the tablet recovers.
 pub fn part_of(
@@ -27,11 +29,67 @@ pub fn part_of(
     tablet: usize,
     query: &Query,
     room: usize,
+    records: usize,
 ) -> PartResult
-    ensures { Answers (λ part. (part.0.items, part.1)) result (rows_at query.now room (tablet, Some state.now)) }
+    ensures { Answers (part_at query.now) result (rows_at query.now room (tablet, Some state.now)) }
 {
     check_serving(state, tablet)?;
-    Ok(first_rows(alloc, state.cells(), query, room)?)
+    Ok(begin_walk(alloc, state.cells(), query, room, records)?)
+}
+
+// A walk from the first key that may be shown, found by a search, to the end of the range, one row past the room, or past so many
+// records.
+fn begin_walk(
+    alloc: Global,
+    cells: &Records,
+    query: &Query,
+    room: usize,
+    records: usize,
+) -> Result<Part, NoMemory>
+    ensures { IfOk result (λ part. part_at query.now part ≡ walk_answer query.now (record { rows = []; rest = cells.now; room = room })) }
+{
+    let mut rows = Vec::with_capacity(alloc, room.min(cells.len()))?;
+    let index = first_index(cells, query);
+    prefetch_cells(cells, index, query, room.min(records));
+    match walk_some(cells, index, query, room, records, &mut rows)? {
+        Walked::All(more, looked) => Ok(Part::Done(rows, more, looked)),
+        Walked::To(next) => take_rest(cells, next, query, rows, room),
+    }
+}
+
+// Takes the records from an index on that may be shown. Where there is no memory to share them it looks at them at once.
+fn take_rest(
+    cells: &Records,
+    index: usize,
+    query: &Query,
+    rows: Vec<Row>,
+    room: usize,
+) -> Result<Part, NoMemory>
+    requires index { index ≤ length cells.now }
+    requires few { length rows.items ≤ room }
+    requires from { AllByRecursion (λ e. is_from query.now.from e.0 ≡ true) (drop index cells.now) }
+    ensures { IfOk result (λ part. part_at query.now part ≡ walk_answer query.now (record { rows = rows.items; rest = drop index cells.now; room = room })) }
+{
+    let mut rows = rows;
+    match cells.slice(index, end_of_range(cells, query).max(index)) {
+        Ok(rest) => Ok(Part::Rest(PartWalk::new(rest, rows, room))),
+        Err(_) => {
+            let more = walk_all(cells, index, query, room, &mut rows)?;
+            Ok(Part::Done(rows, more, cells.len() - index))
+        }
+    }
+}
+
+// How many records are below the end of a query.
+fn end_of_range(cells: &Records, query: &Query) -> usize
+    ensures within { result ≤ length cells.now }
+    ensures shown { shown_rows query.now (drop result cells.now) ≡ [] }
+{
+    cells.recall_order();
+    match query.to() {
+        Some(to) => cells.lower_bound(to),
+        None => cells.len(),
+    }
 }
 
 /// The cell of a key in a tablet, if it has one. It shares contents.
@@ -56,33 +114,6 @@ fn check_serving(state: &TabletState, tablet: usize) -> Result<(), ScanFault>
     }
 }
 
-// A walk from the first key that may be shown, found by a search, to the end of the range or one row past the room.
-fn first_rows(
-    alloc: Global,
-    cells: &Records,
-    query: &Query,
-    room: usize,
-) -> Result<(Vec<Row>, bool), NoMemory>
-    ensures { IfOk result (λ part. (part.0.items ≡ take room (shown_rows query.now cells.now))
-        × (part.1 ≡ nat_lt room (length (shown_rows query.now cells.now)))) }
-{
-    let mut rows = Vec::with_capacity(alloc, room.min(cells.len()))?;
-    let index = first_index(cells, query);
-    prefetch_cells(cells, index, query, room);
-    for (key, cell) in cells.iter_from(index) {
-        if !is_before(query.to(), key) {
-            return Ok((rows, false));
-        }
-        if is_shown(query, key, cell) {
-            if rows.len() == room {
-                return Ok((rows, true));
-            }
-            rows.push(row_of(key, cell)?)?;
-        }
-    }
-    Ok((rows, false))
-}
-
 // Prefetches the counters that copies of the cells raise. No clause depends on it.
 fn prefetch_cells(cells: &Records, index: usize, query: &Query, room: usize) {
     for (key, cell) in cells.iter_from(index).take(room) {
@@ -102,7 +133,7 @@ fn first_index(cells: &Records, query: &Query) -> usize
     index_of(cells, query.from()).max(index_of(cells, query.after()))
 }
 
-fn index_of(cells: &Records, key: Option<&Key>) -> usize
+pub(crate) fn index_of(cells: &Records, key: Option<&Key>) -> usize
     ensures index { result ≡ option_map_or (λ key. count_by (λ e. is_lt (bytes_cmp e.0 key)) cells.now) (option_copied key.entry) 0 }
 {
     match key {
@@ -111,7 +142,7 @@ fn index_of(cells: &Records, key: Option<&Key>) -> usize
     }
 }
 
-fn row_of(key: &Key, cell: &Cell) -> Result<Row, NoMemory>
+pub(crate) fn row_of(key: &Key, cell: &Cell) -> Result<Row, NoMemory>
     ensures { IfOk result (λ row. row ≡ (key.now, cell.now)) }
 {
     Ok(Row {

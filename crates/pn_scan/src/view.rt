@@ -3,9 +3,10 @@
 ghost use Rattle.std.specs.Prelude.{◌≡◌, ◌≤◌, Option, length};
 ghost use Rattle.pn_tablet.specs.Prelude.{Bounds, tablet_of, TabletStateValue};
 ghost use Rattle.pn_scan.specs.Candidates.{Look};
+ghost use Rattle.pn_scan.specs.Parts.{part_at};
 ghost use Rattle.pn_scan.specs.Views.{LooksOnce, rows_at, cell_at};
 
-use crate::{Query, ScanFault};
+use crate::{Part, Query, ScanFault};
 use pn_record::{Cell, Key};
 use pn_tablet::Layout;
 use std::alloc::Global;
@@ -39,8 +40,8 @@ pub struct Page {
     pub next: Option<Query>,
 }
 
-/// The first rows that a query shows of a tablet, and whether it shows more; or why none were read.
-pub type PartResult = Result<(Vec<Row>, bool), ScanFault>;
+/// What a look into a tablet has of its answer; or why none was made.
+pub type PartResult = Result<Part, ScanFault>;
 
 /// A view of the tablets of a layout, each read at one moment of its own. Between two reads tablets and view may
 /// change; the layout stays.
@@ -56,13 +57,20 @@ pub trait View {
         ensures { result.now ≡ bounds self.now };
 
     /// The first `room` rows that a query shows of a tablet, whose number is below the layout's count, and whether it
-    /// shows more.
+    /// shows more. A view of tablets that may change looks at `records` records, or at some more, and then takes the others with it.
     ///
     /// `Recovering` exactly where the tablet recovers, `NoEntry` exactly where the entry was refused. After an error
     /// the view stays usable.
-    fn part(&mut self, alloc: Global, tablet: usize, query: &Query, room: usize) -> PartResult
+    fn part(
+        &mut self,
+        alloc: Global,
+        tablet: usize,
+        query: &Query,
+        room: usize,
+        records: usize,
+    ) -> PartResult
         requires { tablet ≤ length (bounds self.old) }
-        ensures look { (found : Option TabletStateValue) × LooksOnce looks (bounds self.old) self.old self.new (λ part. (part.0.items, part.1)) result
+        ensures look { (found : Option TabletStateValue) × LooksOnce looks (bounds self.old) self.old self.new (part_at query.now) result
             (rows_at query.now room) (tablet, found) }
         ensures layout { bounds self.new ≡ bounds self.old };
 

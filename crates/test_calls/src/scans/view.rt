@@ -4,6 +4,7 @@ ghost use Rattle.std.specs.Prelude.{◌≡◌, Option, IfSome, IsTrue};
 ghost use Rattle.std.specs.Option.{option_copied};
 ghost use Rattle.pn_tablet.specs.Laws.{IsSpelled};
 ghost use Rattle.pn_tablet.specs.Tablets.{TabletStateValue, lie_in};
+ghost use Rattle.pn_scan.specs.Parts.{part_at};
 ghost use Rattle.pn_scan.specs.Views.{IsStateOf, IsFoundIn, Answers, rows_at, cell_at};
 
 use pn_record::{Cell, Key};
@@ -48,13 +49,20 @@ impl TakesTurns {
         }
     }
 
-    fn part_now(&self, alloc: Global, tablet: usize, query: &Query, room: usize) -> PartResult
+    fn part_now(
+        &self,
+        alloc: Global,
+        tablet: usize,
+        query: &Query,
+        room: usize,
+        records: usize,
+    ) -> PartResult
         ensures { (found : Option TabletStateValue)
             × IsFoundIn self.now.layout (tablet, found)
-            × Answers (λ part. (part.0.items, part.1)) result (rows_at query.now room (tablet, found)) }
+            × Answers (part_at query.now) result (rows_at query.now room (tablet, found)) }
     {
         match self.state(tablet) {
-            Some(state) => part_of(alloc, state, tablet, query, room),
+            Some(state) => part_of(alloc, state, tablet, query, room, records),
             None => Err(ScanFault::NoEntry),
         }
     }
@@ -102,9 +110,16 @@ impl View for TakesTurns {
         &self.layout
     }
 
-    fn part(&mut self, alloc: Global, tablet: usize, query: &Query, room: usize) -> PartResult {
+    fn part(
+        &mut self,
+        alloc: Global,
+        tablet: usize,
+        query: &Query,
+        room: usize,
+        records: usize,
+    ) -> PartResult {
         self.rooms = [self.rooms[1], room];
-        let part = self.part_now(alloc, tablet, query, room);
+        let part = self.part_now(alloc, tablet, query, room, records);
         mem::swap(&mut self.tablets, &mut self.others);
         part
     }

@@ -1,5 +1,6 @@
 -- The tablet was looked into.
 use Rattle.std.proofs.Common.{length, ◌≤◌, ap, arith}
+use Rattle.pn_scan.specs.Parts.{part_at}
 use Rattle.pn_scan.specs.Views.{rows_at}
 use Rattle.pn_live.specs.Readers.{LiveReaderValue}
 use Rattle.pn_live.proofs.Entering.{reader_within, still_tablet_readers, looked_once}
@@ -24,5 +25,5 @@ returns-clause-look c =
       c.part.ensures.0,
       rw (← c.self.view_is)
           (looked_once inside.layout inside.tablet_readers.items c.args.tablet c.index_mut.result.now c.part.new.self c.self.invariant few c.index_mut.ensures.value
-          (λ part. (part.0.items, part.1)) c.part.result (rows_at c.args.query.now c.args.room) c.part.ensures.0 c.part.ensures.1),
+          (part_at c.args.query.now) c.part.result (rows_at c.args.query.now c.args.room) c.part.ensures.0 c.part.ensures.1),
     )

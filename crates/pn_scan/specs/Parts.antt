@@ -1,0 +1,36 @@
+-- Looks into one tablet that are gone on with: each is shown by the answer that it comes to.
+use Rattle.std.specs.Prelude.{◌≤◌, ℕ, ◌+◌, Bool, nat_lt, List, [], ◌++◌, length, take, Option, None, Some}
+use Rattle.pn_record.specs.CellMap.{Entries}
+use Rattle.pn_scan.specs.Queries.{QueryValue}
+use Rattle.pn_scan.specs.Shown.{shown_rows}
+use Rattle.pn_scan.specs.WalkValues.{PartWalkValue}
+use Rattle.pn_scan.specs.declared.walk.Part.{Part}
+use Rattle.pn_scan.specs.declared.walk.Part.TheVariants.{Done, Rest}
+
+-- the first rows that a tablet shows, and whether it shows more
+abbrev pub PartValue : Type 0
+PartValue = Entries × Bool
+
+-- the answer that a look comes to
+abbrev pub walk_answer : QueryValue → PartWalkValue → PartValue
+walk_answer query walk = (take walk.room (walk.rows ++ shown_rows query walk.rest), nat_lt walk.room (length (walk.rows ++ shown_rows query walk.rest)))
+
+-- the answer that it has, or comes to
+abbrev pub part_at : QueryValue → Part → PartValue
+part_at query (Done rows more looked) = (rows.items, more)
+part_at query (Rest walk) = walk_answer query walk
+
+-- how many records are still to be looked at
+abbrev pub left_in : Part → ℕ
+left_in (Done rows more looked) = 0
+left_in (Rest walk) = length walk.rest
+
+-- nothing is left to look at
+abbrev pub IsDone : Part → Type 0
+IsDone (Done rows more looked) = Unit {0}
+IsDone (Rest walk) = ⊥
+
+-- of so many records that were left, at most so many were looked at
+abbrev pub LooksAtMost : ℕ → ℕ → Part → Type 0
+LooksAtMost records left (Done rows more looked) = looked ≤ records
+LooksAtMost records left (Rest walk) = left ≤ length walk.rest + records

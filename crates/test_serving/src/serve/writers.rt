@@ -1,0 +1,143 @@
+//! Streams whose writers are those of a line, one after another.
+//!
+//! `AFTER WRITER/WRITER/..` is a stream that was taken up to a position, and its writers. A writer is words: a number is the message at
+//! that position, a number and `-` the first half of its line, any other word a line that is no message.
+
+use crate::reading::{Script, push_message, read_into_region};
+use pn_join::{Name, NoMemory};
+use pn_line::InMemory;
+use pn_record::Key;
+use pn_region::Region;
+use pn_serve::{Counter, Stream};
+use std::alloc::{AllocError, Global};
+use std::sync::{Arc, Mutex, Wait};
+use std::test::Fail;
+use std::thread::Threads;
+use std::time::Clock;
+
+/// The one stream that is read, the notes of its writers, and how far it was taken.
+#[derive(Drop)]
+struct Noted<R: Wait + Clock + Copy> {
+    streams: Vec<Stream<Script<R>>>,
+    told: Arc<Mutex<String>>,
+    taken: Arc<Counter>,
+}
+
+/// How the stream of a line was read, how far it was taken, and the version of its record.
+pub(crate) fn read_writers<R>(rt: &R, alloc: Global, line: &str) -> Result<String, Fail>
+where
+    R: Threads + Wait + Clock + Sync + Copy + Send + Drop + 'static,
+{
+    let (after, writers) = line.split_once(' ').ok_or(NoMemory)?;
+    let after = after.parse::<u64>()?;
+    let writers = inputs(alloc, writers)?;
+    Ok(read_after(rt, alloc, after, writers).ok_or(NoMemory)?)
+}
+
+fn read_after<R>(
+    rt: &R,
+    alloc: Global,
+    after: u64,
+    writers: Vec<InMemory<'static>>,
+) -> Option<String>
+where
+    R: Threads + Wait + Clock + Sync + Copy + Send + Drop + 'static,
+{
+    let Noted {
+        streams,
+        told,
+        taken,
+    } = new_noted(rt, alloc, after, writers)?;
+    let (is_read, region) = read_into_region(rt, alloc, streams, None)?;
+    // How long a stream is read that begins past what was taken is a matter of time.
+    let told = if after > 0 {
+        String::from_str(alloc, "a gap")
+    } else {
+        String::from_str(alloc, told.lock(rt).as_str())
+    };
+    add_end(alloc, told.ok()?, is_read, taken.get(), &region)
+}
+
+fn new_noted<R: Wait + Clock + Copy>(
+    rt: &R,
+    alloc: Global,
+    after: u64,
+    writers: Vec<InMemory<'static>>,
+) -> Option<Noted<R>> {
+    let name = Name::read(b"east").ok()?;
+    let taken = Arc::new(alloc, Counter::new()).ok()?;
+    let counter = Arc::try_clone(&taken).ok()?;
+    let origin = Script::new(rt, alloc, writers, 0).ok()?;
+    let told = origin.notes().ok()?;
+    let mut streams = Vec::with_capacity(alloc, 1).ok()?;
+    streams
+        .push(Stream {
+            name,
+            after,
+            origin,
+            taken: Some(counter),
+        })
+        .ok()?;
+    Some(Noted {
+        streams,
+        told,
+        taken,
+    })
+}
+
+fn add_end(
+    alloc: Global,
+    told: String,
+    is_read: bool,
+    taken: u64,
+    region: &Region,
+) -> Option<String> {
+    let ended = if is_read { "ended" } else { "failed" };
+    let mark = region.marks().position(&Name::read(b"east").ok()?);
+    let number = number_in(alloc, region)?;
+    let mut text = told;
+    write!(
+        text,
+        ", {ended}, taken {taken}, mark {mark}, version {number}"
+    )
+    .ok()?;
+    Some(text)
+}
+
+// The number of the version of the record, or 0 where there is none.
+fn number_in(alloc: Global, region: &Region) -> Option<u64> {
+    let key = Key::of(alloc, "k").ok()?;
+    match region.read(&key, None) {
+        Ok(Some(cell)) => Some(cell.version().number),
+        Ok(None) => Some(0),
+        Err(_) => None,
+    }
+}
+
+// The last writer's input first.
+fn inputs(alloc: Global, writers: &str) -> Result<Vec<InMemory<'static>>, AllocError> {
+    let mut inputs = Vec::new(alloc);
+    for writer in writers.split('/') {
+        let text = text_of(alloc, writer)?;
+        inputs.push(InMemory::new(text.into_bytes().leak()))?;
+    }
+    inputs.reverse();
+    Ok(inputs)
+}
+
+fn text_of(alloc: Global, writer: &str) -> Result<String, AllocError> {
+    let mut text = String::new(alloc);
+    for word in writer.split_whitespace() {
+        push_line(&mut text, word)?;
+    }
+    Ok(text)
+}
+
+fn push_line(text: &mut String, word: &str) -> Result<(), AllocError> {
+    let digits = word.trim_end_matches('-');
+    match digits.parse::<u64>() {
+        Ok(at) if digits.len() < word.len() => write!(text, "{{\"at\":{at},\"image\":{{\"fie"),
+        Ok(at) => push_message(text, at, "k", at),
+        Err(_) => writeln!(text, "{word}"),
+    }
+}
