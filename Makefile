@@ -104,7 +104,7 @@ deb: $(PROVED) licences
 bench: build
 	@cd crates/pn_bench && rt run -- $$(< args) < stdin > /dev/null
 	@status=0; \
-	for it in run rounds sessions streams control; do "bench/$$it" "$(PROGRAM)" || status=1; done; \
+	for it in run rounds sessions streams control copies; do "bench/$$it" "$(PROGRAM)" || status=1; done; \
 	for it in live layouts; do "bench/$$it" "$(BENCH)" || status=1; done; \
 	bench/instructions "$(PROGRAM)"; \
 	exit $$status

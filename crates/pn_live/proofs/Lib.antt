@@ -26,3 +26,4 @@ pub mod HonestLists
 pub mod Joining
 pub mod Drafting
 pub mod Crossing
+pub mod Starting

@@ -14,6 +14,8 @@ pub mod CopyValues
 pub mod CopyWritten
 pub mod Counting
 pub mod Counts
+pub mod CutFaults
+pub mod CutRanges
 pub mod Drafting
 pub mod FaultCases
 pub mod FirstFaults

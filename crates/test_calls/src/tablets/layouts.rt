@@ -22,7 +22,8 @@ pub(crate) fn layout(alloc: Global, bounds: &str) -> Result<String, Fail> {
     }
 }
 
-fn ends(alloc: Global, layout: &Layout) -> Result<String, Fail> {
+/// The ends of each tablet of a layout.
+pub(crate) fn ends(alloc: Global, layout: &Layout) -> Result<String, Fail> {
     let mut text = String::new(alloc);
     for tablet in 0..layout.count() {
         let (from, to) = layout.range(tablet);

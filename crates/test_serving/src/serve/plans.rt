@@ -72,6 +72,9 @@ fn write_service(text: &mut String, service: &Service) -> Result<(), AllocError>
     if service.is_progress_told {
         write!(text, ", told")?;
     }
+    if let Some(path) = &service.copies {
+        write!(text, ", from {path}")?;
+    }
     Ok(())
 }
 
