@@ -209,7 +209,7 @@ gap_from from begin to rs end turn keyed rest equally is =
 pub no_copy : (from : Option (List ℕ)) (rs : List Ends) (end : Option (List ℕ)) → InTurnOrder rs → InOrder rs → Keyed rs → follow_from from rs ≡ Err (NoCopy end) → Gap from rs (begin_of end)
 unfolding follow_from
 no_copy from [] end turn order keyed is = subst (λ (e : Option (List ℕ)). Gap from [] (begin_of e)) (gap_end from end is) (gap_here from [] refl)
-no_copy from ((begin, None) ∷ rs) end turn order keyed is = gap_from from begin None rs end turn keyed.0.0 (ends_open rs) (λ open. absurd (open_no_gap rs end open)) is
+no_copy from ((begin, None) ∷ rs) end turn order keyed is = gap_from from begin None rs end turn keyed.0.0 (ends_open rs) (λ left. absurd (open_no_gap rs end left)) is
 no_copy from ((begin, Some to) ∷ rs) end turn order keyed is =
     gap_from from begin (Some to) rs end turn keyed.0.0 (follow_from (Some to) rs)
     (λ later. gap_more begin to rs (begin_of end) order.0 (before_gap to rs end (order_tail (begin, Some to) rs turn) later) (no_copy (Some to) rs end (order_tail (begin, Some to) rs turn) order.1 keyed.1 later))
