@@ -1,14 +1,13 @@
 -- Gets that are gone on with, key by key.
-use Rattle.std.proofs.Common.{◌≡◌, ℕ, ◌+◌, ◌<◌, ◌≤◌, List, [], ◌∷◌, ◌++◌, length, map, take, get_or, true, Option, Some, None, Result, Ok, Err, Vec, Global, refl, sym, ap, ◌∙◌, subst, arith, length-append}
+use Rattle.std.proofs.Common.{◌≡◌, ℕ, ◌+◌, ◌<◌, List, [], ◌∷◌, ◌++◌, length, map, take, get_or, true, Option, Some, None, Ok, Err, refl, sym, ap, ◌∙◌, subst, arith, length-append}
 use Rattle.std.specs.Prelude.{IfErr, IfSome, IsSomeAnd, IsOkAnd, option_map}
 use Rattle.std.specs.List.{AllByRecursion}
 use Rattle.std.proofs.lemmas.List.{length-map}
 use Rattle.pn_record.specs.Sets.{CellValue}
-use Rattle.pn_record.specs.declared.cell.Cell.{Cell}
 use Rattle.pn_tablet.specs.Layouts.{Bounds, tablet_of}
 use Rattle.pn_tablet.specs.Refusals.{Refuses}
 use Rattle.pn_scan.specs.Candidates.{Look}
-use Rattle.pn_scan.specs.Paging.{AreMade, Follows, LookMade, looks_in}
+use Rattle.pn_scan.specs.Paging.{Follows, LookMade, looks_in}
 use Rattle.pn_scan.specs.Pages.{first_refusal, unless}
 use Rattle.pn_scan.specs.Reads.{cells_of_keys}
 use Rattle.pn_scan.specs.Views.{Answers, IsFoundIn, Looks, LooksOnce, cell_at, is_memory}
@@ -17,7 +16,7 @@ use Rattle.pn_scan.specs.declared.fault.ScanFault.TheVariants.{Memory}
 use Rattle.pn_scan.proofs.Gets.{IsGetting, getting_more, get_fails, get_ends}
 use Rattle.pn_scan.proofs.Paging.{made_more, looks_more}
 use Rattle.pn_scan.proofs.Scans.{none_refused_front}
-use Rattle.pn_live.specs.Getting.{GetWalkValue, IsOnGet, EndsGet}
+use Rattle.pn_live.specs.Getting.{IsOnGet, EndsGet}
 use Rattle.pn_live.specs.Readers.{LiveReaderValue, LooksLive}
 use Rattle.pn_live.proofs.Getting.{Cells, Read, AreAtHand, found_cell, one_more}
 

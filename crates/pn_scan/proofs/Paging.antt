@@ -1,7 +1,7 @@
 -- Pages that are gone on with, look by look.
 use Rattle.std.proofs.Common.{◌≡◌, ◌⊎◌, ℕ, zero, suc, ◌+◌, ◌-◌, ◌<◌, ◌≤◌, Bool, true, false, cond, List, [], ◌∷◌, ◌++◌, length, map, take, nat_lt, Option, Some, None, Result, Ok, Err, inl, inr, refl, sym, ap, ◌∙◌, subst, arith, append-nil, append_assoc, length-append}
-use Rattle.std.specs.Prelude.{filter, IfSome, OnOk, OnErr}
-use Rattle.std.specs.List.{AllByRecursion, range_with_len}
+use Rattle.std.specs.Prelude.{filter, IfSome, OnErr}
+use Rattle.std.specs.List.{range_with_len}
 use Rattle.std.specs.Option.{option_or}
 use Rattle.std.proofs.Math.Seq.{take-append_seam}
 use Rattle.std.proofs.lemmas.Bool.{cases_lt}
@@ -16,7 +16,7 @@ use Rattle.pn_scan.specs.Candidates.{Look, cells_in, is_candidate, candidates, r
 use Rattle.pn_scan.specs.Pages.{PageValue, refusal, first_refusal, first_page, unless}
 use Rattle.pn_scan.specs.Paging.{LookMade, AreMade, looks_in, Follows, Gaps, Moving, IsPreorder, LooksAfter, going_in, rows_to_come, steps_left, IsOnPage, EndsPage}
 use Rattle.pn_scan.specs.Parts.{PartValue, left_in, IsDone}
-use Rattle.pn_scan.specs.Views.{Answers, Looks, LooksOnce, is_memory, rows_at}
+use Rattle.pn_scan.specs.Views.{Looks, LooksOnce, is_memory, rows_at}
 use Rattle.pn_scan.specs.Visits.{GoesOn, IsVisit, IsWhole, IsScan}
 use Rattle.pn_scan.specs.WalkValues.{PageWalkValue, PartWalkValue}
 use Rattle.pn_scan.specs.declared.fault.ScanFault.{ScanFault}

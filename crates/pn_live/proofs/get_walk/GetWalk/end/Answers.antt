@@ -1,5 +1,5 @@
 -- The cells are those of all keys, unless memory ran out.
-use Rattle.std.proofs.Common.{◌≡◌, length, sym, ap, ◌∙◌, subst}
+use Rattle.std.proofs.Common.{length, sym, ap, ◌∙◌, subst}
 use Rattle.pn_live.specs.Getting.{GetWalkValue, EndsGet, IsOnGet}
 use Rattle.pn_live.proofs.GetWalks.{get_done, get_done_without_memory}
 use Rattle.pn_live.proofs.get_walk.GetWalk.end.Goals as goal

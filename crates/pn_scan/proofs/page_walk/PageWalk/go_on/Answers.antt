@@ -1,13 +1,13 @@
 -- The look that is gone on with comes to the same rows.
-use Rattle.std.proofs.Common.{◌≡◌, ◌<◌, ℕ, [], ◌++◌, length, Option, None, Some, Result, Err, inr, refl, sym, ap, ◌∙◌, subst}
+use Rattle.std.proofs.Common.{◌<◌, [], ◌++◌, length, Option, Result, Err, refl, sym, ap, ◌∙◌, subst}
 use Rattle.std.specs.Prelude.{IfSome}
 use Rattle.std.proofs.lemmas.Result.{err_from_is_err_and}
-use Rattle.pn_scan.specs.Paging.{rows_to_come, IsNearer, IsOnPage, PagesTo}
+use Rattle.pn_scan.specs.Paging.{rows_to_come, IsOnPage, PagesTo}
 use Rattle.pn_scan.specs.Parts.{PartValue}
 use Rattle.pn_scan.specs.WalkValues.{PageWalkValue, PartWalkValue}
 use Rattle.pn_scan.specs.declared.fault.ScanFault.{ScanFault}
 use Rattle.pn_scan.specs.declared.page_walk.PageStep.{PageStep}
-use Rattle.pn_scan.proofs.Paging.{held, gone_on, page_without_memory, less_left}
+use Rattle.pn_scan.proofs.Paging.{held, gone_on, page_without_memory}
 use Rattle.pn_scan.proofs.page_walk.PageWalk.go_on.Goals as goal
 
 pub returns-in_err-part-in-Some-clause-goes : goal.returns-in_err-part-in-Some-clause-goes
