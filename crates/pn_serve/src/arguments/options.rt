@@ -25,7 +25,7 @@ pub(crate) const MAX_CONNECTIONS: u32 = 65_536;
 pub(crate) const MAX_IDLE: u32 = 86_400;
 
 /// The version that `--version` says, and `stats`.
-pub const VERSION: &str = "0.1.0";
+pub const VERSION: &str = "0.2.0";
 
 /// The examples of `pnuts --help`.
 const EXAMPLES: &str = "\
