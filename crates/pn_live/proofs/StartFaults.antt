@@ -1,8 +1,10 @@
 -- The copies of all tablets are adopted by a new region, so only the advance of its marks may be refused.
-use Rattle.std.proofs.Common.{◌≡◌, ℕ, zero, suc, Bool, true, false, ◌||◌, if◌then◌else◌, List, [], ◌∷◌, map, slice_get, Option, None, Some, Result, Ok, Err, refl, sym, ap, ap₂, ◌∙◌, subst}
-use Rattle.std.specs.List.{AllByRecursion, list_any, position}
-use Rattle.std.specs.Option.{option_map, option_and_then}
+use Rattle.std.proofs.Common.{◌≡◌, ℕ, zero, suc, Bool, true, false, ◌||◌, ◌&&◌, if◌then◌else◌, List, [], ◌∷◌, map, slice_get, Option, None, Some, Ok, Err, refl, sym, ap, ap₂, ◌∙◌, subst}
+use Rattle.std.specs.List.{AllByRecursion, list_any}
+use Rattle.std.specs.Option.{option_eq, option_map, option_and_then}
 use Rattle.std.specs.Result.{result_map_both}
+use Rattle.std.specs.Str.{bytes_eq}
+use Rattle.std.proofs.lemmas.Slice.Eq.{bytes_eq-Decides}
 use Rattle.pn_join.specs.Marks.{Positions}
 use Rattle.pn_tablet.specs.Copies.{TabletCopyValue}
 use Rattle.pn_tablet.specs.Layouts.{Bounds}
@@ -17,7 +19,7 @@ use Rattle.pn_tablet.proofs.Recovery.{none_found}
 use Rattle.pn_tablet.proofs.TabletLaws.{adopted}
 use Rattle.pn_apply.specs.Reducing.{ranges}
 use Rattle.pn_region.specs.Advancing.{with_marks}
-use Rattle.pn_region.specs.Recovery.{tablets_after_op, tablet_for, lacks, after_adoption_unless, after_adoption_by, after_adoption}
+use Rattle.pn_region.specs.Recovery.{tablets_after_op, tablet_for, after_adoption_unless, after_adoption_by, after_adoption}
 use Rattle.pn_region.specs.Regions.{RegionValue, new_region}
 use Rattle.pn_region.specs.Relayouts.{least_cover}
 use Rattle.pn_region.specs.Serving.{AllServe}
@@ -27,7 +29,7 @@ use Rattle.pn_region.proofs.ServingTablets.{new_serves}
 use Rattle.pn_region.proofs.Starting.{adopts_at}
 use Rattle.pn_live.specs.Starting.{by_adoption, after_start}
 use Rattle.pn_live.specs.declared.fault.StartFault.{StartFault}
-use Rattle.pn_live.specs.declared.fault.StartFault.TheVariants.{Adopt as NotAdopted, Advance}
+use Rattle.pn_live.specs.declared.fault.StartFault.TheVariants.{Advance}
 
 -- the range is one of these
 abbrev is_in : List Ends → Ends → Bool
@@ -36,8 +38,12 @@ is_in rs range = list_any (λ other. same_range other range) rs
 abbrev AreIn : List Ends → List Ends → Type 0
 AreIn rs those = AllByRecursion (λ range. is_in rs range ≡ true) those
 
+end_self : (end : Option (List ℕ)) → option_eq bytes_eq end end ≡ true
+end_self None = refl
+end_self (Some key) = (bytes_eq-Decides key key).1 refl
+
 same_self : (range : Ends) → same_range range range ≡ true
-same_self (from, to) = search
+same_self range = ap₂ (λ (a b : Bool). a && b) (end_self range.0) (end_self range.1)
 
 or_true : (a b : Bool) → b ≡ true → (a || b) ≡ true
 or_true true b is = refl

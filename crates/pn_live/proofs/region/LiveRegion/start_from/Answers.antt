@@ -21,15 +21,29 @@ loop-copy-preserved g c =
       left = omega (arith, at.invariant.left, c.in-Some.ensures.steps.1, ap length steps);
     }
 
-pub returns-in-Ok-clause-ok : goal.returns-in-Ok-clause-ok
-returns-in-Ok-clause-ok g c =
+pub returns-in-Err-clause-refused : goal.returns-in-Err-clause-refused
+returns-in-Err-clause-refused g c =
+    let at = c.loop-copy in
+    let left = into_iter_items c.next.new.self in
+    let steps : into_iter_items at.copy-iterator ≡ c.in-Some.copy ∷ left = c.in-Some.ensures.steps.0 in
+    λ is.
+    at.invariant.steps ∙ ap (λ (copies : List TabletCopyValue). after_start copies (core at.self)) steps ∙ not_adopted c.in-Some.copy left at.self c.in-Err.fault c.in-Err.ensures.refused is
+
+pub returns-in-Ok-advance-clause-ok : goal.returns-in-Ok-advance-clause-ok
+returns-in-Ok-advance-clause-ok g c =
     let at = c.loop-copy in
     let none : into_iter_items at.copy-iterator ≡ [] = nothing_left (into_iter_items at.copy-iterator) (sym at.invariant.left ∙ c.in-None.ensures.steps.0) in
-    at_last c.args.copies.items at.self c.advance.new.self c.args.self.now c.in-Ok.ensures.ok
+    at_last c.args.copies.items at.self c.advance.new.self c.args.self.now c.in-Ok-advance.ensures.ok
     (subst (λ (copies : List TabletCopyValue). LeadOn copies at.self c.args.copies.items c.args.self.now) none at.invariant.on)
 
-pub returns-in-Ok-clause-started : goal.returns-in-Ok-clause-started
-returns-in-Ok-clause-started g c =
+pub returns-in-Ok-advance-clause-started : goal.returns-in-Ok-advance-clause-started
+returns-in-Ok-advance-clause-started g c =
     let at = c.loop-copy in
     let none : into_iter_items at.copy-iterator ≡ [] = nothing_left (into_iter_items at.copy-iterator) (sym at.invariant.left ∙ c.in-None.ensures.steps.0) in
-    at.invariant.steps ∙ ap (λ (copies : List TabletCopyValue). after_start copies (core at.self)) none ∙ last_step at.self c.advance.new.self c.in-Ok.ensures.ok
+    at.invariant.steps ∙ ap (λ (copies : List TabletCopyValue). after_start copies (core at.self)) none ∙ last_step at.self c.advance.new.self c.in-Ok-advance.ensures.ok
+
+pub returns-in-Err-advance-clause-refused : goal.returns-in-Err-advance-clause-refused
+returns-in-Err-advance-clause-refused g c =
+    let at = c.loop-copy in
+    let none : into_iter_items at.copy-iterator ≡ [] = nothing_left (into_iter_items at.copy-iterator) (sym at.invariant.left ∙ c.in-None.ensures.steps.0) in
+    λ is. at.invariant.steps ∙ ap (λ (copies : List TabletCopyValue). after_start copies (core at.self)) none ∙ not_advanced at.self c.in-Err-advance.fault c.in-Err-advance.ensures.refused is
