@@ -20,7 +20,8 @@ KEYS = 500
 ATTEMPTS = 3
 # How long something may take at most: so many seconds, or on a machine that is busy, so many times as long as when nothing is killed.
 LONGEST, SLOWER = 3.0, 50
-STREAM = {"x-queue-type": "stream", "x-initial-cluster-size": 3}
+# Streams that are kept for a minute, in files of some hundreds of messages, as whole files are dropped.
+STREAM = {"x-queue-type": "stream", "x-initial-cluster-size": 3, "x-max-age": "1m", "x-stream-max-segment-size-bytes": 50_000}
 
 
 def range_of(key: str) -> str:
@@ -135,6 +136,18 @@ class Reader:
         """The longest time without an answer since this was asked last, in seconds."""
         longest, self.longest = max(self.longest, time.monotonic() - self.last), 0.0
         return longest
+
+
+def first_kept(machine: Machine, name: str) -> int:
+    """The offset of the first message of a stream that the broker still has."""
+    connection = pika.BlockingConnection(pika.URLParameters(machine.url))
+    try:
+        channel = connection.channel()
+        channel.basic_qos(prefetch_count=1)
+        _, properties, _ = next(channel.consume(name, arguments={"x-stream-offset": "first"}))
+        return int(properties.headers["x-stream-offset"])
+    finally:
+        connection.close()
 
 
 def regions_of_all(timeout: float) -> Regions:
