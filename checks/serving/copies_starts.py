@@ -19,7 +19,7 @@ from replies.live_copies import copied, copy_line, streams_of
 from replies.random_values import KEYS, MANY_KEYS, bounds_of
 from serving.controlled import Session
 from serving.copies_texts import exchanged, fault_of, least_marks, messages_from, part_of, refusal, taken
-from serving.staying import Staying
+from serving.staying import Staying, until
 
 REGIONS = 100
 KILLS, STARTS = 1_000, 200
@@ -201,7 +201,7 @@ def check_writers(program: str, folder: str) -> None:
         path = written(folder, "copies", f'{{"copy":1,"from":null,"to":null}}\n{{"at":{mark},"stream":"east"}}\n{{"end":1}}\n'.encode())
         place, control = os.path.join(folder, "writers"), os.path.join(folder, "control")
         with Staying(program, folder, [("east", f"listen:{place}")], "--copies", path, "--control", control), Session(control) as session:
-            same("the stream's position", session.told(do="stats")["streams"][0]["position"], mark)
+            until("the stream has its position", lambda: session.told(do="stats")["streams"][0]["position"] == mark)
             gap = f'{{"error":"gap","got":{mark + 2},"wanted":{mark + 1}}}\n'
             for at, wanted, then in ((mark + 2, gap, mark), (mark + 1, "", mark + 1)):
                 with socket.socket(socket.AF_UNIX) as writer, writer.makefile("rb") as told:
