@@ -1,11 +1,11 @@
 //! Layouts of copies.
 
-use crate::tablets::copies::lines;
 use crate::tablets::layouts::ends;
 use pn_record::Key;
 use pn_tablet::{CutFault, TabletCopy, layout_of_copies, read_copy};
 use std::alloc::{AllocError, Global};
 use std::test::Fail;
+use test_kit::newlines;
 
 /// The ends of each tablet of the layout of copies, which stand one after another with spaces between, or why there is none.
 pub(crate) fn cut(alloc: Global, texts: &str) -> Result<String, Fail> {
@@ -26,7 +26,7 @@ fn copies_of(alloc: Global, texts: &str) -> Result<Vec<TabletCopy>, AllocError> 
 }
 
 fn add_copy(alloc: Global, copies: &mut Vec<TabletCopy>, bars: &str) -> Result<(), AllocError> {
-    let text = lines(alloc, bars)?;
+    let text = newlines(alloc, bars)?;
     match read_copy(alloc, text.as_bytes()) {
         Ok(copy) => Ok(copies.push(copy)?),
         Err(_) => Ok(()),

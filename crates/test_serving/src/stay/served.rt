@@ -1,6 +1,7 @@
 //! A stream in memory, served at a port and at a path: by sessions that end, and by a server that stays.
 
 use crate::reading::{FIRST, Script, readers_of, settings, stream_of};
+use crate::serve::loopback::outcome;
 use crate::stay::talks::{At, flood, talk};
 use pn_join::NoMemory;
 use pn_serve::{Counter, Stream, serve};
@@ -13,7 +14,7 @@ use std::sync::{Arc, Wait};
 use std::test::Fail;
 use std::thread::Threads;
 use std::time::{Clock, Duration};
-use std::{fs, io, str, thread};
+use std::{fs, io, thread};
 
 /// The name of a socket's file.
 const PATH: &str = "socket-of-test";
@@ -109,14 +110,7 @@ where
     let readers = readers_of(alloc, FIRST)?;
     let mut written = Vec::new(alloc);
     let ended = serve(rt, alloc, acceptor, settings, 1, readers, &mut written);
-    let mut text = str::from_utf8(&written)
-        .ok()?
-        .replace(alloc, '\n', "|")
-        .ok()?;
-    if let Err(fault) = ended {
-        write!(text, "{fault}").ok()?;
-    }
-    Some(text)
+    outcome(alloc, ended, &written)
 }
 
 fn add_counts(text: &mut String, counters: &Counters) -> Result<(), AllocError> {
