@@ -11,11 +11,11 @@ use Rattle.std.specs.Option.{option_cmp}
 use Rattle.pn_json.specs.Answers.{◌>>=◌}
 use Rattle.pn_record.proofs.Sorted.{is_less}
 use Rattle.pn_record.specs.Order.{bytes_cmp}
-use Rattle.pn_tablet.specs.Cuts.{CutAllKeys, all_ends, begins_at, begins_of, by_end, by_order, count_having, ends_open, follow_from, layout_with}
+use Rattle.pn_tablet.specs.Cuts.{CutAllKeys, all_ends, begins_of, by_order, count_having, ends_open, follow_from, layout_with}
 use Rattle.pn_tablet.specs.Layouts.{Bounds, IsLayout, first_fall, layout_of, rising_layout, tablet_ends}
 use Rattle.pn_tablet.specs.Ranges.{Ends, are_ends, is_below, is_from}
 use Rattle.pn_tablet.specs.declared.cuts.CutFault.{CutFault}
-use Rattle.pn_tablet.specs.declared.cuts.CutFault.TheVariants.{NoCopy, TooMany}
+use Rattle.pn_tablet.specs.declared.cuts.CutFault.TheVariants.{TooMany}
 use Rattle.pn_tablet.specs.declared.layout.LayoutFault.TheVariants as layout
 use Rattle.pn_tablet.specs.declared.layout.TheConstants.{MAX_BOUNDS}
 use Rattle.pn_tablet.proofs.LayoutFacts.{not_below}
@@ -150,13 +150,6 @@ fits ranges is few =
     within_by : (n : ℕ) → n ≤ MAX_BOUNDS → nat_lt MAX_BOUNDS n ≡ false
     within_by n few = grind (arith, nat_tests)
 
-pub laid : (ranges : List Ends) → length ranges ≤ MAX_BOUNDS + 1 → follow_from None ranges ≡ Ok tt → layout_with ranges ≡ Ok (begins_of ranges)
-unfolding layout_with
-laid ranges few is =
-    let within : nat_lt (MAX_BOUNDS + 1) (length ranges) ≡ false = grind (arith, nat_tests) in
-    ap (λ (t : Bool). cond t (Err TooMany) (follow_from None ranges >>= λ _. Ok (begins_of ranges))) within
-    ∙ ap (λ (r : Result (Unit {0}) CutFault). r >>= λ _. Ok (begins_of ranges)) is
-
 -- a layout that was found is that of the ranges
 pub record Found (ranges : List Ends) (bounds : Bounds) : Type 0 where
   pub few : length ranges ≤ MAX_BOUNDS + 1
@@ -250,24 +243,3 @@ cut_keys ranges bounds order is key =
     let from = found ranges bounds is in
     let parts = cut ranges from.follow order in
     ap (λ (rs : List Ends). count_having rs key) parts.are ∙ counted None (begins_of ranges) key parts.rise tt
-
--- one range, and then those after it
-pub follow_on : (from : Option (List ℕ)) (range : Ends) (rest : List Ends) (to : List ℕ) → begins_at from range.0 ≡ Ok tt → range.1 ≡ Some to → follow_from from (range ∷ rest) ≡ follow_from (Some to) rest
-unfolding follow_from
-follow_on from range rest to begins ends =
-    ap (λ (r : Result (Unit {0}) CutFault). r >>= λ _. by_end range.1 (ends_open rest) (follow_from range.1 rest)) begins
-    ∙ ap (λ (end : Option (List ℕ)). by_end end (ends_open rest) (follow_from end rest)) ends
-
-pub follow_end : (from : Option (List ℕ)) (range : Ends) (rest : List Ends) → begins_at from range.0 ≡ Ok tt → range.1 ≡ None → follow_from from (range ∷ rest) ≡ ends_open rest
-unfolding follow_from
-follow_end from range rest begins ends =
-    ap (λ (r : Result (Unit {0}) CutFault). r >>= λ _. by_end range.1 (ends_open rest) (follow_from range.1 rest)) begins
-    ∙ ap (λ (end : Option (List ℕ)). by_end end (ends_open rest) (follow_from end rest)) ends
-
-pub follow_refused : (from : Option (List ℕ)) (range : Ends) (rest : List Ends) (fault : CutFault) → begins_at from range.0 ≡ Err fault → follow_from from (range ∷ rest) ≡ Err fault
-unfolding follow_from
-follow_refused from range rest fault begins = ap (λ (r : Result (Unit {0}) CutFault). r >>= λ _. by_end range.1 (ends_open rest) (follow_from range.1 rest)) begins
-
-pub follow_none : (from : Option (List ℕ)) → follow_from from [] ≡ Err (NoCopy from)
-unfolding follow_from
-follow_none from = refl

@@ -15,6 +15,8 @@ pub mod CopyWritten
 pub mod Counting
 pub mod Counts
 pub mod CutFaults
+pub mod CutGaps
+pub mod CutOrders
 pub mod CutRanges
 pub mod Drafting
 pub mod FaultCases

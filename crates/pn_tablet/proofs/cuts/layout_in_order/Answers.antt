@@ -1,5 +1,5 @@
 -- Ranges that follow one another are those of the layout of their bounds.
-use Rattle.std.proofs.Common.{◌≡◌, ◌+◌, ◌≤◌, List, length, map, None, Ok, sym, ap, ◌∙◌, arith}
+use Rattle.std.proofs.Common.{◌≡◌, ◌+◌, ◌≤◌, length, map, sym, ap, ◌∙◌, arith}
 use Rattle.std.proofs.lemmas.List.{length-map}
 use Rattle.pn_tablet.specs.Cuts.{all_ends, begins_of}
 use Rattle.pn_tablet.specs.Layouts.{layout_of}
