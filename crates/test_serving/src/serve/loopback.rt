@@ -27,6 +27,9 @@ const MAX_TURNS: u64 = 100_000;
 
 const TURNS_AFTER: u64 = 1_000;
 
+/// How serving ended, and what was written.
+pub(crate) type Served = (Result<(), ServeFault>, Vec<u8>);
+
 /// What a client has read.
 #[derive(Clone, Copy, Debug)]
 enum Told {
@@ -120,8 +123,8 @@ where
     let Logged { listener, faults } = listener;
     drop(listener);
     let told = client.join(rt)?;
-    let mut text = format!(in alloc; "{told:?}, ")?;
-    text.push_str(served.ok_or(NoMemory)?.as_str())?;
+    let served = outcome(alloc, served)?;
+    let mut text = format!(in alloc; "{told:?}, {served}")?;
     add_faults(rt, &mut text, &faults)?;
     Ok(text)
 }
@@ -136,8 +139,8 @@ fn listen<R: Net<Listener = TcpListener, Stream = TcpStream>>(
     Ok(Logged { listener, faults })
 }
 
-// Serves one session: what was written, and the fault if there is one.
-fn serve_one<R>(rt: &R, alloc: Global, listener: &Logged, how: &str) -> Option<String>
+// Serves one session.
+fn serve_one<R>(rt: &R, alloc: Global, listener: &Logged, how: &str) -> Option<Served>
 where
     R: Threads + Wait + Sync + Copy + Send + 'static,
 {
@@ -147,20 +150,17 @@ where
         "2" => serve_new(rt, alloc, listener, SECOND, &mut written),
         _ => serve_copy(rt, alloc, listener, &mut written),
     };
-    outcome(alloc, ended?, &written)
+    Some((ended?, written))
 }
 
 /// What was written, and the fault if there is one.
-pub(crate) fn outcome(
-    alloc: Global,
-    ended: Result<(), ServeFault>,
-    written: &[u8],
-) -> Option<String> {
-    let mut text = bars(alloc, written).ok()?;
+pub(crate) fn outcome(alloc: Global, served: Option<Served>) -> Result<String, Fail> {
+    let (ended, written) = served.ok_or(NoMemory)?;
+    let mut text = bars(alloc, &written)?;
     if let Err(fault) = ended {
-        write!(text, "{fault}").ok()?;
+        write!(text, "{fault}")?;
     }
-    Some(text)
+    Ok(text)
 }
 
 // Serves over a stream of these messages, in a new region.
