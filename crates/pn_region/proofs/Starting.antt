@@ -1,13 +1,14 @@
 -- Regions that start from copies, and what they take from there on.
-use Rattle.std.proofs.Common.{◌≡◌, ℕ, zero, suc, List, [], ◌∷◌, ◌++◌, Ok, Err, refl, sym, ap, ◌∙◌, subst}
+use Rattle.std.proofs.Common.{◌≡◌, ℕ, zero, suc, List, [], ◌∷◌, ◌++◌, map, Ok, Err, refl, sym, ap, subst, arith}
+use Rattle.pn_join.proofs.MarksFacts.{position_of-raised_marks}
 use Rattle.pn_region.specs.Ahead.{NoneAhead}
 use Rattle.pn_region.specs.Events.{RegionEvent, round, half_round, loss, adoption, relayout, advance, AllLeadTo, AreHonestEvents}
 use Rattle.pn_region.specs.Laws.{AreIn}
 use Rattle.pn_region.specs.Starting.{StartsFrom, AreAccepted, AreHonestCopies, start_events}
 use Rattle.pn_region.specs.Taken.{all_left, all_taken}
-use Rattle.pn_region.proofs.Advanced.{advances, all_covered}
+use Rattle.pn_region.proofs.Advanced.{advances}
 use Rattle.pn_region.proofs.Ahead.{marked_images, marked_alike, new_none, round_none}
-use Rattle.pn_region.proofs.Common.{AllByRecursion, Reaches, table_of, BrokerRecord, up_to, TabletCopyValue, Bounds, IsLayout, step, after_step, tablet_after, TabletStateValue, Adopt, Serving, AreFaithful, HasImages, tablets_after_op, RegionValue, IsRegion, new_region, all_cells, AllServe}
+use Rattle.pn_region.proofs.Common.{AllByRecursion, Positions, Ends, Reaches, table_of, BrokerRecord, up_to, TabletCopyValue, Bounds, IsLayout, step, after_step, tablet_after, TabletStateValue, empty_tablet, Adopt, ranges, AreTabletsOf, Serving, AreFaithful, HasImages, tablets_after_op, RegionValue, IsRegion, new_region, all_cells, AllServe}
 use Rattle.pn_region.proofs.EventImages.{taken_together}
 use Rattle.pn_region.proofs.EventSteps.{adopts, takes, event_is, events_are}
 use Rattle.pn_region.proofs.Faith.{new_faithful}
@@ -42,7 +43,7 @@ adopt_serves t copy serves =
       | Err refusal ↦ λ is. serves
     ] refl
 
-adopts_at : (n : ℕ) (copy : TabletCopyValue) (ts : List TabletStateValue) → Serve ts → Serve (tablets_after_op n (Adopt copy) ts)
+pub adopts_at : (n : ℕ) (copy : TabletCopyValue) (ts : List TabletStateValue) → Serve ts → Serve (tablets_after_op n (Adopt copy) ts)
 adopts_at n copy [] serve = tt
 adopts_at zero copy (t ∷ ts) serve = (adopt_serves t copy serve.0, serve.1)
 adopts_at (suc n) copy (t ∷ ts) serve = (serve.0, adopts_at n copy ts serve.1)
@@ -54,12 +55,41 @@ start_serves (copy ∷ copies) old new serve lead =
     start_serves copies lead.0 new
     (subst AllServe (sym (adopts old copy lead.1.tablet lead.0 lead.1.adopted).is) (adopts_at lead.1.tablet copy old.tablets serve)) lead.2
 
--- the last of the events is the advance
-start_covers : (copies : List TabletCopyValue) (old new : RegionValue) → AllLeadTo (start_events copies) old new → AllByRecursion (λ (t : TabletStateValue). Reaches t.cover new.marks) new.tablets
-start_covers [] old new lead =
-    let same : new ≡ record old { marks = _ } = lead.2 ∙ advances old lead.0 lead.1 in
-    subst (λ (r : RegionValue). AllByRecursion (λ (t : TabletStateValue). Reaches t.cover r.marks) r.tablets) (sym same) (all_covered old.tablets)
-start_covers (copy ∷ copies) old new lead = start_covers copies lead.0 new lead.2
+-- no reach is past the marks
+abbrev AheadOf : Positions → List TabletStateValue → Type 0
+AheadOf marks tablets = AllByRecursion (λ tablet. Reaches marks tablet.reach) tablets
+
+-- a copy that is not past the marks takes no tablet past them
+adopt_none : (marks : Positions) (t : TabletStateValue) (copy : TabletCopyValue) → Reaches marks copy.marks → Reaches marks t.reach → Reaches marks (tablet_after t (Adopt copy)).reach
+adopt_none marks t copy at ahead =
+    elim (step t (Adopt copy)) as (λ right. step t (Adopt copy) ≡ right → Reaches marks (after_step t right).reach) [
+      | Ok after ↦ λ is. subst (λ (u : TabletStateValue). Reaches marks u.reach) (sym (adopted t copy after is).taken) (λ name. omega (arith, position_of-raised_marks t.reach copy.marks name, ahead name, at name))
+      | Err refusal ↦ λ is. ahead
+    ] refl
+
+adopts_none : (marks : Positions) (n : ℕ) (copy : TabletCopyValue) (ts : List TabletStateValue) → Reaches marks copy.marks → AheadOf marks ts → AheadOf marks (tablets_after_op n (Adopt copy) ts)
+adopts_none marks n copy [] at ahead = tt
+adopts_none marks zero copy (t ∷ ts) at ahead = (adopt_none marks t copy at ahead.0, ahead.1)
+adopts_none marks (suc n) copy (t ∷ ts) at ahead = (ahead.0, adopts_none marks n copy ts at ahead.1)
+
+start_none : (marks : Positions) (copies : List TabletCopyValue) (old new : RegionValue) → AllByRecursion (λ (copy : TabletCopyValue). Reaches marks copy.marks) copies → AheadOf marks old.tablets
+    → AllLeadTo (start_events copies) old new → AheadOf marks new.tablets
+start_none marks [] old new at ahead lead =
+    subst (λ (r : RegionValue). AheadOf marks r.tablets) (sym lead.2) (subst (λ (r : RegionValue). AheadOf marks r.tablets) (sym (advances old lead.0 lead.1)) ahead)
+start_none marks (copy ∷ copies) old new at ahead lead =
+    start_none marks copies lead.0 new at.1
+    (subst (λ (r : RegionValue). AheadOf marks r.tablets) (sym (adopts old copy lead.1.tablet lead.0 lead.1.adopted).is) (adopts_none marks lead.1.tablet copy old.tablets at.0 ahead)) lead.2
+
+none_yet : (marks : Positions) (rs : List Ends) → AheadOf marks (map empty_tablet rs)
+none_yet marks [] = tt
+none_yet marks (r ∷ rs) = ((λ name. omega arith), none_yet marks rs)
+
+-- the covers of a region's tablets reach its marks
+covers_all : (marks : Positions) (rs : List Ends) (ts : List TabletStateValue) → AreTabletsOf marks rs ts → AllByRecursion (λ (t : TabletStateValue). Reaches t.cover marks) ts
+covers_all marks [] [] are = tt
+covers_all marks [] (t ∷ ts) are = absurd are
+covers_all marks (r ∷ rs) [] are = tt
+covers_all marks (r ∷ rs) (t ∷ ts) are = (are.0.covered, covers_all marks rs ts are.1)
 
 -- rounds that are accepted keep tablets serving, and none of them ahead of the marks
 rounds_serve : (events : List RegionEvent) (old new : RegionValue) → AreAccepted events → AllLeadTo events old new → AllServe old → AllServe new
@@ -95,8 +125,13 @@ module _ (copies : List TabletCopyValue) (bounds : Bounds) (started : RegionValu
   pub started_serves : AllServe started
   started_serves = start_serves copies (new_region bounds) started (new_serves bounds) starts.lead
 
-  pub started_covers : IsRegion started × AllByRecursion (λ (t : TabletStateValue). Reaches t.cover started.marks) started.tablets
-  started_covers = (started_is, start_covers copies (new_region bounds) started starts.lead)
+  pub started_covers : (events : List RegionEvent) (region : RegionValue) → AllLeadTo events started region → IsRegion region × AllByRecursion (λ (t : TabletStateValue). Reaches t.cover region.marks) region.tablets
+  started_covers events region lead =
+      let is = events_are events started region started_is lead in
+      (is, covers_all region.marks (ranges region.layout) region.tablets is.tablets)
+
+  pub started_none : AllByRecursion (λ (copy : TabletCopyValue). Reaches started.marks copy.marks) copies → NoneAhead started
+  started_none at = start_none started.marks copies (new_region bounds) started at (none_yet started.marks (ranges bounds)) starts.lead
 
 module _ (broker : BrokerRecord) (copies : List TabletCopyValue) (bounds : Bounds) (events : List RegionEvent) (started region : RegionValue) (starts : StartsFrom copies bounds started)
     (honest : AreHonestCopies broker copies) (lead : AllLeadTo events started region) (more : AreHonestEvents broker events) where

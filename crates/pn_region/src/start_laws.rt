@@ -15,13 +15,14 @@ ghost use Rattle.pn_region.specs.Serving.{AllServe};
 ghost use Rattle.pn_region.specs.Starting.{StartsFrom, AreAccepted, AreHonestCopies, start_events};
 ghost use Rattle.pn_region.specs.Taken.{all_left, all_taken};
 
-/// A region that starts from copies serves all its keys, and every cover reaches its marks.
+/// A region that starts from copies serves all its keys. Then and after all events, every cover reaches its marks.
 ///
 /// It is faithful where the copies are honest, and stays so through honest events.
 pub fn a_region_that_starts_from_honest_copies_is_faithful()
     ensures serves { (copies : List TabletCopyValue) (bounds : Bounds) (started : RegionValue) → StartsFrom copies bounds started → AllServe started }
-    ensures covers { (copies : List TabletCopyValue) (bounds : Bounds) (started : RegionValue) → StartsFrom copies bounds started
-        → IsRegion started × AllByRecursion (λ tablet. Reaches tablet.cover started.marks) started.tablets }
+    ensures covers { (copies : List TabletCopyValue) (bounds : Bounds) (events : List RegionEvent) (started region : RegionValue)
+        → StartsFrom copies bounds started → AllLeadTo events started region
+        → IsRegion region × AllByRecursion (λ tablet. Reaches tablet.cover region.marks) region.tablets }
     ensures faithful { (broker : BrokerRecord) (copies : List TabletCopyValue) (bounds : Bounds) (events : List RegionEvent) (started region : RegionValue)
         → StartsFrom copies bounds started → AreHonestCopies broker copies → AllLeadTo events started region → AreHonestEvents broker events
         → AreFaithful broker region.tablets }
@@ -32,6 +33,8 @@ pub fn a_region_that_starts_from_honest_copies_is_faithful()
 ///
 /// So it has the records of every region with these marks that took all streams from message 1.
 pub fn a_start_from_copies_is_as_good_as_whole_streams()
+    ensures ahead { (copies : List TabletCopyValue) (bounds : Bounds) (started : RegionValue)
+        → StartsFrom copies bounds started → AllByRecursion (λ copy. Reaches started.marks copy.marks) copies → NoneAhead started }
     ensures images { (broker : BrokerRecord) (copies : List TabletCopyValue) (bounds : Bounds) (events : List RegionEvent) (started region : RegionValue)
         → StartsFrom copies bounds started → AreHonestCopies broker copies → NoneAhead started
         → AreAccepted events → AllLeadTo events started region → AreHonestEvents broker events

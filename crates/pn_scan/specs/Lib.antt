@@ -4,7 +4,6 @@ pub mod ConditionReading
 pub mod ConditionWords
 pub mod Conditions
 pub mod Pages
-pub mod Paging
 pub mod Parts
 pub mod Prelude
 pub mod Queries

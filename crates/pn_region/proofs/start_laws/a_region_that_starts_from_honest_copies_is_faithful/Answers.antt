@@ -6,7 +6,7 @@ pub returns-clause-serves : goal.returns-clause-serves
 returns-clause-serves c = started_serves
 
 pub returns-clause-covers : goal.returns-clause-covers
-returns-clause-covers c = started_covers
+returns-clause-covers c = λ copies bounds events started region starts lead. started_covers copies bounds started starts events region lead
 
 pub returns-clause-faithful : goal.returns-clause-faithful
 returns-clause-faithful c = later_faithful

@@ -1,9 +1,7 @@
 -- The walk begins where the first may be shown, and comes to the answer with what it took of the others.
-use Rattle.std.proofs.Common.{◌≡◌, [], drop, length-drop, ◌∙◌, arith}
+use Rattle.std.proofs.Common.{drop, length-drop, ◌∙◌, arith}
 use Rattle.std.proofs.lemmas.Result.{IfOk-weaker}
 use Rattle.pn_record.specs.CellMap.{Entries}
-use Rattle.pn_scan.specs.Parts.{part_at, walk_answer}
-use Rattle.pn_scan.specs.declared.walk.Part.{Part}
 use Rattle.pn_scan.proofs.Looking.{all_answer, begun_answer, none_below_later, to_answer}
 use Rattle.pn_scan.proofs.part.begin_walk.Goals as goal
 
@@ -13,7 +11,7 @@ returns-in-All c =
     let cells : Entries = c.args.cells.now in
     let index = c.first_index-index.result in
     let walked = rw c.in-All.is at c.in_ok-more.ensures in
-    all_answer query (drop index cells) index c.args.records c.args.room _ _ _ _ walked ∙ begun_answer query cells index c.args.room _ c.in_ok-rows.ensures.items c.first_index-index.ensures.shown
+    all_answer query (drop index cells) index c.args.records c.args.room _ _ _ walked ∙ begun_answer query cells index c.args.room _ c.in_ok-rows.ensures.items c.first_index-index.ensures.shown
 
 pub take_rest-requires-clause-index : goal.take_rest-requires-clause-index
 take_rest-requires-clause-index c =
