@@ -24,4 +24,5 @@ pub mod HonestLists
 pub mod Joining
 pub mod Drafting
 pub mod Crossing
+pub mod StartFaults
 pub mod Starting
