@@ -27,6 +27,9 @@ pub(crate) fn start<R: Threads + Wait + Sync>(
 ) -> Result<String, Fail> {
     let (workers, bars) = line.split_once(' ').ok_or(NoMemory)?;
     let workers = workers.parse::<usize>()?;
+    if workers < 1 {
+        return Err(Fail::new("no worker"));
+    }
     let bars = spell_out(alloc, bars)?;
     let text = newlines(alloc, bars.as_str())?;
     Ok(start_by(rt, alloc, workers, text.as_bytes())?)
@@ -37,7 +40,9 @@ fn start_by<R: Threads + Wait + Sync>(
     alloc: Global,
     workers: usize,
     text: &[u8],
-) -> Result<String, AllocError> {
+) -> Result<String, AllocError>
+    requires { 1 ≤ workers }
+{
     match open_text(rt, alloc, workers, text, 2) {
         Ok(opened) => show(rt, alloc, opened),
         Err(fault) => format!(in alloc; "{fault}"),
@@ -52,7 +57,8 @@ pub(crate) fn open_text<R: Threads + Wait + Sync>(
     text: &[u8],
     readers: usize,
 ) -> Result<OpenedRegion, CopiesFault>
-    requires { (1 ≤ readers) × (readers ≤ MAX_READERS) }
+    requires workers { 1 ≤ workers }
+    requires readers { (1 ≤ readers) × (readers ≤ MAX_READERS) }
     ensures { IfOk result (λ opened. AllRead (tablets_in opened.live) opened.readers.items) }
 {
     let copies = read_copies(rt, alloc, workers, text)?;
@@ -64,7 +70,9 @@ fn read_copies<R: Threads + Sync>(
     alloc: Global,
     workers: usize,
     text: &[u8],
-) -> Result<Vec<TabletCopy>, CopiesFault> {
+) -> Result<Vec<TabletCopy>, CopiesFault>
+    requires { 1 ≤ workers }
+{
     let mut reader = CopiesReader::new(alloc, InMemory::new(text), workers)?;
     for _ in 0..TURNS {
         if !reader.read_some(rt, alloc)? {
