@@ -1,4 +1,5 @@
 -- Texts of copies, and live regions that start from them.
+pub mod Coding
 pub mod Cutting
 pub mod Lines
 pub mod Reading

@@ -32,6 +32,10 @@ impl<S: Drop> Model for CopiesReader<S> {
 
     ghost Value = { CopiesReaderValue S };
 
+    ghost use Rattle.pn_serve.specs.Copies.Coding.{copies_reader_code};
+
+    ghost coded = { copies_reader_code S.code };
+
     ghost view = { λ reader. record { source = reader.texts.source; next = reader.texts.next; copies = reader.copies.items } };
 
     ghost invariant = { λ reader. 1 ≤ reader.workers };
