@@ -15,7 +15,7 @@ def main(words: list[str]) -> int:
     checks = checks_in(copies_starts)
     parser = checks_parser(__doc__, checks)
     parser.add_argument("--kills", type=int, default=copies_starts.KILLS, help="how many saves are killed (default: %(default)s)")
-    given = parser.parse_args(words)
+    given = parser.parse_intermixed_args(words)
     checks["killed_saves"] = partial(copies_starts.check_killed_saves, kills=given.kills)
     raise_descriptors()
     return try_checks(given.program, checks, given.names or checks)

@@ -232,24 +232,26 @@ def check_killed_saves(program: str, folder: str, kills: int = KILLS) -> None:
     from pnuts_client.saving import save
 
     path = Path(folder) / "saved"
-    control, source = os.path.join(folder, "control"), written(folder, "copies", b"".join(some_texts(program, folder, ["b", "ca"])))
+    texts = some_texts(program, folder, ["b", "ca"])
+    control, source = os.path.join(folder, "control"), written(folder, "copies", b"".join(texts))
     rng, kinds, longest = random.Random(11), [0, 0], 0.0
 
     def begin() -> int:
-        """A process that saves."""
+        """A process that saves, and ends with 0 where it has."""
         child = os.fork()
         if not child:
+            status = 1
             try:
                 with Peer(f"unix:{control}") as peer:
-                    save(peer, path)
+                    status = int(save(peer, path) != len(texts))
             finally:
-                os._exit(0)
+                os._exit(status)
         return child
 
     with Staying(program, folder, [("east", "/dev/null")], "--copies", source, "--control", control):
         for _ in range(20):
             start = time.monotonic()
-            os.waitpid(begin(), 0)
+            same("how a save ends", os.waitpid(begin(), 0)[1], 0)
             longest = max(longest, time.monotonic() - start)
         whole = path.read_bytes()
         for _ in range(kills):

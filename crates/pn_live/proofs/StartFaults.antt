@@ -1,11 +1,10 @@
 -- The copies of all tablets are adopted by a new region, so only the advance of its marks may be refused.
-use Rattle.std.proofs.Common.{◌≡◌, ℕ, zero, suc, Bool, true, false, ◌||◌, ◌&&◌, if◌then◌else◌, List, [], ◌∷◌, map, slice_get, Option, None, Some, Ok, Err, refl, sym, ap, ap₂, ◌∙◌, subst}
+use Rattle.std.proofs.Common.{◌≡◌, ℕ, zero, suc, Bool, true, false, ◌||◌, ◌&&◌, List, [], ◌∷◌, map, slice_get, Option, None, Some, Result, Ok, Err, ◌⊎◌, inl, inr, refl, sym, ap, ap₂, ◌∙◌, subst}
+use Rattle.std.specs.Prelude.{MatchResult}
 use Rattle.std.specs.List.{AllByRecursion, list_any}
 use Rattle.std.specs.Option.{option_eq, option_map, option_and_then}
-use Rattle.std.specs.Result.{result_map_both}
 use Rattle.std.specs.Str.{bytes_eq}
 use Rattle.std.proofs.lemmas.Slice.Eq.{bytes_eq-Decides}
-use Rattle.pn_join.specs.Marks.{Positions}
 use Rattle.pn_tablet.specs.Copies.{TabletCopyValue}
 use Rattle.pn_tablet.specs.Layouts.{Bounds}
 use Rattle.pn_tablet.specs.Needs.{need_shortfall}
@@ -13,23 +12,24 @@ use Rattle.pn_tablet.specs.Ranges.{Ends}
 use Rattle.pn_tablet.specs.Steps.{step, after_step, tablet_after}
 use Rattle.pn_tablet.specs.Tablets.{TabletStateValue, empty_tablet, same_range}
 use Rattle.pn_tablet.specs.declared.fault.OpFault.{OpFault as AdoptFault}
+use Rattle.pn_tablet.specs.declared.fault.OpFault.TheVariants as op
 use Rattle.pn_tablet.specs.declared.state.Status.TheVariants.{Serving}
 use Rattle.pn_tablet.specs.declared.state.TabletOp.TheVariants.{Adopt}
 use Rattle.pn_tablet.proofs.Recovery.{none_found}
 use Rattle.pn_tablet.proofs.TabletLaws.{adopted}
 use Rattle.pn_apply.specs.Reducing.{ranges}
-use Rattle.pn_region.specs.Advancing.{with_marks}
+use Rattle.pn_region.specs.Advancing.{after_advance}
 use Rattle.pn_region.specs.Recovery.{tablets_after_op, tablet_for, after_adoption_unless, after_adoption_by, after_adoption}
 use Rattle.pn_region.specs.Regions.{RegionValue, new_region}
-use Rattle.pn_region.specs.Relayouts.{least_cover}
 use Rattle.pn_region.specs.Serving.{AllServe}
-use Rattle.pn_region.specs.declared.fault.AdvanceFault.TheVariants.{TooManyStreams}
+use Rattle.pn_region.specs.declared.fault.AdvanceFault.{AdvanceFault}
+use Rattle.pn_region.specs.declared.fault.AdvanceFault.TheVariants.{TooManyStreams, Memory}
 use Rattle.pn_region.proofs.EventSteps.{adopts}
 use Rattle.pn_region.proofs.ServingTablets.{new_serves}
 use Rattle.pn_region.proofs.Starting.{adopts_at}
-use Rattle.pn_live.specs.Starting.{by_adoption, after_start}
+use Rattle.pn_live.specs.Starting.{IsAdvanceFault, StopsAt}
 use Rattle.pn_live.specs.declared.fault.StartFault.{StartFault}
-use Rattle.pn_live.specs.declared.fault.StartFault.TheVariants.{Advance}
+use Rattle.pn_live.specs.declared.fault.StartFault.TheVariants.{Open, Adopt as NotAdopted, Advance}
 
 -- the range is one of these
 abbrev is_in : List Ends → Ends → Bool
@@ -104,31 +104,39 @@ ranges_kept n copy [] = refl
 ranges_kept zero copy (t ∷ ts) = ap (λ (r : Ends). r ∷ ranges_of ts) (adopt_range t copy)
 ranges_kept (suc n) copy (t ∷ ts) = ap (λ (rs : List Ends). t.range ∷ rs) (ranges_kept n copy ts)
 
-end_by : (region : RegionValue) (marks : Positions) (b : Bool) (fault : StartFault)
-    → result_map_both (λ (started : RegionValue). started) Advance (result_map_both (with_marks region) (λ why. why) (if b then Err TooManyStreams else Ok marks)) ≡ Err fault → fault ≡ Advance TooManyStreams
-end_by region marks true fault is =
-    let same : Advance TooManyStreams ≡ fault = cc in
-    sym same
-end_by region marks false fault is = cc
+-- where memory ran out, or the marks are of too many streams
+abbrev pub StopsOnly : StartFault → Type 0
+StopsOnly fault = (fault ≡ NotAdopted op.Memory) ⊎ ((fault ≡ Advance Memory) ⊎ (fault ≡ Advance TooManyStreams))
+
+by_advance : (fault : StartFault) (right : Result RegionValue AdvanceFault) → IsAdvanceFault fault right → StopsOnly fault
+by_advance (Open fault) right is = absurd is
+by_advance (NotAdopted fault) right is = absurd is
+by_advance (Advance TooManyStreams) right is = inr (inr refl)
+by_advance (Advance Memory) right is = inr (inl refl)
+
+or_later : {S : Type 0} (fault : StartFault) → (S → StopsOnly fault) → (fault ≡ NotAdopted op.Memory) ⊎ S → StopsOnly fault
+or_later fault later (inl memory) = inl memory
+or_later fault later (inr stops) = later stops
 
 only_streams : (rs : List Ends) (copies : List TabletCopyValue) (region : RegionValue) (fault : StartFault) → AllByRecursion (λ (copy : TabletCopyValue). is_in rs copy.range ≡ true) copies → ranges_of region.tablets ≡ rs → AllServe region
-    → after_start copies region ≡ Err fault → fault ≡ Advance TooManyStreams
-only_streams rs [] region fault are same serve is = end_by region (least_cover region.tablets) _ fault is
-only_streams rs (copy ∷ copies) region fault are same serve is =
-    elim (after_adoption region copy) as (λ right. after_adoption region copy ≡ right → by_adoption (after_start copies) right ≡ Err fault → fault ≡ Advance TooManyStreams) [
-      | Ok taken ↦ λ adopt later.
+    → StopsAt copies region fault → StopsOnly fault
+only_streams rs [] region fault are same serve stops = by_advance fault (after_advance region) stops
+only_streams rs (copy ∷ copies) region fault are same serve stops =
+    elim (after_adoption region copy) as (λ right. after_adoption region copy ≡ right → MatchResult right (λ taken. (fault ≡ NotAdopted op.Memory) ⊎ StopsAt copies taken.1 fault) (λ refusal. fault ≡ NotAdopted refusal) → StopsOnly fault) [
+      | Ok taken ↦ λ adopt stops.
           let new = (adopts region copy taken.0 taken.1 adopt).is in
-          only_streams rs copies taken.1 fault are.1
+          or_later fault
+          (only_streams rs copies taken.1 fault are.1
           (ap (λ (r : RegionValue). ranges_of r.tablets) new ∙ ranges_kept taken.0 copy region.tablets ∙ same)
-          (subst AllServe (sym new) (adopts_at taken.0 copy region.tablets serve)) later
-      | Err why ↦ λ refused later. absurd (never_refused region copy why (ap (λ (those : List Ends). is_in those copy.range) same ∙ are.0) serve refused)
-    ] refl is
+          (subst AllServe (sym new) (adopts_at taken.0 copy region.tablets serve))) stops
+      | Err why ↦ λ refused stops. absurd (never_refused region copy why (ap (λ (those : List Ends). is_in those copy.range) same ∙ are.0) serve refused)
+    ] refl stops
 
 empty_ranges : (rs : List Ends) → ranges_of (map empty_tablet rs) ≡ rs
 empty_ranges [] = refl
 empty_ranges (r ∷ rs) = ap (λ (those : List Ends). r ∷ those) (empty_ranges rs)
 
-pub all_adopted : (copies : List TabletCopyValue) (bounds : Bounds) (fault : StartFault) → map (λ (copy : TabletCopyValue). copy.range) copies ≡ ranges bounds → after_start copies (new_region bounds) ≡ Err fault → fault ≡ Advance TooManyStreams
+pub all_adopted : (copies : List TabletCopyValue) (bounds : Bounds) (fault : StartFault) → map (λ (copy : TabletCopyValue). copy.range) copies ≡ ranges bounds → StopsAt copies (new_region bounds) fault → StopsOnly fault
 all_adopted copies bounds fault own is =
     only_streams (ranges bounds) copies (new_region bounds) fault (of_copies (ranges bounds) copies (subst (AreIn (ranges bounds)) (sym own) (each_in (ranges bounds))))
     (empty_ranges (ranges bounds)) (new_serves bounds) is

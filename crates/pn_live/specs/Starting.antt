@@ -1,15 +1,14 @@
 -- Live regions that start from copies.
-use Rattle.std.specs.Prelude.{ℕ, Bool, true, List, [], ◌∷◌, Result, Ok, Err}
-use Rattle.std.specs.Result.{result_map_both}
+use Rattle.std.specs.Prelude.{◌≡◌, ◌⊎◌, List, [], ◌∷◌, Result, MatchResult}
 use Rattle.pn_tablet.specs.Copies.{TabletCopyValue}
 use Rattle.pn_tablet.specs.Layouts.{Bounds}
-use Rattle.pn_tablet.specs.Steps as steps
-use Rattle.pn_tablet.specs.declared.fault.OpFault.{OpFault as AdoptFault}
-use Rattle.pn_region.specs.Advancing as advancing
-use Rattle.pn_region.specs.Advancing.{after_advance}
+use Rattle.pn_tablet.specs.Refusals.{Refuses}
+use Rattle.pn_tablet.specs.declared.fault.OpFault.TheVariants.{Memory}
+use Rattle.pn_region.specs.Advancing.{after_advance, is_memory}
 use Rattle.pn_region.specs.Recovery.{after_adoption}
 use Rattle.pn_region.specs.Regions.{RegionValue}
 use Rattle.pn_region.specs.Starting.{start_events}
+use Rattle.pn_region.specs.declared.fault.AdvanceFault.{AdvanceFault}
 use Rattle.pn_live.specs.Events.{AllLeadLive}
 use Rattle.pn_live.specs.LiveRegions.{LiveRegionValue, IsNewLive}
 use Rattle.pn_live.specs.declared.fault.StartFault.{StartFault}
@@ -21,18 +20,18 @@ pub record StartsLive (copies : List TabletCopyValue) (bounds : Bounds) (live : 
   pub is_new : IsNewLive bounds opened
   pub lead : AllLeadLive (start_events copies) opened live
 
--- what follows an adoption, or its refusal
-abbrev pub by_adoption : (RegionValue → Result RegionValue StartFault) → Result (ℕ × RegionValue) AdoptFault → Result RegionValue StartFault
-by_adoption rest (Ok taken) = rest taken.1
-by_adoption rest (Err fault) = Err (Adopt fault)
+-- the advance is refused so, or memory ran out where it is not
+abbrev pub IsAdvanceFault : StartFault → Result RegionValue AdvanceFault → Type 0
+IsAdvanceFault (Advance fault) right = Refuses is_memory fault right
+IsAdvanceFault _ right = ⊥
 
--- the region once each copy is adopted in turn and its marks have advanced, or the first refusal
-abbrev pub after_start : List TabletCopyValue → RegionValue → Result RegionValue StartFault
-after_start [] region = result_map_both (λ started. started) Advance (after_advance region)
-after_start (copy ∷ copies) region = by_adoption (after_start copies) (after_adoption region copy)
+-- the first copy that the region refuses is refused so, or else the advance; memory may run out at a copy before that
+abbrev pub StopsAt : List TabletCopyValue → RegionValue → StartFault → Type 0
+StopsAt [] region fault = IsAdvanceFault fault (after_advance region)
+StopsAt (copy ∷ copies) region fault =
+    MatchResult (after_adoption region copy) (λ taken. (fault ≡ Adopt Memory) ⊎ StopsAt copies taken.1 fault) (λ refusal. fault ≡ Adopt refusal)
 
--- the fault says that memory or readers ran out
-abbrev pub is_shortage : StartFault → Bool
-is_shortage (Open fault) = true
-is_shortage (Adopt fault) = steps.is_memory fault
-is_shortage (Advance fault) = advancing.is_memory fault
+-- a start stops so, unless nothing was opened
+abbrev pub StopsStart : List TabletCopyValue → RegionValue → StartFault → Type 0
+StopsStart copies region (Open fault) = Unit {0}
+StopsStart copies region fault = StopsAt copies region fault

@@ -1,6 +1,6 @@
 //! Live regions that start from copies.
 
-ghost use Rattle.std.specs.Prelude.{◌≡◌, ◌≤◌, false, length, Ok, Err, IfOk, IfErr, OnOk};
+ghost use Rattle.std.specs.Prelude.{◌≡◌, ◌≤◌, length, IfOk, IfErr, OnOk};
 ghost use Rattle.std.specs.List.{AllByRecursion};
 ghost use Rattle.pn_tablet.specs.Prelude.{Refuses};
 ghost use Rattle.pn_tablet.specs.Steps.{is_memory};
@@ -12,7 +12,7 @@ ghost use Rattle.pn_live.specs.declared.region.opening.TheConstants.{MAX_READERS
 ghost use Rattle.pn_live.specs.Events.{AllLeadLive, LeadsLive};
 ghost use Rattle.pn_live.specs.LiveRegions.{core, tablets_in};
 ghost use Rattle.pn_live.specs.Readers.{IsNewReader};
-ghost use Rattle.pn_live.specs.Starting.{StartsLive, after_start, is_shortage};
+ghost use Rattle.pn_live.specs.Starting.{StartsLive, StopsStart};
 
 use super::LiveRegion;
 use crate::fault::StartFault;
@@ -26,8 +26,9 @@ impl LiveRegion {
     /// Opens a live region, with 1 to 32 readers, which adopts each of the copies in turn. Then it takes as marks what
     /// all tablets have. The readers see nothing before that.
     ///
-    /// `Adopt` with the first refusal of a copy, or else `Advance`, exactly where a region's adoptions and then its
-    /// advance are refused so. `Open`, and `Memory` in each, come anywhere. After an error nothing is open.
+    /// `Open` as from `open`. Then `Adopt` with the refusal of the first copy that a region refuses, or else `Advance`,
+    /// exactly where these are refused so; `Memory` only at a copy, or an advance, that is not. After an error nothing
+    /// is open.
     pub fn open_from<R: Wait>(
         rt: &R,
         alloc: Global,
@@ -37,8 +38,7 @@ impl LiveRegion {
     ) -> Result<(LiveRegion, Vec<LiveReader>), StartFault>
         requires { (1 ≤ readers) × (readers ≤ MAX_READERS) }
         ensures starts { IfOk result (λ opened. StartsLive copies.items layout opened.0) }
-        ensures started { IfOk result (λ opened. after_start copies.items (new_region layout) ≡ Ok (core opened.0)) }
-        ensures refused { IfErr result (λ fault. is_shortage fault ≡ false → after_start copies.items (new_region layout) ≡ Err fault) }
+        ensures refused { IfErr result (StopsStart copies.items (new_region layout)) }
         ensures count { IfOk result (λ opened. length opened.1.items ≡ readers) }
         ensures readers { IfOk result (λ opened. AllByRecursion (IsNewReader (tablets_in opened.0)) opened.1.items) }
     {
@@ -59,8 +59,7 @@ impl LiveRegion {
     // Adopts each of the copies, and then takes as marks what all tablets have.
     fn start_from<R: Wait>(&mut self, rt: &R, copies: Vec<TabletCopy>) -> Result<(), StartFault>
         ensures ok { OnOk result (AllLeadLive (start_events copies.items) self.old self.new) }
-        ensures started { OnOk result (after_start copies.items (core self.old) ≡ Ok (core self.new)) }
-        ensures refused { IfErr result (λ fault. is_shortage fault ≡ false → after_start copies.items (core self.old) ≡ Err fault) }
+        ensures refused { IfErr result (StopsStart copies.items (core self.old)) }
         ensures same { tablets_in self.new ≡ tablets_in self.old }
     {
         for copy in copies {

@@ -1,9 +1,10 @@
 -- The live region that was opened has started, and its readers are new.
-use Rattle.std.proofs.Common.{sym, ap, ◌∙◌, subst}
+use Rattle.std.proofs.Common.{sym, subst}
 use Rattle.std.specs.List.{AllByRecursion}
+use Rattle.pn_region.specs.Regions.{RegionValue}
 use Rattle.pn_live.specs.LiveRegions.{tablets_in}
 use Rattle.pn_live.specs.Readers.{Tablets, IsNewReader}
-use Rattle.pn_live.specs.Starting.{after_start}
+use Rattle.pn_live.specs.Starting.{StopsStart}
 use Rattle.pn_live.proofs.Events.{new_core}
 use Rattle.pn_live.proofs.Starting.{still_read}
 use Rattle.pn_live.proofs.region.LiveRegion.open_from.Goals as goal
@@ -14,13 +15,9 @@ close-requires g c = still_read (tablets_in c.in-Ok.opened.0) c.start_from.new.s
 pub returns-in-Ok-start_from-clause-starts : goal.returns-in-Ok-start_from-clause-starts
 returns-in-Ok-start_from-clause-starts g c = record { opened = c.in-Ok.opened.0; is_new = c.in-Ok.ensures.region; lead = c.in-Ok-start_from.ensures.ok }
 
-pub returns-in-Ok-start_from-clause-started : goal.returns-in-Ok-start_from-clause-started
-returns-in-Ok-start_from-clause-started g c =
-    ap (after_start c.args.copies.items) (sym (new_core c.args.layout c.in-Ok.opened.0 c.in-Ok.ensures.region)) ∙ c.in-Ok-start_from.ensures.started
-
 pub returns-in-Ok-start_from-clause-readers : goal.returns-in-Ok-start_from-clause-readers
 returns-in-Ok-start_from-clause-readers g c = subst (λ (tablets : Tablets). AllByRecursion (IsNewReader tablets) c.in-Ok.opened.1.items) (sym c.start_from.ensures.same) c.in-Ok.ensures.readers
 
 pub returns-in-Err-start_from-clause-refused : goal.returns-in-Err-start_from-clause-refused
 returns-in-Err-start_from-clause-refused g c =
-    λ is. ap (after_start c.args.copies.items) (sym (new_core c.args.layout c.in-Ok.opened.0 c.in-Ok.ensures.region)) ∙ c.in-Err-start_from.ensures.refused is
+    subst (λ (region : RegionValue). StopsStart c.args.copies.items region c.in-Err-start_from.fault) (new_core c.args.layout c.in-Ok.opened.0 c.in-Ok.ensures.region) c.in-Err-start_from.ensures.refused
