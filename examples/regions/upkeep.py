@@ -109,13 +109,10 @@ def lose_tablet(machine: Machine, peer: Machine, near: Near) -> float:
         reading.join()
 
 
-def replace(lost: Machine, new: Machine, peers: Sequence[Machine], is_level: Callable[[str], bool]) -> float:
-    """A new machine takes the place of one that is lost with its disk, from copies of the others' regions."""
+def join(new: Machine, peers: Sequence[Machine], is_level: Callable[[str], bool]) -> float:
+    """A machine that has nothing joins from copies of the others' regions. Its feeds read at a neighbour's node of the broker."""
     start = time.monotonic()
-    new.make_broker()
-    new.start_broker()
-    until("the new node of the broker answers", new.has_broker, PATIENCE)
-    peers[0].replace_broker(lost, new)
+    new.node = peers[0].address
     for name in RANGES:
         # The feed counts on from a pair of its neighbour, which is older than the copies.
         shutil.copy(peers[0].path(name, "pairs"), new.path(name, "pairs"))
