@@ -1,9 +1,9 @@
 -- Replies.
 pub mod Answers
-pub mod Capacity
 pub mod Errors
 pub mod Faults
 pub mod LineStats
+pub mod Making
 pub mod Notices
 pub mod Record
 pub mod Refusals

@@ -1,93 +1,86 @@
 //! What a connection keeps is loaded into the buffers of its thread, and stored again after a turn.
 
-ghost use Rattle.std.specs.Prelude.{◌≡◌, ◌≢◌, ◌+◌, ◌≤◌, ℕ, Bool, List, [], ◌++◌, Option, length, vec_len, IfOk};
-ghost use Rattle.pn_line.specs.Line.{so_far};
-ghost use Rattle.pn_serve.specs.Lines.States.{Start};
-ghost use Rattle.pn_stay.specs.Connections.{line_in, IsLine, SameInput};
-ghost use Rattle.pn_stay.specs.Sessions.{FollowsSession};
-ghost use Rattle.pn_stay.specs.Turns.{in_buffers, GoesOnSoon, IsPause, PausesWell, TurnsTo};
-ghost use Rattle.pn_stay.specs.declared.connection_state.Pause.TheVariants as pauses;
-ghost use Rattle.pn_stay.specs.declared.steps.Step.TheVariants as steps;
+ghost use Rattle.std.specs.Prelude.{◌≡◌, ◌+◌, ◌≤◌, ℕ, List, [], ◌++◌, Option, length, vec_len, IfOk};
+ghost use Rattle.pn_stay.specs.Connections.{IsLine, SameInput, line_in};
 
-use crate::connection_state::{
-    Answering, Closing, ConnectionState, Pause, ThreadBuffers, TurnOutcome,
-};
+use crate::connection_state::{ConnectionState, Pause, ThreadBuffers, TurnOutcome};
 use crate::input_buffer::INPUT_CAPACITY;
-use crate::output_buffer::OutputBuffer;
 use pn_line::{Discard, LineBuffer, MAX_LINE_BYTES};
-use pn_serve::{LineHandler, LineLoop, MAX_LINES, RunFault};
+use pn_serve::{ReplyBuffer, RunFault, Step};
 use std::alloc::{AllocError, Global};
+use std::mem;
 
-impl Answering {
-    // Loads its line and its input into the buffers, and answers its replies.
-    pub(super) fn load(self, buffers: &mut ThreadBuffers) -> OutputBuffer
-        ensures loaded { in_buffers buffers.new result ≡ self }
-        ensures line { IsLine buffers.new.lines.line }
-        ensures few { buffers.new.lines.counts.lines ≤ MAX_LINES }
-    {
-        let Answering {
-            line,
-            held,
-            replies,
-            counts,
-            ..
-        } = self;
+impl ConnectionState {
+    // Loads what it keeps into the buffers. Where there is no memory for replies that it may have to keep, long ones are refused.
+    pub(super) fn load(&mut self, buffers: &mut ThreadBuffers) {
         let _ = buffers.lines.flush(&mut Discard);
-        buffers.lines.resume(counts);
-        restore_line(&mut buffers.lines, line);
-        buffers.input.fill(&held);
-        replies
+        buffers.lines.begin_line();
+        buffers.lines.swap_state(&mut self.state);
+        if let Some(mut line) = self.line.take() {
+            buffers.lines.swap_line(&mut line);
+        }
+        buffers.input.fill(&self.held);
+        self.held = Vec::new(self.alloc);
+        let can_keep = self.load_replies(buffers);
+        buffers.lines.set_scarce(!can_keep);
     }
-}
 
-// Goes on with a line that was begun, if there is one.
-fn restore_line(lines: &mut LineLoop, line: Option<LineBuffer>)
-    requires { lines.old.line ≡ so_far [] }
-    ensures line { lines.new.line ≡ line_in line }
-    ensures counts { lines.new.counts ≡ lines.old.counts }
-    ensures waits { lines.new.waits ≡ lines.old.waits }
-{
-    if let Some(line) = line {
-        let mut line = line;
-        lines.swap_line(&mut line);
+    // Goes on with its own buffer of replies, in whose place it has the thread's meanwhile. Where it has none, whether there is a spare
+    // one, which it may have to keep.
+    fn load_replies(&mut self, buffers: &mut ThreadBuffers) -> bool {
+        if let Some(replies) = &mut self.replies {
+            buffers.lines.swap_replies(replies);
+            return true;
+        }
+        if buffers.spare.is_none() {
+            buffers.spare = ReplyBuffer::new(self.alloc).ok();
+        }
+        buffers.spare.is_some()
     }
-}
 
-/// Stores a connection until its next turn. Out of memory, its input is lost as by a fault of the reader.
-pub(super) fn store<M: LineHandler>(
-    alloc: Global,
-    buffers: &mut ThreadBuffers,
-    replies: OutputBuffer,
-    pause: Pause,
-) -> TurnOutcome
-    requires few { buffers.old.lines.counts.lines ≤ MAX_LINES }
-    requires line { IsLine buffers.old.lines.line }
-    requires none { buffers.old.lines.waits ≡ [] }
-    requires pause { IsPause pause replies }
-    ensures pauses { PausesWell result }
-    ensures soon { pause ≢ pauses.Input → GoesOnSoon steps.Next result }
-    ensures turns { (shared : Bool) (start : Start M) (left written : Option (List ℕ)) (machine : M) → FollowsSession M.makes M.ends shared start left written machine (in_buffers buffers.old replies)
-        → TurnsTo M.makes M.ends shared start left written machine result }
-{
-    let counts = buffers.lines.counts();
-    match unload_input(alloc, buffers) {
-        Ok(stored) => TurnOutcome::Goes(
-            ConnectionState::Answering(Answering {
-                alloc,
-                line: stored.line,
-                held: stored.held,
-                replies,
-                counts,
-            }),
-            pause,
-        ),
-        Err(_) => TurnOutcome::Goes(
-            ConnectionState::Closing(Closing {
-                replies,
-                ended: Err(RunFault::Read),
-            }),
-            Pause::Turn,
-        ),
+    // Stores it until its next turn, or ends it.
+    pub(super) fn store(&mut self, buffers: &mut ThreadBuffers, step: Step) -> TurnOutcome {
+        let pause = match step {
+            Step::Next(_) => Pause::Turn,
+            Step::NoInput => Pause::Input,
+            Step::NoRoom => Pause::Output,
+            Step::Ends(ended) => return TurnOutcome::Ended(ended),
+        };
+        let has_kept = self.keep_replies(buffers);
+        buffers.lines.swap_state(&mut self.state);
+        if !has_kept {
+            return TurnOutcome::Ended(Err(RunFault::Write));
+        }
+        self.keep_input(buffers, pause)
+    }
+
+    // Keeps the buffer of replies where some wait or are still to be made. False where the thread has no other.
+    fn keep_replies(&mut self, buffers: &mut ThreadBuffers) -> bool {
+        let mut others = match self.replies.take() {
+            Some(threads) => Some(threads),
+            None => mem::replace(&mut buffers.spare, None),
+        };
+        if !buffers.lines.has_replies() {
+            buffers.spare = others;
+            return true;
+        }
+        if let Some(replies) = &mut others {
+            buffers.lines.swap_replies(replies);
+        }
+        self.replies = others;
+        self.replies.is_some()
+    }
+
+    // Takes the input out of the buffers. Out of memory, it is lost as by a fault of the reader.
+    fn keep_input(&mut self, buffers: &mut ThreadBuffers, pause: Pause) -> TurnOutcome {
+        match unload_input(self.alloc, buffers) {
+            Ok(stored) => {
+                self.line = stored.line;
+                self.held = stored.held;
+                TurnOutcome::Goes(pause)
+            }
+            Err(_) => TurnOutcome::Ended(Err(RunFault::Read)),
+        }
     }
 }
 

@@ -1,0 +1,132 @@
+//! Lookups of a session that are gone on with: a page, the records of keys, or a copy.
+
+ghost use Rattle.std.specs.Prelude.{◌≡◌};
+ghost use Rattle.pn_live.specs.Prelude.{LiveReaderValue};
+ghost use Rattle.pn_protocol.specs.Command.Meaning.{CommandValue};
+ghost use Rattle.pn_scan.specs.Prelude.{Stays};
+ghost use Rattle.pn_serve.specs.Session.Knowing.{KnowsNoLess};
+ghost use Rattle.pn_serve.specs.Session.Looking.{LooksOn, LooksTo, kind_of};
+
+use crate::machine::line_handler::Answer;
+use pn_join::NoMemory;
+use pn_live::{GetWalk, LiveReader};
+use pn_protocol::{CommandFault, LineKind, Refusal, Reply, answer_get, answer_scan, refuse};
+use pn_record::Key;
+use pn_scan::{PageStep, PageWalk, Query, ScanFault, View};
+use pn_tablet::{CopyCount, CopyStep, TabletCopy};
+use std::alloc::Global;
+
+/// How many records reading a key counts for.
+const RECORDS_OF_KEY: usize = 16;
+
+/// A lookup of which some looks were made.
+#[derive(Drop)]
+pub enum Going {
+    /// A page of a query.
+    Page(Query, PageWalk),
+    /// The records of keys.
+    Keys(GetWalk),
+    /// A copy, whose lines are counted.
+    Copy(CopyCount),
+}
+
+impl Going {
+    /// A page of which nothing was looked for.
+    pub(super) fn page(alloc: Global, reader: &LiveReader, query: Query) -> Going {
+        let walk = PageWalk::new(alloc, reader.layout(), &query);
+        Going::Page(query, walk)
+    }
+
+    /// The records of keys of which none was read.
+    pub(super) fn keys(alloc: Global, keys: Vec<Key>) -> Going {
+        Going::Keys(GetWalk::new(alloc, keys))
+    }
+
+    /// A copy of which no line is counted.
+    pub(super) fn copy(copy: TabletCopy) -> Going {
+        Going::Copy(CopyCount::new(copy))
+    }
+
+    /// The kind of its line.
+    pub(super) fn kind(&self) -> LineKind
+        ensures { result ≡ kind_of self.now }
+    {
+        match self {
+            Going::Page(_, _) => LineKind::Scan,
+            Going::Keys(_) => LineKind::Get,
+            Going::Copy(_) => LineKind::Copy,
+        }
+    }
+
+    /// Looks at so many records more, and at few beside them. How many that counts for.
+    pub(crate) fn go_on(
+        self,
+        alloc: Global,
+        reader: &mut LiveReader,
+        records: usize,
+    ) -> (Answer, usize)
+        ensures alone { (was between : LiveReaderValue) (command : CommandValue) → LooksOn Stays was command between self → Stays between reader.old → LooksTo Stays was command reader.new result.0 }
+        ensures shared { (was between : LiveReaderValue) (command : CommandValue) → LooksOn KnowsNoLess was command between self → KnowsNoLess between reader.old → LooksTo KnowsNoLess was command reader.new result.0 }
+        ensures knows { KnowsNoLess reader.old reader.new }
+    {
+        match self {
+            Going::Page(query, walk) => {
+                let step = walk.go_on(alloc, reader, &query, records);
+                let looked = looked_by(&step);
+                (page_answer(alloc, query, step), looked)
+            }
+            Going::Keys(walk) => {
+                let most = (records / RECORDS_OF_KEY).max(1);
+                let count = walk.left().min(most);
+                let walk = walk.go_on(reader, most);
+                (keys_answer(alloc, walk), count * RECORDS_OF_KEY)
+            }
+            Going::Copy(count) => (copy_answer(count.go_on(records)), records),
+        }
+    }
+}
+
+// How many records a step of a page looked at.
+fn looked_by(step: &Result<PageStep, ScanFault>) -> usize {
+    match step {
+        Ok(PageStep::Next(walk)) => walk.looked(),
+        _ => 0,
+    }
+}
+
+// The answer of a page, once it is found.
+fn page_answer(alloc: Global, query: Query, step: Result<PageStep, ScanFault>) -> Answer {
+    match step {
+        Ok(PageStep::Done(page)) => Answer::Done(answer_scan(alloc, Ok(page))),
+        Ok(PageStep::Next(walk)) => Answer::Going(Going::Page(query, walk)),
+        Err(fault) => Answer::Done(answer_scan(alloc, Err(fault))),
+    }
+}
+
+// The answer of a get, once all keys are read.
+fn keys_answer(alloc: Global, walk: Result<GetWalk, ScanFault>) -> Answer {
+    let walk = match walk {
+        Ok(walk) => walk,
+        Err(fault) => return refused(alloc, fault),
+    };
+    if walk.left() > 0 {
+        return Answer::Going(Going::Keys(walk));
+    }
+    match walk.end() {
+        Ok((keys, cells)) => Answer::Done(answer_get(alloc, keys, Ok(cells))),
+        Err(fault) => refused(alloc, fault),
+    }
+}
+
+fn refused(alloc: Global, fault: ScanFault) -> Answer {
+    Answer::Done(refuse(alloc, CommandFault::Lookup(fault)))
+}
+
+// The answer of a copy, once its lines are counted.
+fn copy_answer(step: Result<CopyStep, NoMemory>) -> Answer {
+    match step {
+        Ok(CopyStep::Done(copy)) => Answer::Done(Reply::Copy(copy)),
+        Ok(CopyStep::Next(count)) => Answer::Going(Going::Copy(count)),
+        Err(_) => Answer::Done(Reply::Refused(Refusal::Memory)),
+    }
+}

@@ -1,0 +1,277 @@
+-- The lines of a copy, counted and made one at a time.
+use Rattle.std.proofs.Common.{◌≡◌, ◌≢◌, ℕ, zero, suc, ◌+◌, ◌-◌, ◌<◌, ◌≤◌, ◌⊎◌, inl, inr, Bool, true, false, cond, ◌||◌, List, [], ◌∷◌, ◌++◌, map, length, take, drop, get_or, All, Option, Some, None, codes, decimal, refl, sym, ap, ◌∙◌, subst, append_assoc, append-nil, arith, length-append}
+use Rattle.std.specs.Prelude.{IfSome, Vec}
+use Rattle.std.specs.declared.alloc.Global.{Global}
+use Rattle.std.specs.FinMap.{keys}
+use Rattle.std.specs.List.{slice_get, list_any, AllByRecursion}
+use Rattle.std.proofs.lemmas.Grind.{flat_map-append}
+use Rattle.std.proofs.lemmas.List.{length-map, take_all, take-append-drop}
+use Rattle.std.proofs.lemmas.List.Elements.{All-nil, All-cons}
+use Rattle.std.proofs.lemmas.List.Folds.{list_any-append}
+use Rattle.json.specs.Print.{quoted}
+use Rattle.serde_json.specs.Data.{Data}
+use Rattle.serde_json.specs.Written.{compact_text}
+use Rattle.serde_json.proofs.OnLiterals.{serde_json_on_literals}
+use Rattle.pn_line.specs.Reads.{IsUnbroken}
+use Rattle.pn_line.specs.Text.{lines_of, text_of}
+use Rattle.pn_join.specs.Marks.{Positions}
+use Rattle.pn_join.specs.Tables.{IsTable}
+use Rattle.pn_json.specs.AppendedText.{AppendsText, MakesPiece}
+use Rattle.pn_json.proofs.AppendedTexts.{appended_none}
+use Rattle.pn_record.specs.declared.image.Image.{Image}
+use Rattle.pn_record.specs.CellMap.{Entries}
+use Rattle.pn_record.specs.Cells.{spell, spell_cell}
+use Rattle.pn_record.specs.Limits.{ContentValue}
+use Rattle.pn_record.specs.Numbers.{holds_number}
+use Rattle.pn_record.specs.Order.{bytes_cmp}
+use Rattle.pn_record.specs.Sets.{CellValue, HasContents}
+use Rattle.pn_record.specs.Writing.{image_data}
+use Rattle.pn_tablet.specs.Copies.{TabletCopyValue}
+use Rattle.pn_tablet.specs.CopyLines.{head_data, mark_data, end_data}
+use Rattle.pn_tablet.specs.CopyMaking.{IsCopyPlace, IsCountedIn, MakesLine, lines_of_copy, lines_between, copy_rest}
+use Rattle.pn_tablet.specs.CopyTexts.{mark_line, lines_after_head}
+use Rattle.pn_tablet.specs.CopyWriting.{line_data, line_text, lines_text, copy_text}
+use Rattle.pn_tablet.specs.Forms.{form_number, form_of}
+use Rattle.pn_tablet.specs.Ranges.{key_data}
+use Rattle.pn_tablet.specs.declared.copy_line.CopyLine.{CopyLine}
+use Rattle.pn_tablet.specs.declared.copy_line.CopyLine.TheVariants.{Record, End}
+use Rattle.pn_tablet.specs.declared.copy_text.Counted.{Counted}
+use Rattle.pn_tablet.specs.declared.copy_text.CopyPlace.{CopyPlace}
+use Rattle.pn_tablet.specs.declared.copy_text.CopyPlace.TheVariants.{Head, Mark, Image, Written}
+use Rattle.pn_tablet.specs.declared.form.Form.{Form}
+use Rattle.pn_tablet.specs.declared.form.Form.TheVariants.{Texts, Numbers}
+use Rattle.pn_tablet.proofs.CopyLineCounts.{lines_again}
+use Rattle.pn_tablet.proofs.CopyLineTexts.{text-unbroken}
+use Rattle.pn_tablet.proofs.CopyWritten.{head_of, texts, text_of-texts, head_first, cell_count}
+use Rattle.pn_tablet.proofs.FormLines.{holds, cell_holds}
+
+-- ---- how many lines
+
+texts-unbroken : (says : List CopyLine) → All IsUnbroken (texts says)
+texts-unbroken [] = All-nil IsUnbroken
+texts-unbroken (line ∷ says) = All-cons IsUnbroken (compact_text (line_data line)) (texts says) (text-unbroken (line_data line)) (texts-unbroken says)
+
+-- the head, a line for each mark and each image, and the end
+pub copy_lines : (copy : TabletCopyValue) → lines_of_copy copy ≡ 2 + lines_between copy
+copy_lines copy =
+    let says = lines_after_head copy.marks (spell copy.cells) in
+    let head = compact_text (head_data (head_of copy)) in
+    let whole = head_first (head_data (head_of copy)) (texts says) (lines_text says) (text_of-texts says) in
+    let split : lines_of (copy_text copy) ≡ head ∷ texts says =
+    ap lines_of whole ∙ lines_again (head ∷ texts says) (All-cons IsUnbroken head (texts says) (text-unbroken (head_data (head_of copy))) (texts-unbroken says)) in
+    let last = map Record (spell copy.cells) ++ End (lines_between copy) ∷ [] in
+    omega (
+      arith,
+      ap length split,
+      length-map says (λ line. compact_text (line_data line)),
+      length-append (map mark_line copy.marks) last,
+      length-append (map Record (spell copy.cells)) (End (lines_between copy) ∷ []),
+      length-map copy.marks mark_line,
+      length-map (spell copy.cells) Record,
+    )
+
+-- ---- elements of lists
+
+-- the element of an index is the first of the rest
+pub drop_at : {X : Type 0} (xs : List X) (i : ℕ) (x : X) → slice_get xs i ≡ Some x → drop i xs ≡ x ∷ drop (i + 1) xs
+drop_at {X} xs i x there = drop_suc xs i x there ∙ ap (λ (n : ℕ). x ∷ drop n xs) next
+  where
+    next : suc i ≡ i + 1
+    next = omega arith
+
+    drop_suc : (ys : List X) (k : ℕ) (y : X) → slice_get ys k ≡ Some y → drop k ys ≡ y ∷ drop (suc k) ys
+    drop_suc [] k y there = absurd (cc)
+    drop_suc (z ∷ ys) zero y there = cc
+    drop_suc (z ∷ ys) (suc k) y there = drop_suc ys k y there
+
+pub drop_past : {X : Type 0} (xs : List X) (i : ℕ) → slice_get xs i ≡ None → drop i xs ≡ []
+drop_past [] zero there = refl
+drop_past [] (suc i) there = refl
+drop_past (x ∷ xs) zero there = absurd (cc)
+drop_past (x ∷ xs) (suc i) there = drop_past xs i there
+
+-- each cell of a table has a content
+pub has_content : (cells : Entries) → AllByRecursion (λ (entry : List ℕ × CellValue). HasContents entry.1) cells → (i : ℕ) → IfSome (slice_get cells i) (λ entry. 0 < length (keys entry.1.1))
+has_content [] all i = tt
+has_content (entry ∷ cells) all zero = all.0
+has_content (entry ∷ cells) all (suc i) = has_content cells all.1 i
+
+-- ---- one line
+
+pub mark_rest : (copy : TabletCopyValue) (index : ℕ) (mark : List ℕ × ℕ) → slice_get copy.marks index ≡ Some mark → copy_rest copy (Mark index) ≡ line_text (mark_data mark) ++ copy_rest copy (Mark (index + 1))
+mark_rest copy index mark there =
+    ap (λ (marks : Positions). lines_text (map mark_line marks ++ (map Record (spell copy.cells) ++ End (lines_between copy) ∷ []))) (drop_at copy.marks index mark there)
+
+pub no_mark : (copy : TabletCopyValue) (index : ℕ) → slice_get copy.marks index ≡ None → copy_rest copy (Mark index) ≡ copy_rest copy (Image 0 0)
+no_mark copy index none = ap (λ (marks : Positions). lines_text (map mark_line marks ++ (map Record (spell copy.cells) ++ End (lines_between copy) ∷ []))) (drop_past copy.marks index none)
+
+pub no_image : (copy : TabletCopyValue) (index content : ℕ) → slice_get copy.cells index ≡ None → copy_rest copy (Image index content) ≡ line_text (end_data (lines_between copy)) ++ copy_rest copy Written
+no_image copy index content none =
+    ap (λ (cells : Entries). lines_text (map Record (drop content (spell cells)) ++ End (lines_between copy) ∷ [])) (drop_past copy.cells index none)
+    ∙ ap (λ (images : List Image). lines_text (map Record images ++ End (lines_between copy) ∷ [])) (drop_past [] content refl)
+
+abbrev image_of : List ℕ × CellValue → ContentValue → Image
+image_of entry shown = record { key = entry.0; version = entry.1.0; content = shown }
+
+-- dropping within the first list
+drop_within : {X Y : Type 0} (f : X → Y) (xs : List X) (n : ℕ) (x : X) (ys : List Y) → x ≡ get_or xs n x → n < length xs → drop n (map f xs ++ ys) ≡ f x ∷ drop (n + 1) (map f xs ++ ys)
+drop_within {X} {Y} f xs n x ys here within = go xs n here within ∙ ap (λ (k : ℕ). f x ∷ drop k (map f xs ++ ys)) next
+  where
+    next : suc n ≡ n + 1
+    next = omega arith
+
+    go : (zs : List X) (k : ℕ) → x ≡ get_or zs k x → k < length zs → drop k (map f zs ++ ys) ≡ f x ∷ drop (suc k) (map f zs ++ ys)
+    go [] k here within = absurd (omega (arith, within))
+    go (z ∷ zs) zero here within = ap (λ (y : X). f y ∷ (map f zs ++ ys)) (sym here)
+    go (z ∷ zs) (suc k) here within = go zs k here (omega (arith, within))
+
+drop_whole : {X Y : Type 0} (f : X → Y) (xs : List X) (n : ℕ) (ys : List Y) → n ≡ length xs → drop n (map f xs ++ ys) ≡ ys
+drop_whole f [] n ys is = ap (λ (k : ℕ). drop k ys) is
+drop_whole f (x ∷ xs) zero ys is = absurd (omega (arith, is))
+drop_whole f (x ∷ xs) (suc n) ys is = drop_whole f xs n ys (omega (arith, is))
+
+-- the images from a record on
+spelled_from : (cells : Entries) (index : ℕ) (entry : List ℕ × CellValue) → slice_get cells index ≡ Some entry → spell (drop index cells) ≡ map (image_of entry) (keys entry.1.1) ++ spell (drop (index + 1) cells)
+spelled_from cells index entry there = ap spell (drop_at cells index entry there)
+
+pub image_rest : (copy : TabletCopyValue) (index content : ℕ) (entry : List ℕ × CellValue) (shown : ContentValue) → slice_get copy.cells index ≡ Some entry → shown ≡ get_or (keys entry.1.1) content shown → content < length (keys entry.1.1)
+    → copy_rest copy (Image index content) ≡ line_text (image_data (image_of entry shown)) ++ copy_rest copy (Image index (content + 1))
+image_rest copy index content entry shown there here within =
+    let rest = spelled_from copy.cells index entry there in
+    let more = spell (drop (index + 1) copy.cells) in
+    ap (λ (images : List Image). lines_text (map Record images ++ End (lines_between copy) ∷ []))
+    (ap (drop content) rest ∙ drop_within (image_of entry) (keys entry.1.1) content shown more here within ∙ ap (λ (images : List Image). image_of entry shown ∷ drop (content + 1) images) (sym rest))
+
+-- after the last content of a record comes the next record
+pub next_record : (copy : TabletCopyValue) (index content : ℕ) (entry : List ℕ × CellValue) → slice_get copy.cells index ≡ Some entry → content ≡ length (keys entry.1.1) → copy_rest copy (Image index content) ≡ copy_rest copy (Image (index + 1) 0)
+next_record copy index content entry there last =
+    ap (λ (images : List Image). lines_text (map Record images ++ End (lines_between copy) ∷ []))
+    (ap (drop content) (spelled_from copy.cells index entry there) ∙ drop_whole (image_of entry) (keys entry.1.1) content (spell (drop (index + 1) copy.cells)) last)
+
+length_lines : (says : List CopyLine) (n : ℕ) → 0 < length (lines_text (says ++ End n ∷ []))
+length_lines [] n = omega (arith, length-append (line_text (end_data n)) [], length-append (compact_text (end_data n)) (10 ∷ []))
+length_lines (line ∷ says) n = omega (arith, length-append (line_text (line_data line)) (lines_text (says ++ End n ∷ [])), length-append (compact_text (line_data line)) (10 ∷ []))
+
+-- a place before the end has a line still to be made
+pub rest_some : (copy : TabletCopyValue) (place : CopyPlace) → place ≢ Written → copy_rest copy place ≢ []
+rest_some copy Head other none =
+    let head = line_text (head_data (head_of copy)) in
+    let says = lines_text (lines_after_head copy.marks (spell copy.cells)) in
+    omega (arith, ap length none, length-append head says, length-append (compact_text (head_data (head_of copy))) (10 ∷ []))
+rest_some copy (Mark index) other none =
+    let before = map mark_line (drop index copy.marks) in
+    let images = map Record (spell copy.cells) in
+    let regrouped = append_assoc before images (End (lines_between copy) ∷ []) in
+    omega (arith, ap length none, ap (λ (says : List CopyLine). length (lines_text says)) regrouped, length_lines (before ++ images) (lines_between copy))
+rest_some copy (Image index content) other none =
+    omega (arith, ap length none, length_lines (map Record (drop content (spell (drop index copy.cells)))) (lines_between copy))
+rest_some copy Written other none = other refl
+
+-- ---- the texts of lines
+
+pub head_made : (n : ℕ) (from to : Option (List ℕ)) (form : Form) → n ≡ form_number form
+    → codes "{\"copy\":" ++ (decimal n ++ (codes ",\"from\":" ++ (compact_text (key_data from) ++ (codes ",\"to\":" ++ (compact_text (key_data to) ++ codes "}"))))) ≡ compact_text (head_data (form, (from, to)))
+unfolding serde_json_on_literals
+head_made n from to form is =
+    ap (λ (k : ℕ). codes "{\"copy\":" ++ (decimal k ++ (codes ",\"from\":" ++ (compact_text (key_data from) ++ (codes ",\"to\":" ++ (compact_text (key_data to) ++ codes "}")))))) is
+
+pub mark_made : (name : List ℕ) (position : ℕ) → codes "{\"at\":" ++ (decimal position ++ (codes ",\"stream\":" ++ (quoted name ++ codes "}"))) ≡ compact_text (mark_data (name, position))
+unfolding serde_json_on_literals
+mark_made name position = refl
+
+pub end_made : (count : ℕ) → codes "{\"end\":" ++ (decimal count ++ codes "}") ≡ compact_text (end_data count)
+unfolding serde_json_on_literals
+end_made count = refl
+
+pub with_newline : (text : List ℕ) (n : ℕ) → length text ≤ n → length (text ++ 10 ∷ []) ≤ n + 1
+with_newline text n short = omega (arith, length-append text (10 ∷ []))
+
+-- ---- counting
+
+drop_taken : {X : Type 0} (xs ys : List X) (n : ℕ) (x : X) → drop n xs ≡ x ∷ ys → (n < length xs) × (ys ≡ drop (suc n) xs) × (take (suc n) xs ≡ take n xs ++ x ∷ [])
+drop_taken [] ys zero x is = absurd (cc)
+drop_taken [] ys (suc n) x is = absurd (cc)
+drop_taken (z ∷ xs) ys zero x is = (omega arith, cc, cc)
+drop_taken (z ∷ xs) ys (suc n) x is =
+    let before = drop_taken xs ys n x is in
+    (omega (arith, before.0), before.1, ap (λ (l : List X). z ∷ l) before.2)
+
+-- one record more, which is the first of those that are left
+pub one_more_record : {X : Type 0} (xs ys : List X) (n : ℕ) (x : X) → drop n xs ≡ x ∷ ys → (n < length xs) × (ys ≡ drop (n + 1) xs) × (take (n + 1) xs ≡ take n xs ++ x ∷ [])
+one_more_record xs ys n x is =
+    let next : suc n ≡ n + 1 = omega arith in
+    let found = drop_taken xs ys n x is in
+    (found.0, found.1 ∙ ap (λ (k : ℕ). drop k xs) next, ap (λ (k : ℕ). take k xs) (sym next) ∙ found.2)
+
+spelled_more : (cells : Entries) (entry : List ℕ × CellValue) → spell (cells ++ entry ∷ []) ≡ spell cells ++ spell_cell entry
+spelled_more cells entry = flat_map-append spell_cell cells (entry ∷ []) ∙ ap (λ (images : List Image). spell cells ++ images) (append-nil (spell_cell entry))
+
+form_more : (numbered some : Bool) → cond numbered Numbers (cond some Numbers Texts) ≡ cond (some || numbered) Numbers Texts
+form_more true true = refl
+form_more true false = refl
+form_more false true = refl
+form_more false false = refl
+
+cell_numbered : (entry : List ℕ × CellValue) → list_any holds (spell_cell entry) ≡ list_any holds_number (keys entry.1.1)
+cell_numbered entry =
+    ap (list_any holds) (sym (append-nil (spell_cell entry))) ∙ cell_holds entry [] ∙ or_none (list_any holds_number (keys entry.1.1))
+  where
+    or_none : (b : Bool) → (b || false) ≡ b
+    or_none true = refl
+    or_none false = refl
+
+pub counted_more : (cells rest : Entries) (entry : List ℕ × CellValue) (was now : Counted) → IsCountedIn cells was → drop was.records cells ≡ entry ∷ rest → now.records ≡ was.records + 1
+    → now.images ≡ was.images + length (keys entry.1.1) → now.form ≡ cond (list_any holds_number (keys entry.1.1)) Numbers was.form → IsCountedIn cells now
+counted_more cells rest entry was now counted left records images form =
+    let more = one_more_record cells rest was.records entry left in
+    let before = spell (take was.records cells) in
+    let all : spell (take now.records cells) ≡ before ++ spell_cell entry = ap (λ (k : ℕ). spell (take k cells)) records ∙ ap spell more.2 ∙ spelled_more (take was.records cells) entry in
+    record {
+      within = omega (arith, more.0, records);
+      images_are = omega (arith, images, counted.images_are, ap length all, length-append before (spell_cell entry), length-map (keys entry.1.1) (image_of entry));
+      form_is =
+          form ∙ ap (λ (f : Form). cond (list_any holds_number (keys entry.1.1)) Numbers f) counted.form_is ∙ form_more (list_any holds_number (keys entry.1.1)) (list_any holds before)
+          ∙ ap (λ (b : Bool). cond (list_any holds before || b) Numbers Texts) (sym (cell_numbered entry)) ∙ ap (λ (b : Bool). cond b Numbers Texts) (sym (list_any-append holds before (spell_cell entry))) ∙ ap form_of (sym all);
+    }
+
+-- no more than there are
+pub counted_within : (cells rest : Entries) (entry : List ℕ × CellValue) (was : Counted) → IsCountedIn cells was → drop was.records cells ≡ entry ∷ rest → was.images + length (keys entry.1.1) ≤ length (spell cells)
+counted_within cells rest entry was counted left =
+    let whole : take was.records cells ++ (entry ∷ rest) ≡ cells = ap (λ (l : Entries). take was.records cells ++ l) (sym left) ∙ take-append-drop was.records cells in
+    let spelled = flat_map-append spell_cell (take was.records cells) (entry ∷ rest) in
+    omega (arith, counted.images_are, ap (λ (l : Entries). length (spell l)) whole, ap length spelled, length-append (spell (take was.records cells)) (spell (entry ∷ rest)), cell_count entry rest)
+
+-- all are counted
+pub counted_all : (cells : Entries) (counted : Counted) → IsCountedIn cells counted → length cells ≤ counted.records → (counted.images ≡ length (spell cells)) × (counted.form ≡ form_of (spell cells))
+counted_all cells counted is over =
+    let all = take_all counted.records cells over in
+    (is.images_are ∙ ap (λ (l : Entries). length (spell l)) all, is.form_is ∙ ap (λ (l : Entries). form_of (spell l)) all)
+
+-- ---- a line that was added
+
+-- what holds of the element that there is
+pub at_some : {X : Type 0} (P : X → Type 0) (o : Option X) (x : X) → o ≡ Some x → IfSome o P → P x
+at_some {X} P o x there holds = subst (λ (p : Option X). IfSome p P) there holds
+
+pub in_some : {X : Type 0} (P : X → Type 0) (o : Option X) (x : X) → o ≡ Some x → P x → IfSome o P
+in_some {X} P o x there holds = subst (λ (p : Option X). IfSome p P) (sym there) holds
+
+pub made_line : {copy : TabletCopyValue} {place next : CopyPlace} {old new : Vec ℕ Global} (d : Data) → AppendsText old new (line_text d) → length (line_text d) ≤ 60000 → copy_rest copy place ≡ line_text d ++ copy_rest copy next → IsCopyPlace copy next
+    → MakesLine copy place old new next
+made_line d appended short split next = record {
+  line = record { piece = line_text d; appended = appended; split = split; short = short; some = inr (omega (arith, length-append (compact_text d) (10 ∷ []))) };
+  place_is = next;
+}
+
+pub head_rest : (copy : TabletCopyValue) (form : Form) → form ≡ form_of (spell copy.cells) → copy_rest copy Head ≡ line_text (head_data (form, copy.range)) ++ copy_rest copy (Mark 0)
+head_rest copy form is = ap (λ (f : Form). line_text (head_data (f, copy.range)) ++ lines_text (lines_after_head copy.marks (spell copy.cells))) (sym is)
+
+pub same_line : {copy : TabletCopyValue} {place other next : CopyPlace} {old new : Vec ℕ Global} → copy_rest copy place ≡ copy_rest copy other → MakesLine copy other old new next → MakesLine copy place old new next
+same_line {copy} {place} {other} {next} {old} {new} same made =
+    record { line = subst (λ (left : List ℕ). MakesPiece 60000 left (copy_rest copy next) old new) (sym same) made.line; place_is = made.place_is }
+
+pub none_left : (copy : TabletCopyValue) (v : Vec ℕ Global) → MakesLine copy Written v v Written
+none_left copy v = record { line = record { piece = []; appended = appended_none v; split = refl; short = omega arith; some = inl refl }; place_is = tt }
+
+pub first_content : (copy : TabletCopyValue) → IsTable bytes_cmp HasContents copy.cells → (index : ℕ) → IsCopyPlace copy (Image index 0)
+first_content copy table index = has_content copy.cells table.contents index
