@@ -74,7 +74,7 @@ pub shown_at : (left : Option (List ℕ)) (more : Bool) (leaves : Option (List �
 shown_at None more leaves rest is shown = absurd (untold_none rest is)
 shown_at (Some x) more leaves rest is shown = shown
 
-pub PartRead-kept : (script : List ℕ) (left leaves : Option (List ℕ)) (lines : List (List ℕ)) (part : List ℕ) → PartRead script left lines part → Keeps left leaves → PartRead script leaves lines part
+unfoldable pub PartRead-kept : (script : List ℕ) (left leaves : Option (List ℕ)) (lines : List (List ℕ)) (part : List ℕ) → PartRead script left lines part → Keeps left leaves → PartRead script leaves lines part
 PartRead-kept script left leaves lines part read kept = record {
   rest = read.rest;
   unbroken = read.unbroken;

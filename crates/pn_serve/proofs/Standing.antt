@@ -6,7 +6,7 @@ use Rattle.std.proofs.KnownBytes.{Appends-trans}
 use Rattle.std.proofs.lemmas.List.Elements.{All-nil, All-cons, All-append}
 use Rattle.pn_line.specs.Line.{LineBufferValue, so_far}
 use Rattle.pn_line.specs.LinesRead.{LinesRead, PartRead}
-use Rattle.pn_line.specs.Reads.{HasShown, Takes}
+use Rattle.pn_line.specs.Reads.{HasShown, IsUnbroken, Takes}
 use Rattle.pn_line.specs.Sent.{AppendsPrefix}
 use Rattle.pn_line.specs.Text.{text_of}
 use Rattle.pn_line.proofs.KnownLaws.{ReadsPart-from_takes}
@@ -108,7 +108,7 @@ LinesRead-end script left leaves lines part old new read is takes =
       goes.line,
       record {
         rest = goes.rest;
-        unbroken = All-append _ lines (text ∷ []) read.unbroken (All-cons _ text [] goes.unbroken (All-nil _));
+        unbroken = All-append IsUnbroken lines (text ∷ []) read.unbroken (All-cons IsUnbroken text [] goes.unbroken (All-nil IsUnbroken));
         text_is = read.text_is ∙ ap (λ (l : List ℕ). text_of lines ++ (part ++ l)) goes.text_is ∙ ap (λ (l : List ℕ). text_of lines ++ l) whole ∙ joined;
         left_is = goes.leaves_is;
       },

@@ -152,6 +152,7 @@ module _ {V : Type 0} (handling : Handling V) (pre : IsPreorder handling.moves) 
         Ends-endless script told left left written machine old is is.part is.read whole few)
 
     pub Steps-many : MAX_LINES ≤ old.state.counts.lines → IfSome left (λ rest. rest ≢ []) → Keeps left leaves → Stands handling start leaves written machine (record old { state = record old.state { stage = Ending (Err TooManyTurns) } })
+    unfolding PartRead-kept
     Steps-many most some kept =
         told_or start.left _ _ reads_at (λ none. EndsOnceSent-untold handling pre start leaves written (waits_in old) machine (Err TooManyTurns) none (λ same. cc))
         (λ script told is.
