@@ -1,5 +1,5 @@
 -- A look that is given up where the writer fails.
-use Rattle.std.proofs.Common.{◌⊎◌, ◌+◌, ◌-◌, ℕ, Option, List, [], ◌∷◌, ◌++◌, inl, inr, refl, sym, ◌∙◌, subst, append-nil}
+use Rattle.std.proofs.Common.{◌≡◌, ◌⊎◌, ◌+◌, ◌-◌, ℕ, Option, List, [], ◌∷◌, ◌++◌, inl, inr, refl, sym, ◌∙◌, subst, append-nil}
 use Rattle.std.specs.Prelude.{Err}
 use Rattle.pn_line.specs.Sent.{AppendsPrefix}
 use Rattle.pn_protocol.specs.declared.reply.Reply.{Reply}
@@ -9,7 +9,8 @@ use Rattle.pn_protocol.specs.declared.reply.Reply.TheVariants.{Refused}
 use Rattle.pn_protocol.specs.Reply.Texts.{reply_text}
 use Rattle.pn_scan.specs.Paging.{IsPreorder}
 use Rattle.pn_serve.specs.declared.script.RunFault.TheVariants.{Write}
-use Rattle.pn_serve.specs.declared.script.line_loop.state.Stage.TheVariants.{Looking}
+use Rattle.pn_serve.specs.declared.script.line_loop.state.Stage.{Stage}
+use Rattle.pn_serve.specs.declared.script.line_loop.state.Stage.TheVariants.{Reading, Looking, Ending}
 use Rattle.pn_serve.specs.declared.sessions.going.Going.{Going}
 use Rattle.pn_serve.specs.Lines.States.{LineLoopValue, Start, waits_in}
 use Rattle.pn_serve.specs.Lines.After.{After}
@@ -18,7 +19,7 @@ use Rattle.pn_serve.specs.Lines.Replies.{texts_of}
 use Rattle.pn_serve.specs.Lines.Stopped.{Cut}
 use Rattle.pn_serve.proofs.Serving.{answer_push, texts_push, stays}
 use Rattle.pn_serve.proofs.Stopping.{no_part}
-use Rattle.pn_serve.proofs.Standing.{HasEnded-untold, at_told, told_or}
+use Rattle.pn_serve.proofs.Standing.{HasEnded-untold, at_told, cut_reading, told_or}
 
 module _ {V : Type 0} (handling : Handling V) (pre : IsPreorder handling.moves) (start : Start V) where
   -- the writer failed while a look is gone on with, which is then given up
@@ -66,3 +67,14 @@ module _ {V : Type 0} (handling : Handling V) (pre : IsPreorder handling.moves) 
               ended = inr (begins.at_end, (refused, refl, made));
               prefix = AppendsPrefix-more (reply_text refused) (Sends-cut_flush is.answered.sends sent);
             }
+
+  -- the writer failed, wherever the loop stands
+  module _ (left before after : Option (List ℕ)) (machine : V) (run : LineLoopValue) (sent : AppendsPrefix before after (waits_in run)) where
+    pub cut_standing : (stage : Stage) → StandsAt handling stage start left before machine run
+        → ((begun between : V) (text : List ℕ) (going : Going) → stage ≡ Looking going → handling.goes begun text between going → handling.moves between machine → After handling.moves handling.makes begun text machine (Refused Memory))
+        → ((begun between : V) (text : List ℕ) (going : Going) → stage ≡ Looking going → handling.goes_last begun text between going → handling.moves between machine → After handling.moves handling.ends begun text machine (Refused Memory))
+        → HasEnded handling start left after machine (Err Write)
+    cut_standing Reading stands line last = cut_reading handling pre start left before after machine run sent stands
+    cut_standing (Looking going) stands line last =
+        cut_looking left before after machine run going sent stands (λ begun between text. line begun between text going refl) (λ begun between text. last begun between text going refl)
+    cut_standing (Ending ended) stands line last = stands.cut after sent

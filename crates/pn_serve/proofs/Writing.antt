@@ -1,5 +1,5 @@
 -- What a line loop has once some of what waits was written.
-use Rattle.std.proofs.Common.{◌≡◌, ◌≢◌, ℕ, ◌+◌, ◌≤◌, Bool, Option, List, [], ◌∷◌, ◌++◌, length, refl, sym, ap, subst, arith, length-append}
+use Rattle.std.proofs.Common.{◌≡◌, ◌≢◌, ◌↔◌, ℕ, ◌+◌, ◌≤◌, Bool, true, false, IsTrue, IsFalse, Option, List, [], ◌∷◌, ◌++◌, length, refl, sym, ap, subst, arith, length-append}
 use Rattle.pn_line.specs.Sent.{AppendsPrefix, Sends}
 use Rattle.pn_line.proofs.SentLaws.{AppendsPrefix-more}
 use Rattle.pn_serve.specs.Lines.States.{LineLoopValue, waits_in}
@@ -40,3 +40,18 @@ Sent-some replies left some = some_before replies left some
 -- the writer failed, with a part of the bytes
 pub Sent-cut : (before after : Option (List ℕ)) (replies left : List ℕ) → AppendsPrefix before after replies → AppendsPrefix before after (replies ++ left)
 Sent-cut before after replies left prefix = AppendsPrefix-more left prefix
+
+-- nothing waits where neither bytes wait nor text is to be made
+pub waits_none : (replies left : List ℕ) → replies ++ left ≡ [] → (replies ≡ []) × (left ≡ [])
+waits_none [] left none = (refl, none)
+waits_none (x ∷ replies) left none = cc
+
+-- what a test of text that is to be made says where it fails
+pub no_text : (result : Bool) (left : List ℕ) → (IsTrue result ↔ (left ≢ [])) → IsFalse result ↔ (left ≡ [])
+no_text true left is = (λ (no : true ≡ false). cc, λ none. absurd (is.0 refl none))
+no_text false [] is = (λ no. refl, λ none. refl)
+no_text false (x ∷ left) is = (λ no. let shown : false ≡ true = is.1 (λ none. cc) in cc, λ none. refl)
+
+pub none_wait : (replies left : List ℕ) → replies ≡ [] → left ≡ [] → replies ++ left ≡ []
+none_wait [] left empty made = made
+none_wait (x ∷ replies) left empty made = cc

@@ -115,7 +115,7 @@ impl LineLoop {
         if !is_line {
             self.line.start();
         }
-        self.state.is_last = true;
+        self.state.set_last();
         let answer = machine.answer_end(self.alloc, &self.line);
         self.line.start();
         let _ = self.take_answer(&*machine, answer, is_line);

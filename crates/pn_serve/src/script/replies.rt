@@ -75,8 +75,20 @@ impl ReplyBuffer {
         self.start == self.bytes.len()
     }
 
-    /// Makes the text of a reply until a block waits, or all of it is made. Gives back what is still to be made.
-    pub(crate) fn fill(&mut self, text: ReplyText) -> Option<ReplyText>
+    /// Makes what is still to be made of a text, if anything is, until a block waits or all of it is made. Gives back the rest.
+    pub(crate) fn fill(&mut self, text: Option<ReplyText>) -> Option<ReplyText>
+        ensures whole { self.new ++ text_left result ≡ self.old ++ text_left text }
+        ensures grows { length self.old ≤ length self.new }
+        ensures some { length self.old < BLOCK → text_left text ≢ [] → length (text_left result) < length (text_left text) }
+    {
+        match text {
+            Some(text) => self.fill_from(text),
+            None => None,
+        }
+    }
+
+    // Makes the text of a reply until a block waits, or all of it is made.
+    fn fill_from(&mut self, text: ReplyText) -> Option<ReplyText>
         ensures whole { self.new ++ text_left result ≡ self.old ++ text }
         ensures grows { length self.old ≤ length self.new }
         ensures some { length self.old < BLOCK → text ≢ [] → length (text_left result) < length text }

@@ -111,10 +111,9 @@ impl LineLoop {
         ensures few { result ≤ 128 }
     {
         let before = self.replies.len();
-        if let Some(text) = self.state.take_text() {
-            let left = self.replies.fill(text);
-            self.state.set_text(left);
-        }
+        let text = self.state.take_text();
+        let left = self.replies.fill(text);
+        self.state.set_text(left);
         units_of(self.replies.len() - before)
     }
 }

@@ -41,13 +41,13 @@ impl LineLoop {
         ensures foresees { Foresees S.may_fail W.may_fail self.old → ForeseesStep S.may_fail W.may_fail self.new result }
         ensures knows { KnowsNoLess (M.reader machine.old) (M.reader machine.new) }
     {
-        if !self.state.more && !self.state.is_out {
+        if !self.state.has_more() && !self.state.is_out() {
             return self.put_out(output);
         }
         if self.line.len() >= ENDLESS {
             return self.end_reading(RunFault::TooManyTurns);
         }
-        if self.state.counts.lines >= MAX_LINES {
+        if self.counts().lines >= MAX_LINES {
             return match input.has_more() {
                 Ok(false) => self.wait_for_input(output),
                 Ok(true) => self.end_reading(RunFault::TooManyTurns),
@@ -87,7 +87,7 @@ impl LineLoop {
         match input.take_some(&mut self.line) {
             Ok(Piece::Part) => Step::Next(units_of(self.line.len() - before)),
             Ok(Piece::Ended { more }) => {
-                self.state.more = more;
+                self.state.set_more(more);
                 Step::Next(self.answer(machine))
             }
             Ok(Piece::NoMore) => self.wait_for_input(output),

@@ -1,6 +1,6 @@
 //! Where a line loop is between two steps, and how it is put aside while its buffers serve another.
 
-ghost use Rattle.std.specs.Prelude.{ℕ, List, ◌≡◌, ◌≢◌, ◌↔◌, false, IsFalse, IsTrue, []};
+ghost use Rattle.std.specs.Prelude.{ℕ, List, ◌≡◌, ◌≢◌, ◌↔◌, false, true, IsFalse, IsTrue, []};
 ghost use Rattle.pn_line.specs.Prelude.{so_far};
 ghost use Rattle.pn_protocol.specs.Prelude.{is_refusal as refuses};
 ghost use Rattle.pn_protocol.specs.declared.refusal.Refusal.TheVariants.{Memory};
@@ -29,12 +29,12 @@ pub struct LineState {
     // The reply whose text is not made to its end.
     text: Option<ReplyText>,
     // Whether a further line was seen. If not, reading it may wait for input.
-    pub(super) more: bool,
+    more: bool,
     // Whether all replies were handed on.
-    pub(super) is_out: bool,
+    is_out: bool,
     // Whether the input is at its end.
-    pub(super) is_last: bool,
-    pub(super) counts: Counts,
+    is_last: bool,
+    counts: Counts,
 }
 
 /// What is done next.
@@ -145,6 +145,48 @@ impl LineState {
         self.text = text;
     }
 
+    /// Whether a further line was seen.
+    pub(super) fn has_more(&self) -> bool
+        ensures { result ≡ self.now.more }
+    {
+        self.more
+    }
+
+    /// Whether a further line was seen is this from now on.
+    pub(super) fn set_more(&mut self, more: bool)
+        ensures { self.new ≡ record self.old { more = more } }
+    {
+        self.more = more;
+    }
+
+    /// Whether all replies were handed on.
+    pub(super) fn is_out(&self) -> bool
+        ensures { result ≡ self.now.out }
+    {
+        self.is_out
+    }
+
+    /// Whether all replies were handed on is this from now on.
+    pub(super) fn set_out(&mut self, is_out: bool)
+        ensures { self.new ≡ record self.old { out = is_out } }
+    {
+        self.is_out = is_out;
+    }
+
+    /// The input is at its end.
+    pub(super) fn set_last(&mut self)
+        ensures { self.new ≡ record self.old { last = true } }
+    {
+        self.is_last = true;
+    }
+
+    /// How many lines were answered, and how many refused.
+    pub(super) fn counts(&self) -> Counts
+        ensures { result ≡ self.now.counts }
+    {
+        self.counts
+    }
+
     /// A reply is counted, and the line that it answers, if it answers one. After the end of the input the loop ends then.
     pub(super) fn take_reply(&mut self, reply: &Reply, is_line: bool)
         requires { self.old.stage ≡ Stage.Reading }
@@ -177,7 +219,7 @@ impl LineLoop {
     pub fn counts(&self) -> Counts
         ensures { result ≡ self.now.state.counts }
     {
-        self.state.counts
+        self.state.counts()
     }
 
     /// Whether no bytes wait.

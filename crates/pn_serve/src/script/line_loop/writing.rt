@@ -45,7 +45,7 @@ impl LineLoop {
         ensures room { result ≡ Step.NoRoom → W.may_fail }
         ensures fault { result ≡ Step.Ends (Err RunFault.Write) → W.may_fail }
     {
-        if self.state.is_out && !self.has_replies() {
+        if self.state.is_out() && !self.has_replies() {
             return Step::NoInput;
         }
         match self.put_out(output) {
@@ -104,12 +104,15 @@ impl LineLoop {
         ensures err { OnErr result (AppendsPrefix (W.contents output.old) (W.contents output.new) (waits_in self.old)) }
         ensures fault { OnErr result W.may_fail }
     {
-        self.state.is_out = false;
-        let sent = self.replies.flush(output)?;
-        if let SendOutcome::All = sent {
-            self.state.is_out = !self.state.has_text();
+        self.state.set_out(false);
+        match self.replies.flush(output)? {
+            SendOutcome::All => {
+                let is_out = !self.state.has_text();
+                self.state.set_out(is_out);
+                Ok(SendOutcome::All)
+            }
+            SendOutcome::Waits => Ok(SendOutcome::Waits),
         }
-        Ok(sent)
     }
 
     // Where the output fails as what waits is written, the loop has ended so. A look is given up then.
