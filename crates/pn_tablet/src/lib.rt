@@ -4,6 +4,7 @@
 
 mod change;
 mod copy;
+mod copy_count;
 mod copy_draft;
 pub mod copy_laws;
 mod copy_line;
@@ -26,8 +27,9 @@ mod state;
 
 pub use change::Change;
 pub use copy::TabletCopy;
+pub use copy_count::{CopyCount, CopyStep};
 pub use copy_reading::read_copy;
-pub use copy_text::{CopyCount, CopyStep, CopyText};
+pub use copy_text::CopyText;
 pub use copy_writing::write_copy;
 pub use counted_cells::RecordCounts;
 pub use cuts::{CutFault, layout_of_copies};
