@@ -27,13 +27,14 @@ use Rattle.pn_record.specs.declared.cell.CellState.TheVariants.{One, Deleted, Co
 use Rattle.pn_record.proofs.ImageText.{length-quoted}
 use Rattle.pn_scan.specs.Queries.{QueryValue}
 use Rattle.pn_tablet.specs.Copies.{TabletCopyValue}
-use Rattle.pn_tablet.specs.CopyMaking.{CopyTextValue, CountsOn, lines_of_copy}
+use Rattle.pn_tablet.specs.CopyCounts.{CountsOn}
+use Rattle.pn_tablet.specs.CopyMaking.{CopyTextValue, lines_of_copy}
 use Rattle.pn_tablet.specs.declared.copy_count.CopyStep.TheVariants.{Done}
 use Rattle.pn_protocol.specs.declared.reply.Reply.TheVariants.{Copy}
 use Rattle.pn_protocol.specs.declared.reply.rows_text.Place.{Place}
 use Rattle.pn_protocol.specs.declared.reply.rows_text.Place.TheVariants.{Record, End}
-use Rattle.pn_protocol.specs.declared.reply.rows_text.Shown.{Shown}
-use Rattle.pn_protocol.specs.declared.reply.rows_text.Shown.TheVariants as shown
+use Rattle.pn_protocol.specs.declared.reply.shown_records.Shown.{Shown}
+use Rattle.pn_protocol.specs.declared.reply.shown_records.Shown.TheVariants as shown
 use Rattle.pn_protocol.specs.Reply.Making.{Found, HasContent, IsPlaceOf, MakesRecord, next_place, after_part, before_text, end_of, found_in, place_rest, record_data, record_rest, record_text, rest_from, row_end, rows_text}
 use Rattle.pn_protocol.specs.Reply.Record.{get_data, read_data}
 use Rattle.pn_protocol.specs.Reply.Answers.{ShowsCopy}

@@ -20,7 +20,7 @@ use Rattle.pn_join.specs.Marks.{Positions}
 use Rattle.pn_join.specs.Tables.{IsTable}
 use Rattle.pn_json.specs.AppendedText.{AppendsText, MakesPiece}
 use Rattle.pn_json.proofs.AppendedTexts.{appended_none}
-use Rattle.pn_record.specs.declared.image.Image.{Image}
+use Rattle.pn_record.specs.declared.image.Image.{Image as ImageValue}
 use Rattle.pn_record.specs.CellMap.{Entries}
 use Rattle.pn_record.specs.Cells.{spell, spell_cell}
 use Rattle.pn_record.specs.Limits.{ContentValue}
@@ -30,7 +30,8 @@ use Rattle.pn_record.specs.Sets.{CellValue, HasContents}
 use Rattle.pn_record.specs.Writing.{image_data}
 use Rattle.pn_tablet.specs.Copies.{TabletCopyValue}
 use Rattle.pn_tablet.specs.CopyLines.{head_data, mark_data, end_data}
-use Rattle.pn_tablet.specs.CopyMaking.{CopyCountValue, CountsOn, CountsTo, IsCopyPlace, IsCountedIn, MakesLine, lines_of_copy, lines_between, copy_rest}
+use Rattle.pn_tablet.specs.CopyCounts.{CountsOn, CountsTo}
+use Rattle.pn_tablet.specs.CopyMaking.{CopyCountValue, IsCopyPlace, IsCountedIn, MakesLine, lines_of_copy, lines_between, copy_rest}
 use Rattle.pn_tablet.specs.CopyTexts.{mark_line, lines_after_head}
 use Rattle.pn_tablet.specs.CopyWriting.{line_data, line_text, lines_text, copy_text}
 use Rattle.pn_tablet.specs.Forms.{form_number, form_of}
@@ -112,9 +113,9 @@ no_mark copy index none = ap (λ (marks : Positions). lines_text (map mark_line 
 pub no_image : (copy : TabletCopyValue) (index content : ℕ) → slice_get copy.cells index ≡ None → copy_rest copy (Image index content) ≡ line_text (end_data (lines_between copy)) ++ copy_rest copy Written
 no_image copy index content none =
     ap (λ (cells : Entries). lines_text (map Record (drop content (spell cells)) ++ End (lines_between copy) ∷ [])) (drop_past copy.cells index none)
-    ∙ ap (λ (images : List Image). lines_text (map Record images ++ End (lines_between copy) ∷ [])) (drop_past [] content refl)
+    ∙ ap (λ (images : List ImageValue). lines_text (map Record images ++ End (lines_between copy) ∷ [])) (drop_past [] content refl)
 
-abbrev image_of : List ℕ × CellValue → ContentValue → Image
+abbrev image_of : List ℕ × CellValue → ContentValue → ImageValue
 image_of entry shown = record { key = entry.0; version = entry.1.0; content = shown }
 
 -- dropping within the first list
@@ -143,13 +144,13 @@ pub image_rest : (copy : TabletCopyValue) (index content : ℕ) (entry : List �
 image_rest copy index content entry shown there here within =
     let rest = spelled_from copy.cells index entry there in
     let more = spell (drop (index + 1) copy.cells) in
-    ap (λ (images : List Image). lines_text (map Record images ++ End (lines_between copy) ∷ []))
-    (ap (drop content) rest ∙ drop_within (image_of entry) (keys entry.1.1) content shown more here within ∙ ap (λ (images : List Image). image_of entry shown ∷ drop (content + 1) images) (sym rest))
+    ap (λ (images : List ImageValue). lines_text (map Record images ++ End (lines_between copy) ∷ []))
+    (ap (drop content) rest ∙ drop_within (image_of entry) (keys entry.1.1) content shown more here within ∙ ap (λ (images : List ImageValue). image_of entry shown ∷ drop (content + 1) images) (sym rest))
 
 -- after the last content of a record comes the next record
 pub next_record : (copy : TabletCopyValue) (index content : ℕ) (entry : List ℕ × CellValue) → slice_get copy.cells index ≡ Some entry → content ≡ length (keys entry.1.1) → copy_rest copy (Image index content) ≡ copy_rest copy (Image (index + 1) 0)
 next_record copy index content entry there last =
-    ap (λ (images : List Image). lines_text (map Record images ++ End (lines_between copy) ∷ []))
+    ap (λ (images : List ImageValue). lines_text (map Record images ++ End (lines_between copy) ∷ []))
     (ap (drop content) (spelled_from copy.cells index entry there) ∙ drop_whole (image_of entry) (keys entry.1.1) content (spell (drop (index + 1) copy.cells)) last)
 
 length_lines : (says : List CopyLine) (n : ℕ) → 0 < length (lines_text (says ++ End n ∷ []))
@@ -208,7 +209,7 @@ one_more_record xs ys n x is =
     (found.0, found.1 ∙ ap (λ (k : ℕ). drop k xs) next, ap (λ (k : ℕ). take k xs) (sym next) ∙ found.2)
 
 spelled_more : (cells : Entries) (entry : List ℕ × CellValue) → spell (cells ++ entry ∷ []) ≡ spell cells ++ spell_cell entry
-spelled_more cells entry = flat_map-append spell_cell cells (entry ∷ []) ∙ ap (λ (images : List Image). spell cells ++ images) (append-nil (spell_cell entry))
+spelled_more cells entry = flat_map-append spell_cell cells (entry ∷ []) ∙ ap (λ (images : List ImageValue). spell cells ++ images) (append-nil (spell_cell entry))
 
 form_more : (numbered some : Bool) → cond numbered Numbers (cond some Numbers Texts) ≡ cond (some || numbered) Numbers Texts
 form_more true true = refl

@@ -4,7 +4,8 @@ ghost use Rattle.std.specs.Prelude.{◌≡◌, ◌+◌, ◌<◌, ◌≤◌, ◌^
 ghost use Rattle.std.specs.FinMap.{keys};
 ghost use Rattle.std.specs.List.{list_any};
 ghost use Rattle.pn_record.specs.Prelude.{holds_number as content_holds_number, spell};
-ghost use Rattle.pn_tablet.specs.CopyMaking.{CountsOn, CountsTo, IsCountedIn, lines_of_copy};
+ghost use Rattle.pn_tablet.specs.CopyCounts.{CountsOn, CountsTo};
+ghost use Rattle.pn_tablet.specs.CopyMaking.{IsCountedIn, lines_of_copy};
 ghost use Rattle.pn_tablet.specs.declared.form.Form.TheVariants.{Numbers};
 
 use crate::copy_text::recall_size;

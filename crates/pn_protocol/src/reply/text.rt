@@ -2,13 +2,15 @@
 
 ghost use Rattle.std.specs.Prelude.{◌≡◌, ◌≢◌, ◌+◌, ◌-◌, ◌<◌, ◌≤◌, ◌↔◌, [], ◌++◌, false, drop, length, min, take, vec_capacity, vec_len, IsTrue};
 ghost use Rattle.pn_json.specs.Prelude.{AppendsText, MakesPiece, line_of};
-ghost use Rattle.pn_protocol.specs.Reply.Making.{end_of, found_in, head_bytes, rest_bytes, rows_text};
+ghost use Rattle.pn_protocol.specs.Reply.Making.{end_of, found_in, rows_text};
+ghost use Rattle.pn_protocol.specs.Reply.Pieces.{head_bytes, rest_bytes};
 ghost use Rattle.pn_protocol.specs.Reply.Short.{number_reply_data};
 ghost use Rattle.pn_protocol.specs.Reply.Texts.{reply_text};
 ghost use Rattle.pn_protocol.specs.declared.reply.Reply.TheVariants.{Page};
 
-use crate::reply::rows_text::{RowsText, Shown};
+use crate::reply::rows_text::RowsText;
 use crate::reply::short::text_reply;
+use crate::reply::shown_records::Shown;
 use crate::{NumberName, PageReply, Reply, ShortReply, number_reply, refusal_reply};
 use pn_json::append_bytes;
 use pn_tablet::CopyText;
@@ -45,7 +47,7 @@ enum Rest {
 
 impl Model for ReplyText {
     ghost use Rattle.std.specs.Prelude.{ℕ, List, ◌≤◌, ◌++◌, drop, length};
-    ghost use Rattle.pn_protocol.specs.Reply.Making.{head_bytes, rest_bytes};
+    ghost use Rattle.pn_protocol.specs.Reply.Pieces.{head_bytes, rest_bytes};
 
     ghost Value = { List ℕ };
 

@@ -1,7 +1,8 @@
 -- The records that were counted, and what that comes to.
 use Rattle.std.proofs.Common.{◌≡◌, ◌+◌, ◌^◌, length, ap, ◌∙◌, subst}
 use Rattle.std.specs.Prelude.{min, Err}
-use Rattle.pn_tablet.specs.CopyMaking.{CopyCountValue, CountsOn}
+use Rattle.pn_tablet.specs.CopyCounts.{CountsOn}
+use Rattle.pn_tablet.specs.CopyMaking.{CopyCountValue}
 use Rattle.pn_tablet.proofs.CopyMade.{counts_on, many_lines}
 use Rattle.pn_tablet.proofs.copy_count.CopyCount.go_on.Goals as goal
 
