@@ -197,7 +197,7 @@ drop_taken : {X : Type 0} (xs ys : List X) (n : ℕ) (x : X) → drop n xs ≡ x
 drop_taken [] ys zero x is = absurd (cc)
 drop_taken [] ys (suc n) x is = absurd (cc)
 drop_taken (z ∷ xs) ys zero x is = (omega arith, cc, cc)
-drop_taken (z ∷ xs) ys (suc n) x is =
+drop_taken {X = X} (z ∷ xs) ys (suc n) x is =
     let before = drop_taken xs ys n x is in
     (omega (arith, before.0), before.1, ap (λ (l : List X). z ∷ l) before.2)
 
