@@ -8,7 +8,7 @@ mod line;
 mod members;
 
 pub use appending::{
-    append_comma, append_number, append_signed_number, append_string, append_text,
+    append_bytes, append_comma, append_number, append_signed_number, append_string, append_text,
 };
 pub use line::{
     begin_line, finish_line, write_null_member, write_number_member, write_text_member,

@@ -7,5 +7,5 @@ abbrev pub invariant-loop-key : goal.invariant-loop-key
 invariant-loop-key l = record {
   counted : IsCountedIn l.cells l.now;
   rest : l._key-iterator ≡ drop l.now.records l.cells;
-  left : l.left + l.now.records ≡ l.records + l.counted.records;
+  left : l.left + l.now.records ≡ l.records + l.fn.counted.records;
 }

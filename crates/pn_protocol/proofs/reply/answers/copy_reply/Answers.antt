@@ -1,5 +1,5 @@
 -- All lines are counted at once.
-use Rattle.pn_protocol.proofs.MadeRows.{copy_made}
+use Rattle.pn_protocol.proofs.MadeReplies.{copy_made}
 use Rattle.pn_protocol.proofs.reply.answers.copy_reply.Goals as goal
 
 pub returns-in-Ok-Done : goal.returns-in-Ok-Done

@@ -4,7 +4,7 @@ use Rattle.serde_json.specs.View.{items_of}
 use Rattle.serde_json.specs.Written.{items_text}
 use Rattle.pn_protocol.specs.Reply.Rows.{row_data}
 use Rattle.pn_protocol.specs.Reply.Scan.{head_text}
-use Rattle.pn_protocol.proofs.MadeRows.{page_text}
+use Rattle.pn_protocol.proofs.MadeReplies.{page_text}
 use Rattle.pn_protocol.proofs.reply.answers.page_reply.Goals as goal
 
 pub returns-in-Ok : goal.returns-in-Ok

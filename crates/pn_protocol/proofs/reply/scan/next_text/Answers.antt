@@ -2,7 +2,7 @@
 use Rattle.std.specs.Option.{option_copied}
 use Rattle.pn_json.proofs.TokenLists.{has_value}
 use Rattle.pn_protocol.specs.Reply.Scan.{next_data}
-use Rattle.pn_protocol.proofs.MadeRows.{value_text}
+use Rattle.pn_protocol.proofs.MadeReplies.{value_text}
 use Rattle.pn_protocol.proofs.reply.scan.next_text.Goals as goal
 
 pub returns : goal.returns

@@ -2,7 +2,7 @@
 use Rattle.std.proofs.Common.{◌++◌, ℕ, List, drop, ap, subst, arith}
 use Rattle.pn_json.specs.AppendedText.{MakesPiece}
 use Rattle.pn_protocol.specs.Reply.Pieces.{head_bytes, rest_bytes}
-use Rattle.pn_protocol.proofs.MadeRows.{head_part, rest_part}
+use Rattle.pn_protocol.proofs.MadeReplies.{head_part, rest_part}
 use Rattle.pn_protocol.proofs.reply.text.ReplyText.append_piece.Goals as goal
 
 pub returns-then-made-head : goal.returns-then-made-head

@@ -3,7 +3,7 @@ use Rattle.std.proofs.Common.{◌≡◌, ◌++◌, ◌<◌, ◌≤◌, ℕ, List
 use Rattle.std.specs.Prelude.{◌↔◌, IsTrue}
 use Rattle.std.proofs.lemmas.Bool.{false≢true}
 use Rattle.pn_protocol.specs.Reply.Pieces.{head_bytes, rest_bytes}
-use Rattle.pn_protocol.proofs.MadeRows.{head_left, rest_left}
+use Rattle.pn_protocol.proofs.MadeReplies.{head_left, rest_left}
 use Rattle.pn_protocol.proofs.reply.text.ReplyText.is_made.Goals as goal
 
 pub returns-then-made-head : goal.returns-then-made-head

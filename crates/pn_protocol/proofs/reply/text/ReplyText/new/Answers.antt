@@ -3,7 +3,7 @@ use Rattle.std.proofs.Common.{◌++◌, ℕ, List, [], ◌∷◌, codes, zip, fa
 use Rattle.pn_json.specs.Lines.{line_of}
 use Rattle.pn_protocol.specs.Reply.Making.{rows_text}
 use Rattle.pn_protocol.specs.Reply.Short.{lines_data}
-use Rattle.pn_protocol.proofs.MadeRows.{get_made, read_made}
+use Rattle.pn_protocol.proofs.MadeReplies.{get_made, read_made}
 use Rattle.pn_protocol.proofs.reply.text.ReplyText.new.Goals as goal
 
 pub returns-in-Copy : goal.returns-in-Copy

@@ -1,6 +1,6 @@
 -- The head, the rows and the end.
 use Rattle.std.proofs.Common.{◌∙◌}
-use Rattle.pn_protocol.proofs.MadeRows.{page_made}
+use Rattle.pn_protocol.proofs.MadeReplies.{page_made}
 use Rattle.pn_protocol.proofs.reply.text.ReplyText.page.Goals as goal
 
 pub returns : goal.returns
