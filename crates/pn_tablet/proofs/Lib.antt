@@ -1,5 +1,6 @@
 pub mod BoundSteps
 pub mod Changed
+pub mod CopyCounted
 pub mod CopyExchanges
 pub mod CopyGrammar
 pub mod CopyLineCounts

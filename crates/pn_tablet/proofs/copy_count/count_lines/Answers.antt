@@ -2,7 +2,7 @@
 use Rattle.std.proofs.Common.{length, ap, arith}
 use Rattle.std.proofs.lemmas.Result.{MatchResult-weaker, err_from_is_err_and}
 use Rattle.pn_tablet.specs.Copies.{TabletCopyValue}
-use Rattle.pn_tablet.proofs.CopyMade.{copy_lines, counted_all}
+use Rattle.pn_tablet.proofs.CopyCounted.{copy_lines, counted_all}
 use Rattle.pn_tablet.proofs.copy_count.count_lines.Goals as goal
 
 pub returns-in_err-lines : goal.returns-in_err-lines

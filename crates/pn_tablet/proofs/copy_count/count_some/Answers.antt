@@ -3,7 +3,7 @@ use Rattle.std.proofs.Common.{rules, ◌≡◌, ℕ, ◌-◌, ◌∷◌, List, [
 use Rattle.std.proofs.lemmas.Result.{err_from_is_err_and}
 use Rattle.pn_record.specs.CellMap.{Entries}
 use Rattle.pn_record.specs.Sets.{CellValue}
-use Rattle.pn_tablet.proofs.CopyMade.{counted_more, counted_within, one_more_record}
+use Rattle.pn_tablet.proofs.CopyCounted.{counted_more, counted_within, one_more_record}
 use Rattle.pn_tablet.proofs.copy_count.count_some.Goals as goal
 
 pub loop-key-init : goal.loop-key-init

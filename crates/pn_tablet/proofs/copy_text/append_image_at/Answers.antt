@@ -11,7 +11,8 @@ use Rattle.pn_tablet.specs.Copies.{TabletCopyValue}
 use Rattle.pn_tablet.specs.CopyMaking.{IsCopyPlace, MakesLine, lines_of_copy}
 use Rattle.pn_tablet.specs.CopyWriting.{line_text}
 use Rattle.pn_tablet.specs.declared.copy_text.CopyPlace.TheVariants.{Image, Written}
-use Rattle.pn_tablet.proofs.CopyMade.{at_some, copy_lines, end_next, image_next}
+use Rattle.pn_tablet.proofs.CopyCounted.{copy_lines}
+use Rattle.pn_tablet.proofs.CopyMade.{at_some, end_next, image_next}
 use Rattle.pn_tablet.proofs.copy_text.append_image_at.Goals as goal
 
 pub overflow_sub-count : goal.overflow_sub-count
