@@ -3,8 +3,10 @@ import json
 import os
 import random
 import signal
+import subprocess
 import sys
 import tempfile
+import threading
 import time
 from pathlib import Path
 
@@ -19,7 +21,8 @@ from serving.copies_texts import exchanged, fault_of, least_marks, messages_from
 from serving.staying import Staying
 
 REGIONS = 100
-KILLS = 10_000
+KILLS, STARTS = 1_000, 200
+ZEROS = 5 << 30
 # What a program may say where an allocation is refused before it listens.
 STARTS_NOT = (b"pnuts: memory", b"pnuts: copies: memory", b"pnuts: cannot start", b"pnuts: cannot listen", b"pnuts: cannot open")
 
@@ -84,21 +87,26 @@ def check_faults(program: str, folder: str) -> None:
     for at, text in enumerate(texts):
         cases += [b"".join(texts[:at] + texts[at + 1:]), whole + text]
     cases += [texts[0] + others[1], others[0] + texts[1] + texts[2], whole + b"\n", whole + b"{", b"\0" * 100, whole * 30]
-    faults = list(at_once(lambda text: case_fault(program, folder, text), cases))
+    faults = list(at_once(lambda text: file_fault(program, folder, text), cases))
     same("what is wrong", [fault for fault in faults if fault][:1], [])
     print(f"    {len(cases)} texts")
 
 
-def case_fault(program: str, folder: str, text: bytes) -> str | None:
-    """What is wrong with a program that is given a text."""
-    wanted = fault_of(text)
+def file_fault(program: str, folder: str, text: bytes) -> str | None:
+    """What is wrong with a program that is given a text in a file."""
     with tempfile.NamedTemporaryFile(dir=folder) as file:
         file.write(text)
         file.flush()
-        if wanted is None:
-            with Served(program, [("east", "/dev/null")], words=["--copies", file.name]) as served:
-                return None if served.first.startswith(b"listening on ") else f"it does not start from {text[:200]!r}"
-        ended = refusal(program, file.name, "--workers", "4")
+        return text_fault(program, text, file.name)
+
+
+def text_fault(program: str, text: bytes, path: str) -> str | None:
+    """What is wrong with a program that is given a text at a path."""
+    wanted = fault_of(text)
+    if wanted is None:
+        with Served(program, [("east", "/dev/null")], words=["--copies", path]) as served:
+            return None if served.first.startswith(b"listening on ") else f"it does not start from {text[:200]!r}"
+    ended = refusal(program, path, "--workers", "4")
     right = (1, "", f"pnuts: copies: {wanted}\n")
     return None if ended == right else f"{ended}, not {right}, of {text[:300]!r}"
 
@@ -122,9 +130,55 @@ def check_words(program: str, folder: str) -> None:
     gone = os.path.join(folder, "gone")
     same("no file", refusal(program, gone)[:2], (1, ""))
     same("why there is no file", refusal(program, gone)[2].startswith(f"pnuts: copies: {gone}: "), True)
-    same("a folder", refusal(program, folder)[:2], (1, ""))
+    same("a folder", refusal(program, folder), (1, "", "pnuts: copies: read\n"))
     status, shown, said = refusal(program, "")
     same("an empty path", (status, shown, bool(said)), (2, "", True))
+
+
+def check_no_copies(program: str, folder: str) -> None:
+    """What has no copies is refused at once, however much it is: nothing, 5 GB of zeros, zeros without an end."""
+    zeros = os.path.join(folder, "zeros")
+    with open(zeros, "wb") as file:
+        file.truncate(ZEROS)
+    for path, why in ((os.devnull, 'no copy has the key ""'), (zeros, "line 1: bad-line"), ("/dev/zero", "line 1: bad-line")):
+        same(path, refusal(program, path, "--workers", "4"), (1, "", f"pnuts: copies: {why}\n"))
+
+
+def check_slow_texts(program: str, folder: str) -> None:
+    """A text that is written while it is read is one like any other, and one whose writer goes is cut short."""
+    whole = b"".join(some_texts(program, folder, ["b", "ca"]))
+    for text in (whole, whole[:-9]):
+        path = os.path.join(folder, f"fifo-{len(text)}")
+        os.mkfifo(path)
+        writing = threading.Thread(target=write_slowly, args=[path, text])
+        writing.start()
+        same(f"{len(text)} bytes", text_fault(program, text, path), None)
+        writing.join()
+
+
+def write_slowly(path: str, text: bytes) -> None:
+    """Writes a text a piece after another."""
+    with open(path, "wb", buffering=0) as file:
+        for at in range(0, len(text), 1 + len(text) // 20):
+            file.write(text[at : at + 1 + len(text) // 20])
+            time.sleep(0.01)
+
+
+def check_killed_starts(program: str, folder: str) -> None:
+    """A start that is killed at any moment leaves the file of copies, and the next one serves them."""
+    texts = some_texts(program, folder, ["b"])
+    path, control = written(folder, "copies", b"".join(texts)), os.path.join(folder, "control")
+    words = ["--copies", path, "--control", control, "--socket", os.path.join(folder, "socket")]
+    line = [program, "serve", "--stay", *words, f"east=listen:{folder}/writers"]
+    rng = random.Random(5)
+    for _ in range(STARTS):
+        start = subprocess.Popen(line, stdout=subprocess.DEVNULL, stderr=subprocess.DEVNULL)
+        time.sleep(rng.uniform(0, 0.05))
+        start.kill()
+        start.wait()
+    with Staying(program, folder, [("east", f"listen:{folder}/writers")], *words), Session(control) as session:
+        same("the copies", [session.copy(tablet) for tablet in range(2)], texts)
+    same("the file", Path(path).read_bytes(), b"".join(texts))
 
 
 def check_too_many_streams(program: str, folder: str) -> None:
@@ -150,7 +204,8 @@ def check_refused_allocations(program: str, folder: str) -> None:
         with served:
             if not served.first:
                 status, shown, said = served.end()
-                is_right = status == 1 and not shown and said.startswith(STARTS_NOT)
+                last = said.splitlines()[-1] if said else b""
+                is_right = status == 1 and not shown and last.startswith(STARTS_NOT)
                 return None if is_right else f"status {status}, {shown!r}, {said!r}"
             try:
                 with Client(served.port) as client:
@@ -170,31 +225,39 @@ def check_refused_allocations(program: str, folder: str) -> None:
     print(f"    {count} allocations refused")
 
 
-def check_killed_saves(program: str, folder: str) -> None:
-    """Of 10,000 saves that are killed at random moments each leaves the file that was there, or a whole one."""
+def check_killed_saves(program: str, folder: str, kills: int = KILLS) -> None:
+    """Of saves that are killed at random moments each leaves the file that was there, or a whole one."""
     sys.path.insert(0, str(TOP / "clients/python/src"))
     from pnuts_client import Client as Peer
     from pnuts_client.saving import save
 
-    texts = some_texts(program, folder, ["b", "ca"])
     path = Path(folder) / "saved"
+    texts = some_texts(program, folder, ["b", "ca"])
     control, source = os.path.join(folder, "control"), written(folder, "copies", b"".join(texts))
-    rng = random.Random(11)
-    kinds = [0, 0]
+    rng, kinds, longest = random.Random(11), [0, 0], 0.0
+
+    def begin() -> int:
+        """A process that saves, and ends with 0 where it has."""
+        child = os.fork()
+        if not child:
+            status = 1
+            try:
+                with Peer(f"unix:{control}") as peer:
+                    status = int(save(peer, path) != len(texts))
+            finally:
+                os._exit(status)
+        return child
+
     with Staying(program, folder, [("east", "/dev/null")], "--copies", source, "--control", control):
-        with Peer(f"unix:{control}") as peer:
-            save(peer, path)
+        for _ in range(20):
+            start = time.monotonic()
+            same("how a save ends", os.waitpid(begin(), 0)[1], 0)
+            longest = max(longest, time.monotonic() - start)
         whole = path.read_bytes()
-        for _ in range(KILLS):
+        for _ in range(kills):
             path.write_bytes(b"old")
-            child = os.fork()
-            if not child:
-                try:
-                    with Peer(f"unix:{control}") as peer:
-                        save(peer, path)
-                finally:
-                    os._exit(0)
-            time.sleep(rng.uniform(0, 0.006))
+            child = begin()
+            time.sleep(rng.uniform(0, longest))
             os.kill(child, signal.SIGKILL)
             os.waitpid(child, 0)
             found = path.read_bytes()

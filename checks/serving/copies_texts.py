@@ -86,8 +86,9 @@ def messages_from(images: list[Json], first: int) -> bytes:
 def taken(program: str, folder: str, words: list[str], streams: Streams, tablets: int) -> list[bytes]:
     """The copies of a region that has taken the streams from their first messages on."""
     named = [(name, written(folder, name, messages(images))) for name, images in streams.items()]
+    asked = {name: images for name, images in streams.items() if images}
     with Served(program, named, words=words) as served, Client(served.port) as client:
-        return [copied(client, copy_line(tablet, streams)) for tablet in range(tablets)]
+        return [copied(client, copy_line(tablet, asked)) for tablet in range(tablets)]
 
 
 def marks_of(text: bytes) -> dict[str, int]:

@@ -51,7 +51,8 @@ class SavingTest(unittest.TestCase):
         """How many tablets are saved from these regions, and from more addresses before them."""
         with peers(*shown) as addresses, ExitStack() as stack:
             clients = [stack.enter_context(Client(it, retries=0)) for it in (*more, *addresses)]
-            return save(clients, self.path)
+            count = save(clients, self.path)
+        return count
 
     def test_of_one_region(self) -> None:
         self.assertEqual(self.saved((given(FIRST), given(LAST))), 2)

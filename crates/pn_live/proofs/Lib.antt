@@ -26,4 +26,5 @@ pub mod HonestLists
 pub mod Joining
 pub mod Drafting
 pub mod Crossing
+pub mod StartFaults
 pub mod Starting

@@ -1,4 +1,8 @@
--- Live regions that start from copies.
+-- Texts of copies, and live regions that start from them.
+pub mod Coding
+pub mod Cutting
+pub mod Lines
+pub mod Reading
 use Rattle.std.specs.Prelude.{◌≡◌, List, map}
 use Rattle.std.specs.List.Sorted.{IsPermutation}
 use Rattle.pn_tablet.specs.Copies.{TabletCopyValue}
