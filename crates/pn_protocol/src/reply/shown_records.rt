@@ -3,7 +3,7 @@
 ghost use Rattle.std.specs.Prelude.{◌≡◌, ◌<◌, ◌^◌, ◌∷◌, [], length, map, option_map, zip, Some};
 ghost use Rattle.std.specs.List.{slice_get};
 ghost use Rattle.std.specs.Option.{option_copied};
-ghost use Rattle.pn_protocol.specs.Reply.Making.{end_of, found_in};
+ghost use Rattle.pn_protocol.specs.Reply.Making.{Found, end_of, found_in};
 
 use crate::reply::prefetch::prefetch_rows;
 use pn_record::{Cell, Key};
@@ -26,7 +26,7 @@ pub(crate) enum Shown {
 impl Shown {
     /// The record of an index, if there are as many.
     pub(crate) fn record_at(&self, index: usize) -> Option<(&Key, Option<&Cell>)>
-        ensures { option_map (λ found. (found.0.now, option_copied found.1)) result ≡ slice_get (found_in self.now) index }
+        ensures { option_map {U = Found} (λ found. (found.0.now, option_copied found.1)) result ≡ slice_get (found_in self.now) index }
     {
         match self {
             Shown::One(key, cell) => only_at(key, cell, index),
@@ -77,7 +77,7 @@ fn only_at<'a>(
     cell: &'a Option<Cell>,
     index: usize,
 ) -> Option<(&'a Key, Option<&'a Cell>)>
-    ensures { option_map (λ found. (found.0.now, option_copied found.1)) result ≡ slice_get ((key.now, cell.now) ∷ []) index }
+    ensures { option_map {U = Found} (λ found. (found.0.now, option_copied found.1)) result ≡ slice_get ((key.now, cell.now) ∷ []) index }
 {
     if index > 0 {
         return None;
@@ -91,7 +91,7 @@ fn keyed_at<'a>(
     cells: &'a [Option<Cell>],
     index: usize,
 ) -> Option<(&'a Key, Option<&'a Cell>)>
-    ensures { option_map (λ found. (found.0.now, option_copied found.1)) result ≡ slice_get (zip keys.now cells.now) index }
+    ensures { option_map {U = Found} (λ found. (found.0.now, option_copied found.1)) result ≡ slice_get (zip keys.now cells.now) index }
 {
     let key = item_at(keys, index)?;
     let cell = item_at(cells, index)?;
@@ -100,7 +100,7 @@ fn keyed_at<'a>(
 
 // The key and the cell of the row of an index.
 fn row_at(rows: &[Row], index: usize) -> Option<(&Key, Option<&Cell>)>
-    ensures { option_map (λ found. (found.0.now, option_copied found.1)) result ≡ slice_get (map (λ row. (row.0, Some row.1)) rows.now) index }
+    ensures { option_map {U = Found} (λ found. (found.0.now, option_copied found.1)) result ≡ slice_get (map (λ row. (row.0, Some row.1)) rows.now) index }
 {
     let row = item_at(rows, index)?;
     Some((&row.key, Some(&row.cell)))

@@ -9,9 +9,9 @@ pub returns-then-made-head : goal.returns-then-made-head
 returns-then-made-head c =
     let rest = rest_bytes c.self.inside.rest in
     let made = c.self.inside.made in
-    let part = head_part c.as_bytes-head.result.now rest made c.append_some.result 65536 c.args.out.now c.append_some.new.out c.if-made-head.true c.append_some.ensures.end (omega arith) c.append_some.ensures.added in
-    let of_head = subst (λ (head : List ℕ). MakesPiece 65536 (drop made head ++ rest) (drop c.append_some.result head ++ rest) c.args.out.now c.append_some.new.out) c.as_bytes-head.ensures part in
-    subst (λ (left : List ℕ). MakesPiece 65536 left (drop c.append_some.result (head_bytes c.self.inside.head) ++ rest) c.args.out.now c.append_some.new.out) c.self.view_is of_head
+    let part = head_part c.as_bytes-head.result.now rest made c.append_some-self-inside.result 65536 c.args.out.now c.append_some-self-inside.new.out c.if-made-head.true c.append_some-self-inside.ensures.end (omega arith) c.append_some-self-inside.ensures.added in
+    let of_head = subst (λ (head : List ℕ). MakesPiece 65536 (drop made head ++ rest) (drop c.append_some-self-inside.result head ++ rest) c.args.out.now c.append_some-self-inside.new.out) c.as_bytes-head.ensures part in
+    subst (λ (left : List ℕ). MakesPiece 65536 left (drop c.append_some-self-inside.result (head_bytes c.self.inside.head) ++ rest) c.args.out.now c.append_some-self-inside.new.out) c.self.view_is of_head
 
 pub returns : goal.returns
 returns c =
