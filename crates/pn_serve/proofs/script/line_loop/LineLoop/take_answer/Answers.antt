@@ -6,7 +6,6 @@ use Rattle.pn_serve.specs.declared.script.line_loop.state.Stage.TheVariants.{Loo
 use Rattle.pn_serve.specs.Lines.Bounds.{stage_left}
 use Rattle.pn_serve.specs.Lines.Going.{AnswersLast, AnswersWith, answer_left}
 use Rattle.pn_serve.specs.Lines.States.{LineLoopValue, LineStateValue}
-use Rattle.pn_serve.specs.Lines.Taking.{HasReply}
 use Rattle.pn_serve.proofs.Measured.{nothing_left}
 use Rattle.pn_serve.proofs.script.line_loop.LineLoop.take_answer.Goals as goal
 
@@ -16,7 +15,7 @@ returns-then-self-clause-line g c =
     λ was now text answered. record {
         answer = Done c.shorten-reply.result;
         answered = c.shorten-reply.ensures.makes was now text (subst (λ (a : Answer). AnswersWith M.makes M.goes was text now a) c.in-Done.is answered);
-        takes = subst (λ (r : LineLoopValue). HasReply c.args.is_line r c.shorten-reply.result c.reply.new.self) c.self.view_is c.reply.ensures.takes;
+        takes = c.reply.ensures.takes;
     }
 
 pub returns-then-self-clause-last : goal.returns-then-self-clause-last
@@ -25,16 +24,16 @@ returns-then-self-clause-last g c =
     λ was now text answered. record {
         answer = Done c.shorten-reply.result;
         answered = c.shorten-reply.ensures.ends was now text (subst (λ (a : Answer). AnswersLast M.ends M.goes_last was text now a) c.in-Done.is answered);
-        takes = subst (λ (r : LineLoopValue). HasReply c.args.is_line r c.shorten-reply.result c.reply.new.self) c.self.view_is c.reply.ensures.takes;
+        takes = c.reply.ensures.takes;
     }
 
 pub returns-then-self-clause-takes : goal.returns-then-self-clause-takes
 returns-then-self-clause-takes g c =
-    (Done c.shorten-reply.result, subst (λ (r : LineLoopValue). HasReply c.args.is_line r c.shorten-reply.result c.reply.new.self) c.self.view_is c.reply.ensures.takes)
+    (Done c.shorten-reply.result, c.reply.ensures.takes)
 
 pub returns-else-self-clause-takes : goal.returns-else-self-clause-takes
 returns-else-self-clause-takes g c =
-    (Done c.in-Done.reply, subst (λ (r : LineLoopValue). HasReply c.args.is_line r c.in-Done.reply c.reply-in-Done.new.self) c.self.view_is c.reply-in-Done.ensures.takes)
+    (Done c.in-Done.reply, c.reply-in-Done.ensures.takes)
 
 pub returns-in-Going-clause-takes : goal.returns-in-Going-clause-takes
 returns-in-Going-clause-takes g c = (
@@ -44,11 +43,11 @@ returns-in-Going-clause-takes g c = (
 )
 
 pub returns-then-self-clause-left : goal.returns-then-self-clause-left
-returns-then-self-clause-left g c = ap stage_left c.reply.ensures.takes.stage ∙ nothing_left c.self.inside.state.last c.reply.new.self.state.counts ∙ sym (ap answer_left c.in-Done.is)
+returns-then-self-clause-left g c = ap stage_left c.reply.ensures.takes.stage ∙ nothing_left c.args.self.now.state.last c.reply.new.self.state.counts ∙ sym (ap answer_left c.in-Done.is)
 
 pub returns-else-self-clause-left : goal.returns-else-self-clause-left
 returns-else-self-clause-left g c =
-    ap stage_left c.reply-in-Done.ensures.takes.stage ∙ nothing_left c.self.inside.state.last c.reply-in-Done.new.self.state.counts ∙ sym (ap answer_left c.in-Done.is)
+    ap stage_left c.reply-in-Done.ensures.takes.stage ∙ nothing_left c.args.self.now.state.last c.reply-in-Done.new.self.state.counts ∙ sym (ap answer_left c.in-Done.is)
 
 pub returns-in-Going-clause-left : goal.returns-in-Going-clause-left
 returns-in-Going-clause-left g c = ap (λ (s : LineStateValue). stage_left s.stage) c.set_stage.ensures ∙ sym (ap answer_left c.in-Going.is)
