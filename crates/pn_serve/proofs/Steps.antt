@@ -1,5 +1,5 @@
 -- What the lines that are read and answered do to where a line loop stands.
-use Rattle.std.proofs.Common.{◌≡◌, ◌≢◌, ◌⊎◌, ◌+◌, ◌-◌, ◌<◌, ◌≤◌, ℕ, Bool, true, false, Option, None, Some, List, [], ◌∷◌, ◌++◌, length, All, IfSome, OnSome, inl, inr, refl, sym, ap, ◌∙◌, subst, arith, ⊎_elim}
+use Rattle.std.proofs.Common.{◌≡◌, ◌≢◌, ◌⊎◌, ◌+◌, ◌-◌, ◌<◌, ◌≤◌, ℕ, Bool, true, false, Option, None, Some, List, [], ◌∷◌, ◌++◌, length, All, IfSome, OnSome, IsTrue, IsFalse, inl, inr, refl, sym, ap, ◌∙◌, subst, arith, ⊎_elim}
 use Rattle.std.specs.Prelude.{Ok, Err}
 use Rattle.std.specs.Io.KnownBytes.{Keeps}
 use Rattle.std.proofs.lemmas.List.Elements.{All-cons}
@@ -9,6 +9,7 @@ use Rattle.pn_line.specs.LinesRead.{LinesRead, PartRead}
 use Rattle.pn_line.specs.Reads.{HasShown, Takes as ReadTakes}
 use Rattle.pn_line.specs.Sent.{AppendsPrefix}
 use Rattle.pn_line.specs.Text.{last_line}
+use Rattle.pn_protocol.specs.declared.reply.Reply.{Reply}
 use Rattle.pn_scan.specs.Paging.{IsPreorder}
 use Rattle.pn_serve.specs.declared.machine.line_handler.Answer.{Answer}
 use Rattle.pn_serve.specs.declared.machine.line_handler.Answer.TheVariants.{Done, Going as Begun}
@@ -21,7 +22,7 @@ use Rattle.pn_serve.specs.Lines.Going.{AnswersLast, AnswersWith}
 use Rattle.pn_serve.specs.Lines.Served.{IsShort, AllAnswered}
 use Rattle.pn_serve.specs.Lines.States.{LineLoopValue, Start, waiting_in, waits_in}
 use Rattle.pn_serve.specs.Lines.Stepping.{BeginsLast, BeginsLine, EndsOnceSent, Handling, HasEnded, IsLooking, IsReading, Makes, MakesLast, Stands, StandsAt}
-use Rattle.pn_serve.specs.Lines.Taking.{Takes, TakesAnswer, TakesLine, stage_after}
+use Rattle.pn_serve.specs.Lines.Taking.{HasReply, Takes, TakesAnswer, TakesLine, stage_after}
 use Rattle.pn_serve.specs.Script.Written.{one_if}
 use Rattle.pn_serve.proofs.Serving.{OnTold, of_known, stays}
 use Rattle.pn_serve.proofs.Stopping.{Broken_here, Cut_here, Exceeded_bytes, Exceeded_lines}
@@ -123,6 +124,26 @@ module _ {V : Type 0} (handling : Handling V) (pre : IsPreorder handling.moves) 
               more_comes = is.more_comes;
             }
 
+    -- a source was looked at, and nothing was taken
+    pub Steps-kept : Keeps left leaves → Stands handling start leaves written machine old
+    Steps-kept kept =
+        subst (λ (s : Stage). StandsAt handling s start leaves written machine old) (sym reading) (OnTold start.left _ _ same reads_at)
+      where
+        same : (script : List ℕ) → IsReading handling start script left written machine old → IsReading handling start script leaves written machine old
+        same script is = record {
+          lines = is.lines;
+          part = is.part;
+          read = PartRead-kept script left leaves is.lines is.part is.read kept;
+          short = is.short;
+          line_is = is.line_is;
+          bound = is.bound;
+          reached = is.reached;
+          moved = is.moved;
+          answered = is.answered;
+          shown = subst (λ (l : Option (List ℕ)). HasShown old.state.more l) (is.read.left_is ∙ sym (stays left leaves is.read.rest is.read.left_is kept)) is.shown;
+          more_comes = is.more_comes;
+        }
+
     -- a line ended, and was answered
     pub Steps-line : (now : V) (new : LineLoopValue) (line : LineBufferValue) (more : Bool) → ReadTakes old.line line left leaves (10 ∷ []) → line.count < ENDLESS → old.state.counts.lines < MAX_LINES → old.state.left ≡ []
         → OnSome left (HasShown more leaves) → Takes true (record old { line = so_far []; state = record old.state { more = more } }) new
@@ -213,3 +234,35 @@ module _ {V : Type 0} (handling : Handling V) (pre : IsPreorder handling.moves) 
       let one : one_if line ≡ length (last_line is.part) = one_last line is.part (λ same empty. some same (count ∙ ap length empty)) (λ same. no_length is.part (omega (arith, none same, count))) in
       answered_last script told left written is.lines is.part is.reached was now line (record old { line = so_far []; state = record old.state { last = true } }) new is.read end (All-cons IsShort is.part is.lines short is.short)
       is.bound is.answered refl refl is.shown made one is.moved (answers is.part is.line_is))
+
+-- ---- the last part of a line, which may have no byte
+
+-- one without a byte has its reply at once
+pub last_replied : {V : Type 0} (ends : V → List ℕ → V → Reply → Type 0) (goes : V → List ℕ → V → Going → Type 0) (line : Bool) (was now : V) (old new : LineLoopValue) → TakesLine (AnswersLast ends goes) line was [] now old new
+    → (reply : Reply) × HasReply line old reply new
+last_replied {V} ends goes line was now old new takes = by takes.answer takes.answered takes.takes
+  where
+    by : (answer : Answer) → AnswersLast ends goes was [] now answer → TakesAnswer line old answer new → (reply : Reply) × HasReply line old reply new
+    by (Done reply) made taken = (reply, taken)
+    by (Begun going) begun taken = absurd begun
+
+module _ (old mid : LineLoopValue) where
+  -- a line without a byte is begun anew
+  pub part_is : (test : Bool) → (IsTrue test → (mid ≡ old) × (old.line.count ≢ 0)) → (IsFalse test → (mid ≡ record old { line = so_far [] }) × (old.line.count ≡ 0)) → (text : List ℕ) → old.line ≡ so_far text → mid.line ≡ so_far text
+  part_is true some none text is = ap (λ (r : LineLoopValue). r.line) (some refl).0 ∙ is
+  part_is false some none text is =
+      let empty : text ≡ [] = no_length text (omega (arith, ap (λ (l : LineBufferValue). l.count) is, (none refl).1)) in
+      ap (λ (r : LineLoopValue). r.line) (none refl).0 ∙ ap so_far (sym empty)
+
+  pub none_is : (test : Bool) → (IsTrue test → (mid ≡ old) × (old.line.count ≢ 0)) → (IsFalse test → (mid ≡ record old { line = so_far [] }) × (old.line.count ≡ 0)) → old.line.count ≡ 0 → (test ≡ false) × (mid.line ≡ so_far [])
+  none_is true some none empty = absurd ((some refl).1 empty)
+  none_is false some none empty = (refl, ap (λ (r : LineLoopValue). r.line) (none refl).0)
+
+  pub some_is : (test : Bool) → (IsFalse test → (mid ≡ record old { line = so_far [] }) × (old.line.count ≡ 0)) → old.line.count ≢ 0 → test ≡ true
+  some_is true none some = refl
+  some_is false none some = absurd (some (none refl).1)
+
+  -- the rest of the loop is as it was
+  pub part_kept : (test : Bool) → (IsTrue test → (mid ≡ old) × (old.line.count ≢ 0)) → (IsFalse test → (mid ≡ record old { line = so_far [] }) × (old.line.count ≡ 0)) → (let anew : LineLoopValue = record mid { line = so_far [] } in anew) ≡ record old { line = so_far [] }
+  part_kept true some none = ap (λ (r : LineLoopValue). let anew : LineLoopValue = record r { line = so_far [] } in anew) (some refl).0
+  part_kept false some none = ap (λ (r : LineLoopValue). let anew : LineLoopValue = record r { line = so_far [] } in anew) (none refl).0

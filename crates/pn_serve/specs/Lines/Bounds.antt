@@ -11,7 +11,7 @@ use Rattle.pn_serve.specs.declared.script.line_loop.steps.Step.{Step}
 use Rattle.pn_serve.specs.declared.script.line_loop.steps.Step.TheVariants.{Next, NoInput, NoRoom, Ends}
 use Rattle.pn_serve.specs.Lines.States.{LineLoopValue, waits_in}
 use Rattle.pn_serve.specs.Lines.Waiting.{HandsOn}
-use Rattle.pn_serve.specs.Session.Looking.{left_of}
+use Rattle.pn_serve.specs.Session.Looking.{going_left, left_of}
 
 -- where no input is at hand the loop reads a line that may go on, nothing waits, and all was handed on
 abbrev pub IsIdleAt : Step → LineLoopValue → Type 0
@@ -59,34 +59,36 @@ CountsUnits old new step = Unit {0}
 abbrev pub work_in : LineLoopValue → ℕ
 work_in run = length (waits_in run) + length run.state.left
 
--- a step that writes leaves less
+-- a step that writes leaves less, and waits for no input
 abbrev pub WorksOn : LineLoopValue → LineLoopValue → Step → Type 0
 WorksOn old new (Next units) = work_in new < work_in old
-WorksOn old new step = Unit {0}
+WorksOn old new NoInput = ⊥
+WorksOn old new NoRoom = Unit {0}
+WorksOn old new (Ends ended) = Unit {0}
 
--- a loop may end so: with as many lines as may be answered, or by a fault that its source or its writer may have
-abbrev pub CanEndBy : Type 0 → Type 0 → Result Counts RunFault → Type 0
-CanEndBy read write (Ok counts) = counts.lines ≤ MAX_LINES
-CanEndBy read write (Err Read) = read
-CanEndBy read write (Err Write) = write
-CanEndBy read write (Err TooManyTurns) = Unit {0}
-CanEndBy read write (Err Memory) = ⊥
+-- a loop may end so: with as many lines as may be answered where its source may be at its end, or by a fault that its source or its writer may have
+abbrev pub CanEndBy : Type 0 → Type 0 → Type 0 → Result Counts RunFault → Type 0
+CanEndBy read write end (Ok counts) = (counts.lines ≤ MAX_LINES) × end
+CanEndBy read write end (Err Read) = read
+CanEndBy read write end (Err Write) = write
+CanEndBy read write end (Err TooManyTurns) = Unit {0}
+CanEndBy read write end (Err Memory) = ⊥
 
 -- one line more may be answered, or none and none is begun; and where the end is decided, the loop may end so
-abbrev pub ForeseesAt : Stage → Type 0 → Type 0 → LineLoopValue → Type 0
-ForeseesAt Reading read write run = (run.state.counts.lines < MAX_LINES) ⊎ ((run.state.counts.lines ≡ MAX_LINES) × (run.line.count ≡ 0))
-ForeseesAt (Looking going) read write run = (run.state.counts.lines < MAX_LINES) × (run.line.count ≡ 0)
-ForeseesAt (Ending ended) read write run = CanEndBy read write ended
+abbrev pub ForeseesAt : Stage → Type 0 → Type 0 → Type 0 → LineLoopValue → Type 0
+ForeseesAt Reading read write end run = ((run.state.counts.lines < MAX_LINES) ⊎ ((run.state.counts.lines ≡ MAX_LINES) × (run.line.count ≡ 0))) × (run.state.last ≡ false)
+ForeseesAt (Looking going) read write end run = (run.state.counts.lines < MAX_LINES) × (run.line.count ≡ 0) × (run.state.last ≡ true → end)
+ForeseesAt (Ending ended) read write end run = CanEndBy read write end ended
 
-abbrev pub Foresees : Type 0 → Type 0 → LineLoopValue → Type 0
-Foresees read write run = ForeseesAt run.state.stage read write run
+abbrev pub Foresees : Type 0 → Type 0 → Type 0 → LineLoopValue → Type 0
+Foresees read write end run = ForeseesAt run.state.stage read write end run
 
 -- so after a step, or the loop ended as it may
-abbrev pub ForeseesStep : Type 0 → Type 0 → LineLoopValue → Step → Type 0
-ForeseesStep read write run (Next units) = Foresees read write run
-ForeseesStep read write run NoInput = Foresees read write run
-ForeseesStep read write run NoRoom = Foresees read write run
-ForeseesStep read write run (Ends ended) = CanEndBy read write ended
+abbrev pub ForeseesStep : Type 0 → Type 0 → Type 0 → LineLoopValue → Step → Type 0
+ForeseesStep read write end run (Next units) = Foresees read write end run
+ForeseesStep read write end run NoInput = Foresees read write end run
+ForeseesStep read write end run NoRoom = Foresees read write end run
+ForeseesStep read write end run (Ends ended) = CanEndBy read write end ended
 
 -- where the loop ended, all that was written was handed on, unless the writer failed
 abbrev pub HandsOnRun : Option (Result Counts RunFault) → Type 0 → Type 0
@@ -94,9 +96,9 @@ HandsOnRun None handed_on = Unit {0}
 HandsOnRun (Some ended) handed_on = HandsOn ended handed_on
 
 -- the loop goes on as foreseen, or ended as it may
-abbrev pub ForeseesRun : Type 0 → Type 0 → LineLoopValue → Option (Result Counts RunFault) → Type 0
-ForeseesRun read write run None = Foresees read write run
-ForeseesRun read write run (Some ended) = CanEndBy read write ended
+abbrev pub ForeseesRun : Type 0 → Type 0 → Type 0 → LineLoopValue → Option (Result Counts RunFault) → Type 0
+ForeseesRun read write end run None = Foresees read write end run
+ForeseesRun read write end run (Some ended) = CanEndBy read write end ended
 
 -- a look is to be gone on with
 abbrev pub IsLookingAt : Stage → Type 0
@@ -107,6 +109,12 @@ IsLookingAt (Ending ended) = ⊥
 -- no look is to be gone on with, and no text is to be made
 abbrev pub IsSettled : LineLoopValue → Type 0
 IsSettled run = (IsLookingAt run.state.stage → ⊥) × (run.state.left ≡ [])
+
+-- where a look is to be gone on with, no byte of the next line was read
+abbrev pub IsFreshAt : Stage → LineLoopValue → Type 0
+IsFreshAt Reading run = Unit {0}
+IsFreshAt (Looking going) run = run.line.count ≡ 0
+IsFreshAt (Ending ended) run = Unit {0}
 
 -- the most looks at a source that are left, for these lines that were answered and these bytes of the next that were read
 abbrev pub looks_at : ℕ → ℕ → ℕ
@@ -129,3 +137,26 @@ reads_at (Ending ended) run = 1
 
 abbrev pub reads_left : LineLoopValue → ℕ
 reads_left run = reads_at run.state.stage run
+
+-- no looks and no steps more are left than were
+pub record IsNoFarther (old new : LineLoopValue) : Type 0 where
+  pub reads : reads_left new ≤ reads_left old
+  pub looks : looks_left new ≤ looks_left old
+
+-- a step of a settled loop that goes on leaves fewer steps; and it looked at its source, from so many looks to so many, as often as is left at most
+abbrev pub ReadsOn : ℕ → ℕ → LineLoopValue → LineLoopValue → Step → Type 0
+ReadsOn was now old new (Next units) = (reads_left new < reads_left old) × (now + looks_left new ≤ was + looks_left old) × IsFreshAt new.state.stage new
+ReadsOn was now old new NoInput = (old.state.stage ≡ Reading) × (now ≤ was + looks_left old)
+ReadsOn was now old new NoRoom = now ≤ was + looks_left old
+ReadsOn was now old new (Ends ended) = now ≤ was + looks_left old
+
+-- the most looks at a source that are left, unless the loop has ended
+abbrev pub looks_after : Option (Result Counts RunFault) → LineLoopValue → ℕ
+looks_after None run = looks_left run
+looks_after (Some ended) run = 0
+
+-- how much of a look is left at a stage
+abbrev pub stage_left : Stage → ℕ
+stage_left Reading = 0
+stage_left (Looking going) = going_left going + 1
+stage_left (Ending ended) = 0

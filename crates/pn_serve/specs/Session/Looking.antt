@@ -1,5 +1,5 @@
 -- Lookups of a session that are gone on with.
-use Rattle.std.specs.Prelude.{◌≡◌, ◌≤◌, ◌-◌, ℕ, List, [], ◌∷◌, length, false, Option, Some, Result, Ok, Err}
+use Rattle.std.specs.Prelude.{◌≡◌, ◌≤◌, ◌+◌, ◌-◌, ◌*◌, ◌^◌, ℕ, List, [], ◌∷◌, length, false, Option, Some, Result, Ok, Err}
 use Rattle.pn_join.specs.Marks.{Positions}
 use Rattle.pn_live.specs.Copying.{IsCopied}
 use Rattle.pn_join.specs.declared.memory.NoMemory.{NoMemory}
@@ -20,7 +20,7 @@ use Rattle.pn_scan.specs.declared.fault.ScanFault.{ScanFault}
 use Rattle.pn_scan.specs.declared.page_walk.PageStep.{PageStep}
 use Rattle.pn_scan.specs.declared.page_walk.PageStep.TheVariants as pages
 use Rattle.pn_scan.specs.Queries.{QueryValue}
-use Rattle.pn_scan.specs.Paging.{Gaps, IsOnPage, LookMade, Moving, records_left}
+use Rattle.pn_scan.specs.Paging.{Gaps, IsOnPage, LookMade, Moving, records_left, steps_left}
 use Rattle.pn_tablet.specs.Copies.{TabletCopyValue}
 use Rattle.pn_tablet.specs.Tablets.{TabletStateValue}
 use Rattle.pn_tablet.specs.declared.copy_text.CopyStep.{CopyStep}
@@ -88,6 +88,12 @@ abbrev pub left_of : Going → ℕ
 left_of (Page query walk) = records_left walk.part
 left_of (Keys walk) = 0
 left_of (Copy count) = length count.copy.cells - count.index
+
+-- how much of a lookup is left: its tablets, then the records of the one that is looked into; its keys; or its cells
+abbrev pub going_left : Going → ℕ
+going_left (Page query walk) = (walk.end - walk.next) * 2 ^ 64 + steps_left walk.part
+going_left (Keys walk) = length walk.keys - walk.read
+going_left (Copy count) = length count.copy.cells - count.index
 
 -- the kind of a line that is looked up so far
 abbrev pub kind_of : Going → LineKind

@@ -1,11 +1,11 @@
 //! The line loop: a machine that takes what its input has at hand, answers it line by line, and writes as much as its output
 //! takes. It waits for neither.
 
-ghost use Rattle.std.specs.Prelude.{◌≡◌, ◌⊎◌, ◌+◌, ◌<◌, ◌≤◌, ℕ, List, [], Option, Some, true, false, ◌≢◌, IfOk, IfSome, OnSome};
+ghost use Rattle.std.specs.Prelude.{◌≡◌, ◌⊎◌, ◌+◌, ◌<◌, ◌≤◌, ℕ, List, [], Option, Some, true, false, ◌≢◌, IfOk, IfSome, IsFalse, IsTrue, OnSome};
 ghost use Rattle.std.specs.Io.KnownBytes.{IsAtEnd};
 ghost use Rattle.pn_line.specs.Prelude.{so_far};
 ghost use Rattle.pn_line.specs.declared.line_buffer.TheConstants.{ENDLESS};
-ghost use Rattle.pn_serve.specs.Lines.Bounds.{CountsUnits, Foresees, ForeseesStep, HandsOnAtMost, HandsOnStep, IsIdleAt, IsOutAs, WorksOn};
+ghost use Rattle.pn_serve.specs.Lines.Bounds.{CountsUnits, Foresees, ForeseesStep, HandsOnAtMost, HandsOnStep, IsIdleAt, IsOutAs, IsSettled, ReadsOn, WorksOn};
 ghost use Rattle.pn_serve.specs.Lines.States.{Start, new_loop, waits_in};
 ghost use Rattle.pn_serve.specs.Lines.Stepping.{by, with_rest, Stands, StepsTo};
 ghost use Rattle.pn_serve.specs.Lines.Taking.{HasReply, Takes};
@@ -83,10 +83,11 @@ impl LineLoop {
         ensures counted { CountsUnits self.old self.new result }
         ensures works { self.old.state.left ≢ [] → WorksOn self.old self.new result }
         ensures looks { S.looks input.new ≤ S.looks input.old + 1 }
+        ensures reads { IsSettled self.old → ReadsOn (S.looks input.old) (S.looks input.new) self.old self.new result }
         ensures end { result ≡ Step.NoInput → S.may_end }
         ensures at_end { result ≡ Step.NoInput → OnSome (S.left input.old) (IsAtEnd (S.left input.new)) }
         ensures room { result ≡ Step.NoRoom → W.may_fail }
-        ensures foresees { Foresees S.may_fail W.may_fail self.old → ForeseesStep S.may_fail W.may_fail self.new result }
+        ensures foresees { Foresees S.may_fail W.may_fail S.may_end self.old → ForeseesStep S.may_fail W.may_fail S.may_end self.new result }
         ensures knows { KnowsNoLess (M.reader machine.old) (M.reader machine.new) }
     {
         if self.state.has_text() {
@@ -111,10 +112,7 @@ impl LineLoop {
         ensures none { self.old.line.count ≡ 0 → (reply : Reply) × HasReply false (record self.old { line = so_far []; state = record self.old.state { last = true } }) reply self.new }
         ensures knows { KnowsNoLess (M.reader machine.old) (M.reader machine.new) }
     {
-        let is_line = !self.line.is_empty();
-        if !is_line {
-            self.line.start();
-        }
+        let is_line = self.has_part();
         self.state.set_last();
         let answer = machine.answer_end(self.alloc, &self.line);
         self.line.start();
@@ -126,5 +124,17 @@ impl LineLoop {
         ensures { self.new ≡ record self.old { state = record self.old.state { stage = Stage.Ending ended } } }
     {
         self.state.set_stage(Stage::Ending(ended));
+    }
+
+    // Whether a byte of a line was read. If not, the line is begun anew.
+    fn has_part(&mut self) -> bool
+        ensures some { IsTrue result → (self.new ≡ self.old) × (self.old.line.count ≢ 0) }
+        ensures none { IsFalse result → (self.new ≡ record self.old { line = so_far [] }) × (self.old.line.count ≡ 0) }
+    {
+        if self.line.is_empty() {
+            self.line.start();
+            return false;
+        }
+        true
     }
 }

@@ -136,6 +136,7 @@ impl ReplyBuffer {
         ensures all { IfOk result (λ sent. (sent ≡ SendOutcome.All) ↔ (self.new ≡ [])) }
         ensures waits { IfOk result (λ sent. sent ≡ SendOutcome.Waits → W.may_fail) }
         ensures handed_on { IfOk result (λ sent. sent ≡ SendOutcome.All → W.is_handed_on writer.new) }
+        ensures few { length self.old ≤ length self.new + REPLY_CAPACITY }
         ensures err { OnErr result (AppendsPrefix (W.contents writer.old) (W.contents writer.new) self.old) }
         ensures fault { OnErr result W.may_fail }
     {

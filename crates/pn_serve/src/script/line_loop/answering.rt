@@ -1,12 +1,14 @@
 //! How a line loop answers a line, and makes the text of its reply.
 
-ghost use Rattle.std.specs.Prelude.{◌≡◌, ◌≢◌, ◌+◌, ◌*◌, ◌≤◌, ◌<◌, ℕ, List, [], length, Bool};
+ghost use Rattle.std.specs.Prelude.{◌≡◌, ◌≢◌, ◌+◌, ◌*◌, ◌≤◌, ◌<◌, ℕ, List, [], length, true};
 ghost use Rattle.pn_line.specs.Prelude.{so_far};
-ghost use Rattle.pn_serve.specs.Lines.Going.{AnswersLast, AnswersWith};
+ghost use Rattle.pn_serve.specs.Lines.Bounds.{stage_left};
+ghost use Rattle.pn_serve.specs.Lines.Going.{AnswersLast, AnswersWith, answer_left};
 ghost use Rattle.pn_serve.specs.Lines.States.{waits_in};
 ghost use Rattle.pn_serve.specs.Lines.Taking.{HasReply, Takes, TakesLine};
 ghost use Rattle.pn_serve.specs.declared.script.replies.TheConstants.{BLOCK};
 ghost use Rattle.pn_serve.specs.Session.Knowing.{KnowsNoLess};
+ghost use Rattle.pn_serve.specs.Session.Looking.{going_left};
 
 use crate::machine::line_handler::{Answer, LineHandler};
 use crate::script::line_loop::state::Stage;
@@ -48,6 +50,7 @@ impl LineLoop {
         ensures last { (was between : M) (text : List ℕ) → M.goes_last was text between going → M.moves between machine.old
             → TakesLine (AnswersLast M.ends M.goes_last) true was text machine.new self.old self.new }
         ensures takes { Takes true self.old self.new }
+        ensures nearer { 0 < units → stage_left self.new.state.stage ≤ going_left going }
         ensures units { length self.new.replies < length self.old.replies + 1024 * (result + 1) }
         ensures knows { KnowsNoLess (M.reader machine.old) (M.reader machine.new) }
     {
@@ -70,6 +73,7 @@ impl LineLoop {
         ensures last { (was now : M) (text : List ℕ) → AnswersLast M.ends M.goes_last was text now answer
             → TakesLine (AnswersLast M.ends M.goes_last) is_line was text now self.old self.new }
         ensures takes { Takes is_line self.old self.new }
+        ensures left { stage_left self.new.state.stage ≡ answer_left answer }
         ensures units { length self.new.replies < length self.old.replies + 1024 * (result + 1) }
         ensures few { result ≤ 128 }
     {

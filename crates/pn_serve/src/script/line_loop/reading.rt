@@ -2,7 +2,8 @@
 
 ghost use Rattle.std.specs.Prelude.{◌≡◌, ◌⊎◌, ◌+◌, ◌≤◌, ◌<◌, ℕ, List, [], Option, Err, OnSome};
 ghost use Rattle.std.specs.Io.KnownBytes.{IsAtEnd};
-ghost use Rattle.pn_serve.specs.Lines.Bounds.{CountsUnits, Foresees, ForeseesStep, HandsOnAtMost, HandsOnStep, IsIdleAt, IsOutAs};
+ghost use Rattle.pn_line.specs.declared.line_buffer.TheConstants.{ENDLESS};
+ghost use Rattle.pn_serve.specs.Lines.Bounds.{CountsUnits, Foresees, ForeseesStep, HandsOnAtMost, HandsOnStep, IsIdleAt, IsOutAs, ReadsOn};
 ghost use Rattle.pn_serve.specs.Lines.States.{Start};
 ghost use Rattle.pn_serve.specs.Lines.Stepping.{by, with_rest, Stands, StepsTo};
 ghost use Rattle.pn_serve.specs.declared.script.replies.TheConstants.{REPLY_CAPACITY};
@@ -35,10 +36,11 @@ impl LineLoop {
         ensures few { HandsOnAtMost REPLY_CAPACITY self.old self.new }
         ensures counted { CountsUnits self.old self.new result }
         ensures looks { S.looks input.new ≤ S.looks input.old + 1 }
+        ensures reads { ReadsOn (S.looks input.old) (S.looks input.new) self.old self.new result }
         ensures end { result ≡ Step.NoInput → S.may_end }
         ensures at_end { result ≡ Step.NoInput → OnSome (S.left input.old) (IsAtEnd (S.left input.new)) }
         ensures room { result ≡ Step.NoRoom → W.may_fail }
-        ensures foresees { Foresees S.may_fail W.may_fail self.old → ForeseesStep S.may_fail W.may_fail self.new result }
+        ensures foresees { Foresees S.may_fail W.may_fail S.may_end self.old → ForeseesStep S.may_fail W.may_fail S.may_end self.new result }
         ensures knows { KnowsNoLess (M.reader machine.old) (M.reader machine.new) }
     {
         if !self.state.has_more() && !self.state.is_out() {
@@ -77,10 +79,11 @@ impl LineLoop {
         ensures few { HandsOnAtMost REPLY_CAPACITY self.old self.new }
         ensures counted { CountsUnits self.old self.new result }
         ensures looks { S.looks input.new ≤ S.looks input.old + 1 }
+        ensures reads { ReadsOn (S.looks input.old) (S.looks input.new) self.old self.new result }
         ensures end { result ≡ Step.NoInput → S.may_end }
         ensures at_end { result ≡ Step.NoInput → OnSome (S.left input.old) (IsAtEnd (S.left input.new)) }
         ensures room { result ≡ Step.NoRoom → W.may_fail }
-        ensures foresees { ForeseesStep S.may_fail W.may_fail self.new result }
+        ensures foresees { Foresees S.may_fail W.may_fail S.may_end self.old → ForeseesStep S.may_fail W.may_fail S.may_end self.new result }
         ensures knows { KnowsNoLess (M.reader machine.old) (M.reader machine.new) }
     {
         let before = self.line.len();

@@ -9,7 +9,6 @@ ghost use Rattle.pn_serve.specs.Lines.After.{After};
 ghost use Rattle.pn_serve.specs.declared.sessions.going.Going.{Going};
 ghost use Rattle.pn_serve.specs.Lines.Sending.{text_left};
 ghost use Rattle.pn_serve.specs.Lines.States.{counted, new_state, waits_in};
-ghost use Rattle.pn_serve.specs.Lines.Bounds.{IsLookingAt};
 ghost use Rattle.pn_serve.specs.Lines.Taking.{stage_after};
 
 use crate::machine::line_handler::{LineHandler, is_refusal};
@@ -96,16 +95,6 @@ impl LineState {
     {
         match &self.stage {
             Stage::Reading => true,
-            _ => false,
-        }
-    }
-
-    /// Whether a look is to be gone on with.
-    pub(super) fn is_looking(&self) -> bool
-        ensures { IsTrue result ↔ IsLookingAt self.now.stage }
-    {
-        match &self.stage {
-            Stage::Looking(_) => true,
             _ => false,
         }
     }

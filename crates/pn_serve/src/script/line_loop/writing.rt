@@ -8,7 +8,7 @@ ghost use Rattle.pn_serve.specs.Lines.Stepping.{by, HasEnded, Stands};
 ghost use Rattle.pn_serve.specs.Lines.Taking.{EndsTo, IsSent, SendsTo, WaitsTo};
 ghost use Rattle.pn_serve.specs.declared.script.Counts.{Counts};
 ghost use Rattle.pn_serve.specs.declared.script.RunFault.{RunFault};
-ghost use Rattle.pn_serve.specs.declared.script.replies.TheConstants.{BLOCK};
+ghost use Rattle.pn_serve.specs.declared.script.replies.TheConstants.{BLOCK, REPLY_CAPACITY};
 ghost use Rattle.pn_serve.specs.Session.Knowing.{IsSteady};
 
 use crate::machine::line_handler::LineHandler;
@@ -42,6 +42,7 @@ impl LineLoop {
         ensures waits { WaitsTo self.old (W.contents output.old) self.new (W.contents output.new) result }
         ensures out { IsOutAs self.old (W.is_handed_on output.old) → IsOutAs self.new (W.is_handed_on output.new) }
         ensures idle { result ≡ Step.NoInput → self.new.state.out ≡ true }
+        ensures few { HandsOnAtMost REPLY_CAPACITY self.old self.new }
         ensures room { result ≡ Step.NoRoom → W.may_fail }
         ensures fault { result ≡ Step.Ends (Err RunFault.Write) → W.may_fail }
     {
@@ -59,7 +60,8 @@ impl LineLoop {
         requires made { self.old.state.left ≡ [] }
         ensures sends { SendsTo self.old (W.contents output.old) self.new (W.contents output.new) result }
         ensures out { self.new.state.out ≡ true → (waits_in self.new ≡ []) × W.is_handed_on output.new }
-        ensures all { result ≡ Step.Next 0 → self.new.state.out ≡ true }
+        ensures all { (units : ℕ) → result ≡ Step.Next units → self.new.state.out ≡ true }
+        ensures few { HandsOnAtMost REPLY_CAPACITY self.old self.new }
         ensures room { result ≡ Step.NoRoom → W.may_fail }
         ensures fault { result ≡ Step.Ends (Err RunFault.Write) → W.may_fail }
     {
@@ -80,6 +82,7 @@ impl LineLoop {
         ensures ends { EndsTo ended self.old (W.contents output.old) self.new (W.contents output.new) result }
         ensures out { self.new.state.out ≡ true → (waits_in self.new ≡ []) × W.is_handed_on output.new }
         ensures handed_on { HandsOnStep result (W.is_handed_on output.new) }
+        ensures few { HandsOnAtMost REPLY_CAPACITY self.old self.new }
         ensures room { result ≡ Step.NoRoom → W.may_fail }
         ensures fault { (other : Result Counts RunFault) → result ≡ Step.Ends other → (other ≡ ended) ⊎ W.may_fail }
     {
@@ -100,6 +103,7 @@ impl LineLoop {
         ensures waits { IfOk result (λ sent. sent ≡ SendOutcome.Waits → (self.new.replies ≢ []) × W.may_fail) }
         ensures handed_on { IfOk result (λ sent. sent ≡ SendOutcome.All → W.is_handed_on output.new) }
         ensures out { self.new.state.out ≡ true → (waits_in self.new ≡ []) × W.is_handed_on output.new }
+        ensures few { HandsOnAtMost REPLY_CAPACITY self.old self.new }
         ensures once { IfOk result (λ sent. sent ≡ SendOutcome.All → self.old.state.left ≡ [] → self.new.state.out ≡ true) }
         ensures err { OnErr result (AppendsPrefix (W.contents output.old) (W.contents output.new) (waits_in self.old)) }
         ensures fault { OnErr result W.may_fail }
