@@ -1,5 +1,5 @@
-//! Cases of `pn_live`: steps on a live region, workers that meet, readers beside a held round and beside a writer, looks that
-//! rounds come into, and calls that run out of memory.
+//! Cases of `pn_live`: steps on a live region, also on one that starts from copies, workers that meet, readers beside a held round and beside
+//! a writer, looks that rounds come into, and calls that run out of memory.
 
 mod holding;
 mod looking;
@@ -7,6 +7,7 @@ mod meeting;
 mod memory;
 mod race;
 mod rows;
+mod starting;
 mod steps;
 
 use holding::hold_round;
@@ -16,6 +17,7 @@ use memory::live_twice;
 use pn_join::NoMemory;
 use race::run_race;
 use rows::learn_fronts;
+use starting::start;
 use std::alloc::Global;
 use std::sync::Wait;
 use std::test::Fail;
@@ -31,6 +33,7 @@ pub(crate) fn answer_live<R: Threads + Wait + Sync>(
     let (word, rest) = line.split_once(' ').unwrap_or((line, ""));
     let answer = match word {
         "steps" => take_steps(rt, alloc, rest),
+        "start" => start(rt, alloc, rest),
         "held" => hold_round(rt, alloc),
         "page" => page_over_round(rt, alloc),
         "get" => get_over_round(rt, alloc),

@@ -2,13 +2,15 @@
 
 ghost use Rattle.std.specs.Prelude.{◌≡◌};
 ghost use Rattle.pn_live.specs.LiveRegions.{tablets_in};
+ghost use Rattle.pn_serve.specs.Server.Sessions.{AllRead};
 
 use pn_join::Name;
 use pn_line::InMemory;
 use pn_live::LiveRegion;
 use pn_region::Region;
 use pn_serve::{
-    Counter, Origin, Settings, Stream, Watchers, WriterEnd, close_region, open_region, read_streams,
+    Counter, OpenedRegion, Origin, Settings, Stream, Watchers, WriterEnd, close_region, open_region,
+    read_streams,
 };
 use pn_stream::StreamReader;
 use std::alloc::{AllocError, Global};
@@ -107,7 +109,6 @@ pub(crate) fn stream_of<R: Wait + Clock + Copy>(
     let origin = Script::new(rt, alloc, writers, delay).ok()?;
     Some(Stream {
         name,
-        after: 0,
         origin,
         taken: None,
     })
@@ -177,6 +178,23 @@ where
 {
     let layout = layout(alloc, "")?;
     let (live, readers) = open_region(rt, alloc, layout, 1).ok()?;
+    let opened = OpenedRegion { live, readers };
+    read_into_opened(rt, alloc, opened, streams, rounds)
+}
+
+/// Reads streams into a live region. Whether they were read to their ends, and the region that is closed then.
+pub(crate) fn read_into_opened<R>(
+    rt: &R,
+    alloc: Global,
+    opened: OpenedRegion,
+    streams: Vec<Stream<Script<R>>>,
+    rounds: Option<Arc<Counter>>,
+) -> Option<(bool, Region)>
+where
+    R: Threads + Wait + Clock + Sync + Copy + Send + Drop + 'static,
+    requires { AllRead (tablets_in opened.live) opened.readers.items }
+{
+    let OpenedRegion { live, readers } = opened;
     let mut live = live;
     let is_read = read_all(rt, alloc, &mut live, streams, rounds);
     let region = close_region(rt, live, readers).ok()?;

@@ -1,11 +1,13 @@
 //! Cases of `pn_serve`.
 //!
 //! `plan` and `says` read words; `run`, `blocks`, `writes` and `sessions` meet slow and failing readers and writers; `session` and
-//! `serve` answer sessions, `kinds` counts lines of one, and `control` answers a control session; `read` reads streams, and `writers` one whose writers come one after another. A bar is a newline.
+//! `serve` answer sessions, `kinds` counts lines of one, and `control` answers a control session; `start` opens a region from copies; `read`
+//! reads streams, and `writers` one whose writers come one after another. A bar is a newline.
 
 mod control;
+mod copies;
 mod kinds;
-mod loopback;
+pub(crate) mod loopback;
 mod plans;
 mod rounds;
 mod scripts;
@@ -14,6 +16,7 @@ mod talk;
 mod writers;
 
 use control::answer_control;
+use copies::start;
 use kinds::count_kinds;
 use loopback::serve_stream;
 use plans::{plan_reply, says};
@@ -52,6 +55,7 @@ where
         "control" => answer_control(rt, alloc, rest),
         "kinds" => count_kinds(rt, alloc, rest),
         "serve" => serve_stream(rt, alloc, rest),
+        "start" => start(rt, alloc, rest),
         "read" => few_rounds(rt, alloc),
         "writers" => read_writers(rt, alloc, rest),
         _ => write_three_bytes(alloc),

@@ -16,13 +16,12 @@ use served::{answer_flood, listen_twice, serve_session, stay_until_idle};
 use std::alloc::Global;
 use std::fs::{File, Files};
 use std::net::{Net, TcpListener, TcpStream};
-use std::str;
 use std::sync::Wait;
 use std::test::Fail;
 use std::thread::Threads;
 use std::time::Clock;
 use stopped::stop_server;
-use test_kit::spell_out;
+use test_kit::{bars, newlines, spell_out};
 use writers::{leave_many, read_opened};
 
 /// How many turns a connection has at most.
@@ -77,7 +76,7 @@ fn come_and_go(alloc: Global, takes: &str, text: &str) -> Result<String, Fail> {
 }
 
 pub(crate) fn read_pieces(alloc: Global, text: &str) -> Result<Vec<Vec<u8>>, Fail> {
-    let text = text.replace(alloc, '|', "\n")?;
+    let text = newlines(alloc, text)?;
     let mut pieces = Vec::new(alloc);
     for part in text.as_str().split('+') {
         let piece = Vec::from_slice(alloc, part.as_bytes())?;
@@ -100,5 +99,5 @@ pub(crate) fn show(alloc: Global, taken: &[u8]) -> Result<String, Fail> {
     if taken.len() > SHOWN {
         return Ok(format!(in alloc; "{} bytes", taken.len())?);
     }
-    Ok(str::from_utf8(taken)?.replace(alloc, '\n', "|")?)
+    bars(alloc, taken)
 }

@@ -1,11 +1,14 @@
 //! Tablets that adopted copies, and marks that advance to what all of them have taken.
 
+ghost use Rattle.std.specs.Prelude.{◌≤◌, length, IsTrue};
+
 use crate::regions::rounds::{bring, filled, region};
 use crate::regions::work::KEYS;
 use pn_apply::Open;
 use pn_join::{Marks, Name};
 use pn_region::Region;
 use pn_stream::Delivery;
+use pn_tablet::TabletCopy;
 use std::alloc::Global;
 use std::thread::Threads;
 use test_kit::{deliveries, image};
@@ -26,13 +29,9 @@ pub(crate) fn advance<R: Threads + Sync>(rt: &R, alloc: Global, counts: &str) ->
 fn advance_few<R: Threads + Sync>(rt: &R, alloc: Global, counts: &str) -> Option<String> {
     let mut region = region(alloc, BOUNDS)?;
     for (tablet, count) in counts.split(' ').enumerate() {
-        let keys = words(0, count.parse::<usize>().ok()?)?;
-        adopt(
-            alloc,
-            &mut region,
-            tablet,
-            &filled(rt, alloc, BOUNDS, keys)?,
-        )?;
+        let keys = words(alloc, 0, count.parse::<usize>().ok()?)?;
+        let source = filled(rt, alloc, BOUNDS, keys.as_str())?;
+        adopt(alloc, &mut region, tablet, &source)?;
     }
     region.advance().ok()?;
     go_on(rt, alloc, &mut region)
@@ -40,24 +39,34 @@ fn advance_few<R: Threads + Sync>(rt: &R, alloc: Global, counts: &str) -> Option
 
 // Has a region adopt the copy that another gives of a tablet.
 fn adopt(alloc: Global, region: &mut Region, tablet: usize, source: &Region) -> Option<()> {
-    if tablet >= source.layout().count() {
+    if !has_tablet(source, tablet) {
         return None;
     }
-    let copy = source.copy(tablet, &Marks::new(alloc)).ok()?;
+    let copy = copy_of(alloc, source, tablet)?;
     region.adopt(copy).ok()?;
     Some(())
+}
+
+// Whether a region has a tablet of this number.
+fn has_tablet(region: &Region, tablet: usize) -> bool
+    ensures { IsTrue result → tablet ≤ length region.now.state.layout }
+{
+    tablet < region.layout().count()
+}
+
+fn copy_of(alloc: Global, source: &Region, tablet: usize) -> Option<TabletCopy>
+    requires { tablet ≤ length source.now.state.layout }
+{
+    source.copy(tablet, &Marks::new(alloc)).ok()
 }
 
 // The mark of a region, a refused round past it, how many records the next messages change, and how many there are.
 fn go_on<R: Threads + Sync>(rt: &R, alloc: Global, region: &mut Region) -> Option<String> {
     let mark = mark_of(region)?;
     let gap = gap_past(rt, alloc, region, mark)?;
-    let next = words(usize::try_from(mark).ok()?, 8)?;
-    let changed = bring(
-        rt,
-        region,
-        deliveries(alloc, mark.checked_add(1)?, next, 0)?,
-    )?;
+    let next = words(alloc, usize::try_from(mark).ok()?, 8)?;
+    let given = deliveries(alloc, mark.checked_add(1)?, next.as_str(), 0)?;
+    let changed = bring(rt, region, given)?;
     let records = count_records(region)?;
     format!(in alloc; "{mark}; {gap}; {changed} changed; {records} records").ok()
 }
@@ -87,8 +96,15 @@ fn count_records(region: &Region) -> Option<usize> {
 }
 
 // The keys from one message to before another.
-fn words(from: usize, to: usize) -> Option<&'static str> {
-    KEYS.get(from.checked_mul(2)?..to.checked_mul(2)?.checked_sub(1)?)
+fn words(alloc: Global, from: usize, to: usize) -> Option<String> {
+    let mut words = String::new(alloc);
+    for (message, key) in KEYS.split(' ').enumerate() {
+        if from <= message && message < to {
+            words.push_str(key).ok()?;
+            words.push(' ').ok()?;
+        }
+    }
+    Some(words)
 }
 
 // Why marks do not advance where the one tablet adopted copies of 17 streams.

@@ -3,7 +3,7 @@
 use crate::scans::view::TakesTurns;
 use pn_join::{Marks, NoMemory};
 use pn_record::{Records, add_image};
-use pn_tablet::{Layout, Range, TabletOp, TabletState};
+use pn_tablet::{Layout, OpFault, Range, TabletOp, TabletState};
 use std::alloc::Global;
 use std::test::Fail;
 use test_kit::{image, layout};
@@ -46,15 +46,30 @@ fn lose_last(tablets: &mut [TabletState]) -> Result<(), Fail> {
 
 // A tablet with a record at each of the keys that lie in its range.
 fn tablet(alloc: Global, range: Range, words: &str) -> Result<TabletState, Fail> {
+    let cells = cells(alloc, &range, words).ok_or(NoMemory)?;
+    let mut state = TabletState::new(alloc, range);
+    join(alloc, &mut state, cells)?;
+    Ok(state)
+}
+
+fn join(alloc: Global, state: &mut TabletState, cells: Records) -> Result<(), OpFault> {
+    let marks = Marks::new(alloc);
+    state.apply(&TabletOp::Join { cells, marks })?;
+    Ok(())
+}
+
+fn cells(alloc: Global, range: &Range, words: &str) -> Option<Records> {
     let mut cells = Records::new(alloc);
     for word in words.split_whitespace() {
-        let image = image(alloc, word, 0).ok_or(NoMemory)?;
-        if range.contains(&image.key) {
-            add_image(alloc, &mut cells, image)?;
-        }
+        add(alloc, &mut cells, range, word)?;
     }
-    let marks = Marks::new(alloc);
-    let mut state = TabletState::new(alloc, range);
-    state.apply(&TabletOp::Join { cells, marks })?;
-    Ok(state)
+    Some(cells)
+}
+
+fn add(alloc: Global, cells: &mut Records, range: &Range, word: &str) -> Option<()> {
+    let image = image(alloc, word, 0)?;
+    if range.contains(&image.key) {
+        add_image(alloc, cells, image).ok()?;
+    }
+    Some(())
 }

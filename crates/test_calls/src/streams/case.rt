@@ -3,7 +3,7 @@
 use std::alloc::Global;
 use std::str::SplitN;
 use std::test::Fail;
-use test_kit::spell_out;
+use test_kit::{newlines, spell_out};
 
 /// A stream's text, after which position it is read, whether that begins with the first message of a writer, and by how
 /// many calls of which kind.
@@ -22,13 +22,17 @@ impl Case {
     pub(crate) fn read(alloc: Global, line: &str) -> Result<Case, Fail> {
         let mut words = line.splitn(7, ' ');
         let kind = words.next().unwrap_or("");
+        let after = number(&mut words)?;
+        let calls = number(&mut words)?;
+        let most = number(&mut words)?;
+        let text = stream(alloc, &mut words)?;
         Ok(Case {
             is_resumed: kind == "resume",
             is_ready: kind != "batch",
-            after: number(&mut words)?,
-            calls: number(&mut words)?,
-            most: number(&mut words)?,
-            text: stream(alloc, &mut words)?,
+            after,
+            calls,
+            most,
+            text,
         })
     }
 }
@@ -48,7 +52,8 @@ fn stream(alloc: Global, words: &mut SplitN<'_, char>) -> Result<String, Fail> {
         push_message(&mut text, at)?;
     }
     let more = spell_out(alloc, words.next().unwrap_or(""))?;
-    text.push_str(more.replace(alloc, '|', "\n")?.as_str())?;
+    let more = newlines(alloc, more.as_str())?;
+    text.push_str(more.as_str())?;
     Ok(text)
 }
 

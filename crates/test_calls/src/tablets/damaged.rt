@@ -1,10 +1,10 @@
 //! Copies with an end cut off, and copies with one byte replaced.
 
-use crate::tablets::copies::lines;
 use CopyTextFault::{BadLine, NotRising, Truncated};
 use pn_tablet::{CopyTextFault, read_copy};
 use std::alloc::Global;
 use std::test::Fail;
+use test_kit::newlines;
 
 fn fault_of(alloc: Global, text: &[u8]) -> Option<CopyTextFault> {
     read_copy(alloc, text).err()
@@ -12,7 +12,7 @@ fn fault_of(alloc: Global, text: &[u8]) -> Option<CopyTextFault> {
 
 /// How many proper prefixes a text has, and how many of them are truncated.
 pub(crate) fn prefixes(alloc: Global, bars: &str) -> Result<String, Fail> {
-    let text = lines(alloc, bars)?;
+    let text = newlines(alloc, bars)?;
     let bytes = text.as_bytes();
     let mut truncated = 0u64;
     for len in 0..bytes.len() {
@@ -36,7 +36,7 @@ fn mark(fault: Option<CopyTextFault>, line: u64) -> char {
 
 /// A mark for each byte: what an `x` for it makes of the text.
 pub(crate) fn crossed(alloc: Global, bars: &str) -> Result<String, Fail> {
-    let mut text = lines(alloc, bars)?.into_bytes();
+    let mut text = newlines(alloc, bars)?.into_bytes();
     let mut marks = String::new(alloc);
     let mut line = 1u64;
     for index in 0..text.len() {

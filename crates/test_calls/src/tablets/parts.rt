@@ -1,17 +1,19 @@
 //! Tablets made of the parts of a copy.
 
-use crate::tablets::copies::lines;
 use pn_join::{Marks, NoMemory};
 use pn_record::{Key, Records};
-use pn_tablet::{Range, TabletOp, TabletState, cells_within, read_copy, write_copy};
+use pn_tablet::{
+    Range, TabletCopy, TabletOp, TabletState, cells_within, read_copy, write_copy,
+};
 use std::alloc::Global;
 use std::test::Fail;
+use test_kit::newlines;
 
 /// Of a key and a copy: the keys of the copy from this one on; what a tablet of the copy's parts answers that took no stream into all of them; and
 /// whether it gives the copy once it took them.
 pub(crate) fn parts(alloc: Global, words: &str) -> Result<String, Fail> {
     let (from, bars) = words.split_once(' ').unwrap_or((words, ""));
-    let copy = lines(alloc, bars)?;
+    let copy = newlines(alloc, bars)?;
     let mut text = keys_from(alloc, from, copy.as_str())?;
     push_copies(alloc, &mut text, copy.as_str())?;
     Ok(text)
@@ -44,11 +46,20 @@ fn push_copies(alloc: Global, text: &mut String, copy: &str) -> Result<(), Fail>
     Ok(write!(text, "; kept: {is_kept}")?)
 }
 
-// A tablet of a copy's parts that took no stream into all of them.
+// A tablet of the parts of a text's copy.
 fn tablet_of(alloc: Global, copy: &str) -> Result<TabletState, Fail> {
     let copy = read_copy(alloc, copy.as_bytes())?;
-    let none = Marks::new(alloc);
-    Ok(TabletState::of_parts(alloc, copy.range, copy.cells, none, copy.marks)?)
+    Ok(tablet_of_copy(alloc, copy)?)
+}
+
+// A tablet of a copy's parts that took no stream into all of them.
+fn tablet_of_copy(alloc: Global, copy: TabletCopy) -> Result<TabletState, NoMemory> {
+    let TabletCopy {
+        range,
+        marks,
+        cells,
+    } = copy;
+    TabletState::of_parts(alloc, range, cells, Marks::new(alloc), marks)
 }
 
 // Has a tablet take a copy's streams.

@@ -1,57 +1,62 @@
-//! A live region that starts from copies of different covers.
+//! A live region that starts from copies.
+//!
+//! `BOUNDS/BOUNDS/MESSAGES/MESSAGES/..|STEP|STEP|..`: each list of messages is for a copy of the next tablet between the second bounds, which
+//! took them. Steps follow.
 
-use crate::advancing::{BOUNDS, copy_of, mark};
-use pn_apply::Open;
-use pn_live::LiveRegion;
+use crate::live::steps::{copy_of, take_and_end};
+use crate::regions::end;
+use pn_live::{LiveReader, LiveRegion, StartFault};
+use pn_tablet::{Layout, TabletCopy};
 use std::alloc::Global;
 use std::sync::Wait;
 use std::thread::Threads;
-use test_kit::{deliveries, layout};
-use test_kit_live::end;
+use test_kit::layout;
 
-// The mark of a region that starts from a copy of each tablet, of which each took one message more than the one before, and
-// the mark after the next message; none where it does not start.
-fn start<R: Threads + Wait + Sync>(rt: &R, alloc: Global) -> Option<(u64, u64)> {
-    let mut copies = Vec::new(alloc);
-    for tablet in 0..3 {
-        copies
-            .push(copy_of(rt, alloc, tablet, tablet as u64)?)
-            .ok()?;
+/// What each step answers on a region that starts from copies, or why it does not start.
+pub(crate) fn start<R: Threads + Wait + Sync>(rt: &R, alloc: Global, line: &str) -> Option<String> {
+    let (given, steps) = line.split_once('|')?;
+    let (bounds, copied) = given.split_once('/')?;
+    let copies = copies_of(rt, alloc, copied)?;
+    let layout = layout(alloc, bounds)?;
+    match open_from(rt, alloc, layout, copies) {
+        Ok((live, readers)) => take_started(rt, alloc, live, readers, bounds, steps),
+        Err(fault) => format!(in alloc; "{fault}").ok(),
     }
-    let opened = LiveRegion::open_from(rt, alloc, layout(alloc, BOUNDS)?, copies, 1);
-    let (mut live, _readers) = opened.ok()?;
-    let marks = take_next(rt, alloc, &mut live);
-    if !end(rt, alloc, live) {
-        return None;
-    }
-    marks
 }
 
-fn take_next<R: Threads + Wait + Sync>(
+// The copies of the first tablets between bounds, each of which took the messages of a list.
+fn copies_of<R: Threads + Sync>(rt: &R, alloc: Global, copied: &str) -> Option<Vec<TabletCopy>> {
+    let (bounds, lists) = copied.split_once('/')?;
+    let mut copies = Vec::new(alloc);
+    for (tablet, words) in lists.split('/').enumerate() {
+        let copy = copy_of(rt, alloc, bounds, tablet, words)?;
+        copies.push(copy).ok()?;
+    }
+    Some(copies)
+}
+
+fn open_from<R: Wait>(
     rt: &R,
     alloc: Global,
-    live: &mut LiveRegion,
-) -> Option<(u64, u64)> {
-    let started = mark(live)?;
-    let next = deliveries(alloc, 4, "n", 9)?;
-    live.round(rt, next, 1, &Open).ok()?;
-    Some((started, mark(live)?))
+    layout: Layout,
+    copies: Vec<TabletCopy>,
+) -> Result<(LiveRegion, Vec<LiveReader>), StartFault> {
+    LiveRegion::open_from(rt, alloc, layout, copies, 1)
 }
 
-// Whether a region starts where a copy is of no tablet.
-fn start_without_tablet<R: Threads + Wait + Sync>(rt: &R, alloc: Global) -> Option<bool> {
-    let mut copies = Vec::new(alloc);
-    copies.push(copy_of(rt, alloc, 0, 0)?).ok()?;
-    match LiveRegion::open_from(rt, alloc, layout(alloc, "g")?, copies, 1) {
-        Ok((live, _readers)) => Some(end(rt, alloc, live)),
-        Err(_) => Some(false),
-    }
-}
-
-#[test]
-fn a_region_starts_from_copies_at_the_least_of_their_covers(rt: HostRuntime) {
-    let marks = start(&rt, rt.alloc());
-    assert!(rt; marks == Some((3, 4)));
-    let is_started = start_without_tablet(&rt, rt.alloc());
-    assert!(rt; is_started == Some(false));
+// Takes the steps by the region's reader, and closes the region.
+fn take_started<R: Threads + Wait + Sync>(
+    rt: &R,
+    alloc: Global,
+    live: LiveRegion,
+    readers: Vec<LiveReader>,
+    bounds: &str,
+    steps: &str,
+) -> Option<String> {
+    let mut readers = readers;
+    let Some(reader) = readers.pop() else {
+        end(rt, alloc, live);
+        return None;
+    };
+    take_and_end(rt, alloc, live, reader, bounds, steps)
 }

@@ -23,7 +23,21 @@ pub(crate) fn take_steps<R: Threads + Wait + Sync>(
     line: &str,
 ) -> Option<String> {
     let (bounds, steps) = line.split_once('|')?;
-    let (mut live, mut reader) = open_one(rt, alloc, layout(alloc, bounds)?)?;
+    let layout = layout(alloc, bounds)?;
+    let (live, reader) = open_one(rt, alloc, layout)?;
+    take_and_end(rt, alloc, live, reader, bounds, steps)
+}
+
+/// What each step answers, with bars behind the answers, on a region and its reader. Copies are adopted between the bounds.
+pub(crate) fn take_and_end<R: Threads + Wait + Sync>(
+    rt: &R,
+    alloc: Global,
+    live: LiveRegion,
+    reader: LiveReader,
+    bounds: &str,
+    steps: &str,
+) -> Option<String> {
+    let (mut live, mut reader) = (live, reader);
     let told = take_all(rt, alloc, &mut live, &mut reader, bounds, steps);
     if end(rt, alloc, live) { told } else { None }
 }
@@ -136,7 +150,8 @@ fn adopt<R: Threads + Wait + Sync>(
     }
 }
 
-fn copy_of<R: Threads + Sync>(
+/// A copy of the tablet of a region between these bounds that took these messages.
+pub(crate) fn copy_of<R: Threads + Sync>(
     rt: &R,
     alloc: Global,
     bounds: &str,

@@ -14,8 +14,8 @@ use std::sync::{Arc, Wait};
 use std::test::Fail;
 use std::thread::Threads;
 use std::time::Clock;
-use std::{str, thread};
-use test_kit::layout;
+use std::thread;
+use test_kit::{bars, layout, newlines};
 
 /// Says what a server may have done.
 #[derive(Drop)]
@@ -114,11 +114,11 @@ pub(crate) fn answer_control<R>(rt: &R, alloc: Global, line: &str) -> Result<Str
 where
     R: Threads + Wait + Clock + Sync + Copy + Send + Drop + 'static,
 {
-    let (count, bars) = line.split_once(' ').ok_or(NoMemory)?;
+    let (count, text) = line.split_once(' ').ok_or(NoMemory)?;
     let count = count.parse::<u64>()?;
-    let lines = bars.replace(alloc, '|', "\n")?;
+    let lines = newlines(alloc, text)?;
     let written = answer_after(rt, alloc, count, lines).ok_or(NoMemory)?;
-    Ok(str::from_utf8(&written)?.replace(alloc, '\n', "|")?)
+    bars(alloc, &written)
 }
 
 // Answers the lines over a region that has taken this many messages.

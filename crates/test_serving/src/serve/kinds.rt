@@ -9,7 +9,7 @@ use std::alloc::{AllocError, Global};
 use std::sync::Wait;
 use std::test::Fail;
 use std::thread::Threads;
-use test_kit::layout;
+use test_kit::{layout, newlines};
 
 /// How many lines of each kind were answered, and how many of them were refused; and how many `other` ones since then.
 pub(crate) fn count_kinds<R: Threads + Wait + Sync>(
@@ -17,15 +17,19 @@ pub(crate) fn count_kinds<R: Threads + Wait + Sync>(
     alloc: Global,
     bars: &str,
 ) -> Result<String, Fail> {
-    let lines = bars.replace(alloc, '|', "\n")?;
+    let lines = newlines(alloc, bars)?;
     let (kinds, then) = count_lines(rt, alloc, lines.as_str()).ok_or(NoMemory)?;
+    Ok(kinds_text(alloc, &kinds, then.other)?)
+}
+
+fn kinds_text(alloc: Global, kinds: &LineKinds, then: LineCounts) -> Result<String, AllocError> {
     let mut text = String::new(alloc);
     push_counts(&mut text, "copy", kinds.copy)?;
     push_counts(&mut text, "get", kinds.get)?;
     push_counts(&mut text, "other", kinds.other)?;
     push_counts(&mut text, "read", kinds.read)?;
     push_counts(&mut text, "scan", kinds.scan)?;
-    push_counts(&mut text, "then", then.other)?;
+    push_counts(&mut text, "then", then)?;
     Ok(text)
 }
 

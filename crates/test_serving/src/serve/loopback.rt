@@ -1,26 +1,34 @@
 //! Streams in memory, served over loopback to a client in a thread of its own.
 
 use crate::reading::{FIRST, readers_of, settings};
+use crate::serve::copies::open_text;
 use pn_join::NoMemory;
 use pn_live::LiveReader;
-use pn_serve::{Acceptor, Counter, FaultLog, WriterEnd, serve};
+use pn_serve::{Acceptor, Counter, FaultLog, ServeFault, WriterEnd, serve, serve_from};
 use std::alloc::{AllocError, Global};
 use std::io::BufReader;
 use std::net::{Net, SocketAddr, TcpListener, TcpStream};
 use std::sync::{Arc, Wait};
 use std::test::Fail;
 use std::thread::Threads;
-use std::{io, str, thread};
-use test_kit::{Answer, ask};
+use std::{io, thread};
+use test_kit::{Answer, ask, bars};
 
 /// The message at position 2.
 const SECOND: &str =
     "{\"at\":2,\"image\":{\"fields\":{\"v\":\"x\"},\"key\":\"k\",\"master\":\"w\",\"version\":[1,0]}}\n";
 
+/// A copy without records that took the first message.
+const COPY: &str =
+    "{\"copy\":1,\"from\":null,\"to\":null}\n{\"at\":1,\"stream\":\"east\"}\n{\"end\":1}\n";
+
 /// How often a client asks at most until its record is there, and how often after it.
 const MAX_TURNS: u64 = 100_000;
 
 const TURNS_AFTER: u64 = 1_000;
+
+/// How serving ended, and what was written.
+pub(crate) type Served = (Result<(), ServeFault>, Vec<u8>);
 
 /// What a client has read.
 #[derive(Clone, Copy, Debug)]
@@ -93,9 +101,9 @@ fn stays(
     Ok(Told::Row)
 }
 
-/// Serves one session over a stream whose first message is at this position: how serving ended, what was written, and what the client
-/// has read.
-pub(crate) fn serve_stream<R>(rt: &R, alloc: Global, position: &str) -> Result<String, Fail>
+/// Serves one session over a stream whose first message is at a position, in a new region or in one that starts from a copy: what the
+/// client has read, what was written, and how serving ended.
+pub(crate) fn serve_stream<R>(rt: &R, alloc: Global, how: &str) -> Result<String, Fail>
 where
     R: Net<Listener = TcpListener, Stream = TcpStream>
         + Threads
@@ -105,17 +113,19 @@ where
         + Send
         + 'static,
 {
-    let is_first = position == "1";
     let listener = listen(rt, alloc)?;
     let at = listener.listener.local_addr()?;
     let theirs = *rt;
-    let most = if is_first { MAX_TURNS } else { TURNS_AFTER };
+    let most = if how == "2" { TURNS_AFTER } else { MAX_TURNS };
     let client = thread::spawn(rt, move || talk(&theirs, alloc, at, most))?;
-    let served = serve_one(rt, alloc, &listener, if is_first { FIRST } else { SECOND });
+    let served = serve_one(rt, alloc, &listener, how);
+    // A client that was not accepted ends, too.
+    let Logged { listener, faults } = listener;
+    drop(listener);
     let told = client.join(rt)?;
-    let mut text = format!(in alloc; "{told:?}, ")?;
-    text.push_str(served.ok_or(NoMemory)?.as_str())?;
-    add_faults(rt, &mut text, &listener.faults)?;
+    let served = outcome(alloc, served)?;
+    let mut text = format!(in alloc; "{told:?}, {served}")?;
+    add_faults(rt, &mut text, &faults)?;
     Ok(text)
 }
 
@@ -129,29 +139,59 @@ fn listen<R: Net<Listener = TcpListener, Stream = TcpStream>>(
     Ok(Logged { listener, faults })
 }
 
-// Serves one session over a stream of these messages: what was written, and the fault if there is one.
-fn serve_one<R>(rt: &R, alloc: Global, listener: &Logged, messages: &'static str) -> Option<String>
+// Serves one session.
+fn serve_one<R>(rt: &R, alloc: Global, listener: &Logged, how: &str) -> Option<Served>
 where
-    R: Net<Listener = TcpListener, Stream = TcpStream>
-        + Threads
-        + Wait
-        + Sync
-        + Copy
-        + Send
-        + 'static,
+    R: Threads + Wait + Sync + Copy + Send + 'static,
+{
+    let mut written = Vec::new(alloc);
+    let ended = match how {
+        "1" => serve_new(rt, alloc, listener, FIRST, &mut written),
+        "2" => serve_new(rt, alloc, listener, SECOND, &mut written),
+        _ => serve_copy(rt, alloc, listener, &mut written),
+    };
+    Some((ended?, written))
+}
+
+/// What was written, and the fault if there is one.
+pub(crate) fn outcome(alloc: Global, served: Option<Served>) -> Result<String, Fail> {
+    let (ended, written) = served.ok_or(NoMemory)?;
+    let mut text = bars(alloc, &written)?;
+    if let Err(fault) = ended {
+        write!(text, "{fault}")?;
+    }
+    Ok(text)
+}
+
+// Serves over a stream of these messages, in a new region.
+fn serve_new<R>(
+    rt: &R,
+    alloc: Global,
+    listener: &Logged,
+    messages: &'static str,
+    written: &mut Vec<u8>,
+) -> Option<Result<(), ServeFault>>
+where
+    R: Threads + Wait + Sync + Copy + Send + 'static,
 {
     let settings = settings(alloc)?;
     let streams = readers_of(alloc, messages)?;
-    let mut written = Vec::new(alloc);
-    let ended = serve(rt, alloc, listener, settings, 1, streams, &mut written);
-    let mut text = str::from_utf8(&written)
-        .ok()?
-        .replace(alloc, '\n', "|")
-        .ok()?;
-    if let Err(fault) = ended {
-        write!(text, "{fault}").ok()?;
-    }
-    Some(text)
+    Some(serve(rt, alloc, listener, settings, 1, streams, written))
+}
+
+// Serves over a stream of the first message, in a region that starts from a copy that took it.
+fn serve_copy<R>(
+    rt: &R,
+    alloc: Global,
+    listener: &Logged,
+    written: &mut Vec<u8>,
+) -> Option<Result<(), ServeFault>>
+where
+    R: Threads + Wait + Sync + Copy + Send + 'static,
+{
+    let streams = readers_of(alloc, FIRST)?;
+    let opened = open_text(rt, alloc, 1, COPY.as_bytes(), 1).ok()?;
+    Some(serve_from(rt, alloc, listener, opened, 1, streams, written))
 }
 
 fn add_faults<R: Wait>(rt: &R, text: &mut String, faults: &FaultLog) -> Result<(), AllocError> {

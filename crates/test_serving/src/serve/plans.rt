@@ -37,6 +37,7 @@ fn plan_text(alloc: Global, planned: &Plan) -> Result<String, AllocError> {
         } => {
             let mut text = settings_text(alloc, settings)?;
             write_service(&mut text, service)?;
+            write_paths(&mut text, service)?;
             write_streams(&mut text, streams)?;
             Ok(text)
         }
@@ -63,6 +64,10 @@ fn write_service(text: &mut String, service: &Service) -> Result<(), AllocError>
     if let Some(connections) = service.stay {
         write!(text, " for {connections} connections")?;
     }
+    Ok(())
+}
+
+fn write_paths(text: &mut String, service: &Service) -> Result<(), AllocError> {
     if let Some(path) = &service.control {
         write!(text, ", run from {path}")?;
     }
@@ -87,21 +92,42 @@ fn write_stream(text: &mut String, name: &str, path: &StreamPath) -> Result<(), 
 
 /// What is planned by a line of words, or why it is refused.
 pub(crate) fn plan_reply(alloc: Global, line: &str) -> Result<String, Fail> {
-    match plan(alloc, &words(alloc, line)?) {
-        Ok(planned) => Ok(plan_text(alloc, &planned)?),
-        Err(PlanFault::Words(_)) => Ok(String::from_str(alloc, "words")?),
-        Err(fault) => Ok(format!(in alloc; "{fault}")?),
+    let words = words(alloc, line)?;
+    Ok(answer_text(alloc, plan_of(alloc, &words))?)
+}
+
+fn plan_of<'w>(alloc: Global, words: &'w [String]) -> Result<Plan, PlanFault<'w>> {
+    plan(alloc, words)
+}
+
+fn answer_text(
+    alloc: Global,
+    planned: Result<Plan, PlanFault<'_>>,
+) -> Result<String, AllocError> {
+    match planned {
+        Ok(planned) => plan_text(alloc, &planned),
+        Err(PlanFault::Words(_)) => String::from_str(alloc, "words"),
+        Err(fault) => format!(in alloc; "{fault}"),
     }
 }
 
 /// Whether the refusal of the words after the bar has the text before it.
 pub(crate) fn says(alloc: Global, line: &str) -> Result<String, Fail> {
     let (text, line) = line.split_once('|').unwrap_or((line, ""));
-    match plan(alloc, &words(alloc, line)?) {
+    let words = words(alloc, line)?;
+    Ok(said_text(alloc, plan_of(alloc, &words), text)?)
+}
+
+fn said_text(
+    alloc: Global,
+    planned: Result<Plan, PlanFault<'_>>,
+    text: &str,
+) -> Result<String, AllocError> {
+    match planned {
         Err(PlanFault::Words(refusal)) => {
             let is_said = refusal.as_str().contains(text);
-            Ok(format!(in alloc; "{is_said}")?)
+            format!(in alloc; "{is_said}")
         }
-        _ => Ok(String::from_str(alloc, "not refused")?),
+        _ => String::from_str(alloc, "not refused"),
     }
 }

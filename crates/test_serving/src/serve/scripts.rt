@@ -3,8 +3,7 @@
 
 use crate::reading::settings;
 use crate::serve::talk::talk;
-use pn_join::NoMemory;
-use pn_line::{FailingSource, InMemory, Source, write_all_of};
+use pn_line::{FailingSource, InMemory, Sink, Source, write_all_of};
 use pn_serve::{Counts, RunFault, run};
 use std::alloc::{AllocError, Global};
 use std::test::Fail;
@@ -58,14 +57,26 @@ fn end_text(alloc: Global, ended: Result<Counts, RunFault>) -> Result<String, Al
     }
 }
 
+/// Runs a script over a region of one tablet, by one worker.
+pub(crate) fn run_script<R: Threads + Sync, S: Source, W: Sink>(
+    rt: &R,
+    alloc: Global,
+    input: &mut S,
+    output: &mut W,
+) -> Result<Counts, RunFault> {
+    match settings(alloc) {
+        Some(settings) => run(rt, alloc, input, output, settings),
+        None => Err(RunFault::Memory),
+    }
+}
+
 fn read_from<R: Threads + Sync, S: Source + Drop>(
     rt: &R,
     alloc: Global,
     mut input: S,
 ) -> Result<String, Fail> {
-    let settings = settings(alloc).ok_or(NoMemory)?;
     let mut output = Vec::new(alloc);
-    let ended = run(rt, alloc, &mut input, &mut output, settings);
+    let ended = run_script(rt, alloc, &mut input, &mut output);
     outcome(alloc, ended, &output)
 }
 
@@ -106,9 +117,8 @@ fn write_into<R: Threads + Sync>(
     alloc: Global,
     mut output: StoppingWriter,
 ) -> Result<String, Fail> {
-    let settings = settings(alloc).ok_or(NoMemory)?;
     let mut input = InMemory::new(SCRIPT.as_bytes());
-    let ended = run(rt, alloc, &mut input, &mut output, settings);
+    let ended = run_script(rt, alloc, &mut input, &mut output);
     outcome(alloc, ended, &output.taken)
 }
 
@@ -155,10 +165,10 @@ pub(crate) fn blocks<R: Threads + Sync>(
     alloc: Global,
     lines: &str,
 ) -> Result<String, Fail> {
-    let settings = settings(alloc).ok_or(NoMemory)?;
-    let script = vec![in alloc; b'\n'; lines.parse::<usize>()?]?;
+    let count = lines.parse::<usize>()?;
+    let script = vec![in alloc; b'\n'; count]?;
     let mut input = InMemory::new(&script);
     let mut output = StoppingWriter::never(alloc, 1_000_000);
-    run(rt, alloc, &mut input, &mut output, settings)?;
+    run_script(rt, alloc, &mut input, &mut output)?;
     Ok(format!(in alloc; "{} bytes in {} writes", output.taken.len(), output.writes)?)
 }

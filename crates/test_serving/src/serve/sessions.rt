@@ -2,21 +2,21 @@
 
 ghost use Rattle.std.specs.Prelude.{◌≡◌, ◌⊎◌, ◌<◌, length, All};
 ghost use Rattle.pn_live.specs.LiveRegions.{IsReaderIn, tablets_in};
+ghost use Rattle.pn_live.specs.Readers.{tablets_of};
 
 use crate::regions::{close, end, hand_back, open, open_one, take_out};
 use pn_apply::Open;
 use pn_join::{Name, NoMemory};
-use pn_line::{Discard, EndlessSource, InMemory};
+use pn_line::{Discard, EndlessSource, InMemory, Sink, Source};
 use pn_live::{LiveReader, LiveRegion};
 use pn_record::read_image;
 use pn_serve::{Counts, RunFault, session};
 use pn_stream::Delivery;
 use std::alloc::{AllocError, Global};
-use std::str;
 use std::sync::Wait;
 use std::test::Fail;
 use std::thread::Threads;
-use test_kit::{PiecewiseReader, ReplyRuns, Stop, StoppingWriter, layout};
+use test_kit::{PiecewiseReader, ReplyRuns, Stop, StoppingWriter, bars, layout, newlines};
 
 /// An image, the lines of a session over it, and their replies.
 const IMAGE: &str = r#"{"fields":{"n":-7,"v":"x"},"key":"k","master":"w","version":[1,5]}"#;
@@ -71,25 +71,35 @@ fn replies(
 {
     let mut reader = take_out(live, readers)?;
     let mut input = InMemory::new(lines.as_bytes());
-    let counts = session(alloc, &mut reader, &mut input, written).ok();
+    let ended = answer_by(alloc, &mut reader, &mut input, written);
     hand_back(live, readers, reader);
-    counts
+    ended.ok()
+}
+
+// Answers a session by a reader.
+fn answer_by<S: Source, W: Sink>(
+    alloc: Global,
+    reader: &mut LiveReader,
+    input: &mut S,
+    output: &mut W,
+) -> Result<Counts, RunFault>
+    ensures { tablets_of reader.new ≡ tablets_of reader.old }
+{
+    session(alloc, reader, input, output)
 }
 
 /// The replies of a session, and how many lines it refused. The first line is an image, which was taken before, and no line to the session.
 pub(crate) fn answer_session<R: Threads + Wait + Sync>(
     rt: &R,
     alloc: Global,
-    bars: &str,
+    text: &str,
 ) -> Result<String, Fail> {
-    let lines = bars.replace(alloc, '|', "\n")?;
+    let lines = newlines(alloc, text)?;
     let mut written = Vec::new(alloc);
     let (changed, counts) = answer_lines(rt, alloc, lines.as_str(), &mut written).ok_or(NoMemory)?;
-    let replies = str::from_utf8(&written)?.replace(alloc, '\n', "|")?;
-    Ok(format!(in alloc;
-        "{changed} changed, {} lines, {} refused: {replies}",
-        counts.lines, counts.refused
-    )?)
+    let replies = bars(alloc, &written)?;
+    let (lines, refused) = (counts.lines, counts.refused);
+    Ok(format!(in alloc; "{changed} changed, {lines} lines, {refused} refused: {replies}")?)
 }
 
 // How many records the first line changes, and how many lines are answered.
@@ -133,7 +143,7 @@ fn over_failing_readers(alloc: Global, reader: &mut LiveReader) -> Result<String
     for look in 1..=LINES.len() {
         let mut input = PiecewiseReader::failing(LINES.as_bytes(), 1, look);
         let mut written = Vec::new(alloc);
-        let ended = session(alloc, reader, &mut input, &mut written);
+        let ended = answer_by(alloc, reader, &mut input, &mut written);
         let text = read_end_text(alloc, ended, &written)?;
         ends.push(text)?;
     }
@@ -175,12 +185,15 @@ fn into_failing_writers(alloc: Global, reader: &mut LiveReader) -> Result<String
     for count in 0..REPLIES.len() {
         let mut input = InMemory::new(LINES.as_bytes());
         let mut output = StoppingWriter::new(alloc, 1, count.saturating_add(1), Stop::Fails);
-        let ended = session(alloc, reader, &mut input, &mut output);
-        if matches!(ended, Err(RunFault::Write))
-            && output.taken.as_slice() == &REPLIES.as_bytes()[..count]
-        {
+        let ended = answer_by(alloc, reader, &mut input, &mut output);
+        if matches!(ended, Err(RunFault::Write)) && has_first_replies(&output, count) {
             stopped = stopped.saturating_add(1);
         }
     }
     Ok(format!(in alloc; "{stopped} of {}", REPLIES.len())?)
+}
+
+// Whether a writer took this many of the first bytes of the replies, and no others.
+fn has_first_replies(output: &StoppingWriter, count: usize) -> bool {
+    output.taken.len() == count && REPLIES.as_bytes().starts_with(&output.taken)
 }

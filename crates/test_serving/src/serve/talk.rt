@@ -1,9 +1,6 @@
 //! A script that is a talk: each line comes only once the replies to those before it are out.
 
-use crate::reading::settings;
-use crate::serve::scripts::SCRIPT;
-use pn_join::NoMemory;
-use pn_serve::run;
+use crate::serve::scripts::{SCRIPT, run_script};
 use std::alloc::Global;
 use std::cell::Cell;
 use std::io;
@@ -61,7 +58,6 @@ impl Write for Hearing<'_> {
 
 /// How many lines were said and how many replies were heard.
 pub(crate) fn talk<R: Threads + Sync>(rt: &R, alloc: Global) -> Result<String, Fail> {
-    let settings = settings(alloc).ok_or(NoMemory)?;
     let heard = Cell::new(0);
     let mut input = Asking {
         rest: SCRIPT.as_bytes(),
@@ -69,6 +65,6 @@ pub(crate) fn talk<R: Threads + Sync>(rt: &R, alloc: Global) -> Result<String, F
         heard: &heard,
     };
     let mut output = Hearing { heard: &heard };
-    let counts = run(rt, alloc, &mut input, &mut output, settings)?;
+    let counts = run_script(rt, alloc, &mut input, &mut output)?;
     Ok(format!(in alloc; "{} lines, {} replies", counts.lines, heard.get())?)
 }

@@ -1,14 +1,19 @@
 //! Streams whose writers are those of a line, one after another.
 //!
-//! `AFTER WRITER/WRITER/..` is a stream that was taken up to a position, and its writers. A writer is words: a number is the message at
+//! `AFTER WRITER/WRITER/..` is a stream that was taken up to a position by the copy from which its region starts, and its writers. A writer is words: a number is the message at
 //! that position, a number and `-` the first half of its line, any other word a line that is no message.
 
-use crate::reading::{Script, push_message, read_into_region};
+ghost use Rattle.std.specs.Prelude.{IfSome};
+ghost use Rattle.pn_live.specs.Prelude.{tablets_in};
+ghost use Rattle.pn_serve.specs.Server.Sessions.{AllRead};
+
+use crate::reading::{Script, push_message, read_into_opened};
+use crate::serve::copies::open_text;
 use pn_join::{Name, NoMemory};
 use pn_line::InMemory;
 use pn_record::Key;
 use pn_region::Region;
-use pn_serve::{Counter, Stream};
+use pn_serve::{Counter, OpenedRegion, Stream};
 use std::alloc::{AllocError, Global};
 use std::sync::{Arc, Mutex, Wait};
 use std::test::Fail;
@@ -47,21 +52,34 @@ where
         streams,
         told,
         taken,
-    } = new_noted(rt, alloc, after, writers)?;
-    let (is_read, region) = read_into_region(rt, alloc, streams, None)?;
-    // How long a stream is read that begins past what was taken is a matter of time.
-    let told = if after > 0 {
-        String::from_str(alloc, "a gap")
+    } = new_noted(rt, alloc, writers)?;
+    let opened = open_after(rt, alloc, after)?;
+    let (is_read, region) = read_into_opened(rt, alloc, opened, streams, None)?;
+    let told = String::from_str(alloc, told.lock(rt).as_str()).ok()?;
+    add_end(alloc, told, is_read, taken.get(), &region)
+}
+
+// A region that starts from a copy without records, which took a stream up to a position.
+fn open_after<R: Threads + Wait + Sync>(rt: &R, alloc: Global, after: u64) -> Option<OpenedRegion>
+    ensures { IfSome result (λ opened. AllRead (tablets_in opened.live) opened.readers.items) }
+{
+    let text = copy_after(alloc, after).ok()?;
+    open_text(rt, alloc, 1, text.as_bytes(), 1).ok()
+}
+
+fn copy_after(alloc: Global, after: u64) -> Result<String, AllocError> {
+    let mut text = String::from_str(alloc, "{\"copy\":1,\"from\":null,\"to\":null}\n")?;
+    if after > 0 {
+        write!(text, "{{\"at\":{after},\"stream\":\"east\"}}\n{{\"end\":1}}\n")?;
     } else {
-        String::from_str(alloc, told.lock(rt).as_str())
-    };
-    add_end(alloc, told.ok()?, is_read, taken.get(), &region)
+        text.push_str("{\"end\":0}\n")?;
+    }
+    Ok(text)
 }
 
 fn new_noted<R: Wait + Clock + Copy>(
     rt: &R,
     alloc: Global,
-    after: u64,
     writers: Vec<InMemory<'static>>,
 ) -> Option<Noted<R>> {
     let name = Name::read(b"east").ok()?;
@@ -73,7 +91,6 @@ fn new_noted<R: Wait + Clock + Copy>(
     streams
         .push(Stream {
             name,
-            after,
             origin,
             taken: Some(counter),
         })

@@ -11,6 +11,7 @@ use pn_stay::{
 use std::alloc::Global;
 use std::sync::Arc;
 use std::test::Fail;
+use test_kit::newlines;
 
 /// How each turn of a connection paused, what its socket took, and how many lines were answered.
 pub(crate) fn take_turns(alloc: Global, line: &str) -> Result<String, Fail> {
@@ -55,7 +56,7 @@ pub(crate) fn read_input(alloc: Global, text: &str) -> Result<String, Fail> {
 
 /// The lines and bytes that were counted of a source, under the name of a stream.
 pub(crate) fn count_input(alloc: Global, text: &str) -> Result<String, Fail> {
-    let text = text.replace(alloc, '|', "\n")?;
+    let text = newlines(alloc, text)?;
     let input = Arc::new(alloc, InputCounters::new())?;
     let counted = Arc::try_clone(&input)?;
     let counters = new_counters(alloc, input).ok_or(NoMemory)?;

@@ -1,8 +1,8 @@
 //! A stream in memory, served at a port and at a path: by sessions that end, and by a server that stays.
 
 use crate::reading::{FIRST, Script, readers_of, settings, stream_of};
+use crate::serve::loopback::{Served, outcome};
 use crate::stay::talks::{At, flood, talk};
-use pn_join::NoMemory;
 use pn_serve::{Counter, Stream, serve};
 use pn_stay::{Counters, Listener, OWNER_ALONE, SocketAcceptor, StayingServer};
 use std::alloc::{AllocError, Global};
@@ -13,7 +13,7 @@ use std::sync::{Arc, Wait};
 use std::test::Fail;
 use std::thread::Threads;
 use std::time::{Clock, Duration};
-use std::{fs, io, str, thread};
+use std::{fs, io, thread};
 
 /// The name of a socket's file.
 const PATH: &str = "socket-of-test";
@@ -94,14 +94,14 @@ where
     let served = serve_one(rt, alloc, &acceptor);
     let told = client.join(rt)?;
     remove_socket(rt, at)?;
-    let served = served.ok_or(NoMemory)?;
+    let served = outcome(alloc, served)?;
     let mut text = format!(in alloc; "{told:?}, {served}")?;
     add_counts(&mut text, &acceptor.counters)?;
     Ok(text)
 }
 
-// Serves one session: what was written, and the fault if there is one.
-fn serve_one<R>(rt: &R, alloc: Global, acceptor: &SocketAcceptor) -> Option<String>
+// Serves one session.
+fn serve_one<R>(rt: &R, alloc: Global, acceptor: &SocketAcceptor) -> Option<Served>
 where
     R: Threads + Wait + Sync + Copy + Send + 'static,
 {
@@ -109,14 +109,7 @@ where
     let readers = readers_of(alloc, FIRST)?;
     let mut written = Vec::new(alloc);
     let ended = serve(rt, alloc, acceptor, settings, 1, readers, &mut written);
-    let mut text = str::from_utf8(&written)
-        .ok()?
-        .replace(alloc, '\n', "|")
-        .ok()?;
-    if let Err(fault) = ended {
-        write!(text, "{fault}").ok()?;
-    }
-    Some(text)
+    Some((ended, written))
 }
 
 fn add_counts(text: &mut String, counters: &Counters) -> Result<(), AllocError> {
