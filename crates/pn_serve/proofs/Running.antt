@@ -1,13 +1,14 @@
 -- A line loop begins, and runs to its end.
-use Rattle.std.proofs.Common.{◌≡◌, ◌+◌, ◌≤◌, ℕ, Option, None, Some, List, [], IfSome, OnSome, inl, refl, sym, ap, ◌∙◌, subst, arith, append-nil}
-use Rattle.std.specs.Prelude.{Result, Err}
+use Rattle.std.proofs.Common.{◌≡◌, ◌≢◌, ◌+◌, ◌≤◌, ℕ, Option, None, Some, List, [], IfOk, IfErr, IfSome, OnOk, OnSome, inl, refl, sym, ap, ◌∙◌, subst, arith, append-nil}
+use Rattle.std.specs.Prelude.{Result, Ok, Err}
 use Rattle.std.specs.Io.KnownBytes.{IsAtEnd}
 use Rattle.std.proofs.lemmas.List.Elements.{All-nil}
 use Rattle.pn_line.proofs.LinesReadLaws.{LinesRead-none}
 use Rattle.pn_scan.specs.Paging.{IsPreorder}
 use Rattle.pn_serve.specs.declared.script.Counts.{Counts}
 use Rattle.pn_serve.specs.declared.script.RunFault.{RunFault}
-use Rattle.pn_serve.specs.declared.script.RunFault.TheVariants.{Write}
+use Rattle.pn_serve.specs.declared.script.RunFault.TheVariants.{Read, Write, TooManyTurns, Memory}
+use Rattle.pn_serve.specs.declared.script.TheConstants.{MAX_LINES}
 use Rattle.pn_serve.specs.declared.script.line_loop.state.Stage.{Stage}
 use Rattle.pn_serve.specs.declared.script.line_loop.state.Stage.TheVariants.{Reading, Looking, Ending}
 use Rattle.pn_serve.specs.declared.sessions.going.Going.{Going}
@@ -101,3 +102,21 @@ module _ (read write end : Type 0) (mid new : LineLoopValue) where
 pub hands_run : (write handed_on : Type 0) (result : Option (Result Counts RunFault)) → IfSome result (λ ended. (ended ≡ Err Write) × write) → HandsOnRun result handed_on
 hands_run write handed_on None fault = tt
 hands_run write handed_on (Some ended) fault = subst (λ (e : Result Counts RunFault). HandsOn e handed_on) (sym fault.0) tt
+
+-- ---- what a loop may end by
+
+module _ (read write end : Type 0) where
+  pub can_few : (ended : Result Counts RunFault) → CanEndBy read write end ended → IfOk ended (λ counts. counts.lines ≤ MAX_LINES)
+  can_few (Ok counts) can = can.0
+  can_few (Err fault) can = tt
+
+  pub can_end : (ended : Result Counts RunFault) → CanEndBy read write end ended → OnOk ended end
+  can_end (Ok counts) can = can.1
+  can_end (Err fault) can = tt
+
+  pub can_fault : (ended : Result Counts RunFault) → CanEndBy read write end ended → IfErr ended (λ fault. fault ≢ Memory)
+  can_fault (Ok counts) can = tt
+  can_fault (Err Read) can = λ is. cc
+  can_fault (Err Write) can = λ is. cc
+  can_fault (Err TooManyTurns) can = λ is. cc
+  can_fault (Err Memory) can = absurd can

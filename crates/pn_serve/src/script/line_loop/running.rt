@@ -99,7 +99,7 @@ impl LineLoop {
         'pieces: while self.state.has_text() {
             match self.write_on(output) {
                 Step::Next(_) => {}
-                Step::NoInput | Step::NoRoom | Step::Ends(_) => return Err(RunFault::Write),
+                _ => return Err(RunFault::Write),
             }
         }
         Ok(())
