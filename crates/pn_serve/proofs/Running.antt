@@ -4,7 +4,7 @@ use Rattle.std.specs.Prelude.{Result, Ok, Err}
 use Rattle.std.specs.Io.KnownBytes.{IsAtEnd}
 use Rattle.std.proofs.lemmas.List.Elements.{All-nil}
 use Rattle.pn_line.proofs.LinesReadLaws.{LinesRead-none}
-use Rattle.pn_scan.specs.Paging.{IsPreorder}
+use Rattle.pn_scan.specs.Paging.{IsPreorder, Stays}
 use Rattle.pn_serve.specs.declared.script.Counts.{Counts}
 use Rattle.pn_serve.specs.declared.script.RunFault.{RunFault}
 use Rattle.pn_serve.specs.declared.script.RunFault.TheVariants.{Read, Write, TooManyTurns, Memory}
@@ -120,3 +120,7 @@ module _ (read write end : Type 0) where
   can_fault (Err Write) can = λ is. cc
   can_fault (Err TooManyTurns) can = λ is. cc
   can_fault (Err Memory) can = absurd can
+
+-- what stays as it is may stay so twice
+pub stays_preorder : {V : Type 0} → IsPreorder {V = V} Stays
+stays_preorder {V} = record { stays = λ v. refl; goes_on = λ a b c first second. second ∙ first }

@@ -11,7 +11,7 @@ returns-in-Ok-All-clause-ok g c =
     let old = c.args.self.now in
     let new = c.flush.new.self in
     let sent = c.in-Ok-All.ensures.ok in
-    let made : new.state.left ≡ [] = no_length new.state.left (omega (arith, sent.kept.text, ap length c.requires)) in
+    let made : new.state.left ≡ [] = no_length new.state.left (omega (arith, sent.kept.text, ap length c.requires.made)) in
     let none : waits_in new ≡ [] = none_wait new.replies new.state.left (c.in-Ok-All.ensures.all c.in-Ok-All.field-0-is) made in
     (c.counts.ensures ∙ sent.kept.counts, sent_whole old new (g.W.Sink.contents c.args.output.now) (g.W.Sink.contents c.flush.new.output) sent none)
 

@@ -320,3 +320,9 @@ returns-in-Ending-clause-foresees g c =
     let ending : old.state.stage ≡ Ending ended = sym (ap (λ (r : LineLoopValue). r.state.stage) c.self.view_is) ∙ sym c.take_stage.ensures.stage ∙ c.in-Ending.is in
     let ends : EndsTo ended mid before new after c.end_once_out.result = subst (λ (r : LineLoopValue). EndsTo ended r before new after c.end_once_out.result) mid_is c.end_once_out.ensures.ends in
     λ was. ends_foresees mid new before after ended g.S.Source.may_fail g.W.Sink.may_fail g.S.Source.may_end c.end_once_out.result c.end_once_out.ensures.fault ends (subst (λ (s : Stage). ForeseesAt s g.S.Source.may_fail g.W.Sink.may_fail g.S.Source.may_end old) ending was)
+
+pub look_on-requires-clause-made : goal.look_on-requires-clause-made
+look_on-requires-clause-made g c = ap (λ (s : LineStateValue). s.left) c.take_stage.ensures.reads ∙ (no_text c.has_text.result c.self.inside.state.left c.has_text.ensures).0 c.if-has_text.false
+
+pub end_once_out-requires : goal.end_once_out-requires
+end_once_out-requires g c = record { made = ap (λ (s : LineStateValue). s.left) c.take_stage.ensures.reads ∙ (no_text c.has_text.result c.self.inside.state.left c.has_text.ensures).0 c.if-has_text.false }
