@@ -23,8 +23,8 @@ PREFIX ?= /usr/local
 DESTDIR ?=
 DEBS ?= out
 
-# The tests of live regions, of which one is run with each of its allocations refused.
-LIVE := crates/test_live/out/test_live_tests
+# The program of the cases of live regions, of which one is run with each of its allocations refused.
+LIVE := crates/test_serving/out/test_serving
 
 # The program that answers many scripts in one input.
 SCRIPTS := crates/test_rows/out/test_rows
@@ -77,7 +77,7 @@ $(SCRIPTS): $(SOURCES)
 	@cd crates/test_rows && rt run < stdin > /dev/null
 
 $(LIVE): $(SOURCES)
-	@cd crates/test_live && rt test > /dev/null
+	@cd crates/test_serving && rt run < stdin > /dev/null
 
 # Gathers the licences of the kit's libraries that the program links. Without the toolchain those of before stay.
 licences:
@@ -104,7 +104,7 @@ deb: $(PROVED) licences
 bench: build
 	@cd crates/pn_bench && rt run -- $$(< args) < stdin > /dev/null
 	@status=0; \
-	for it in run rounds sessions streams control; do "bench/$$it" "$(PROGRAM)" || status=1; done; \
+	for it in run rounds sessions streams control copies; do "bench/$$it" "$(PROGRAM)" || status=1; done; \
 	for it in live layouts; do "bench/$$it" "$(BENCH)" || status=1; done; \
 	bench/instructions "$(PROGRAM)"; \
 	exit $$status

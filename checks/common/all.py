@@ -2,7 +2,7 @@
 
   checks/run all PROGRAM SCRIPTS LIVE [--soak SECONDS] [--only NAME]...
 
-SCRIPTS is the program of crates/test_rows, LIVE that of the tests of live regions. Parts that take one processor run beside one
+SCRIPTS is the program of crates/test_rows, LIVE that of crates/test_serving. Parts that take one processor run beside one
 another, and then each of the others alone. Exit status 0 where each part holds, or is skipped for what the machine lacks.
 """
 from common.parts import RUN, Part, run_parts
@@ -15,7 +15,8 @@ def parts(program: str, scripts: str, live: str, soak: str) -> list[Part]:
               "readme": [program], "words": [], "links": []}
     wide = {"sessions": [program], "out-of-memory": [program, live], "failing-calls": [program], "damaged-input": [program],
             "damaged-streams": [program], "clients": [program],
-            "stay": [program], "streams": [program], "control": [program], "exporter": [program], "full-disk": [program], "abuse": [program, "--seconds", soak]}
+            "stay": [program], "streams": [program], "control": [program], "copies": [program], "exporter": [program], "full-disk": [program],
+            "abuse": [program, "--seconds", soak]}
     return [Part(name, [str(RUN), name, *words], those is wide) for those in (narrow, wide) for name, words in those.items()]
 
 

@@ -19,7 +19,7 @@ A file of edits is text, a word and its value on each line, with an empty line b
 
   edit: a-round-joins-all-but-its-last-entry     named for what is then wrong
   witness: what a wrong witness fails at         (or the clause that needs none)
-  tests: test_live                               (where these tests alone refuse it: it is passed over here)
+  tests: test_serving                            (where these tests alone refuse it: it is passed over here)
   file: src/table.rt                             a file of the crate
   old: if next == last {                         a text of one line, which the file has once, from the one space on
   new: if next + 1 == last {                     what replaces it. More pairs of the file, or of others, may follow

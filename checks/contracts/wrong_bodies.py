@@ -17,7 +17,7 @@ EMPTY_MODULE = re.compile(r"(?m)^module _ .* where\n(?=\s*(?:^\S|\Z))")
 VERDICT = re.compile(r"^(?:note: (src/\S+): it is not proved .*|fn (\S+): (.*))$", re.M)
 NO_PART = "the borrow checker's part in its proof is not made yet"
 WAITS = re.compile(rf"no proof: (?:in `[^`]*`, of this cycle of calls: )?(it calls .*|it waits .*|{NO_PART}.*)$")
-ERROR = re.compile(r"^(?:\./)?((?:src|specs|proofs)/\S+?):(\d+):\d+: error(?:\[\w+\])?: (.*)$", re.M)
+ERROR = re.compile(r"^(?:\./)?((?:src|specs|proofs)/\S+?):(\d+):\d+: error(?:\[[\w-]+\])?: (.*)$", re.M)
 MOST_OF_REASON = 160
 
 

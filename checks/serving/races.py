@@ -1,12 +1,12 @@
-"""Looks for data races by ThreadSanitizer, in builds of the program and of the tests of live regions, without proofs.
+"""Looks for data races by ThreadSanitizer, in builds of the program and of the cases of live regions, without proofs.
 
   checks/run races [--messages N] [--program FILE] [--live FILE]
 
-Four streams are loaded by four workers while four clients read, get, scan and copy; then the tests of live regions run. Each
+Four streams are loaded by four workers while four clients read, get, scan and copy; then the cases of live regions run. Each
 access is compiled so that ThreadSanitizer sees it, atomic ones as what they are. Needs the compiler's library of ThreadSanitizer,
 and some minutes for the first builds, which are kept in out/.
 
-Exit status 0 where no race is reported, each reply is right, and the tests pass.
+Exit status 0 where no race is reported, each reply and answer is right.
 """
 import json
 import os
@@ -14,11 +14,14 @@ import pathlib
 import subprocess
 import tempfile
 import threading
+from collections.abc import Iterator
 
+from common.crates import TOP
 from common.served import Client, Served, fifo, message, row_of, same
 from common.tried import parser_of
 from serving.instrumented import LIVE_THREADS, THREADS, built
 
+CASES = TOP / "crates" / "test_serving"
 NAMES = ["east", "north", "south", "west"]
 KEYS = 400
 WORDS = ["--bounds", '["k100","k200","k300"]', "--workers", "4"]
@@ -78,14 +81,19 @@ def races(what: str, folder: str, status: int) -> int:
     return found or status
 
 
-def run_tests(program: str) -> int:
-    """Runs each test of live regions."""
+def live_cases() -> Iterator[tuple[bytes, bytes]]:
+    """The cases of live regions, and their answers."""
+    lines, answers = ((CASES / name).read_bytes().splitlines(keepends=True) for name in ("stdin", "stdout"))
+    return ((line, answer) for line, answer in zip(lines, answers, strict=True) if line.startswith(b"live "))
+
+
+def run_cases(program: str) -> int:
+    """Runs each case of live regions."""
     found = 0
-    listed = subprocess.run([program, "--list"], stdout=subprocess.PIPE, text=True, check=True).stdout
-    for name in (line.removesuffix(": test") for line in listed.splitlines() if line.endswith(": test")):
+    for line, answer in live_cases():
         with tempfile.TemporaryDirectory() as folder:
-            ended = subprocess.run([program, name], env=environment(folder), stdin=subprocess.DEVNULL, stdout=subprocess.DEVNULL)
-            found += races(f"the test {name}", folder, ended.returncode)
+            ended = subprocess.run([program], env=environment(folder), input=line, stdout=subprocess.PIPE)
+            found += races(f"the case {line[:40].decode().strip()}", folder, ended.returncode or ended.stdout != answer)
     return found
 
 
@@ -119,7 +127,7 @@ def main(words: list[str]) -> int:
     parser = parser_of(__doc__)
     parser.add_argument("--messages", type=int, default=20_000, help="of each stream (default: %(default)s)")
     parser.add_argument("--program", help="a build for ThreadSanitizer, in place of one that is made")
-    parser.add_argument("--live", help="one of the tests of live regions")
+    parser.add_argument("--live", help="one of the program of crates/test_serving")
     told = parser.parse_args(words)
     found = run_server(told.program or str(built(THREADS)), told.messages)
-    return 1 if found + run_tests(told.live or str(built(LIVE_THREADS))) else 0
+    return 1 if found + run_cases(told.live or str(built(LIVE_THREADS))) else 0

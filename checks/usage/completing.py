@@ -12,6 +12,8 @@ import time
 from pathlib import Path
 
 SECONDS = 60
+# How much of what a shell showed is told where it is not what is wanted.
+SHOWN = 1_000
 
 # In both, Control-X A inserts all completions of the word before the cursor, and Control-A goes to the line's beginning.
 BASH = r"""
@@ -36,6 +38,7 @@ class Shell:
     """A bash or zsh that has read a completion, in a folder."""
 
     def __init__(self, name: str, completion: Path, folder: Path) -> None:
+        self._name = name
         line, start, read = LINES[name]
         self._pid, self._terminal = pty.fork()
         if self._pid == 0:
@@ -62,7 +65,7 @@ class Shell:
                 found = re.search(wanted, seen)
                 if found:
                     return found.group(1)
-        raise TimeoutError(f"the shell showed {seen!r}")
+        raise TimeoutError(f"{self._name} did not show {wanted!r} within {SECONDS} s, but {seen[-SHOWN:]!r}")
 
     def completed(self, line: str) -> list[str]:
         """The words of the line, of which the last one stands for all its completions."""

@@ -29,7 +29,7 @@ End = tuple[int, bytes | bool | None, bytes]
 
 # By name, words, and the end that they make; of standard error its first line. Of two faults the first by rank is said.
 WORDS: dict[str, tuple[list[str], End]] = {
-    "the version": (["--version"], (0, b"pnuts 0.1.0\n", b"")),
+    "the version": (["--version"], (0, b"pnuts 0.2.0\n", b"")),
     "a command's version": (["replay", "--version"], (2, b"", b"error: unexpected argument '--version' found")),
     "unknown arguments": (["replay", "--fast"], (2, b"", b"error: unexpected argument '--fast' found")),
     "an address of a script": (["replay", "--listen", "::1"], (2, b"", b"error: unexpected argument '--listen' found")),
@@ -96,6 +96,12 @@ WORDS: dict[str, tuple[list[str], End]] = {
         ["serve", "--stay", "--socket", "/none/socket", "--control", "/dev/null", "east=/dev/null"],
         (1, b"", b"pnuts: cannot listen: /dev/null: Address already in use"),
     ),
+    "copies beside bounds": (["serve", "--copies", "c", "--bounds", '["m"]', "east"], (2, b"", b"pnuts: copies: c: not with --bounds")),
+    "copies that are not there": (
+        ["serve", "--copies", "/none", "--listen", "192.0.2.1", "east=/none"],
+        (1, b"", b"pnuts: copies: /none: No such file or directory"),
+    ),
+    "copies without a tablet": (["serve", "--copies", "/dev/null", "east=/none"], (1, b"", b'pnuts: copies: no copy has the key ""')),
     "a stream that does not open": (["serve", "--socket", "/none/socket", "east=/none"], (1, b"", b"pnuts: cannot open east")),
     "a socket in no folder": (["serve", "--socket", "/none/socket", "east=/dev/null"], (1, b"", b"pnuts: cannot listen")),
     "an address of no machine": (["serve", "--listen", "192.0.2.1", "east=/dev/null"], (1, b"", b"pnuts: cannot listen")),

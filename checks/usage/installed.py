@@ -54,7 +54,8 @@ COMPLETIONS = {
     "pnuts r": {"replay"},
     "pnuts s": {"serve"},
     "pnuts serve --b": {"--bounds"},
-    "pnuts serve --co": {"--connections", "--control"},
+    "pnuts serve --co": {"--connections", "--control", "--copies"},
+    "pnuts serve --copies m": {"messages"},
     "pnuts serve --stay --control m": {"messages"},
     "pnuts serve --s": {"--sessions", "--socket", "--socket-mode", "--stay"},
     "pnuts serve --socket-mode ": set(),
@@ -92,7 +93,7 @@ def check_unit(installed: Path) -> None:
     units, page = installed / "lib/systemd/system", (installed / "share/man/man8/pnuts.8").read_text(encoding="utf-8")
     unit, feed = ((units / it).read_text(encoding="utf-8") for it in ("pnuts.service", "pnuts-feed@.service"))
     found = [it.split(" ")[0] for it in unit.splitlines() if it.startswith(("ExecStart=", "EnvironmentFile="))]
-    same("the unit", found, [f"EnvironmentFile={PREFIX}/{ENVIRONMENT}", f"ExecStart={PREFIX}/bin/pnuts"])
+    same("the unit", found, [f"EnvironmentFile={PREFIX}/{ENVIRONMENT}", "EnvironmentFile=-%t/pnuts/start", f"ExecStart={PREFIX}/bin/pnuts"])
     same("whether the feeds' unit names both", [it in feed for it in (f"={PREFIX}/{ENVIRONMENT}-feed-%i\n", f" {PREFIX}/share/pnuts-feeds/$")], [True] * 2)
     same("paths that are not filled in", re.findall("@[A-Z]+@", unit + feed + page), [])
     same("whether its page names the environment file", f"{PREFIX}/{ENVIRONMENT}" in page, True)

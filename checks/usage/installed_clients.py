@@ -21,7 +21,7 @@ SHOWN = re.compile(r"^```\w+\n(.*?)^```", re.MULTILINE | re.DOTALL)
 # runs it.
 CLIENTS = {
     "python": ("", "reading.py", "", "python3 -u reading.py"),
-    "go": ("go mod init reading", "reading.go", "go build .", "./reading"),
+    "go": ("go mod init reading", "reading.go", "go build -o program .", "./program"),
     "javascript": ("", "reading.mjs", "", "node reading.mjs"),
 }
 # What each says of a record that is older than it asked for, and of changes where it is not told after which.

@@ -7,18 +7,21 @@ import os
 import shlex
 import shutil
 import sys
+import time
 from collections.abc import Iterator, Sequence
 from pathlib import Path
+from typing import Any
 
 from common.crates import TOP
 from common.served import image, message, row_of, same
-from usage.fresh_system import CLEAN, System, run
+from usage.fresh_system import CLEAN, PAUSE, SECONDS, System, run
 
 # What a session is read by, in another system.
 ONE_SESSION = Path(__file__).resolve().parent / "one_session.py"
 UNITS = ("/lib/systemd/system/pnuts.service", "/lib/systemd/system/pnuts-feed@.service")
 ENVIRONMENT = "etc/default/pnuts"
 SOCKET = "/run/pnuts/east"
+COPIES = "/var/lib/pnuts/copies"
 # How a program writes into the socket. It waits until the region has closed it.
 WRITE = f"socat -t 10 - UNIX-CONNECT:{SOCKET}"
 
@@ -158,6 +161,46 @@ def check_control(system: System) -> None:
     system.run("systemctl", "start", "pnuts")
 
 
+def status_of(system: System) -> dict[str, Any]:
+    """What the service holds and does."""
+    return json.loads(system.run("pnuts-ctl", "--json", "status"))
+
+
+def check_copies(system: System) -> None:
+    """It starts from copies that were saved of it, with all that they have. Of a text that is cut short no start is made, until it is told
+    to start without.
+    """
+    before, environment, copies = status_of(system), system.root / ENVIRONMENT, system.root / COPIES[1:]
+    as_it_was = environment.read_text(encoding="utf-8")
+    system.run("runuser", "-u", "pnuts", "--", "pnuts-ctl", "save", COPIES)
+    system.run("systemctl", "restart", "pnuts")
+    same("the marks after a start from copies", status_of(system)["marks"], before["marks"])
+    check_record(system, 0, "x")
+    same("what is beside the copies", [path.name for path in copies.parent.iterdir()], [copies.name])
+    copies.write_bytes(copies.read_bytes()[:-1])
+    system.status("systemctl", "restart", "pnuts", "--no-block")
+    lines = len(copies.read_bytes().splitlines())
+    wait_for_words(system, f"pnuts: copies: line {lines}: truncated")
+    system.wait_for("activating", "systemctl", "is-active", "pnuts")
+    environment.write_text(as_it_was.replace("PNUTS_WITHOUT_COPIES=no", "PNUTS_WITHOUT_COPIES=yes"), encoding="utf-8")
+    system.wait_for("active", "systemctl", "is-active", "pnuts")
+    wait_for_words(system, f"they are in {COPIES}.refused")
+    same("the marks after a start without", status_of(system)["marks"], {})
+    same("what is beside the copies", [path.name for path in copies.parent.iterdir()], [f"{copies.name}.refused"])
+    copies.with_name(f"{copies.name}.refused").unlink()
+    environment.write_text(as_it_was, encoding="utf-8")
+    system.run("systemctl", "restart", "pnuts")
+
+
+def wait_for_words(system: System, words: str) -> None:
+    """Waits until the journal of the service has these words."""
+    last = time.monotonic() + SECONDS
+    while words not in system.status("journalctl", "--no-pager", "--unit=pnuts")[1]:
+        if time.monotonic() > last:
+            raise TimeoutError(f"the journal does not say {words!r}")
+        time.sleep(PAUSE)
+
+
 def check_operation(system: System) -> int:
     """Does what the page pnuts(8) shows under its examples. How many lines."""
     text = (TOP / "packaging/man/operation.md").read_text(encoding="utf-8").partition("## Examples\n")[2]
@@ -226,6 +269,9 @@ def check_packages(system: System, packages: Sequence[Path]) -> Iterator[str]:
     system.run("systemctl", "restart", "pnuts")
     check_control(system)
     yield "stopped, by systemd and by its control socket: it ended with 0, and was not started anew"
+    check_serving(system)
+    check_copies(system)
+    yield "started from copies: it has what they have; of a text that is cut short it starts only where it is told to, without"
     check_serving(system)
     yield f"did the {check_operation(system)} lines that pnuts(8) shows as examples"
     check_feed(system)

@@ -3,8 +3,8 @@
   checks/run random-words PROGRAM [--runs N] [--seed S]
 
 Bounds, an address, the paths and permissions of sockets and streams are drawn from small pools, half of the time with `--stay`. Words that are
-refused have to end with status 2 and that fault, with `--stay`, and of `--control`, of which text, and why. No path is there, so all
-others have to end with status 1 and the first stream, with `--stay` and its path. Exit status 0 only where all agree and, of 1,000
+refused have to end with status 2 and that fault, with `--stay`, and of `--control` and `--copies`, of which text, and why. No path is there, so all
+others have to end with status 1 and the copies, or the first stream, with `--stay` and its path. Exit status 0 only where all agree and, of 1,000
 runs or more, each fault occurs.
 """
 import ipaddress
@@ -56,12 +56,13 @@ class Words(NamedTuple):
     socket: str | None
     mode: str | None
     control: str | None
+    copies: str | None
     streams: list[str]
 
     def line(self) -> list[str]:
-        told = (("socket", self.socket), ("socket-mode", self.mode), ("control", self.control))
-        sockets = [f"--{name}={text}" for name, text in told if text is not None]
-        return ["serve", *["--stay"] * self.stays, f"--bounds={self.bounds}", f"--listen={self.listen}", *sockets, "--", *self.streams]
+        told = (("socket", self.socket), ("socket-mode", self.mode), ("control", self.control), ("copies", self.copies))
+        options = [f"--{name}={text}" for name, text in told if text is not None]
+        return ["serve", *["--stay"] * self.stays, f"--bounds={self.bounds}", f"--listen={self.listen}", *options, "--", *self.streams]
 
 
 def drawn_bounds(rng: random.Random) -> str:
@@ -87,7 +88,8 @@ def drawn(rng: random.Random) -> Words:
     mode = rng.choice([None, None, None, rng.choice(MODES), rng.choice(MODES), rng.choice(NO_MODES)])
     control = rng.choice(PATHS) if rng.random() < 0.2 else None
     count = rng.choice([1, 1, 2, 3, 15, 16, 17])
-    return Words(rng.random() < 0.5, drawn_bounds(rng), listen, socket, mode, control, [drawn_stream(rng) for _ in range(count)])
+    copies = rng.choice(PATHS) if rng.random() < 0.1 else None
+    return Words(rng.random() < 0.5, drawn_bounds(rng), listen, socket, mode, control, copies, [drawn_stream(rng) for _ in range(count)])
 
 
 def no_constant(text: str) -> None:
@@ -128,6 +130,10 @@ def fault_of_control(words: Words) -> Refused | None:
     return (words.control, "a path of more than 107 bytes") if len(words.control.encode()) > MOST_OF_SOCKET else None
 
 
+def fault_of_copies(words: Words) -> Refused | None:
+    return (words.copies, "not with --bounds") if words.copies is not None and words.bounds != "[]" else None
+
+
 def fault_of_stream(stays: bool, word: str) -> str | None:
     name, equals, path = word.partition("=")
     is_listened = stays and path.startswith("listen:")
@@ -153,7 +159,7 @@ def fault_of_streams(words: Words) -> Refused | None:
 def faults_of(words: Words) -> Iterator[tuple[str, Refused]]:
     """Each kind that is at fault, with the first text of it and why, in the order in which they are told."""
     found = {"bounds": fault_of_bounds(words.bounds), "address": fault_of_address(words), "control": fault_of_control(words),
-             "stream": fault_of_streams(words)}
+             "copies": fault_of_copies(words), "stream": fault_of_streams(words)}
     return ((kind, refused) for kind, refused in found.items() if refused)
 
 
@@ -166,7 +172,9 @@ def shown(text: str) -> str:
 def wanted_of(words: Words) -> tuple[int, str]:
     """The status, and what is said on standard error."""
     for kind, (text, why) in faults_of(words):
-        return 2, f"pnuts: {kind}: {shown(text)}: {why}\n" if words.stays or kind == "control" else f"pnuts: {kind}\n"
+        return 2, f"pnuts: {kind}: {shown(text)}: {why}\n" if words.stays or kind in ("control", "copies") else f"pnuts: {kind}\n"
+    if words.copies is not None:
+        return 1, f"pnuts: copies: {words.copies}: No such file or directory\n"
     name, _, path = words.streams[0].partition("=")
     why = f": {path.removeprefix('listen:')}: No such file or directory" if words.stays else ""
     return 1, f"pnuts: cannot open {name}{why}\n"

@@ -5,12 +5,14 @@
 Commands, members, refusals, options and the reasons that writers of streams are told are read off the sources. Each has to stand
 in docs/formats.md; commands also in README.md, the slow program and the fuzzer's words; what sessions have in clients/README.md
 and in each client; what control sessions have besides in the client for Python.
-Commands and options that README.md, docs/ or the packages name have to be those of the program.
+Commands and options that README.md, docs/ or the packages name have to be those of the program, and its version is the same in
+all places (bin/version).
 
 Exit status: 0 where nothing is missing, 1 where something is, 2 for a wrong argument.
 """
 import argparse
 import re
+import subprocess
 from collections.abc import Iterable, Iterator
 from pathlib import Path
 
@@ -69,6 +71,12 @@ def clients() -> dict[str, list[Path]]:
     return {"clients/README.md": [TOP / "clients/README.md"], **{f"the client for {name}": paths for name, paths in sources.items()}}
 
 
+def versions() -> list[str]:
+    """What bin/version finds."""
+    ran = subprocess.run([TOP / "bin/version"], stdout=subprocess.PIPE, text=True)
+    return ran.stdout.splitlines() if ran.returncode else []
+
+
 def all_faults() -> Iterator[str]:
     protocol = sources("pn_protocol")
     commands = found(COMMAND, protocol)
@@ -98,5 +106,5 @@ def main(words: list[str]) -> int:
     faults = list(all_faults())
     for fault in faults:
         print(f"words: {fault}")
-    print("words: nothing is missing" if not faults else f"words: {len(faults)} are missing")
+    print("words: nothing is missing" if not faults else f"words: {len(faults)} are missing or wrong")
     return 1 if faults else 0

@@ -9,16 +9,18 @@ import (
 	"strings"
 )
 
-// An address says where a region is, and how TLS is spoken there, if it is.
+// An address says where a region is, and what opens a connection to it.
 type address struct {
 	network, place string
-	tls            *tls.Config
+	dialer         interface {
+		DialContext(ctx context.Context, network, place string) (net.Conn, error)
+	}
 }
 
 // addressOf reads tcp://HOST:PORT, tls://HOST:PORT or unix:PATH.
 func addressOf(text string, configuration *tls.Config) (address, error) {
 	if path := strings.TrimPrefix(strings.TrimPrefix(text, "unix:"), "//"); path != "" && strings.HasPrefix(text, "unix:") {
-		return address{network: "unix", place: path}, nil
+		return address{"unix", path, &net.Dialer{}}, nil
 	}
 	parts, err := url.Parse(text)
 	if err != nil || parts.Hostname() == "" || parts.Path != "" || parts.Scheme != "tcp" && parts.Scheme != "tls" {
@@ -28,18 +30,9 @@ func addressOf(text string, configuration *tls.Config) (address, error) {
 	if port == "" {
 		port = "7070"
 	}
-	if parts.Scheme == "tcp" {
-		configuration = nil
-	} else if configuration == nil {
-		configuration = &tls.Config{}
+	place := net.JoinHostPort(parts.Hostname(), port)
+	if parts.Scheme == "tls" {
+		return address{"tcp", place, &tls.Dialer{Config: configuration}}, nil
 	}
-	return address{"tcp", net.JoinHostPort(parts.Hostname(), port), configuration}, nil
-}
-
-// dial opens a connection.
-func (a address) dial(ctx context.Context) (net.Conn, error) {
-	if a.tls != nil {
-		return (&tls.Dialer{Config: a.tls}).DialContext(ctx, a.network, a.place)
-	}
-	return (&net.Dialer{}).DialContext(ctx, a.network, a.place)
+	return address{"tcp", place, &net.Dialer{}}, nil
 }

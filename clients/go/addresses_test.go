@@ -35,7 +35,8 @@ func TestAddresses(t *testing.T) {
 		same(t, text, err == nil, wanted != "")
 		if err == nil {
 			same(t, text, where.network+" "+where.place, wanted)
-			same(t, text, where.tls != nil, text[:3] == "tls")
+			_, isTLS := where.dialer.(*tls.Dialer)
+			same(t, text, isTLS, text[:3] == "tls")
 		}
 	}
 }

@@ -51,9 +51,11 @@ func Open(address string, options Options) (*Client, error) {
 	if options.Retries == 0 {
 		options.Retries = 3
 	}
-	client := &Client{address: where, options: options, connections: []*connection{newConnection()}}
+	none := newConnection()
+	none.cancel()
+	client := &Client{address: where, options: options, connections: []*connection{none}}
 	for len(client.connections) < options.Connections {
-		client.connections = append(client.connections, newConnection())
+		client.connections = append(client.connections, none)
 	}
 	return client, nil
 }
@@ -72,28 +74,24 @@ func (c *Client) Close() {
 	c.running.Wait()
 }
 
-// ask gives the answer to a command. All commands only read, so one whose connection broke is asked again.
-func ask[A any](ctx context.Context, c *Client, command map[string]any, means meaning[A]) (answer A, err error) {
-	line, err := lineOf(command)
+// A Command is what is asked of a region, by the members that its line has.
+type Command map[string]any
+
+// Ask gives the answer to any command that only reads, as one of the control socket: what its reply has, read into an answer
+// that says what holds without it. A reply to something else is refused.
+func Ask[A any](ctx context.Context, c *Client, command Command, answer A, isReply func(A) bool) (told A, err error) {
+	got, err := c.ask(ctx, command)
 	if err != nil {
-		return answer, err
+		return told, err
 	}
-	received, err := c.reply(ctx, line, command["do"] == "copy")
-	if err != nil {
-		return answer, err
+	if json.Unmarshal(got.reply, &answer) != nil || !isReply(answer) {
+		return told, faultOf(command, got.reply)
 	}
-	if received.reply["error"] != nil {
-		return answer, refusalOf(received.reply)
-	}
-	answer, isReply := means(received.reply, received.text)
-	if !isReply {
-		err = &ProtocolError{fmt.Sprintf("no reply to %.80q: %.200v", line, received.reply)}
-	}
-	return answer, err
+	return answer, nil
 }
 
 // lineOf is the line of a command. A text that is no UTF-8 would be written as another one.
-func lineOf(command map[string]any) ([]byte, error) {
+func lineOf(command Command) ([]byte, error) {
 	line, err := json.Marshal(command)
 	if bytes.Contains(bytes.ReplaceAll(line, []byte(`\\`), nil), []byte(`\ufffd`)) {
 		err = fmt.Errorf("pnuts: no UTF-8: %q", command)
@@ -101,8 +99,12 @@ func lineOf(command map[string]any) ([]byte, error) {
 	return append(line, '\n'), err
 }
 
-// reply is what is received for a line, by as many tries as it takes.
-func (c *Client) reply(caller context.Context, line []byte, hasLines bool) (received, error) {
+// ask gives what is received for a command, by as many tries as it takes: it only reads, so where the connection broke it is asked again.
+func (c *Client) ask(caller context.Context, command Command) (received, error) {
+	line, err := lineOf(command)
+	if err != nil {
+		return received{}, err
+	}
 	ctx, stop := context.WithTimeout(caller, c.options.Timeout)
 	defer stop()
 	for tries := 1; ; tries++ {
@@ -111,7 +113,7 @@ func (c *Client) reply(caller context.Context, line []byte, hasLines bool) (rece
 			return received{}, err
 		}
 		before := connection.lines.Load()
-		reply, err := connection.ask(ctx, &call{line, hasLines, make(chan received, 1)})
+		got, err := connection.ask(ctx, &call{line, command["do"] == "copy", make(chan received, 1)})
 		if ctx.Err() != nil && caller.Err() == nil && connection.lines.Load() == before {
 			connection.end(&ConnectionFailed{errors.New("nothing came for as long as a call waits")})
 		}
@@ -126,33 +128,31 @@ func (c *Client) reply(caller context.Context, line []byte, hasLines bool) (rece
 		if errors.Is(err, context.DeadlineExceeded) {
 			err = &TimedOut{}
 		}
-		return reply, err
+		return got, err
 	}
 }
 
-// connection is the one with the fewest calls, opened where it is not.
+// connection is the one with the fewest calls, opened where it has ended.
 func (c *Client) connection() (*connection, error) {
 	c.mutex.Lock()
 	defer c.mutex.Unlock()
 	if c.connections == nil {
 		return nil, &ConnectionFailed{net.ErrClosed}
 	}
-	least := c.connections[0]
+	least := 0
 	for at, open := range c.connections {
-		if open.ended.Err() != nil {
-			open = newConnection()
-			c.connections[at] = open
-		}
-		if at == 0 || open.calls.Load() < least.calls.Load() {
-			least = open
+		if open.calls.Load() < c.connections[least].calls.Load() {
+			least = at
 		}
 	}
-	least.opening.Do(func() {
+	if c.connections[least].ended.Err() != nil {
+		opened := newConnection()
+		c.connections[least] = opened
 		c.sessions.Add(1)
 		c.running.Add(1)
-		go func() { defer c.running.Done(); least.run(c.address, c.options.Timeout) }()
-	})
-	return least, nil
+		go func() { defer c.running.Done(); opened.run(c.address, c.options.Timeout) }()
+	}
+	return c.connections[least], nil
 }
 
 // pause is how long to wait before another try: 0.1 seconds, and twice as long each time, at most 1 second.

@@ -4,12 +4,14 @@ import (
 	"bufio"
 	"bytes"
 	"context"
+	"encoding/json"
 	"fmt"
 	"net"
 	"runtime"
 	"sync"
 	"sync/atomic"
 	"time"
+	"unicode/utf8"
 )
 
 const (
@@ -28,11 +30,8 @@ type call struct {
 	replied  chan received
 }
 
-// What was received for a call: the members of the reply, and the text that follows it.
-type received struct {
-	reply map[string]any
-	text  []byte
-}
+// What was received for a call: the line of the reply, and the text that follows it.
+type received struct{ reply, text []byte }
 
 // A connection is a session of the region. One goroutine writes its lines, and one reads their replies.
 type connection struct {
@@ -45,8 +44,6 @@ type connection struct {
 	cancel context.CancelFunc
 	ending sync.Once
 	fault  error
-	// Whether it was opened, or is to be.
-	opening sync.Once
 }
 
 func newConnection() *connection {
@@ -58,18 +55,16 @@ func newConnection() *connection {
 func (c *connection) run(where address, timeout time.Duration) {
 	opening, stop := context.WithTimeout(c.ended, timeout)
 	defer stop()
-	socket, err := where.dial(opening)
+	socket, err := where.dialer.DialContext(opening, where.network, where.place)
 	if err != nil {
 		c.end(&ConnectionFailed{err})
 		return
 	}
-	var both sync.WaitGroup
-	both.Add(2)
-	go func() { defer both.Done(); c.end(&ConnectionFailed{c.write(socket)}) }()
-	go func() { defer both.Done(); c.end(c.read(socket)) }()
-	<-c.ended.Done()
-	socket.Close()
-	both.Wait()
+	read := make(chan bool)
+	go func() { <-c.ended.Done(); socket.Close() }()
+	go func() { c.end(c.read(socket)); close(read) }()
+	c.end(&ConnectionFailed{c.write(socket)})
+	<-read
 }
 
 // end ends the connection. Calls without a reply fail with the first fault.
@@ -83,9 +78,12 @@ func (c *connection) ask(ctx context.Context, asked *call) (received, error) {
 		select {
 		case unsent <- asked:
 			unsent = nil
-		case reply := <-asked.replied:
-			return reply, nil
+		case got := <-asked.replied:
+			return got, nil
 		case <-c.ended.Done():
+			if len(asked.replied) > 0 {
+				return <-asked.replied, nil
+			}
 			return received{}, c.fault
 		case <-ctx.Done():
 			return received{}, ctx.Err()
@@ -126,10 +124,9 @@ func (c *connection) read(socket net.Conn) error {
 	lines.Buffer(make([]byte, pieceSize), maxLine)
 	lines.Split(c.wholeLine)
 	for lines.Scan() {
-		value, isJSON := valueOf(lines.Bytes())
-		got := received{reply: as[map[string]any](value)}
-		if !isJSON || got.reply == nil {
-			return &ProtocolError{fmt.Sprintf("a reply is none of a region: %.200q", lines.Bytes())}
+		got := received{reply: append([]byte{}, lines.Bytes()...)}
+		if !json.Valid(got.reply) || !utf8.Valid(got.reply) {
+			return &ProtocolError{fmt.Sprintf("a reply is none of a region: %.200q", got.reply)}
 		}
 		select {
 		case asked := <-c.sent:
@@ -158,9 +155,10 @@ func (c *connection) wholeLine(data []byte, _ bool) (int, []byte, error) {
 
 // readText reads the lines that follow a reply which says how many, and says whether all came.
 func (r *received) readText(lines *bufio.Scanner) bool {
-	left := as[int64](r.reply["lines"])
-	for ; left > 0 && lines.Scan(); left-- {
+	var left struct{ Lines int64 }
+	_ = json.Unmarshal(r.reply, &left)
+	for ; left.Lines > 0 && lines.Scan(); left.Lines-- {
 		r.text = append(r.text, lines.Bytes()...)
 	}
-	return left <= 0
+	return left.Lines <= 0
 }

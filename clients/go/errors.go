@@ -2,6 +2,7 @@ package pnuts
 
 import (
 	"context"
+	"encoding/json"
 	"fmt"
 )
 
@@ -35,8 +36,8 @@ type Refusal interface {
 
 // Refused is a refusal that no other type is for, and a part of each other.
 type Refused struct {
-	Reason  string
-	members map[string]any
+	Reason  string `json:"error"`
+	members Fields
 }
 
 func (e *Refused) Error() string { return fmt.Sprintf("pnuts: refused: %v", e.members) }
@@ -76,23 +77,31 @@ type NoEntry struct{ Refused }
 // OutOfMemory says that the region had no memory for the answer. Another try may get it.
 type OutOfMemory struct{ Refused }
 
-// refusalOf is the error of a reply with a member "error".
-func refusalOf(reply map[string]any) error {
-	base := Refused{as[string](reply["error"]), reply}
+// faultOf is the error of a reply that is no answer to a command: the refusal that it is, or that it is none.
+func faultOf(command Command, reply []byte) (found error) {
+	var base Refused
+	_ = json.Unmarshal(reply, &base)
+	_ = json.Unmarshal(reply, &base.members)
 	switch base.Reason {
+	case "":
+		return &ProtocolError{fmt.Sprintf("no reply to %.80v: %.200q", command, reply)}
 	case "too-long", "not-json", "bad-shape", "out-of-range", "read-only":
-		return &BadLine{base, as[string](reply["member"])}
+		found = &BadLine{Refused: base}
 	case "recovering":
-		return &Recovering{base, as[int64](reply["tablet"])}
+		found = &Recovering{Refused: base}
 	case "no-entry":
-		return &NoEntry{base}
+		found = &NoEntry{base}
 	case "memory":
-		return &OutOfMemory{base}
+		found = &OutOfMemory{base}
 	case "behind":
-		if stream := as[string](reply["stream"]); stream != "" {
-			return &CopyBehind{base, stream, as[int64](reply["has"]), as[int64](reply["wanted"])}
+		found = &RecordBehind{Refused: base}
+		if base.members["stream"] != nil {
+			found = &CopyBehind{Refused: base}
 		}
-		return &RecordBehind{base, versionOf(reply["has"])}
+	default:
+		found = &base
 	}
-	return &base
+	// Its other members have the names of the reply's.
+	_ = json.Unmarshal(reply, found)
+	return found
 }

@@ -1,6 +1,10 @@
 package pnuts
 
-import "fmt"
+import (
+	"bytes"
+	"encoding/json"
+	"fmt"
+)
 
 // A Version of a record: its generation, and its number. Versions are ordered by the generation first.
 type Version [2]int64
@@ -10,8 +14,49 @@ func (v Version) Less(w Version) bool { return v[0] < w[0] || v[0] == w[0] && v[
 
 func (v Version) String() string { return fmt.Sprintf("%d.%d", v[0], v[1]) }
 
+// UnmarshalJSON reads a list of both numbers.
+func (v *Version) UnmarshalJSON(text []byte) error {
+	var parts []int64
+	if json.Unmarshal(text, &parts) != nil || len(parts) != len(v) {
+		return fmt.Errorf("pnuts: no version: %s", text)
+	}
+	copy(v[:], parts)
+	return nil
+}
+
 // Fields are values by their names, each a string or an int64.
 type Fields map[string]any
+
+// UnmarshalJSON reads values as encoding/json does, but for numbers: each is an int64, and one that is none is an error.
+func (f *Fields) UnmarshalJSON(text []byte) error {
+	decoder := json.NewDecoder(bytes.NewReader(text))
+	decoder.UseNumber()
+	var members map[string]any
+	err := decoder.Decode(&members)
+	*f, _ = whole(members, &err).(map[string]any)
+	return err
+}
+
+// whole is a value with an int64 for each number. Of one that is none it leaves the error.
+func whole(value any, fault *error) any {
+	switch value := value.(type) {
+	case json.Number:
+		number, err := value.Int64()
+		if err != nil {
+			*fault = err
+		}
+		return number
+	case []any:
+		for at := range value {
+			value[at] = whole(value[at], fault)
+		}
+	case map[string]any:
+		for name := range value {
+			value[name] = whole(value[name], fault)
+		}
+	}
+	return value
+}
 
 // A Content of a record: its fields, or a deletion.
 type Content struct {
@@ -37,34 +82,7 @@ func (r *Record) Fields() Fields {
 	return r.Contents[0].Fields
 }
 
-// recordOf is the record of a row, nil where it is null; and whether it is a row.
-func recordOf(row any) (*Record, bool) {
-	if row == nil {
-		return nil, true
-	}
-	members, _ := row.(map[string]any)
-	record := &Record{Key: as[string](members["key"]), State: as[string](members["state"])}
-	for _, content := range as[[]any](members["contents"]) {
-		of := as[map[string]any](content)
-		record.Contents = append(record.Contents, Content{of["deleted"] == true, as[map[string]any](of["fields"]), as[string](of["master"])})
-	}
-	if version := versionOf(members["version"]); version != nil {
-		record.Version = *version
-	}
-	return record, record.Version != Version{} && record.Key != "" && record.State != "" && len(record.Contents) > 0
-}
-
-// versionOf is a version, nil of what is none.
-func versionOf(value any) *Version {
-	parts := as[[]any](value)
-	if len(parts) != 2 {
-		return nil
-	}
-	return &Version{as[int64](parts[0]), as[int64](parts[1])}
-}
-
-// as is a value of a kind, or that kind's zero.
-func as[A any](value any) A {
-	known, _ := value.(A)
-	return known
+// isRow says whether a row has all that records have, or is null.
+func (r *Record) isRow() bool {
+	return r == nil || r.Version != Version{} && r.Key != "" && r.State != "" && len(r.Contents) > 0
 }

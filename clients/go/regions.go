@@ -19,10 +19,8 @@ func NewRegions(bounds []string, clients []*Client) (*Regions, error) {
 	if len(clients) != len(bounds)+1 {
 		return nil, fmt.Errorf("pnuts: %d bounds take %d regions, not %d", len(bounds), len(bounds)+1, len(clients))
 	}
-	for at := range bounds {
-		if at > 0 && bounds[at] <= bounds[at-1] {
-			return nil, fmt.Errorf("pnuts: the bounds do not rise at %q", bounds[at])
-		}
+	if !sort.SliceIsSorted(bounds, func(one, other int) bool { return bounds[one] <= bounds[other] }) {
+		return nil, fmt.Errorf("pnuts: the bounds do not rise: %q", bounds)
 	}
 	return &Regions{bounds, clients}, nil
 }

@@ -1,36 +1,24 @@
 package pnuts
 
-// A meaning is what a reply says, and whether it is a reply to what was asked. What another command is answered with has one more
-// here. Of a copy it is the text that follows the reply.
-type meaning[A any] func(reply map[string]any, text []byte) (A, bool)
-
-func row(reply map[string]any, _ []byte) (*Record, bool) {
-	record, isRow := recordOf(reply["row"])
-	_, isThere := reply["row"]
-	return record, isRow && isThere
+// A reply to one of the lookups, in whose members null is nil.
+type reply struct {
+	Row  *Record
+	Rows []*Record
+	Next *struct{ After string }
 }
 
-func rows(reply map[string]any, _ []byte) ([]*Record, bool) {
-	found, areRows := reply["rows"].([]any)
-	records := make([]*Record, len(found))
-	for at, row := range found {
-		record, isRow := recordOf(row)
-		records[at], areRows = record, areRows && isRow
-	}
-	return records, areRows
-}
+// without is a reply in which a row and a next page are missing. That is neither null nor a row or a page.
+func without() reply { return reply{Row: &Record{}, Next: &struct{ After string }{}} }
 
-// page is what a reply says to a query. That for the next page is the same, but for the key after which it begins.
-func page(query Query) meaning[Page] {
-	return func(reply map[string]any, _ []byte) (Page, bool) {
-		records, areRows := rows(reply, nil)
-		next, isThere := reply["next"]
-		if next == nil {
-			return Page{records, nil}, areRows && isThere
+func (r reply) hasRow() bool { return r.Row.isRow() }
+
+func (r reply) hasRows() bool {
+	for _, row := range r.Rows {
+		if !row.isRow() {
+			return false
 		}
-		query.After = as[string](as[map[string]any](next)["after"])
-		return Page{records, &query}, areRows && query.After != ""
 	}
+	return r.Rows != nil
 }
 
-func text(_ map[string]any, text []byte) ([]byte, bool) { return text, text != nil }
+func (r reply) isPage() bool { return r.hasRows() && (r.Next == nil || r.Next.After != "") }

@@ -47,8 +47,8 @@ func vectorsOf(t *testing.T, name string) vectors {
 	return found
 }
 
-// whole is the value of JSON, its numbers as they are written.
-func whole(t *testing.T, text []byte) any {
+// asWritten is the value of JSON, its numbers as they are written.
+func asWritten(t *testing.T, text []byte) any {
 	decoder := json.NewDecoder(bytes.NewReader(text))
 	decoder.UseNumber()
 	var value any
@@ -82,7 +82,7 @@ func asked(t *testing.T, client *Client, text json.RawMessage) (answer any, err 
 		Tablet  int
 		Need    map[string]int64
 	}
-	command := whole(t, text).(map[string]any)
+	command := asWritten(t, text).(map[string]any)
 	must(t, json.Unmarshal(text, &call))
 	query, _ := command["query"].(map[string]any)
 	if where, isThere := query["where"]; isThere {
@@ -106,7 +106,7 @@ func asked(t *testing.T, client *Client, text json.RawMessage) (answer any, err 
 		copied, _ := os.ReadFile(path)
 		return string(copied), err
 	default:
-		return ask(background, client, command, row)
+		return Ask(background, client, command, Fields{}, func(Fields) bool { return false })
 	}
 }
 
@@ -150,7 +150,7 @@ func asReply(answer any) any {
 // isAnswered looks at what the client makes of an exchange.
 func isAnswered(t *testing.T, client *Client, told exchange) {
 	answer, err := asked(t, client, told.Call)
-	wanted := withoutDefaults(whole(t, []byte(told.Replies[0])))
+	wanted := withoutDefaults(asWritten(t, []byte(told.Replies[0])))
 	refusal := Refusal(nil)
 	found := asReply(answer)
 	switch {
@@ -161,7 +161,7 @@ func isAnswered(t *testing.T, client *Client, told exchange) {
 	}
 	made, err := json.Marshal(found)
 	must(t, err)
-	same(t, string(told.Line), withoutDefaults(whole(t, made)), wanted)
+	same(t, string(told.Line), withoutDefaults(asWritten(t, made)), wanted)
 }
 
 // replay gives each line its replies, a few bytes at a time, and looks at the lines.
@@ -176,7 +176,7 @@ func replay(t *testing.T, listener net.Listener, exchanges []exchange, step int)
 			return
 		}
 		if told.Line != nil && len(told.Line) > 0 {
-			same(t, "line", withoutDefaults(whole(t, line)), withoutDefaults(whole(t, told.Line)))
+			same(t, "line", withoutDefaults(asWritten(t, line)), withoutDefaults(asWritten(t, told.Line)))
 		}
 		for text := strings.Join(told.Replies, "\n") + "\n"; text != ""; {
 			size := len(text)
@@ -222,7 +222,7 @@ func TestVectorsOfFaults(t *testing.T) {
 		_, err := asked(t, client, told.Call)
 		refusal, wrong := Refusal(nil), (*ProtocolError)(nil)
 		if errors.As(err, &refusal) {
-			same(t, "refusal", refusal.Members(), whole(t, []byte(told.Replies[0])))
+			same(t, "refusal", refusal.Members(), asWritten(t, []byte(told.Replies[0])))
 		}
 		same(t, "whether it is no reply: "+told.Replies[0], errors.As(err, &wrong), !strings.Contains(told.Replies[0], "error"))
 	}
@@ -243,16 +243,22 @@ func TestVectorsOfARegion(t *testing.T) {
 	}
 }
 
+// fieldsOf are the fields of JSON, and whether they can be.
+func fieldsOf(text string) (fields Fields, areFields bool) {
+	err := json.Unmarshal([]byte(text), &fields)
+	return fields, err == nil
+}
+
 func TestNumbersOf64Bits(t *testing.T) {
 	for _, number := range []int64{-1 << 63, -1<<53 - 1, 0, 1<<53 + 1, 1<<63 - 1} {
-		value, isJSON := valueOf([]byte(fmt.Sprintf("%d\n", number)))
-		same(t, "value", []any{value, isJSON}, []any{number, true})
+		fields, areFields := fieldsOf(fmt.Sprintf(`{"a":%d}`, number))
+		same(t, "fields", []any{fields["a"] == number, areFields}, []any{true, true})
 	}
-	value, isJSON := valueOf([]byte("{ \"a\" : [ 1 , true , null , { } , [ ] , \"\\u00e9 ,:\" ] }\t\r\n"))
-	same(t, "value", []any{value, isJSON}, []any{map[string]any{"a": []any{1, true, nil, map[string]any{}, []any{}, "\u00e9 ,:"}}, true})
-	for _, text := range []string{"9223372036854775808", "1.5", "1e3", "", "-", "nul", "x"} {
-		_, isJSON := valueOf([]byte(text + "\n"))
-		same(t, text, isJSON, false)
+	fields, areFields := fieldsOf(`{ "a" : [ 1 , true , null , { "b" : 2 } , [ ] , "\u00e9 ,:" ] }`)
+	same(t, "fields", []any{fields, areFields}, []any{Fields{"a": []any{1, true, nil, map[string]any{"b": 2}, []any{}, "\u00e9 ,:"}}, true})
+	for _, text := range []string{"9223372036854775808", "1.5", "1e3", "", "-", "nul", "x", "[1.5]", `{"b":1e3}`} {
+		_, areFields := fieldsOf(`{"a":` + text + `}`)
+		same(t, text, areFields, false)
 	}
 }
 
@@ -273,25 +279,20 @@ func TestRepliesThatAreNone(t *testing.T) {
 	} {
 		_, err := open(t, fake(t, listen(t), []string{text + "\n"}), Options{}).Read(background, "k")
 		same(t, text[:len(text)%1000], err == nil, isReply)
-		for end := 0; end < len(text) && end < 1000; end++ {
-			_, isJSON := valueOf([]byte(text[:end]))
-			same(t, text[:end], isJSON, false)
-		}
 	}
 }
 
-func FuzzValues(f *testing.F) {
+func FuzzFields(f *testing.F) {
 	f.Add(`{"a":[1,-9223372036854775808,"\u00e9\n",true,null]}`)
 	f.Fuzz(func(t *testing.T, text string) {
-		line := []byte(text + "\n")
-		value, isJSON := valueOf(line)
+		fields, areFields := fieldsOf(text)
 		// -0 is the number 0, and cannot be told from a text here.
-		if !isJSON || strings.Contains(text, "-0") {
+		if !areFields || strings.Contains(text, "-0") {
 			return
 		}
-		made, err := json.Marshal(value)
+		made, err := json.Marshal(fields)
 		must(t, err)
-		again, err := json.Marshal(whole(t, line))
+		again, err := json.Marshal(asWritten(t, []byte(text)))
 		must(t, err)
 		same(t, text, string(made), string(again))
 	})
@@ -302,9 +303,13 @@ func BenchmarkReply(b *testing.B) {
 	for at := 0; at < 10; at++ {
 		fields = append(fields, fmt.Sprintf(`"field-%d":"%036d"`, at, at))
 	}
-	const line = `{"row":{"contents":[{"fields":{%s},"master":"w"}],"key":"k","state":"one","version":[1,0]}}` + "\n"
+	const row = `{"row":{"contents":[{"fields":{%s},"master":"w"}],"key":"k","state":"one","version":[1,0]}}`
+	line := []byte(fmt.Sprintf(row, strings.Join(fields, ",")))
+	b.ResetTimer()
 	for at := 0; at < b.N; at++ {
-		value, _ := valueOf([]byte(fmt.Sprintf(line, strings.Join(fields, ","))))
-		row(value.(map[string]any), nil)
+		found := without()
+		if json.Unmarshal(line, &found) != nil || !found.hasRow() {
+			b.Fatal("no row")
+		}
 	}
 }

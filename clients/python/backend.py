@@ -35,8 +35,7 @@ def name_of(told: dict[str, Any]) -> str:
 
 def metadata_lines(told: dict[str, Any]) -> Iterator[str]:
     yield from ("Metadata-Version: 2.1", f"Name: {told['name']}", f"Version: {told['version']}", f"Summary: {told['description']}")
-    yield from (f"Author-email: {it['name']} <{it['email']}>" for it in told["authors"])
-    yield from (f"Project-URL: {name}, {url}" for name, url in told.get("urls", {}).items())
+    yield from (f"Author: {it['name']}" for it in told["authors"])
     yield from (f"Classifier: {it}" for it in told["classifiers"])
     yield from (f"Requires-Python: {told['requires-python']}", "Description-Content-Type: text/markdown; charset=UTF-8", "")
 

@@ -1,9 +1,10 @@
-"""Three machines as network namespaces, each with a broker's node, a region for each range of keys with its feed, and a proxy."""
+"""Machines as network namespaces, each with a broker's node, a region for each range of keys with its feed, and a proxy."""
 
 from __future__ import annotations
 
 import json
 import os
+import shutil
 import socket
 import ssl
 import subprocess
@@ -16,7 +17,8 @@ import pika
 
 from running import CLIENT, FEEDS, RUN, Processes, Word, kill
 
-COUNT = 3
+# Three machines run at first, and a fourth takes the place of one that is lost.
+COUNT, ALL = 3, 4
 FRONT = "10.77.0.254"
 # The keys below the bound are the first range's.
 BOUND, RANGES = "m", ["low", "high"]
@@ -24,10 +26,14 @@ BOUND, RANGES = "m", ["low", "high"]
 BOUNDS = {"low": ["a100", "a250", "a400"], "high": ["z100", "z250", "z400"]}
 REGION_PORT, PROXY_PORT = 7070, 7443
 CONNECTIONS = 64
+# After how many seconds the copies of a region are saved again.
+EVERY = 10
 # A record that each stream has once the first images are there: a region that lacks it is not ready.
 LOADED = {"low": "a-loaded", "high": "z-loaded"}
 RABBIT = Path("/usr/lib/rabbitmq/bin")
 CERTIFICATES = RUN / "certificates"
+SHOWN = ["--authority", str(CERTIFICATES / "authority.pem"), "--certificate", str(CERTIFICATES / "client.pem")]
+CLIENT_WORDS = {"PYTHONPATH": str(CLIENT), "PYTHONDONTWRITEBYTECODE": "1"}
 
 
 def run(*command: Word, environment: dict[str, str] | None = None) -> None:
@@ -121,11 +127,11 @@ def tell_front(command: str) -> None:
         raise OSError(f"the front says to {command}: {said}")
 
 
-def start_proxy(processes: Processes, name: str, within: Sequence[str], text: str) -> None:
+def start_proxy(processes: Processes, name: str, within: Sequence[str], text: str) -> subprocess.Popen[bytes]:
     path = RUN / f"{name}.cfg"
     path.write_text(text, encoding="utf-8")
     run("haproxy", "-c", "-f", path)
-    processes.start(f"{name}-proxy", [*within, "haproxy", "-db", "-f", path])
+    return processes.start(f"{name}-proxy", [*within, "haproxy", "-db", "-f", path])
 
 
 @dataclass
@@ -144,6 +150,11 @@ class Machine:
     @property
     def address(self) -> str:
         return f"10.77.0.{self.number}"
+
+    @property
+    def node(self) -> str:
+        """The name of its node of the broker."""
+        return f"pn@{self.address}"
 
     @property
     def within(self) -> list[str]:
@@ -165,7 +176,7 @@ class Machine:
         return {
             "HOME": str(RUN / "cookie"),
             "RABBITMQ_USE_LONGNAME": "true",
-            "RABBITMQ_NODENAME": f"pn@{self.address}",
+            "RABBITMQ_NODENAME": self.node,
             "RABBITMQ_MNESIA_BASE": f"{folder}/m",
             "RABBITMQ_LOG_BASE": f"{folder}/l",
             "RABBITMQ_PID_FILE": f"{folder}/pid",
@@ -197,8 +208,17 @@ class Machine:
         except (pika.exceptions.AMQPError, OSError):
             return False
 
-    def wait_for_all_nodes(self) -> None:
-        run(*self.within, RABBIT / "rabbitmqctl", "--longnames", "await_online_nodes", str(COUNT), environment=self.environment())
+    def tell_broker(self, program: str, *words: Word) -> None:
+        """Has its node of the broker do something."""
+        run(*self.within, RABBIT / program, "--longnames", *words, environment=self.environment())
+
+    def replace_broker(self, lost: Machine, new: Machine) -> None:
+        """Has its node forget that of a lost machine, whose place in each stream a new one takes."""
+        for name in RANGES:
+            self.tell_broker("rabbitmq-streams", "delete_replica", name, lost.node)
+        self.tell_broker("rabbitmqctl", "forget_cluster_node", lost.node)
+        for name in RANGES:
+            self.tell_broker("rabbitmq-streams", "add_replica", name, new.node)
 
     def start_proxy(self) -> None:
         """The proxy before its regions, which themselves listen on loopback alone."""
@@ -206,7 +226,7 @@ class Machine:
         for at, name in enumerate(RANGES):
             text += f"\nlisten {name}\n    bind {self.address}:{PROXY_PORT + at} {BIND.format(folder=CERTIFICATES)}\n"
             text += f"    retries 0\n    server region 127.0.0.1:{REGION_PORT + at} maxconn {CONNECTIONS}\n"
-        start_proxy(self.processes, self.name, self.within, text)
+        self.running["proxy"] = start_proxy(self.processes, self.name, self.within, text)
 
     def start_feed(self, name: str) -> None:
         """The feed of a range's stream, from the machine's own node. It waits for the region, and begins where that is."""
@@ -214,16 +234,30 @@ class Machine:
         self.start(f"{name}-feed", [FEEDS / "rabbitmq-stream", *words])
 
     def start_region(self, name: str) -> None:
-        """The region of a range, which takes its stream on a socket, and is run by another one. It waits until it answers."""
+        """The region of a range, which takes its stream on a socket, and is run by another one. It starts from copies where
+        there are some. It waits until it answers."""
+        copies = self.path(name, "copies")
+        layout: list[Word] = ["--copies", copies] if copies.exists() else ["--bounds", json.dumps(BOUNDS[name])]
         words: list[Word] = ["--stay", "--sessions", "2", "--connections", str(CONNECTIONS), "--port", str(REGION_PORT + RANGES.index(name)),
-                 "--bounds", json.dumps(BOUNDS[name]), "--control", self.path(name, "control"), f"{name}=listen:{self.path(name, 'socket')}"]
+                 *layout, "--control", self.path(name, "control"), f"{name}=listen:{self.path(name, 'socket')}"]
         self.start(f"{name}-region", [self.program, "serve", *words])
         self.run_region(name, "ready")
 
+    def keep_copies(self, name: str) -> None:
+        """Has the copies of a region saved again and again, for its own next start."""
+        line = self.control_line(name, "save", self.path(name, "copies"), "--every", str(EVERY))
+        self.start(f"{name}-copies", line, CLIENT_WORDS)
+
     def run_region(self, name: str, *words: Word) -> None:
         """Has `pnuts-ctl` do something with the region of a range."""
-        line: list[Word] = [sys.executable, "-m", "pnuts_client.ctl", "--control", self.path(name, "control"), *words]
-        run(*line, environment={"PYTHONPATH": str(CLIENT), "PYTHONDONTWRITEBYTECODE": "1"})
+        run(*self.control_line(name, *words), environment=CLIENT_WORDS)
+
+    def control_line(self, name: str, *words: Word) -> list[Word]:
+        return [sys.executable, "-m", "pnuts_client.ctl", "--control", self.path(name, "control"), *words]
+
+    def place(self, name: str) -> str:
+        """Where others ask for the region of a range."""
+        return f"tls://{self.address}:{PROXY_PORT + RANGES.index(name)}"
 
     def set_state(self, state: str) -> None:
         """Whether the front gives it new connections: `ready`, or `drain`."""
@@ -236,6 +270,15 @@ class Machine:
 
     def kill(self, what: str) -> None:
         kill(self.running[what])
+
+    def lose(self) -> None:
+        """Cuts the machine off, ends all that runs on it, and removes all that it has written."""
+        run("ip", "link", "set", f"{self.name}-near", "down")
+        for program in self.running.values():
+            if program.poll() is None:
+                kill(program)
+        for path in RUN.glob(f"{self.name}[-.]*"):
+            shutil.rmtree(path) if path.is_dir() else path.unlink()
 
     def start_feed_anew(self, name: str) -> None:
         """Kills a feed, and starts another one."""

@@ -20,7 +20,8 @@ KEYS = 500
 ATTEMPTS = 3
 # How long something may take at most: so many seconds, or on a machine that is busy, so many times as long as when nothing is killed.
 LONGEST, SLOWER = 3.0, 50
-STREAM = {"x-queue-type": "stream", "x-initial-cluster-size": 3}
+# Streams in files of some hundreds of messages, as whole files are dropped.
+STREAM = {"x-queue-type": "stream", "x-initial-cluster-size": 3, "x-stream-max-segment-size-bytes": 50_000}
 
 
 def range_of(key: str) -> str:
@@ -37,6 +38,9 @@ class Publisher:
     """Gives images to the broker, one after another, each again until a node has confirmed it."""
 
     machines: Sequence[Machine]
+    # For how many seconds the broker keeps an image at least.
+    kept_for: int
+    started: float = field(default_factory=time.monotonic)
     confirmed: dict[str, int] = field(default_factory=dict)
     count: int = 0
     again: int = 0
@@ -46,10 +50,14 @@ class Publisher:
         """The streams, each on all nodes, with the first image of each key and a record that says that they are all there."""
         connection = pika.BlockingConnection(pika.URLParameters(self.machines[0].url))
         for name in RANGES:
-            connection.channel().queue_declare(name, durable=True, arguments=STREAM)
+            connection.channel().queue_declare(name, durable=True, arguments={**STREAM, "x-max-age": f"{self.kept_for}s"})
         connection.close()
         first = [(key, 0) for number in range(KEYS) for key in (f"a{number:03}", f"z{number:03}")]
         self.publish(first + [(key, 0) for key in LOADED.values()])
+
+    def has_outlived_images(self) -> bool:
+        """Whether the first images are twice as old as the broker keeps them."""
+        return time.monotonic() - self.started > 2 * self.kept_for
 
     def publish(self, versions: Sequence[tuple[str, int]]) -> None:
         """Publishes images in their order, and goes on at the next node where one is away."""
@@ -135,6 +143,18 @@ class Reader:
         """The longest time without an answer since this was asked last, in seconds."""
         longest, self.longest = max(self.longest, time.monotonic() - self.last), 0.0
         return longest
+
+
+def first_kept(machine: Machine, name: str) -> int:
+    """The offset of the first message of a stream that the broker still has."""
+    connection = pika.BlockingConnection(pika.URLParameters(machine.url))
+    try:
+        channel = connection.channel()
+        channel.basic_qos(prefetch_count=1)
+        _, properties, _ = next(channel.consume(name, arguments={"x-stream-offset": "first"}))
+        return int(properties.headers["x-stream-offset"])
+    finally:
+        connection.close()
 
 
 def regions_of_all(timeout: float) -> Regions:

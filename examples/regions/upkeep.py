@@ -1,17 +1,19 @@
-"""What those do who run regions, while they are read: a tablet is recovered, a cache is kept, and machines are stopped in turn."""
+"""What those do who run regions, while they are read: a tablet is recovered, a cache is kept, a machine that was lost is replaced,
+and all are stopped in turn."""
 
 from __future__ import annotations
 
+import shutil
 import threading
 import time
-from collections.abc import Callable
+from collections.abc import Callable, Sequence
 from pathlib import Path
 
-from machines import CERTIFICATES, PROXY_PORT, RANGES, Machine, context
+from machines import PROXY_PORT, RANGES, SHOWN, Machine, context
 from pnuts_client import Client, Control, PnutsError, Record, Recovering, Version
 from pnuts_client.addresses import Tcp
 
-from running import Word, until
+from running import until
 
 # The tablet of the range `high` that is lost. The front's check reads none of its keys.
 LOST, KEYS = 2, [f"z{number}" for number in range(250, 400)]
@@ -98,9 +100,7 @@ def lose_tablet(machine: Machine, peer: Machine, near: Near) -> float:
         with Control(f"unix:{machine.path('high', 'control')}") as region:
             region.lose(LOST)
         until("readers are told of the loss", lambda: near.recovering > 0)
-        place = f"tls://{peer.address}:{PROXY_PORT + RANGES.index('high')}"
-        certificates: list[Word] = ["--authority", CERTIFICATES / "authority.pem", "--certificate", CERTIFICATES / "client.pem"]
-        machine.run_region("high", "recover", str(LOST), "--from", place, *certificates)
+        machine.run_region("high", "recover", str(LOST), "--from", peer.place("high"), *SHOWN)
         back, before = time.monotonic() - start, near.reads
         until("readers are shown records again", lambda: near.reads > before + len(KEYS))
         return back
@@ -109,8 +109,30 @@ def lose_tablet(machine: Machine, peer: Machine, near: Near) -> float:
         reading.join()
 
 
+def replace(lost: Machine, new: Machine, peers: Sequence[Machine], is_level: Callable[[str], bool]) -> float:
+    """A new machine takes the place of one that is lost with its disk, from copies of the others' regions."""
+    start = time.monotonic()
+    new.make_broker()
+    new.start_broker()
+    until("the new node of the broker answers", new.has_broker, PATIENCE)
+    peers[0].replace_broker(lost, new)
+    for name in RANGES:
+        # The feed counts on from a pair of its neighbour, which is older than the copies.
+        shutil.copy(peers[0].path(name, "pairs"), new.path(name, "pairs"))
+        places = [word for peer in peers for word in ("--from", peer.place(name))]
+        new.run_region(name, "save", new.path(name, "copies"), *places, *SHOWN)
+        new.start_feed(name)
+        new.start_region(name)
+        new.keep_copies(name)
+    new.start_proxy()
+    for name in RANGES:
+        until(f"{new.name} has all of {name}", lambda: is_level(name), PATIENCE)
+    return time.monotonic() - start
+
+
 def renew(machine: Machine, is_level: Callable[[str], bool]) -> float:
-    """The regions of a machine are stopped and started anew: the front gives it no connections until they have all again."""
+    """The regions of a machine are stopped, and start anew from their copies: the front gives it no connections until they have all
+    again."""
     start = time.monotonic()
     machine.set_state("drain")
     for name in RANGES:

@@ -3,9 +3,7 @@ package control
 
 import (
 	"context"
-	"encoding/json"
 	"errors"
-	"fmt"
 	"time"
 
 	"keqapwi.example/pnuts"
@@ -16,8 +14,8 @@ const (
 	longestWait = 60
 	// lastNumber is greater than that of any change. What came after it is never known, but for the last number.
 	lastNumber = 1e18
-	// How long to wait before a watcher asks again where the connection broke.
-	shortest, longest = 100 * time.Millisecond, time.Second
+	// pause is how long a watcher waits before it asks again where the connection broke.
+	pause = 250 * time.Millisecond
 )
 
 // Stats say what a region has done so far: the seconds that it runs, bytes of memory, rounds, connections of clients and their lines.
@@ -67,38 +65,21 @@ type Notices struct {
 
 // Marks says how far streams were taken.
 func Marks(ctx context.Context, region *pnuts.Client) (map[string]int64, error) {
-	var told struct{ Marks map[string]int64 }
-	err := ask(ctx, region, map[string]any{"do": "marks"}, &told, "marks")
-	return told.Marks, err
+	type reply struct{ Marks map[string]int64 }
+	found, err := pnuts.Ask(ctx, region, pnuts.Command{"do": "marks"}, reply{}, func(found reply) bool { return found.Marks != nil })
+	return found.Marks, err
 }
 
 // StatsOf says what a region has done so far.
-func StatsOf(ctx context.Context, region *pnuts.Client) (stats Stats, err error) {
-	err = ask(ctx, region, map[string]any{"do": "stats"}, &stats, "streams")
-	return stats, err
+func StatsOf(ctx context.Context, region *pnuts.Client) (Stats, error) {
+	return pnuts.Ask(ctx, region, pnuts.Command{"do": "stats"}, Stats{}, func(found Stats) bool { return found.Streams != nil })
 }
 
 // NoticesAfter gives what changed after a number. Where that is nothing, it waits for it for up to `wait` seconds, at most 60. Lines on the
 // same connection wait too, and a client's timeout has to be longer.
-func NoticesAfter(ctx context.Context, region *pnuts.Client, since, wait int64) (found Notices, err error) {
-	command := map[string]any{"do": "notices", "since": since, "wait": wait}
-	err = ask(ctx, region, command, &found, "missed", "notices")
-	return found, err
-}
-
-// ask reads a reply, which has to have one of some members.
-func ask(ctx context.Context, region *pnuts.Client, command map[string]any, answer any, members ...string) error {
-	reply, err := region.Ask(ctx, command)
-	if err != nil {
-		return err
-	}
-	text, _ := json.Marshal(reply)
-	for _, member := range members {
-		if reply[member] != nil && json.Unmarshal(text, answer) == nil {
-			return nil
-		}
-	}
-	return &pnuts.ProtocolError{Text: fmt.Sprintf("no reply to %v: %.200v", command, reply)}
+func NoticesAfter(ctx context.Context, region *pnuts.Client, since, wait int64) (Notices, error) {
+	command := pnuts.Command{"do": "notices", "since": since, "wait": wait}
+	return pnuts.Ask(ctx, region, command, Notices{}, func(found Notices) bool { return found.Missed || found.Changes != nil })
 }
 
 // A Watcher goes over the changes of a region as they come, as long as Next says that there are some. Err says why not.
@@ -131,36 +112,27 @@ func (w *Watcher) Next() bool {
 	for tries := 0; w.err == nil; {
 		found, err := NoticesAfter(w.ctx, w.client, w.found.Next, longestWait)
 		if broken := (*pnuts.ConnectionFailed)(nil); errors.As(err, &broken) && tries < w.tries {
-			err = w.pause(shortest << tries)
 			tries++
-		} else if err == nil {
-			if sessions := w.client.Sessions(); w.sessions != sessions {
-				if w.sessions > 0 {
-					found = Notices{Next: found.Next, Missed: true}
-				}
-				w.sessions = sessions
-			}
-			if w.found = found; found.Missed || len(found.Changes) > 0 {
-				return true
-			}
+			time.Sleep(pause)
+			w.err = w.ctx.Err()
+			continue
 		}
-		w.err = err
+		if w.err = err; err == nil && w.take(found) {
+			return true
+		}
 	}
 	w.client.Close()
 	return false
 }
 
-// pause waits before another try.
-func (w *Watcher) pause(most time.Duration) error {
-	if most > longest {
-		most = longest
+// take keeps what was found, and says whether it tells of a change. In another session than the last one all may have changed.
+func (w *Watcher) take(found Notices) bool {
+	last := w.sessions
+	if w.sessions = w.client.Sessions(); last != 0 && last != w.sessions {
+		found = Notices{Next: found.Next, Missed: true}
 	}
-	select {
-	case <-time.After(most):
-		return nil
-	case <-w.ctx.Done():
-		return w.ctx.Err()
-	}
+	w.found = found
+	return found.Missed || len(found.Changes) > 0
 }
 
 // Notices are those that came.

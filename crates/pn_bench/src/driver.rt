@@ -29,6 +29,14 @@ pub struct Took {
     pub rounds: Duration,
 }
 
+impl Took {
+    /// What is told of it.
+    pub fn text(&self, alloc: Global) -> Option<String> {
+        let (reads, rounds) = (self.reads.as_micros(), self.rounds.as_micros());
+        format!(in alloc; "{reads} {rounds} microseconds").ok()
+    }
+}
+
 /// Measures a plan, where the stream has enough messages and each key is found.
 pub fn time<R: Clock + Threads + Wait + Sync, S: Source + Drop>(
     rt: &R,
@@ -49,6 +57,10 @@ fn open_store<R: Wait>(rt: &R, alloc: Global, way: Way) -> Option<(Store, Vec<Li
         let region = Region::new(alloc, layout).ok()?;
         return Some((Store::Plain(region), Vec::new(alloc)));
     }
+    open_live(rt, alloc, layout)
+}
+
+fn open_live<R: Wait>(rt: &R, alloc: Global, layout: Layout) -> Option<(Store, Vec<LiveReader>)> {
     let (live, readers) = LiveRegion::open(rt, alloc, layout, READERS).ok()?;
     Some((Store::Live(live), readers))
 }
@@ -65,17 +77,29 @@ fn time_store<R: Clock + Threads + Wait + Sync, S: Source + Drop>(
     let mut runners = runners_of(alloc, readers, &keys)?;
     let reads = time_reads(rt, store, &mut runners, &keys)?;
     let mut last = next_rounds(alloc, &mut stream, plan.rounds, plan.in_round)?;
-    let rounds = if plan.way == Way::Busy {
+    let rounds = time_way(rt, store, &mut runners, &mut last, plan.way)?;
+    if found_all(&runners) {
+        Some(Took { reads, rounds })
+    } else {
+        None
+    }
+}
+
+// How long the rounds take, with readers that read on or not.
+fn time_way<R: Clock + Threads + Wait + Sync>(
+    rt: &R,
+    store: &mut Store,
+    runners: &mut Vec<Runner>,
+    rounds: &mut Vec<Vec<Delivery>>,
+    way: Way,
+) -> Option<Duration> {
+    if way == Way::Busy {
         // On four processors the writer then has one of its own.
         let _spare = runners.pop();
-        time_busy(rt, store, &mut runners, &mut last)?
+        time_busy(rt, store, runners, rounds)
     } else {
-        time_rounds(rt, store, &mut last)?
-    };
-    if !found_all(&runners) {
-        return None;
+        time_rounds(rt, store, rounds)
     }
-    Some(Took { reads, rounds })
 }
 
 // Takes this many records, and answers their keys.
@@ -88,14 +112,30 @@ fn load<R: Threads + Wait + Sync, S: Source + Drop>(
 ) -> Option<Vec<Key>> {
     let mut keys = Vec::new(alloc);
     for delivery in next_deliveries(alloc, stream, records)? {
-        for image in delivery.images() {
-            keys.push(image.key.dup().ok()?).ok()?;
-        }
-        let mut deliveries = Vec::with_capacity(alloc, 1).ok()?;
-        deliveries.push(delivery).ok()?;
-        store.take(rt, deliveries)?;
+        add_keys(&mut keys, &delivery)?;
+        take_one(rt, alloc, store, delivery)?;
     }
     Some(keys)
+}
+
+/// Adds the keys of a delivery.
+pub fn add_keys(keys: &mut Vec<Key>, delivery: &Delivery) -> Option<()> {
+    for image in delivery.images() {
+        keys.push(image.key.dup().ok()?).ok()?;
+    }
+    Some(())
+}
+
+// Takes a round of one delivery.
+fn take_one<R: Threads + Wait + Sync>(
+    rt: &R,
+    alloc: Global,
+    store: &mut Store,
+    delivery: Delivery,
+) -> Option<()> {
+    let mut deliveries = Vec::with_capacity(alloc, 1).ok()?;
+    deliveries.push(delivery).ok()?;
+    store.take(rt, deliveries)
 }
 
 /// The next rounds, each of this many messages. The first is to be popped first.
@@ -138,14 +178,18 @@ fn time_reads<R: Clock + Threads + Sync>(
 ) -> Option<Duration> {
     let start = Instant::now(rt).ok()?;
     match store {
-        Store::Plain(region) => {
-            for key in keys {
-                let _cell = region.read(key, None).ok()?;
-            }
-        }
+        Store::Plain(region) => read_here(region, keys)?,
         Store::Live(_) => read_all(rt, runners),
     }
     start.elapsed(rt).ok()
+}
+
+// Reads each key once.
+fn read_here(region: &Region, keys: &[Key]) -> Option<()> {
+    for key in keys {
+        let _cell = region.read(key, None).ok()?;
+    }
+    Some(())
 }
 
 fn time_rounds<R: Clock + Threads + Wait + Sync>(

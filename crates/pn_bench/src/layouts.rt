@@ -1,6 +1,6 @@
 //! Changes the layout of a region of sixteen tablets, by the clock.
 
-use crate::driver::{IN_BATCH, next_rounds};
+use crate::driver::{IN_BATCH, add_keys, next_rounds};
 use crate::plan::Plan;
 use pn_apply::Open;
 use pn_join::Dup;
@@ -19,17 +19,40 @@ const TABLETS: usize = 16;
 /// How often the layout is changed, by one key at each bound, between the first rounds and the last ones.
 const CHANGES: usize = 100;
 
-/// How many microseconds a region took to be built, its layout to be changed and changed back, and rounds before and
-/// after many changes; and how many leaves it had before and after them.
-#[derive(Drop)]
+/// How many microseconds a region took to be built, and rounds before and after changes of its layout.
+#[derive(Clone, Copy)]
 pub struct Laid {
-    pub built: u128,
-    pub there: u128,
-    pub back: u128,
-    pub before: u128,
-    pub after: u128,
-    pub leaves: usize,
-    pub leaves_after: usize,
+    built: u128,
+    before: u128,
+    after: u128,
+    changes: Changes,
+}
+
+/// How many microseconds it took to change a layout and to change it back, and how many leaves there were before and
+/// after many changes.
+#[derive(Clone, Copy)]
+struct Changes {
+    there: u128,
+    back: u128,
+    leaves: usize,
+    leaves_after: usize,
+}
+
+impl Laid {
+    /// What is told of it.
+    pub fn text(&self, alloc: Global) -> Option<String> {
+        let changes = self.changes;
+        let mut text = String::new(alloc);
+        writeln!(
+            text,
+            "{} {} {} microseconds",
+            self.built, changes.there, changes.back
+        )
+        .ok()?;
+        writeln!(text, "{} {} microseconds", self.before, self.after).ok()?;
+        write!(text, "{} {} leaves", changes.leaves, changes.leaves_after).ok()?;
+        Some(text)
+    }
 }
 
 /// Measures a plan, where the stream has enough messages.
@@ -39,30 +62,93 @@ pub fn time_layouts<R: Clock + Threads + Sync, S: Source + Drop>(
     mut stream: StreamReader<S>,
     plan: Plan,
 ) -> Option<Laid> {
-    let rounds = plan.records.div_ceil(IN_BATCH);
-    let mut first = next_rounds(alloc, &mut stream, rounds, IN_BATCH)?;
-    let mut before = next_rounds(alloc, &mut stream, plan.rounds, plan.in_round)?;
-    let mut after = next_rounds(alloc, &mut stream, plan.rounds, plan.in_round)?;
-    let keys = sorted_keys(alloc, &first)?;
-    let step = keys.len() / TABLETS;
-    let mut region = Region::new(alloc, layout_from(alloc, &keys, step)?).ok()?;
-    let built = time_rounds(rt, &mut region, &mut first)?;
-    let before = time_rounds(rt, &mut region, &mut before)?;
-    let leaves = leaves_of(&region)?;
-    let there = time_change(rt, &mut region, layout_from(alloc, &keys, step / 2)?)?;
-    let back = time_change(rt, &mut region, layout_from(alloc, &keys, step)?)?;
-    change_often(alloc, &mut region, &keys, step)?;
-    let leaves_after = leaves_of(&region)?;
-    let after = time_rounds(rt, &mut region, &mut after)?;
+    let first = next_rounds(
+        alloc,
+        &mut stream,
+        plan.records.div_ceil(IN_BATCH),
+        IN_BATCH,
+    )?;
+    let mut laying = Laying::new(alloc, &first)?;
+    let built = time_rounds(rt, &mut laying.region, first)?;
+    let before = laying.time_next(rt, &mut stream, plan)?;
+    let changes = laying.time_changes(rt)?;
+    let after = laying.time_next(rt, &mut stream, plan)?;
     Some(Laid {
         built,
-        there,
-        back,
         before,
         after,
-        leaves,
-        leaves_after,
+        changes,
     })
+}
+
+/// A region of sixteen tablets, and the keys that it was built with.
+#[derive(Drop)]
+struct Laying {
+    region: Region,
+    keys: Vec<Key>,
+    alloc: Global,
+}
+
+impl Laying {
+    // An empty region, whose tablets are to have equal numbers of the rounds' keys.
+    fn new(alloc: Global, rounds: &[Vec<Delivery>]) -> Option<Laying> {
+        let keys = sorted_keys(alloc, rounds)?;
+        let layout = layout_from(alloc, &keys, keys.len() / TABLETS)?;
+        let region = Region::new(alloc, layout).ok()?;
+        Some(Laying {
+            region,
+            keys,
+            alloc,
+        })
+    }
+
+    // How long the plan's next rounds take.
+    fn time_next<R: Clock + Threads + Sync, S: Source + Drop>(
+        &mut self,
+        rt: &R,
+        stream: &mut StreamReader<S>,
+        plan: Plan,
+    ) -> Option<u128> {
+        let rounds = next_rounds(self.alloc, stream, plan.rounds, plan.in_round)?;
+        time_rounds(rt, &mut self.region, rounds)
+    }
+
+    // Changes the layout by half a tablet and back, and then often.
+    fn time_changes<R: Clock>(&mut self, rt: &R) -> Option<Changes> {
+        let step = self.keys.len() / TABLETS;
+        let leaves = leaves_of(&self.region)?;
+        let there = self.time_change(rt, step / 2)?;
+        let back = self.time_change(rt, step)?;
+        self.change_often(step)?;
+        let leaves_after = leaves_of(&self.region)?;
+        Some(Changes {
+            there,
+            back,
+            leaves,
+            leaves_after,
+        })
+    }
+
+    // How long it takes to lay the tablets out from the key of this index on.
+    fn time_change<R: Clock>(&mut self, rt: &R, first: usize) -> Option<u128> {
+        let layout = layout_from(self.alloc, &self.keys, first)?;
+        let start = Instant::now(rt).ok()?;
+        self.region.relayout(layout).ok()?;
+        Some(start.elapsed(rt).ok()?.as_micros())
+    }
+
+    // Moves all bounds, each time by one key, and then back.
+    fn change_often(&mut self, first: usize) -> Option<()> {
+        for change in 1..CHANGES {
+            self.change(first.saturating_sub(change))?;
+        }
+        self.change(first)
+    }
+
+    fn change(&mut self, first: usize) -> Option<()> {
+        let layout = layout_from(self.alloc, &self.keys, first)?;
+        self.region.relayout(layout).ok()
+    }
 }
 
 // All keys of rounds, in order.
@@ -75,13 +161,6 @@ fn sorted_keys(alloc: Global, rounds: &[Vec<Delivery>]) -> Option<Vec<Key>> {
     }
     keys.sort().ok()?;
     Some(keys)
-}
-
-fn add_keys(keys: &mut Vec<Key>, delivery: &Delivery) -> Option<()> {
-    for image in delivery.images() {
-        keys.push(image.key.dup().ok()?).ok()?;
-    }
-    Some(())
 }
 
 // Bounds at equal distances, from the key of this index on.
@@ -98,28 +177,13 @@ fn layout_from(alloc: Global, keys: &[Key], first: usize) -> Option<Layout> {
 fn time_rounds<R: Clock + Threads + Sync>(
     rt: &R,
     region: &mut Region,
-    rounds: &mut Vec<Vec<Delivery>>,
+    mut rounds: Vec<Vec<Delivery>>,
 ) -> Option<u128> {
     let start = Instant::now(rt).ok()?;
     for _ in 0..rounds.len() {
         region.round(rt, rounds.pop()?, 1, &Open).ok()?;
     }
     Some(start.elapsed(rt).ok()?.as_micros())
-}
-
-fn time_change<R: Clock>(rt: &R, region: &mut Region, layout: Layout) -> Option<u128> {
-    let start = Instant::now(rt).ok()?;
-    region.relayout(layout).ok()?;
-    Some(start.elapsed(rt).ok()?.as_micros())
-}
-
-// Moves all bounds, each time by one key, and then back.
-fn change_often(alloc: Global, region: &mut Region, keys: &[Key], first: usize) -> Option<()> {
-    for change in 1..CHANGES {
-        let layout = layout_from(alloc, keys, first.saturating_sub(change))?;
-        region.relayout(layout).ok()?;
-    }
-    region.relayout(layout_from(alloc, keys, first)?).ok()
 }
 
 fn leaves_of(region: &Region) -> Option<usize> {

@@ -19,33 +19,40 @@ use crate::driver::time;
 use crate::layouts::time_layouts;
 use crate::plan::{Plan, Way};
 use pn_join::Name;
+use pn_line::Source;
 use pn_stream::StreamReader;
+use std::alloc::Global;
 use std::io::BufReader;
+use std::rt::Clock;
+use std::sync::Wait;
+use std::thread::Threads;
 use std::{env, io};
 
 /// How many bytes of input are read at a time.
 const INPUT_CAPACITY: usize = 65_536;
 
 fn main(rt: HostRuntime) -> io::Result<()> {
-    let plan = Plan::read(env::args(&rt)?);
-    let input = BufReader::with_capacity(rt.alloc(), INPUT_CAPACITY, rt.reader())?;
-    let (Some(plan), Ok(name)) = (plan, Name::read(b"east")) else {
+    let Some(plan) = Plan::read(env::args(&rt)?) else {
         return println!(rt; "no plan");
     };
-    let stream = StreamReader::new(rt.alloc(), name, 0, input);
-    if plan.way == Way::Relayout {
-        let Some(laid) = time_layouts(&rt, rt.alloc(), stream, plan) else {
-            return println!(rt; "no time");
-        };
-        eprintln!(rt; "{} {} {} microseconds", laid.built, laid.there, laid.back)?;
-        eprintln!(rt; "{} {} microseconds", laid.before, laid.after)?;
-        eprintln!(rt; "{} {} leaves", laid.leaves, laid.leaves_after)?;
-        return println!(rt; "{} records, {} rounds", plan.records, plan.rounds);
-    }
-    let Some(took) = time(&rt, rt.alloc(), stream, plan) else {
+    let input = BufReader::with_capacity(rt.alloc(), INPUT_CAPACITY, rt.reader())?;
+    let Some(told) = measure(&rt, rt.alloc(), input, plan) else {
         return println!(rt; "no time");
     };
-    let (reads, rounds) = (took.reads.as_micros(), took.rounds.as_micros());
-    eprintln!(rt; "{reads} {rounds} microseconds")?;
+    eprintln!(rt; "{}", told.as_str())?;
     println!(rt; "{} records, {} rounds", plan.records, plan.rounds)
+}
+
+// What is told of a plan, where the stream has enough messages.
+fn measure<R: Clock + Threads + Wait + Sync, S: Source + Drop>(
+    rt: &R,
+    alloc: Global,
+    input: S,
+    plan: Plan,
+) -> Option<String> {
+    let stream = StreamReader::new(alloc, Name::read(b"east").ok()?, 0, input);
+    if plan.way == Way::Relayout {
+        return time_layouts(rt, alloc, stream, plan)?.text(alloc);
+    }
+    time(rt, alloc, stream, plan)?.text(alloc)
 }

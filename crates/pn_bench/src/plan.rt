@@ -40,11 +40,15 @@ pub struct Plan {
 impl Plan {
     /// The plan of the program's arguments.
     pub fn read(mut words: Args<Global>) -> Option<Plan> {
+        let way = Way::read(words.nth(1)?.as_str())?;
+        let records = number_of(&mut words)?;
+        let in_round = number_of(&mut words)?;
+        let rounds = number_of(&mut words)?;
         Some(Plan {
-            way: Way::read(words.nth(1)?.as_str())?,
-            records: number_of(&mut words)?,
-            in_round: number_of(&mut words)?,
-            rounds: number_of(&mut words)?,
+            way,
+            records,
+            in_round,
+            rounds,
         })
     }
 }

@@ -1,14 +1,13 @@
 -- Gets that are gone on with, key by key.
-use Rattle.std.proofs.Common.{◌≡◌, ℕ, ◌+◌, ◌<◌, ◌≤◌, List, [], ◌∷◌, ◌++◌, length, map, take, get_or, true, Option, Some, None, Result, Ok, Err, Vec, Global, refl, sym, ap, ◌∙◌, subst, arith, length-append}
+use Rattle.std.proofs.Common.{◌≡◌, ℕ, ◌+◌, ◌<◌, List, [], ◌∷◌, ◌++◌, length, map, take, get_or, true, Option, Some, None, Ok, Err, refl, sym, ap, ◌∙◌, subst, arith, length-append}
 use Rattle.std.specs.Prelude.{IfErr, IfSome, IsSomeAnd, IsOkAnd, option_map}
 use Rattle.std.specs.List.{AllByRecursion}
 use Rattle.std.proofs.lemmas.List.{length-map}
 use Rattle.pn_record.specs.Sets.{CellValue}
-use Rattle.pn_record.specs.declared.cell.Cell.{Cell}
 use Rattle.pn_tablet.specs.Layouts.{Bounds, tablet_of}
 use Rattle.pn_tablet.specs.Refusals.{Refuses}
 use Rattle.pn_scan.specs.Candidates.{Look}
-use Rattle.pn_scan.specs.Paging.{AreMade, Follows, LookMade, looks_in}
+use Rattle.pn_scan.specs.Paging.{Follows, LookMade, looks_in}
 use Rattle.pn_scan.specs.Pages.{first_refusal, unless}
 use Rattle.pn_scan.specs.Reads.{cells_of_keys}
 use Rattle.pn_scan.specs.Views.{Answers, IsFoundIn, Looks, LooksOnce, cell_at, is_memory}
@@ -17,7 +16,7 @@ use Rattle.pn_scan.specs.declared.fault.ScanFault.TheVariants.{Memory}
 use Rattle.pn_scan.proofs.Gets.{IsGetting, getting_more, get_fails, get_ends}
 use Rattle.pn_scan.proofs.Paging.{made_more, looks_more}
 use Rattle.pn_scan.proofs.Scans.{none_refused_front}
-use Rattle.pn_live.specs.Getting.{GetWalkValue, IsOnGet, EndsGet}
+use Rattle.pn_live.specs.Getting.{IsOnGet, EndsGet}
 use Rattle.pn_live.specs.Readers.{LiveReaderValue, LooksLive}
 use Rattle.pn_live.proofs.Getting.{Cells, Read, AreAtHand, found_cell, one_more}
 
@@ -29,7 +28,7 @@ hand_of : (hand : Option Cells) (cells : List (Option CellValue)) → IfSome (at
 hand_of None cells has = tt
 hand_of (Some all) cells has = has
 
-of_hand : (hand : Option Cells) (cells : List (Option CellValue)) → AreAtHand hand cells → IfSome (at_hand hand) (λ all. all ≡ cells)
+pub of_hand : (hand : Option Cells) (cells : List (Option CellValue)) → AreAtHand hand cells → IfSome (at_hand hand) (λ all. all ≡ cells)
 of_hand None cells has = tt
 of_hand (Some all) cells has = has
 
@@ -46,7 +45,7 @@ pub follows_more : {V : Type 0} (old mid : V) (more : List (LookMade V)) (made :
 follows_more old mid [] made follows here = (here ∙ follows, refl)
 follows_more old mid (first ∷ more) made follows here = (follows.0, follows_more first.new mid more made follows.1 here)
 
-module _ {bounds : Bounds} {keys : List (List ℕ)} {read : ℕ} {hand : Option Cells} {trace : List (LookMade LiveReaderValue)}
+module _ {bounds : Bounds} {keys : List (List ℕ)} {read : ℕ} {trace : List (LookMade LiveReaderValue)} (hand : Option Cells)
     (on : IsOnGet bounds (record { keys = keys; cells = at_hand hand; read = read }) trace) where
   abbrev seen : List Look
   seen = looks_in trace

@@ -1,5 +1,5 @@
 -- What joins make of drafts.
-use Rattle.std.proofs.Common.{◌≡◌, ◌+◌, Bool, if◌then◌else◌, List, [], ◌∷◌, ◌++◌, map, refl, sym, subst, Ok, Err}
+use Rattle.std.proofs.Common.{◌≡◌, Bool, if◌then◌else◌, List, [], ◌∷◌, ◌++◌, map, refl, sym, subst, Ok, Err}
 use Rattle.pn_tablet.specs.Steps.{step, tablet_after, after_step, with_join}
 use Rattle.pn_tablet.specs.Tablets.{TabletStateValue}
 use Rattle.pn_tablet.specs.declared.fault.OpFault.TheVariants.{WrongRange}

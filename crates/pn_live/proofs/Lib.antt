@@ -10,6 +10,7 @@ pub mod Knowing
 pub mod ManyLooks
 pub mod Learning
 pub mod Entering
+pub mod GetEnds
 pub mod GetWalks
 pub mod Getting
 pub mod Opening
@@ -25,3 +26,5 @@ pub mod HonestLists
 pub mod Joining
 pub mod Drafting
 pub mod Crossing
+pub mod StartFaults
+pub mod Starting

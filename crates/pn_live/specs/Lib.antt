@@ -17,4 +17,5 @@ pub mod Proofs
 pub mod Published
 pub mod Readers
 pub mod Recovery
+pub mod Starting
 pub mod TabletReaders

@@ -20,9 +20,10 @@ mod read_guard;
 mod reader;
 mod reader_handle;
 mod region;
+pub mod start_laws;
 mod tablet_reader;
 
-pub use fault::OpenFault;
+pub use fault::{OpenFault, StartFault};
 pub use front::Front;
 pub use get_walk::GetWalk;
 pub use reader::{ENTRY_RECORDS, LiveReader};

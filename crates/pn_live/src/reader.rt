@@ -18,7 +18,8 @@ use pn_tablet::{CopyFault, Layout, RecordCounts, TabletCopy};
 use std::alloc::Global;
 use std::marker::Model;
 
-/// How many records one entry into a tablet looks at where there are as many: a page without conditions takes no more.
+/// How many records one entry into a tablet looks at where there are as many; it takes the others with it, by a slice. While a
+/// reader is inside, the writer spins. A page without conditions takes no more records, and a slice costs more than these.
 pub const ENTRY_RECORDS: usize = 1_024;
 
 /// A reader of a live region, for one thread at a time. None of its calls waits.

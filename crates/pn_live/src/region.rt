@@ -13,6 +13,7 @@ mod opening;
 mod planning;
 mod recovery;
 mod rounds;
+mod starting;
 
 use crate::publication_order::PublicationOrder;
 use crate::published_tablet::PublishedTablet;

@@ -7,7 +7,9 @@ pub mod CommandParts
 pub mod ControlJson
 pub mod ControlLines
 pub mod EachFits
+pub mod MadeReplies
 pub mod MadeRows
 pub mod ReadLines
 pub mod Refusals
+pub mod ShownRecords
 pub mod Walks

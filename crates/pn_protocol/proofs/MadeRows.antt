@@ -1,21 +1,19 @@
 -- The rows of records, made a piece at a time.
-use Rattle.std.proofs.Common.{◌≡◌, ◌≢◌, ⊥, ℕ, zero, suc, ◌+◌, ◌<◌, ◌≤◌, ◌⊎◌, inl, inr, Bool, true, false, cond, ◌&&◌, ◌==◌, ltb, List, [], ◌∷◌, ◌++◌, map, length, take, drop, get_or, zip, Option, Some, None, codes, refl, sym, ap, ◌∙◌, subst, append_assoc, append-nil, arith, length-append}
-use Rattle.std.specs.Prelude.{IfSome, Vec, nat_lt}
+use Rattle.std.proofs.Common.{◌≡◌, ◌≢◌, ℕ, zero, suc, ◌+◌, ◌<◌, ◌≤◌, inl, inr, Bool, true, false, cond, ◌&&◌, ◌==◌, leb, ltb, List, [], ◌∷◌, ◌++◌, map, length, drop, get_or, Option, Some, None, codes, refl, sym, ap, ◌∙◌, subst, append_assoc, append-nil, arith, length-append, ◌-◌}
+use Rattle.std.specs.Prelude.{◌↔◌, IfSome, IsTrue, Vec}
 use Rattle.std.specs.declared.alloc.Global.{Global}
 use Rattle.std.specs.FinMap.{keys}
-use Rattle.std.specs.List.{list_all, slice_get}
-use Rattle.std.proofs.lemmas.Bool.{and_parts, leb-true}
+use Rattle.std.specs.List.{slice_get}
+use Rattle.std.proofs.lemmas.Bool.{and_parts, leb-true, eq-eqb, ne_eqb, lt-ltb}
 use Rattle.std.proofs.lemmas.List.{drop_all}
-use Rattle.json.specs.Print.{quoted}
 use Rattle.serde_json.specs.Data.{Data, string, array, object, Items, no_members, member}
 use Rattle.serde_json.specs.View.{items_of}
 use Rattle.serde_json.specs.Written.{comma_if, compact_text, items_text}
 use Rattle.serde_json.proofs.OnLiterals.{serde_json_on_literals}
 use Rattle.pn_json.specs.AppendedText.{AppendsText, MakesPiece}
-use Rattle.pn_json.specs.Lines.{line_of}
-use Rattle.pn_json.proofs.AppendedTexts.{appended_as, appended_both, appended_none}
+use Rattle.json.specs.Print.{quoted}
+use Rattle.pn_json.proofs.AppendedTexts.{appended_both, appended_none}
 use Rattle.pn_record.specs.Limits.{ContentValue, is_key}
-use Rattle.pn_record.specs.CellMap.{Entries}
 use Rattle.pn_record.specs.Sets.{CellValue}
 use Rattle.pn_record.specs.States.{state_of}
 use Rattle.pn_record.specs.Writing.{content_data, version_data}
@@ -24,10 +22,9 @@ use Rattle.pn_record.specs.declared.cell.CellState.TheVariants.{One, Deleted, Co
 use Rattle.pn_record.proofs.ImageText.{length-quoted}
 use Rattle.pn_protocol.specs.declared.reply.rows_text.Place.{Place}
 use Rattle.pn_protocol.specs.declared.reply.rows_text.Place.TheVariants.{Record, End}
-use Rattle.pn_protocol.specs.declared.reply.rows_text.Shown.{Shown}
-use Rattle.pn_protocol.specs.declared.reply.rows_text.Shown.TheVariants as shown
-use Rattle.pn_protocol.specs.Reply.Making.{Found, HasContent, IsPlaceOf, MakesRecord, after_part, before_text, end_of, found_in, place_rest, record_data, record_rest, record_text, records_rest, rest_from, row_end, rows_text}
-use Rattle.pn_protocol.specs.Reply.Record.{get_data, read_data, row_or_null}
+use Rattle.pn_protocol.specs.declared.reply.shown_records.Shown.{Shown}
+use Rattle.pn_protocol.specs.declared.reply.shown_records.Shown.TheVariants as shown
+use Rattle.pn_protocol.specs.Reply.Making.{Found, HasContent, IsPlaceOf, MakesRecord, next_place, after_part, before_text, end_of, found_in, place_rest, record_rest, record_text, rest_from, row_end, rows_text}
 use Rattle.pn_protocol.specs.Reply.Rows.{row_data, state_word}
 
 -- ---- lengths
@@ -39,7 +36,7 @@ length_state Conflict = omega arith
 
 pub length-row_end : (key : List ℕ) (cell : CellValue) → is_key key ≡ true → length (compact_text (version_data cell.0)) ≤ 64 → length (row_end key cell) ≤ 2000
 length-row_end key cell is version =
-    let long = and_parts _ _ is in
+    let long = and_parts (leb 1 (length key)) (leb (length key) 256) is in
     let after = compact_text (version_data cell.0) ++ codes "}" in
     let state = state_word (state_of cell) ++ (codes "\",\"version\":" ++ after) in
     omega (
@@ -94,6 +91,11 @@ content_rest (suc n) key cell shown here within =
 length_before : (n : ℕ) → (0 < length (before_text n)) × (length (before_text n) ≤ 13)
 length_before zero = (omega arith, omega arith)
 length_before (suc n) = (omega arith, omega arith)
+
+-- a content of a row that is there
+pub content_within : (n : ℕ) (key : List ℕ) (cell : CellValue) → HasContent n (key, Some cell) → 0 < length (keys cell.1) → n < length (keys cell.1)
+content_within zero key cell is some = some
+content_within (suc n) key cell is some = is
 
 -- a content that others follow
 pub content_then : (n next : ℕ) (key : List ℕ) (cell : CellValue) (shown : ContentValue) (old new : Vec ℕ Global) → shown ≡ get_or (keys cell.1) n shown → next ≡ n + 1 → next < length (keys cell.1)
@@ -188,29 +190,35 @@ comma_before index content = comma_if (ltb 0 index && content == 0)
 record_left : (records : List Found) (end : List ℕ) (index content : ℕ) (found : Found) → slice_get records index ≡ Some found
     → place_rest records end (Record index content) ≡ comma_before index content ++ (record_rest content found ++ rows_text true (drop (suc index) records) end)
 record_left records end index zero found there =
-    ap (λ (l : List Found). rows_text (ltb 0 index) l end) (drop_at records index found there) ∙ ap (λ (b : Bool). comma_if b ++ (record_text found ++ rows_text true (drop (suc index) records) end)) (and_true (ltb 0 index))
+    ap (λ (l : List Found). rows_text (ltb 0 index) l end) (drop_at records index found there)
+    ∙ ap (λ (b : Bool). comma_if b ++ (record_text found ++ rows_text true (drop (suc index) records) end)) (and_true (ltb 0 index) ∙ ap (λ (b : Bool). ltb 0 index && b) (sym (eq-eqb 0 0 refl)))
   where
     and_true : (b : Bool) → b ≡ (b && true)
     and_true true = refl
     and_true false = refl
 record_left records end index (suc n) found there =
-    ap (λ (l : List Found). rest_from (suc n) l end) (drop_at records index found there) ∙ ap (λ (b : Bool). comma_if b ++ (record_rest (suc n) found ++ rows_text true (drop (suc index) records) end)) (and_false (ltb 0 index))
+    ap (λ (l : List Found). rest_from (suc n) l end) (drop_at records index found there)
+    ∙ ap (λ (b : Bool). comma_if b ++ (record_rest (suc n) found ++ rows_text true (drop (suc index) records) end))
+    (and_false (ltb 0 index) ∙ ap (λ (b : Bool). ltb 0 index && b) (sym (ne_eqb (suc n) 0 (λ e. omega (arith, e)))))
   where
     and_false : (b : Bool) → false ≡ (b && false)
     and_false true = refl
     and_false false = refl
 
--- the place after a part of a record
-abbrev pub next_place : ℕ → ℕ → Place
-next_place index zero = Record (index + 1) 0
-next_place index (suc n) = Record index (suc n)
+-- where the next content is the first, the next record comes
+next_is_first : (index : ℕ) → next_place index 0 ≡ Record (index + 1) 0
+next_is_first index = ap (λ (b : Bool). cond b (Record (index + 1) 0) (Record index 0)) (eq-eqb 0 0 refl)
+
+next_is_later : (index n : ℕ) → next_place index (suc n) ≡ Record index (suc n)
+next_is_later index n = ap (λ (b : Bool). cond b (Record (index + 1) 0) (Record index (suc n))) (ne_eqb (suc n) 0 (λ e. omega (arith, e)))
 
 next_left : (records : List Found) (end : List ℕ) (index next : ℕ) (found : Found) → slice_get records index ≡ Some found
     → place_rest records end (next_place index next) ≡ after_part next found ++ rows_text true (drop (suc index) records) end
 next_left records end index zero found there =
     let after : index + 1 ≡ suc index = omega arith in
-    ap (λ (k : ℕ). rows_text (ltb 0 k) (drop k records) end) after
-next_left records end index (suc n) found there = ap (λ (l : List Found). rest_from (suc n) l end) (drop_at records index found there)
+    ap (place_rest records end) (next_is_first index) ∙ ap (λ (k : ℕ). rows_text (ltb 0 k) (drop k records) end) after
+    ∙ ap (λ (b : Bool). rows_text b (drop (suc index) records) end) (lt-ltb 0 (suc index) (omega arith))
+next_left records end index (suc n) found there = ap (place_rest records end) (next_is_later index n) ∙ ap (λ (l : List Found). rest_from (suc n) l end) (drop_at records index found there)
 
 length_comma : (b : Bool) → length (comma_if b) ≤ 1
 length_comma true = omega arith
@@ -234,6 +242,9 @@ record_made records end index content next found old mid new there comma made =
       some = inr (omega (arith, length-append before made.part));
     }
 
+pub at_found : (P : Found → Type 0) (o : Option Found) (found : Found) → o ≡ Some found → IfSome o P → P found
+at_found P o found there holds = subst (λ (p : Option Found). IfSome p P) there holds
+
 in_first : (o : Option Found) → IfSome o (HasContent 0)
 in_first None = tt
 in_first (Some found) = tt
@@ -242,33 +253,20 @@ pub first_place : (records : List Found) (index : ℕ) → IsPlaceOf records (Re
 first_place records index = in_first (slice_get records index)
 
 pub place_next : (records : List Found) (index next : ℕ) (found : Found) → slice_get records index ≡ Some found → HasContent next found → IsPlaceOf records (next_place index next)
-place_next records index zero found there is = first_place records (index + 1)
-place_next records index (suc n) found there is = subst (λ (o : Option Found). IfSome o (HasContent (suc n))) (sym there) is
+place_next records index zero found there is = subst (IsPlaceOf records) (sym (next_is_first index)) (first_place records (index + 1))
+place_next records index (suc n) found there is = subst (IsPlaceOf records) (sym (next_is_later index n)) (subst (λ (o : Option Found). IfSome o (HasContent (suc n))) (sym there) is)
 
--- ---- whole replies
+-- ---- places
 
--- rows of an array, with what comes after them
-rows_items : (later : Bool) (records : List Found) (rest : List ℕ) → items_text later (items_of (map record_data records)) ++ rest ≡ rows_text later records (93 ∷ rest)
-rows_items later [] rest = refl
-rows_items later (found ∷ records) rest =
-    append_assoc (comma_if later) (record_text found ++ items_text true (items_of (map record_data records))) rest
-    ∙ ap (λ (l : List ℕ). comma_if later ++ l) (append_assoc (record_text found) (items_text true (items_of (map record_data records))) rest ∙ ap (λ (l : List ℕ). record_text found ++ l) (rows_items true records rest))
+end_of_place : (records : List Found) (end : List ℕ) (place : Place) → 0 < length end → place_rest records end place ≡ [] → place ≡ End
+end_of_place records end (Record index content) some none = absurd (rest_some records end index content some none)
+end_of_place records end End some none = refl
 
-pub read_made : (key : List ℕ) (cell : Option CellValue) → codes "{\"row\":" ++ rows_text false ((key, cell) ∷ []) (codes "}\n") ≡ line_of (read_data key cell)
-unfolding line_of read_data serde_json_on_literals
-read_made key cell = ap (λ (l : List ℕ). codes "{\"row\":" ++ l) (sym (append_assoc (record_text (key, cell)) (codes "}") (codes "\n")))
+-- nothing is left exactly at the end
+pub made_where : (records : Shown) (place : Place) (made : Bool) → (IsTrue made ↔ (place ≡ End)) → (IsTrue made ↔ (place_rest (found_in records) (end_of records) place ≡ []))
+made_where records place made is =
+    let sizes = length_end records in
+    (λ yes. ap (place_rest (found_in records) (end_of records)) (is.0 yes), λ none. is.1 (end_of_place (found_in records) (end_of records) place sizes.0 none))
 
-pub get_made : (names : List (List ℕ)) (cells : List (Option CellValue)) → codes "{\"rows\":[" ++ rows_text false (zip names cells) (codes "]}\n") ≡ line_of (get_data names cells)
-unfolding line_of get_data serde_json_on_literals
-get_made names cells =
-    let rows = items_text false (items_of (map record_data (zip names cells))) in
-    ap (λ (l : List ℕ). codes "{\"rows\":[" ++ l) (sym (rows_items false (zip names cells) (codes "}\n")) ∙ sym (append_assoc rows (codes "}") (codes "\n")))
-
-shown_rows : (rows : Entries) → map record_data (map (λ (row : List ℕ × CellValue). (row.0, Some row.1)) rows) ≡ map row_data rows
-shown_rows [] = refl
-shown_rows (row ∷ rows) = ap (λ (l : List Data). row_data row ∷ l) (shown_rows rows)
-
-pub page_made : (head : List ℕ) (rows : Entries) → head ++ rows_text false (map (λ (row : List ℕ × CellValue). (row.0, Some row.1)) rows) (codes "]}\n") ≡ head ++ (items_text false (items_of (map row_data rows)) ++ codes "}\n")
-page_made head rows =
-    let records = map (λ (row : List ℕ × CellValue). (row.0, Some row.1)) rows in
-    ap (λ (l : List ℕ). head ++ l) (sym (rows_items false records (codes "}\n")) ∙ ap (λ (ds : List Data). items_text false (items_of ds) ++ codes "}\n") (shown_rows rows))
+pub nothing_made : (left : List ℕ) (v : Vec ℕ Global) → left ≡ [] → MakesPiece 65536 left left v v
+nothing_made left v none = record { piece = []; appended = appended_none v; split = refl; short = omega arith; some = inl none }

@@ -5,6 +5,7 @@ pub mod Faults
 pub mod LineStats
 pub mod Making
 pub mod Notices
+pub mod Pieces
 pub mod Record
 pub mod Refusals
 pub mod Rows

@@ -1,6 +1,6 @@
 //! Replies.
 
-ghost use Rattle.pn_protocol.specs.Reply.Making.{IsShortFor};
+ghost use Rattle.pn_protocol.specs.Reply.Pieces.{IsShortFor};
 
 pub(crate) mod answers;
 mod errors;
@@ -13,6 +13,7 @@ pub(crate) mod rows_text;
 pub(crate) mod scan;
 pub(crate) mod short;
 mod shown;
+pub(crate) mod shown_records;
 pub(crate) mod stats;
 pub(crate) mod tablets;
 pub(crate) mod text;

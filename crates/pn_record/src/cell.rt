@@ -201,7 +201,7 @@ impl Cell {
         Some(other)
     }
 
-    // AppendsText the contents of another cell of the same version.
+    // Adds the contents of another cell of the same version.
     fn add_contents(&mut self, other: &Cell) -> Result<(), NoMemory>
         ensures ok { OnOk result (self.new ≡ (self.old.0, union self.old.1 other.now.1)) }
         ensures err { OnErr result (self.new ≡ self.old) }

@@ -49,6 +49,7 @@ pub mod ServingTablets
 pub mod Sound
 pub mod Spelled
 pub mod Standing
+pub mod Starting
 pub mod StillHeld
 pub mod StreamCount
 pub mod TakenImages

@@ -21,4 +21,5 @@ pub mod Rising
 pub mod Rounds
 pub mod Serving
 pub mod Since
+pub mod Starting
 pub mod Taken

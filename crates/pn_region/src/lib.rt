@@ -18,6 +18,7 @@ pub mod read_laws;
 mod reads;
 pub mod recovery_laws;
 mod region;
+pub mod start_laws;
 
 pub use advancing::{Covered, common_marks};
 pub use fault::{AdvanceFault, RelayoutFault, RoundFault};

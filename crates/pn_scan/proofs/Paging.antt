@@ -1,7 +1,7 @@
 -- Pages that are gone on with, look by look.
-use Rattle.std.proofs.Common.{◌≡◌, ◌⊎◌, ℕ, zero, suc, ◌+◌, ◌-◌, ◌<◌, ◌≤◌, Bool, true, false, cond, List, [], ◌∷◌, ◌++◌, length, map, take, Option, Some, None, Result, Ok, Err, inl, inr, refl, sym, ap, ◌∙◌, subst, absurd, arith, append-nil, append_assoc, length-append}
-use Rattle.std.specs.Prelude.{filter, IfSome, OnOk, OnErr}
-use Rattle.std.specs.List.{AllByRecursion, range_with_len}
+use Rattle.std.proofs.Common.{◌≡◌, ◌⊎◌, ℕ, zero, suc, ◌+◌, ◌-◌, ◌<◌, ◌≤◌, Bool, true, false, cond, List, [], ◌∷◌, ◌++◌, length, map, take, nat_lt, Option, Some, None, Result, Ok, Err, inl, inr, refl, sym, ap, ◌∙◌, subst, arith, append-nil, append_assoc, length-append}
+use Rattle.std.specs.Prelude.{filter, IfSome, OnErr}
+use Rattle.std.specs.List.{range_with_len}
 use Rattle.std.specs.Option.{option_or}
 use Rattle.std.proofs.Math.Seq.{take-append_seam}
 use Rattle.std.proofs.lemmas.Bool.{cases_lt}
@@ -16,7 +16,7 @@ use Rattle.pn_scan.specs.Candidates.{Look, cells_in, is_candidate, candidates, r
 use Rattle.pn_scan.specs.Pages.{PageValue, refusal, first_refusal, first_page, unless}
 use Rattle.pn_scan.specs.Paging.{LookMade, AreMade, looks_in, Follows, Gaps, Moving, IsPreorder, LooksAfter, going_in, rows_to_come, steps_left, IsOnPage, EndsPage}
 use Rattle.pn_scan.specs.Parts.{PartValue, left_in, IsDone}
-use Rattle.pn_scan.specs.Views.{Answers, Looks, LooksOnce, is_memory, rows_at}
+use Rattle.pn_scan.specs.Views.{Looks, LooksOnce, is_memory, rows_at}
 use Rattle.pn_scan.specs.Visits.{GoesOn, IsVisit, IsWhole, IsScan}
 use Rattle.pn_scan.specs.WalkValues.{PageWalkValue, PartWalkValue}
 use Rattle.pn_scan.specs.declared.fault.ScanFault.{ScanFault}
@@ -24,7 +24,7 @@ use Rattle.pn_scan.specs.declared.fault.ScanFault.TheVariants.{Memory}
 use Rattle.pn_scan.specs.declared.walk.Part.{Part}
 use Rattle.pn_scan.specs.declared.walk.Part.TheVariants.{Done as FoundAll, Rest}
 use Rattle.pn_scan.proofs.Numbers.{Numbered, all_visited}
-use Rattle.pn_scan.proofs.Scans.{looks_more, found_more, rows_more, refused_last, or_none, goes_on_more, few_more, after_front, all_taken, more_left, is_right_too, ok_value, some_seen}
+use Rattle.pn_scan.proofs.Scans.{found_more, rows_more, refused_last, or_none, goes_on_more, few_more, after_front, all_taken, more_left, is_right_too, ok_value, some_seen}
 use Rattle.pn_scan.proofs.Visiting.{range_of, numbered_from}
 
 -- where no look was refused, none of some of them was
@@ -66,7 +66,7 @@ range_none next end past = let none : end - next ≡ 0 = omega arith in ap (rang
 front_of : (all xs ys : List ℕ) → all ≡ xs ++ ys → xs ≡ take (length xs) all
 front_of all xs ys is = sym (take-append_seam xs ys) ∙ ap (λ (l : List ℕ). take (length xs) l) (sym is)
 
-held : {P : Type 0} {A : Type 0} (o : Option A) → P → IfSome o (λ x. P)
+pub held : {P : Type 0} {A : Type 0} (o : Option A) → P → IfSome o (λ x. P)
 held None p = tt
 held (Some x) p = p
 
@@ -82,7 +82,7 @@ module _ {V : Type 0} {looks : V → Look → V → Type 0} {bounds : Bounds} {q
   abbrev seen : List Look
   seen = looks_in trace
 
-  numbers : List ℕ
+  abbrev numbers : List ℕ
   numbers = map (λ look. look.0) seen
 
   -- the look that is gone on with comes to the same rows
@@ -153,7 +153,7 @@ module _ {V : Type 0} {looks : V → Look → V → Type 0} {bounds : Bounds} {q
       abbrev made : LookMade V
       made = record { old = old; look = look; new = new }
 
-      all : List Look
+      abbrev all : List Look
       all = seen ++ look ∷ []
 
       abbrev longer : List (LookMade V)
@@ -209,7 +209,7 @@ module _ {V : Type 0} {looks : V → Look → V → Type 0} {bounds : Bounds} {q
 
       -- which found some rows
       module _ (part : PartValue) (right : rows_at query (query.limit + 1 - length walk.rows) look ≡ Ok part) where
-        parts : (refusal look ≡ None) × (part ≡ _)
+        parts : (refusal look ≡ None) × (part ≡ (take (query.limit + 1 - length walk.rows) (shown_rows query (cells_in look.1)), nat_lt (query.limit + 1 - length walk.rows) (length (shown_rows query (cells_in look.1)))))
         parts = ok_value (refusal look) _ part right
 
         none_refused : first_refusal all ≡ None
@@ -243,19 +243,19 @@ module _ {V : Type 0} {looks : V → Look → V → Type 0} {bounds : Bounds} {q
 -- between looks that were made the view moved
 pub looks_after : {V : Type 0} (moves : Moving V) (looks : V → Look → V → Type 0) (was now : V) (trace : List (LookMade V)) → AreMade looks trace → Gaps moves was trace now
     → (reached : V) × Looks (LooksAfter moves looks) was (looks_in trace) reached × moves reached now
-looks_after moves looks was now [] made gaps = (was, refl, gaps)
-looks_after moves looks was now (one ∷ trace) made gaps =
-    let more = looks_after moves looks one.new now trace made.1 gaps.1 in
-    (more.0, (one.new, record { between = one.old; moved = gaps.0; looked = made.0 }, more.1), more.2)
+looks_after moves looks was now [] are_made gaps = (was, refl, gaps)
+looks_after moves looks was now (one ∷ trace) are_made gaps =
+    let more = looks_after moves looks one.new now trace are_made.1 gaps.1 in
+    (more.0, (one.new, record { between = one.old; moved = gaps.0; looked = are_made.0 }, more.1), more.2)
 
 -- more looks, with nothing between them, after the view moved
 gaps_on : {V : Type 0} (moves : Moving V) (old new : V) (more : List (LookMade V)) (was : V) → IsPreorder moves → moves was old → Follows old more new → Gaps moves was more new
 gaps_on moves old new [] was order moved follows = subst (moves was) (sym follows) moved
-gaps_on moves old new (made ∷ more) was order moved follows = (subst (moves was) (sym follows.0) moved, gaps_on moves made.new new more made.new order (order.stays made.new) follows.1)
+gaps_on moves old new (one ∷ more) was order moved follows = (subst (moves was) (sym follows.0) moved, gaps_on moves one.new new more one.new order (order.stays one.new) follows.1)
 
 pub gaps_more : {V : Type 0} (moves : Moving V) (was between old new : V) (trace more : List (LookMade V)) → IsPreorder moves → Gaps moves was trace between → moves between old → Follows old more new → Gaps moves was (trace ++ more) new
 gaps_more moves was between old new [] more order gaps moved follows = gaps_on moves old new more was order (order.goes_on was between old gaps moved) follows
-gaps_more moves was between old new (made ∷ trace) more order gaps moved follows = (gaps.0, gaps_more moves made.new between old new trace more order gaps.1 moved follows)
+gaps_more moves was between old new (one ∷ trace) more order gaps moved follows = (gaps.0, gaps_more moves one.new between old new trace more order gaps.1 moved follows)
 
 begun_too : {V : Type 0} (answer : Result PageValue ScanFault) (trace : List (LookMade V)) → OnErr answer (0 < length trace) → OnErr answer (0 < length (looks_in trace))
 begun_too (Ok page) trace begun = tt

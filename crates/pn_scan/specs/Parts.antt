@@ -1,5 +1,5 @@
 -- Looks into one tablet that are gone on with: each is shown by the answer that it comes to.
-use Rattle.std.specs.Prelude.{◌≤◌, ℕ, ◌+◌, Bool, nat_lt, List, [], ◌++◌, length, take, Option, None, Some}
+use Rattle.std.specs.Prelude.{◌≤◌, ℕ, ◌+◌, Bool, nat_lt, ◌++◌, length, take}
 use Rattle.pn_record.specs.CellMap.{Entries}
 use Rattle.pn_scan.specs.Queries.{QueryValue}
 use Rattle.pn_scan.specs.Shown.{shown_rows}

@@ -57,7 +57,7 @@ pub trait View {
         ensures { result.now ≡ bounds self.now };
 
     /// The first `room` rows that a query shows of a tablet, whose number is below the layout's count, and whether it
-    /// shows more. A view of tablets that may change looks at `records` records at most, and then takes the others with it.
+    /// shows more. A view of tablets that may change looks at `records` records, or at some more, and then takes the others with it.
     ///
     /// `Recovering` exactly where the tablet recovers, `NoEntry` exactly where the entry was refused. After an error
     /// the view stays usable.

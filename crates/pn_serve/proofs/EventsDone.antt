@@ -43,7 +43,7 @@ none_left_by commands.Marks text false later none = none
 none_left_by (commands.Notices since) text false later none = none
 none_left_by commands.Tablets text false later none = none
 
-none_left : (events : List WriterEvent) → all_left (region_events events) ≡ []
+pub none_left : (events : List WriterEvent) → all_left (region_events events) ≡ []
 none_left [] = refl
 none_left (taken input ∷ later) = none_left later
 none_left (told asked said ∷ later) = none_left_by asked said.text said.refused (region_events later) (none_left later)

@@ -1,4 +1,5 @@
 pub mod Control
+pub mod Copies
 pub mod Lines
 pub mod Machine
 pub mod Runs

@@ -5,6 +5,7 @@ pub mod Gathering
 pub mod Honest
 pub mod HonestEvents
 pub mod Messages
+pub mod Opened
 pub mod Reading
 pub mod Reports
 pub mod Rounds

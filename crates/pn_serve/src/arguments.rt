@@ -5,7 +5,7 @@ ghost use Rattle.std.specs.declared.net.ip_addr.IpAddr.{IpAddr};
 ghost use Rattle.clap.specs.Words.{found_of, kind_of, rows_of, subcommand_rows_of};
 ghost use Rattle.pn_json.specs.Prelude.{IsUnless, ShowsUnless};
 ghost use Rattle.pn_serve.specs.Arguments.Plans.{Answers, Gives, HasSessions, Plans, Tells};
-ghost use Rattle.pn_serve.specs.Arguments.Commands.{control_in, idle_in, listens_at, address_in, replay_in, serve_in, service_in, settings_in, stay_in, Spells};
+ghost use Rattle.pn_serve.specs.Arguments.Commands.{control_in, copies_in, idle_in, listens_at, address_in, replay_in, serve_in, service_in, settings_in, stay_in, Spells};
 ghost use Rattle.pn_serve.specs.Arguments.PlanValues.{address_value, optional_bytes, plan_value, service_value};
 
 mod bounds;
@@ -131,6 +131,7 @@ fn service_of(alloc: Global, host: IpAddr, options: &ArgMatches<'_>) -> Result<S
         control: control_path(alloc, options)?,
         idle: idle_of(options),
         is_progress_told: is_given(options, "progress"),
+        copies: copies_path(alloc, options)?,
     })
 }
 
@@ -163,6 +164,20 @@ fn control_path(alloc: Global, options: &ArgMatches<'_>) -> Result<Option<String
         return Err(OptionFault::Control(Why::LongPath));
     }
     Ok(Some(String::from_str(alloc, control)?))
+}
+
+// The text of copies that the region starts from, if one is named. Bounds beside it are refused.
+fn copies_path(alloc: Global, options: &ArgMatches<'_>) -> Result<Option<String>, OptionFault>
+    ensures { ShowsUnless OptionFault.Memory optional_bytes result (copies_in (rows_of (found_of options.now))) }
+{
+    let copies = option_text(options, "copies");
+    if copies.is_empty() {
+        return Ok(None);
+    }
+    if option_text(options, "bounds") != "[]" {
+        return Err(OptionFault::Copies);
+    }
+    Ok(Some(String::from_str(alloc, copies)?))
 }
 
 // With `--stay`, how many connections are served at once.

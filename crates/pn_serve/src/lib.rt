@@ -3,6 +3,7 @@
 
 mod arguments;
 mod control;
+mod copies;
 mod laws;
 mod machine;
 mod page_laws;
@@ -11,6 +12,7 @@ mod script;
 mod server;
 mod sessions;
 mod settings;
+mod start_laws;
 mod stream_laws;
 
 pub use arguments::faults::{PlanFault, Refused, Why};
@@ -20,6 +22,7 @@ pub use arguments::plans::{Address, Plan, Service, StreamPath};
 pub use control::laws::commands_are_events;
 pub use control::mailboxes::{ControlMailboxes, MAX_CONTROLS};
 pub use control::session::{ControlSession, StatsSource};
+pub use copies::{CopiesFault, CopiesReader, open_copies};
 pub use laws::regions_converge;
 pub use machine::line_handler::{Answer, LineHandler};
 pub use page_laws::{
@@ -39,14 +42,15 @@ pub use script::line_loop::{LineLoop, LineState, Step, TURN_UNITS};
 pub use script::replies::{BLOCK, REPLY_CAPACITY, ReplyBuffer, SendOutcome};
 pub use script::{Counts, MAX_LINES, RunFault, run, run_to_exit};
 pub use server::{
-    Acceptor, ComesBack, Counter, FaultLog, Origin, ServeFault, SessionThread, Stream,
-    StreamFailure, Watchers, WriterEnd, close_region, join_sessions, open_region, read_streams,
-    serve, take_commands,
+    Acceptor, ComesBack, Counter, FaultLog, OpenedRegion, Origin, ServeFault, SessionThread,
+    Stream, StreamFailure, Watchers, WriterEnd, close_region, join_sessions, open_region,
+    read_streams, serve, serve_from, take_commands,
 };
 pub use sessions::counting_reader::CountingReader;
 pub use sessions::going::Going;
 pub use sessions::session;
 pub use settings::Settings;
+pub use start_laws::a_start_from_copies_leaves_what_was_taken;
 pub use stream_laws::{
     streams_beside_commands_leave_what_was_taken, streams_that_resume_leave_what_was_published,
 };

@@ -20,6 +20,7 @@ mod fault;
 mod fault_log;
 pub(crate) mod mailboxes;
 mod messages;
+mod opened;
 mod reporting;
 mod reports;
 mod rounds;
@@ -38,6 +39,7 @@ pub use counter::Counter;
 pub use events::take_commands;
 pub use fault::ServeFault;
 pub use fault_log::{FaultLog, StreamFailure};
+pub use opened::serve_from;
 use pn_join::{Marks, NoMemory};
 use pn_line::{Sink, Source, WriteFault, write_all_of};
 use pn_live::{LiveReader, LiveRegion};
@@ -52,10 +54,10 @@ use std::thread::Threads;
 pub use streams::{Watchers, read_streams};
 pub use writers::{Origin, Stream, WriterEnd};
 
-/// A live region and its readers.
-struct ServedRegion {
-    live: LiveRegion,
-    readers: Vec<LiveReader>,
+/// A live region and its readers. It is not `Drop`: end it by `close_region`.
+pub struct OpenedRegion {
+    pub live: LiveRegion,
+    pub readers: Vec<LiveReader>,
 }
 
 /// Reads streams into a new live region, at most 1,000 messages of each a round, while it answers 1 to 16 sessions.
@@ -124,9 +126,9 @@ where
 {
     let Settings { layout, workers } = settings;
     let (live, readers) = open_region(rt, alloc, layout, sessions)?;
-    let mut region = ServedRegion { live, readers };
+    let mut region = OpenedRegion { live, readers };
     let served = serve_streams(rt, alloc, listener, &mut region, workers, streams);
-    let ServedRegion { live, readers } = region;
+    let OpenedRegion { live, readers } = region;
     let count = readers.len();
     let closed = close_region(rt, live, readers);
     conclude(served, closed, count)
@@ -183,7 +185,7 @@ fn serve_streams<R, L, S>(
     rt: &R,
     alloc: Global,
     listener: &L,
-    region: &mut ServedRegion,
+    region: &mut OpenedRegion,
     workers: usize,
     streams: Vec<StreamReader<S>>,
 ) -> Result<(), ServeFault>

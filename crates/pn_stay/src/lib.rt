@@ -39,6 +39,7 @@ pub use progress::{message_prefix, tell_progress};
 pub use reasons::{describe_error, format_after, format_failure, format_refusal, format_taken};
 pub use scripted::{ScriptedSink, ScriptedSource};
 pub use server::StayingServer;
+pub use server::starting::ServerSizes;
 pub use shared::share;
 pub use streams::files::{FileSource, OpenFault, OpenedFiles, open_files};
 pub use streams::input::{StreamInput, StreamSource};

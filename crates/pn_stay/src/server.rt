@@ -10,6 +10,7 @@ ghost use Rattle.pn_serve.specs.Server.Sessions.{AllRead};
 
 mod control_client;
 mod control_threads;
+pub(crate) mod starting;
 mod stopping;
 mod threads;
 

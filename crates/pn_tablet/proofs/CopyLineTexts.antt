@@ -1,6 +1,6 @@
 -- The text of a value has no newline, and that of a line of a copy is short.
 use Rattle.std.proofs.Common.{◌≡◌, ◌≢◌, ℕ, zero, suc, pos, negsuc, ◌+◌, ◌/◌, ◌%◌, ◌^◌, ◌<◌, ◌≤◌, ◌==◌, ◌||◌, List, [], ◌∷◌, ◌++◌, length, codes, Bool, true, false, not, cond, ◌&&◌, Option, Some, None, decimal, ltb, leb, refl, sym, ap, ◌∙◌, arith, length-append}
-use Rattle.std.proofs.lemmas.Bool.{and_parts, false≢true, ltb-false, ltb-true, leb-true}
+use Rattle.std.proofs.lemmas.Bool.{and_parts, false≢true, ltb-false, leb-true}
 use Rattle.std.proofs.lemmas.Fmt.{length-decimal-le}
 use Rattle.std.specs.Fmt.{digits, digits_onto, digit_glyph}
 use Rattle.std.proofs.lemmas.List.Elements.{All-nil, All-cons, All-append}
@@ -13,10 +13,8 @@ use Rattle.pn_join.specs.Marks.{is_position}
 use Rattle.pn_join.specs.declared.marks.TheConstants.{LAST_POSITION}
 use Rattle.pn_join.specs.Naming.{is_name, is_name_byte}
 use Rattle.pn_line.specs.Reads.{IsUnbroken}
-use Rattle.pn_record.specs.declared.image.Image.{Image}
-use Rattle.pn_record.specs.Canonical.{is_image}
-use Rattle.pn_record.specs.Bodies.{field_size, fields_fit, names_rise, is_body, is_content}
-use Rattle.pn_record.specs.Limits.{FieldValue, number_value, text_value, Field, is_value, is_field, is_key, is_version}
+use Rattle.pn_record.specs.Bodies.{field_size, fields_fit, names_rise, is_body}
+use Rattle.pn_record.specs.Limits.{Field, is_field, is_version}
 use Rattle.pn_record.specs.declared.limits.TheConstants.{MAX_VERSION_NUMBER}
 use Rattle.pn_record.specs.Marks.{is_mark}
 use Rattle.pn_record.specs.Writing.{value_data, fields_data, body_data, image_data}

@@ -1,74 +1,39 @@
--- The lines of a copy, counted and made one at a time.
-use Rattle.std.proofs.Common.{◌≡◌, ◌≢◌, ℕ, zero, suc, ◌+◌, ◌-◌, ◌<◌, ◌≤◌, ◌⊎◌, inl, inr, Bool, true, false, cond, ◌||◌, List, [], ◌∷◌, ◌++◌, map, length, take, drop, get_or, All, Option, Some, None, codes, decimal, refl, sym, ap, ◌∙◌, subst, append_assoc, append-nil, arith, length-append}
-use Rattle.std.specs.Prelude.{IfSome, Vec}
+-- The lines of a copy, made one at a time.
+use Rattle.std.proofs.Common.{◌≡◌, ◌≢◌, ℕ, zero, suc, ◌+◌, ◌-◌, ◌<◌, ◌≤◌, inl, inr, Bool, true, false, cond, ltb, List, [], ◌∷◌, ◌++◌, map, length, drop, get_or, Option, Some, None, codes, decimal, refl, sym, ap, ◌∙◌, subst, append_assoc, arith, length-append}
+use Rattle.std.specs.Prelude.{◌↔◌, IfSome, IsTrue, Vec}
 use Rattle.std.specs.declared.alloc.Global.{Global}
 use Rattle.std.specs.FinMap.{keys}
-use Rattle.std.specs.List.{slice_get, list_any, AllByRecursion}
-use Rattle.std.proofs.lemmas.Grind.{flat_map-append}
-use Rattle.std.proofs.lemmas.List.{length-map, take_all, take-append-drop}
-use Rattle.std.proofs.lemmas.List.Elements.{All-nil, All-cons}
-use Rattle.std.proofs.lemmas.List.Folds.{list_any-append}
+use Rattle.std.specs.List.{slice_get, AllByRecursion}
+use Rattle.std.proofs.lemmas.Bool.{ltb-true, ltb-false}
 use Rattle.json.specs.Print.{quoted}
 use Rattle.serde_json.specs.Data.{Data}
 use Rattle.serde_json.specs.Written.{compact_text}
 use Rattle.serde_json.proofs.OnLiterals.{serde_json_on_literals}
-use Rattle.pn_line.specs.Reads.{IsUnbroken}
-use Rattle.pn_line.specs.Text.{lines_of, text_of}
 use Rattle.pn_join.specs.Marks.{Positions}
 use Rattle.pn_join.specs.Tables.{IsTable}
 use Rattle.pn_json.specs.AppendedText.{AppendsText, MakesPiece}
 use Rattle.pn_json.proofs.AppendedTexts.{appended_none}
-use Rattle.pn_record.specs.declared.image.Image.{Image}
+use Rattle.pn_record.specs.declared.image.Image.{Image as ImageValue}
 use Rattle.pn_record.specs.CellMap.{Entries}
-use Rattle.pn_record.specs.Cells.{spell, spell_cell}
+use Rattle.pn_record.specs.Cells.{spell}
 use Rattle.pn_record.specs.Limits.{ContentValue}
-use Rattle.pn_record.specs.Numbers.{holds_number}
 use Rattle.pn_record.specs.Order.{bytes_cmp}
 use Rattle.pn_record.specs.Sets.{CellValue, HasContents}
 use Rattle.pn_record.specs.Writing.{image_data}
 use Rattle.pn_tablet.specs.Copies.{TabletCopyValue}
 use Rattle.pn_tablet.specs.CopyLines.{head_data, mark_data, end_data}
-use Rattle.pn_tablet.specs.CopyMaking.{IsCopyPlace, IsCountedIn, MakesLine, lines_of_copy, lines_between, copy_rest}
+use Rattle.pn_tablet.specs.CopyMaking.{IsCopyPlace, MakesLine, lines_of_copy, lines_between, copy_rest}
 use Rattle.pn_tablet.specs.CopyTexts.{mark_line, lines_after_head}
-use Rattle.pn_tablet.specs.CopyWriting.{line_data, line_text, lines_text, copy_text}
+use Rattle.pn_tablet.specs.CopyWriting.{line_data, line_text, lines_text}
 use Rattle.pn_tablet.specs.Forms.{form_number, form_of}
 use Rattle.pn_tablet.specs.Ranges.{key_data}
 use Rattle.pn_tablet.specs.declared.copy_line.CopyLine.{CopyLine}
 use Rattle.pn_tablet.specs.declared.copy_line.CopyLine.TheVariants.{Record, End}
-use Rattle.pn_tablet.specs.declared.copy_text.Counted.{Counted}
 use Rattle.pn_tablet.specs.declared.copy_text.CopyPlace.{CopyPlace}
 use Rattle.pn_tablet.specs.declared.copy_text.CopyPlace.TheVariants.{Head, Mark, Image, Written}
 use Rattle.pn_tablet.specs.declared.form.Form.{Form}
-use Rattle.pn_tablet.specs.declared.form.Form.TheVariants.{Texts, Numbers}
-use Rattle.pn_tablet.proofs.CopyLineCounts.{lines_again}
-use Rattle.pn_tablet.proofs.CopyLineTexts.{text-unbroken}
-use Rattle.pn_tablet.proofs.CopyWritten.{head_of, texts, text_of-texts, head_first, cell_count}
-use Rattle.pn_tablet.proofs.FormLines.{holds, cell_holds}
-
--- ---- how many lines
-
-texts-unbroken : (says : List CopyLine) → All IsUnbroken (texts says)
-texts-unbroken [] = All-nil IsUnbroken
-texts-unbroken (line ∷ says) = All-cons IsUnbroken (compact_text (line_data line)) (texts says) (text-unbroken (line_data line)) (texts-unbroken says)
-
--- the head, a line for each mark and each image, and the end
-pub copy_lines : (copy : TabletCopyValue) → lines_of_copy copy ≡ 2 + lines_between copy
-copy_lines copy =
-    let says = lines_after_head copy.marks (spell copy.cells) in
-    let head = compact_text (head_data (head_of copy)) in
-    let whole = head_first (head_data (head_of copy)) (texts says) (lines_text says) (text_of-texts says) in
-    let split : lines_of (copy_text copy) ≡ head ∷ texts says =
-    ap lines_of whole ∙ lines_again (head ∷ texts says) (All-cons IsUnbroken head (texts says) (text-unbroken (head_data (head_of copy))) (texts-unbroken says)) in
-    let last = map Record (spell copy.cells) ++ End (lines_between copy) ∷ [] in
-    omega (
-      arith,
-      ap length split,
-      length-map says (λ line. compact_text (line_data line)),
-      length-append (map mark_line copy.marks) last,
-      length-append (map Record (spell copy.cells)) (End (lines_between copy) ∷ []),
-      length-map copy.marks mark_line,
-      length-map (spell copy.cells) Record,
-    )
+use Rattle.pn_tablet.proofs.CopyCounted.{copy_lines, image_of}
+use Rattle.pn_tablet.proofs.CopyWritten.{head_of}
 
 -- ---- elements of lists
 
@@ -108,10 +73,7 @@ no_mark copy index none = ap (λ (marks : Positions). lines_text (map mark_line 
 pub no_image : (copy : TabletCopyValue) (index content : ℕ) → slice_get copy.cells index ≡ None → copy_rest copy (Image index content) ≡ line_text (end_data (lines_between copy)) ++ copy_rest copy Written
 no_image copy index content none =
     ap (λ (cells : Entries). lines_text (map Record (drop content (spell cells)) ++ End (lines_between copy) ∷ [])) (drop_past copy.cells index none)
-    ∙ ap (λ (images : List Image). lines_text (map Record images ++ End (lines_between copy) ∷ [])) (drop_past [] content refl)
-
-abbrev image_of : List ℕ × CellValue → ContentValue → Image
-image_of entry shown = record { key = entry.0; version = entry.1.0; content = shown }
+    ∙ ap (λ (images : List ImageValue). lines_text (map Record images ++ End (lines_between copy) ∷ [])) (drop_past [] content refl)
 
 -- dropping within the first list
 drop_within : {X Y : Type 0} (f : X → Y) (xs : List X) (n : ℕ) (x : X) (ys : List Y) → x ≡ get_or xs n x → n < length xs → drop n (map f xs ++ ys) ≡ f x ∷ drop (n + 1) (map f xs ++ ys)
@@ -139,13 +101,13 @@ pub image_rest : (copy : TabletCopyValue) (index content : ℕ) (entry : List �
 image_rest copy index content entry shown there here within =
     let rest = spelled_from copy.cells index entry there in
     let more = spell (drop (index + 1) copy.cells) in
-    ap (λ (images : List Image). lines_text (map Record images ++ End (lines_between copy) ∷ []))
-    (ap (drop content) rest ∙ drop_within (image_of entry) (keys entry.1.1) content shown more here within ∙ ap (λ (images : List Image). image_of entry shown ∷ drop (content + 1) images) (sym rest))
+    ap (λ (images : List ImageValue). lines_text (map Record images ++ End (lines_between copy) ∷ []))
+    (ap (drop content) rest ∙ drop_within (image_of entry) (keys entry.1.1) content shown more here within ∙ ap (λ (images : List ImageValue). image_of entry shown ∷ drop (content + 1) images) (sym rest))
 
 -- after the last content of a record comes the next record
 pub next_record : (copy : TabletCopyValue) (index content : ℕ) (entry : List ℕ × CellValue) → slice_get copy.cells index ≡ Some entry → content ≡ length (keys entry.1.1) → copy_rest copy (Image index content) ≡ copy_rest copy (Image (index + 1) 0)
 next_record copy index content entry there last =
-    ap (λ (images : List Image). lines_text (map Record images ++ End (lines_between copy) ∷ []))
+    ap (λ (images : List ImageValue). lines_text (map Record images ++ End (lines_between copy) ∷ []))
     (ap (drop content) (spelled_from copy.cells index entry there) ∙ drop_whole (image_of entry) (keys entry.1.1) content (spell (drop (index + 1) copy.cells)) last)
 
 length_lines : (says : List CopyLine) (n : ℕ) → 0 < length (lines_text (says ++ End n ∷ []))
@@ -186,67 +148,6 @@ end_made count = refl
 pub with_newline : (text : List ℕ) (n : ℕ) → length text ≤ n → length (text ++ 10 ∷ []) ≤ n + 1
 with_newline text n short = omega (arith, length-append text (10 ∷ []))
 
--- ---- counting
-
-drop_taken : {X : Type 0} (xs ys : List X) (n : ℕ) (x : X) → drop n xs ≡ x ∷ ys → (n < length xs) × (ys ≡ drop (suc n) xs) × (take (suc n) xs ≡ take n xs ++ x ∷ [])
-drop_taken [] ys zero x is = absurd (cc)
-drop_taken [] ys (suc n) x is = absurd (cc)
-drop_taken (z ∷ xs) ys zero x is = (omega arith, cc, cc)
-drop_taken (z ∷ xs) ys (suc n) x is =
-    let before = drop_taken xs ys n x is in
-    (omega (arith, before.0), before.1, ap (λ (l : List X). z ∷ l) before.2)
-
--- one record more, which is the first of those that are left
-pub one_more_record : {X : Type 0} (xs ys : List X) (n : ℕ) (x : X) → drop n xs ≡ x ∷ ys → (n < length xs) × (ys ≡ drop (n + 1) xs) × (take (n + 1) xs ≡ take n xs ++ x ∷ [])
-one_more_record xs ys n x is =
-    let next : suc n ≡ n + 1 = omega arith in
-    let found = drop_taken xs ys n x is in
-    (found.0, found.1 ∙ ap (λ (k : ℕ). drop k xs) next, ap (λ (k : ℕ). take k xs) (sym next) ∙ found.2)
-
-spelled_more : (cells : Entries) (entry : List ℕ × CellValue) → spell (cells ++ entry ∷ []) ≡ spell cells ++ spell_cell entry
-spelled_more cells entry = flat_map-append spell_cell cells (entry ∷ []) ∙ ap (λ (images : List Image). spell cells ++ images) (append-nil (spell_cell entry))
-
-form_more : (numbered some : Bool) → cond numbered Numbers (cond some Numbers Texts) ≡ cond (some || numbered) Numbers Texts
-form_more true true = refl
-form_more true false = refl
-form_more false true = refl
-form_more false false = refl
-
-cell_numbered : (entry : List ℕ × CellValue) → list_any holds (spell_cell entry) ≡ list_any holds_number (keys entry.1.1)
-cell_numbered entry =
-    ap (list_any holds) (sym (append-nil (spell_cell entry))) ∙ cell_holds entry [] ∙ or_none (list_any holds_number (keys entry.1.1))
-  where
-    or_none : (b : Bool) → (b || false) ≡ b
-    or_none true = refl
-    or_none false = refl
-
-pub counted_more : (cells rest : Entries) (entry : List ℕ × CellValue) (was now : Counted) → IsCountedIn cells was → drop was.records cells ≡ entry ∷ rest → now.records ≡ was.records + 1
-    → now.images ≡ was.images + length (keys entry.1.1) → now.form ≡ cond (list_any holds_number (keys entry.1.1)) Numbers was.form → IsCountedIn cells now
-counted_more cells rest entry was now counted left records images form =
-    let more = one_more_record cells rest was.records entry left in
-    let before = spell (take was.records cells) in
-    let all : spell (take now.records cells) ≡ before ++ spell_cell entry = ap (λ (k : ℕ). spell (take k cells)) records ∙ ap spell more.2 ∙ spelled_more (take was.records cells) entry in
-    record {
-      within = omega (arith, more.0, records);
-      images_are = omega (arith, images, counted.images_are, ap length all, length-append before (spell_cell entry), length-map (keys entry.1.1) (image_of entry));
-      form_is =
-          form ∙ ap (λ (f : Form). cond (list_any holds_number (keys entry.1.1)) Numbers f) counted.form_is ∙ form_more (list_any holds_number (keys entry.1.1)) (list_any holds before)
-          ∙ ap (λ (b : Bool). cond (list_any holds before || b) Numbers Texts) (sym (cell_numbered entry)) ∙ ap (λ (b : Bool). cond b Numbers Texts) (sym (list_any-append holds before (spell_cell entry))) ∙ ap form_of (sym all);
-    }
-
--- no more than there are
-pub counted_within : (cells rest : Entries) (entry : List ℕ × CellValue) (was : Counted) → IsCountedIn cells was → drop was.records cells ≡ entry ∷ rest → was.images + length (keys entry.1.1) ≤ length (spell cells)
-counted_within cells rest entry was counted left =
-    let whole : take was.records cells ++ (entry ∷ rest) ≡ cells = ap (λ (l : Entries). take was.records cells ++ l) (sym left) ∙ take-append-drop was.records cells in
-    let spelled = flat_map-append spell_cell (take was.records cells) (entry ∷ rest) in
-    omega (arith, counted.images_are, ap (λ (l : Entries). length (spell l)) whole, ap length spelled, length-append (spell (take was.records cells)) (spell (entry ∷ rest)), cell_count entry rest)
-
--- all are counted
-pub counted_all : (cells : Entries) (counted : Counted) → IsCountedIn cells counted → length cells ≤ counted.records → (counted.images ≡ length (spell cells)) × (counted.form ≡ form_of (spell cells))
-counted_all cells counted is over =
-    let all = take_all counted.records cells over in
-    (is.images_are ∙ ap (λ (l : Entries). length (spell l)) all, is.form_is ∙ ap (λ (l : Entries). form_of (spell l)) all)
-
 -- ---- a line that was added
 
 -- what holds of the element that there is
@@ -275,3 +176,48 @@ none_left copy v = record { line = record { piece = []; appended = appended_none
 
 pub first_content : (copy : TabletCopyValue) → IsTable bytes_cmp HasContents copy.cells → (index : ℕ) → IsCopyPlace copy (Image index 0)
 first_content copy table index = has_content copy.cells table.contents index
+
+-- the line of a mark
+pub mark_next : (copy : TabletCopyValue) (index : ℕ) (name : List ℕ) (position p : ℕ) (old new : Vec ℕ Global) → Some (name, position) ≡ slice_get copy.marks index
+    → AppendsText old new (line_text (mark_data (name, p))) → length (line_text (mark_data (name, p))) ≤ 60000 → p ≡ position → MakesLine copy (Mark index) old new (Mark (index + 1))
+mark_next copy index name position p old new there appended short same =
+    made_line (mark_data (name, p)) appended short (mark_rest copy index (name, position) (sym there) ∙ ap (λ (n : ℕ). line_text (mark_data (name, n)) ++ copy_rest copy (Mark (index + 1))) (sym same)) tt
+
+-- the line of the end
+pub end_next : (copy : TabletCopyValue) (index content lines count : ℕ) (old new : Vec ℕ Global) → None ≡ slice_get copy.cells index → lines ≡ lines_of_copy copy → count ≡ lines - 2
+    → AppendsText old new (line_text (end_data count)) → length (line_text (end_data count)) ≤ 60000 → MakesLine copy (Image index content) old new Written
+end_next copy index content lines count old new none are is appended short =
+    let same : lines_between copy ≡ count = omega (arith, are, is, copy_lines copy) in
+    made_line (end_data count) appended short (no_image copy index content (sym none) ∙ ap (λ (n : ℕ). line_text (end_data n) ++ copy_rest copy Written) same) tt
+
+-- the line of an image, and the next place
+pub image_next : (copy : TabletCopyValue) (index content count : ℕ) (entry : List ℕ × CellValue) (shown : ContentValue) (next : CopyPlace) (old new : Vec ℕ Global) → IsTable bytes_cmp HasContents copy.cells → Some entry ≡ slice_get copy.cells index
+    → shown ≡ get_or (keys entry.1.1) content shown → content < length (keys entry.1.1) → AppendsText old new (line_text (image_data (record { key = entry.0; version = entry.1.0; content = shown })))
+    → length (line_text (image_data (record { key = entry.0; version = entry.1.0; content = shown }))) ≤ 60000 → count ≡ length (keys entry.1.1)
+    → next ≡ cond (ltb (content + 1) count) (Image index (content + 1)) (Image (index + 1) 0) → MakesLine copy (Image index content) old new next
+image_next copy index content count entry shown next old new table there here within appended short counted is =
+    subst (λ (place : CopyPlace). MakesLine copy (Image index content) old new place) (sym is) (by (ltb (content + 1) count) refl)
+  where
+    rest : copy_rest copy (Image index content) ≡ line_text (image_data (image_of entry shown)) ++ copy_rest copy (Image index (content + 1))
+    rest = image_rest copy index content entry shown (sym there) here within
+
+    by : (later : Bool) → ltb (content + 1) count ≡ later → MakesLine copy (Image index content) old new (cond later (Image index (content + 1)) (Image (index + 1) 0))
+    by true test =
+        made_line (image_data (image_of entry shown)) appended short rest
+        (in_some (λ (e : List ℕ × CellValue). content + 1 < length (keys e.1.1)) (slice_get copy.cells index) entry (sym there) (omega (arith, ltb-true (content + 1) count test, counted)))
+    by false test =
+        let last : content + 1 ≡ length (keys entry.1.1) = omega (arith, ltb-false (content + 1) count test, counted, within) in
+        made_line (image_data (image_of entry shown)) appended short
+        (rest ∙ ap (λ (l : List ℕ). line_text (image_data (image_of entry shown)) ++ l) (next_record copy index (content + 1) entry (sym there) last)) (first_content copy table (index + 1))
+
+-- ---- what is made
+
+written_of : (copy : TabletCopyValue) (place : CopyPlace) → copy_rest copy place ≡ [] → place ≡ Written
+written_of copy Head none = absurd (rest_some copy Head (λ e. cc) none)
+written_of copy (Mark index) none = absurd (rest_some copy (Mark index) (λ e. cc) none)
+written_of copy (Image index content) none = absurd (rest_some copy (Image index content) (λ e. cc) none)
+written_of copy Written none = refl
+
+-- nothing is left exactly after the last line
+pub made_where : (copy : TabletCopyValue) (place : CopyPlace) (made : Bool) → (IsTrue made ↔ (place ≡ Written)) → (IsTrue made ↔ (copy_rest copy place ≡ []))
+made_where copy place made is = (λ yes. ap (copy_rest copy) (is.0 yes), λ none. is.1 (written_of copy place none))

@@ -1,5 +1,6 @@
 pub mod BoundSteps
 pub mod Changed
+pub mod CopyCounted
 pub mod CopyExchanges
 pub mod CopyGrammar
 pub mod CopyLineCounts
@@ -16,6 +17,10 @@ pub mod CopyWritten
 pub mod Counting
 pub mod Counts
 pub mod Coverages
+pub mod CutFaults
+pub mod CutGaps
+pub mod CutOrders
+pub mod CutRanges
 pub mod Drafting
 pub mod FaultCases
 pub mod FirstFaults

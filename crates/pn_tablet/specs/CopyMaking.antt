@@ -1,11 +1,10 @@
--- Copies whose lines are counted, and then made one at a time.
-use Rattle.std.specs.Prelude.{◌≡◌, ◌≤◌, ◌<◌, ℕ, ◌+◌, ◌^◌, List, [], ◌∷◌, ◌++◌, length, map, drop, take, IfSome, Result, Ok, Err, Vec, refl}
+-- The lines of copies, counted and then made one at a time.
+use Rattle.std.specs.Prelude.{◌≡◌, ◌≤◌, ◌<◌, ℕ, ◌+◌, List, [], ◌∷◌, ◌++◌, length, map, drop, take, IfSome, Vec, refl}
 use Rattle.std.specs.declared.alloc.Global.{Global}
 use Rattle.std.specs.Coded.{Coded, code_by, coded×, coded_ℕ, coded_list}
 use Rattle.std.specs.FinMap.{keys}
 use Rattle.std.specs.List.{slice_get}
 use Rattle.pn_line.specs.Text.{lines_of}
-use Rattle.pn_join.specs.declared.memory.NoMemory.{NoMemory}
 use Rattle.pn_json.specs.AppendedText.{MakesPiece}
 use Rattle.pn_record.specs.CellMap.{Entries}
 use Rattle.pn_record.specs.Cells.{spell}
@@ -14,10 +13,8 @@ use Rattle.pn_tablet.specs.CopyTexts.{mark_line}
 use Rattle.pn_tablet.specs.CopyWriting.{copy_text, lines_text}
 use Rattle.pn_tablet.specs.Forms.{form_of}
 use Rattle.pn_tablet.specs.Proofs.Coding.{copy_code}
-use Rattle.pn_tablet.specs.declared.copy_text.CopyStep.{CopyStep}
-use Rattle.pn_tablet.specs.declared.copy_text.CopyStep.TheVariants.{Done, Next}
 use Rattle.pn_tablet.specs.declared.copy_line.CopyLine.TheVariants.{Record, End}
-use Rattle.pn_tablet.specs.declared.copy_text.Counted.{Counted}
+use Rattle.pn_tablet.specs.declared.copy_count.Counted.{Counted}
 use Rattle.pn_tablet.specs.declared.copy_text.CopyPlace.{CopyPlace}
 use Rattle.pn_tablet.specs.declared.copy_text.CopyPlace.TheVariants.{Head, Mark, Image, Written}
 use Rattle.pn_tablet.specs.declared.form.Form.{Form}
@@ -49,12 +46,6 @@ pub record IsCountedIn (cells : Entries) (counted : Counted) : Type 0 where
 -- how many lines the text of a copy has
 abbrev pub lines_of_copy : TabletCopyValue → ℕ
 lines_of_copy copy = length (lines_of (copy_text copy))
-
--- so many more records were counted, or all; then the text begins
-abbrev pub CountsOn : ℕ → CopyCountValue → Result CopyStep NoMemory → Type 0
-CountsOn records count (Ok (Done text)) = (text.copy ≡ count.copy) × (text.left ≡ copy_text count.copy) × (length count.copy.cells ≤ count.index + records)
-CountsOn records count (Ok (Next more)) = (more.copy ≡ count.copy) × (more.index ≡ count.index + records)
-CountsOn records count (Err fault) = 2 ^ 64 ≤ lines_of_copy count.copy
 
 -- how many lines are between the head of a copy and its end
 abbrev pub lines_between : TabletCopyValue → ℕ

@@ -1,154 +1,19 @@
-//! Copies whose text is made a line at a time. Their lines are counted before.
+//! Copies whose text is made a line at a time.
 
-ghost use Rattle.std.specs.Prelude.{◌≡◌, ◌+◌, ◌<◌, ◌≤◌, ◌↔◌, ◌^◌, [], length, min, IfOk, IsTrue, OnErr, MatchResult, if◌then◌else◌};
-ghost use Rattle.std.specs.FinMap.{keys};
-ghost use Rattle.std.specs.List.{list_any};
+ghost use Rattle.std.specs.Prelude.{◌≡◌, ◌+◌, ◌<◌, ◌↔◌, ◌^◌, [], length, nat_lt, IsTrue, if◌then◌else◌};
 ghost use Rattle.pn_json.specs.Prelude.{MakesPiece};
-ghost use Rattle.pn_record.specs.Prelude.{holds_number as content_holds_number, spell};
-ghost use Rattle.pn_tablet.specs.CopyMaking.{CountsOn, IsCopyPlace, IsCountedIn, IsTextOf, lines_of_copy, MakesLine};
-ghost use Rattle.pn_tablet.specs.declared.copy_text.CopyPlace.TheVariants.{Image, Mark};
-ghost use Rattle.pn_tablet.specs.declared.form.Form.TheVariants.{Numbers};
+ghost use Rattle.pn_record.specs.Prelude.{spell};
+ghost use Rattle.pn_tablet.specs.CopyMaking.{IsCopyPlace, IsTextOf, lines_of_copy, MakesLine};
+ghost use Rattle.pn_tablet.specs.CopyWriting.{copy_text};
+ghost use Rattle.pn_tablet.specs.Forms.{form_of};
+ghost use Rattle.pn_tablet.specs.declared.copy_text.CopyPlace.TheVariants.{Image, Mark, Written};
 
 use crate::TabletCopy;
 use crate::copy_line_appending::{append_end, append_head, append_image_line, append_mark};
-use crate::form::{Form, holds_number};
-use pn_join::{Marks, NoMemory};
-use pn_record::{Cell, Records};
+use crate::form::Form;
+use pn_join::Marks;
+use pn_record::Records;
 use std::marker::Model;
-
-/// A copy of which some records' lines are counted.
-#[derive(Drop)]
-pub struct CopyCount {
-    copy: TabletCopy,
-    counted: Counted,
-}
-
-// How many records are counted, the lines of their images, and the form that they need.
-#[derive(Clone, Copy, Debug, PartialEq, Eq)]
-struct Counted {
-    records: usize,
-    images: u64,
-    form: Form,
-}
-
-impl Model for CopyCount {
-    ghost use Rattle.pn_tablet.specs.CopyMaking.{CopyCountValue, IsCountedIn, count_code};
-
-    ghost Value = { CopyCountValue };
-
-    ghost coded = { count_code };
-
-    ghost view = { λ count. record { copy = count.copy; index = count.counted.records } };
-
-    ghost invariant = { λ count. IsCountedIn count.copy.cells count.counted };
-}
-
-/// What counting comes to.
-#[derive(Drop)]
-pub enum CopyStep {
-    /// All lines are counted.
-    Done(CopyText),
-    /// Others are still to be counted.
-    Next(CopyCount),
-}
-
-impl CopyCount {
-    /// A copy of which no line is counted.
-    pub fn new(copy: TabletCopy) -> CopyCount
-        ensures { result ≡ record { copy = copy; index = 0 } }
-    {
-        CopyCount {
-            copy,
-            counted: Counted {
-                records: 0,
-                images: 0,
-                form: Form::Texts,
-            },
-        }
-    }
-
-    /// Counts the lines of so many more records at most. An error where there are too many lines for 64 bits.
-    pub fn go_on(self, records: usize) -> Result<CopyStep, NoMemory>
-        ensures { CountsOn records self result }
-    {
-        let CopyCount { copy, counted } = self;
-        let counted = count_some(&copy.cells, counted, records)?;
-        if counted.records < copy.cells.len() {
-            return Ok(CopyStep::Next(CopyCount { copy, counted }));
-        }
-        let lines = count_lines(&copy, counted)?;
-        Ok(CopyStep::Done(CopyText {
-            copy,
-            form: counted.form,
-            lines,
-            place: CopyPlace::Head,
-        }))
-    }
-}
-
-// The lines of a copy of which all images are counted.
-fn count_lines(copy: &TabletCopy, counted: Counted) -> Result<u64, NoMemory>
-    requires counted { IsCountedIn copy.now.cells counted }
-    requires all { length copy.now.cells ≤ counted.records }
-    ensures { MatchResult result (λ lines. lines ≡ lines_of_copy copy.now) (λ _. 2 ^ 64 ≤ lines_of_copy copy.now) }
-{
-    let lines = add(counted.images, copy.marks.len())?;
-    add(lines, 2)
-}
-
-// Counts so many more records at most.
-fn count_some(cells: &Records, counted: Counted, records: usize) -> Result<Counted, NoMemory>
-    requires { IsCountedIn cells.now counted }
-    ensures ok { IfOk result
-        (λ now. IsCountedIn cells.now now × (now.records ≡ min (counted.records + records) (length cells.now))) }
-    ensures err { OnErr result (2 ^ 64 ≤ length (spell cells.now)) }
-{
-    recall_size(cells);
-    let mut now = counted;
-    let mut left = records;
-    for (_key, cell) in cells.iter_from(counted.records) {
-        if left == 0 {
-            return Ok(now);
-        }
-        left -= 1;
-        now = count_cell(now, cell)?;
-    }
-    Ok(now)
-}
-
-fn count_cell(counted: Counted, cell: &Cell) -> Result<Counted, NoMemory>
-    requires { counted.records + 1 < 2 ^ 64 }
-    ensures records { IfOk result (λ now. now.records ≡ counted.records + 1) }
-    ensures images { IfOk result (λ now. now.images ≡ counted.images + length (keys cell.now.1)) }
-    ensures form { IfOk result
-        (λ now. now.form ≡ (if list_any content_holds_number (keys cell.now.1) then Numbers else counted.form)) }
-    ensures err { OnErr result (2 ^ 64 ≤ counted.images + length (keys cell.now.1)) }
-{
-    let images = add(counted.images, cell.contents().len())?;
-    let form = if holds_number(cell) {
-        Form::Numbers
-    } else {
-        counted.form
-    };
-    Ok(Counted {
-        records: counted.records + 1,
-        images,
-        form,
-    })
-}
-
-fn add(count: u64, more: usize) -> Result<u64, NoMemory>
-    ensures { MatchResult result (λ sum. sum ≡ count + more) (λ _. 2 ^ 64 ≤ count + more) }
-{
-    count.checked_add(more as u64).ok_or(NoMemory)
-}
-
-// Recalls for the prover that records can be counted.
-fn recall_size(cells: &Records)
-    ensures { length cells.now < 2 ^ 64 }
-{
-    let _ = cells.len();
-}
 
 /// A copy whose text is made a line at a time.
 #[derive(Drop)]
@@ -183,6 +48,20 @@ impl Model for CopyText {
 }
 
 impl CopyText {
+    /// A copy of which no line is made.
+    pub(crate) fn new(copy: TabletCopy, form: Form, lines: u64) -> CopyText
+        requires form { form ≡ form_of (spell copy.cells) }
+        requires lines { lines ≡ lines_of_copy copy }
+        ensures { result ≡ record { copy = copy; left = copy_text copy } }
+    {
+        CopyText {
+            copy,
+            form,
+            lines,
+            place: CopyPlace::Head,
+        }
+    }
+
     /// How many lines the text of the copy has.
     pub fn lines(&self) -> u64
         ensures { result ≡ lines_of_copy self.now.copy }
@@ -194,10 +73,7 @@ impl CopyText {
     pub fn is_made(&self) -> bool
         ensures { IsTrue result ↔ (self.now.left ≡ []) }
     {
-        match self.place {
-            CopyPlace::Written => true,
-            _ => false,
-        }
+        is_written(self.place)
     }
 
     /// Adds the next line to what a buffer holds that has room for it, if one is left.
@@ -207,6 +83,23 @@ impl CopyText {
     {
         self.place = append_next(out, &self.copy, self.form, self.lines, self.place);
     }
+}
+
+// Whether no line comes after a place.
+fn is_written(place: CopyPlace) -> bool
+    ensures { IsTrue result ↔ (place ≡ Written) }
+{
+    match place {
+        CopyPlace::Written => true,
+        _ => false,
+    }
+}
+
+/// Recalls for the prover that records can be counted.
+pub(crate) fn recall_size(cells: &Records)
+    ensures { length cells.now < 2 ^ 64 }
+{
+    let _ = cells.len();
 }
 
 // Adds the line of a place. The next place.
@@ -268,15 +161,29 @@ fn append_image_at(
     requires place { IsCopyPlace copy.now (Image index content) }
     ensures { MakesLine copy.now (Image index content) out.old out.new result }
 {
-    recall_size(&copy.cells);
     copy.cells.recall_table();
-    let Some((key, cell)) = copy.cells.entry_at(index) else {
-        append_end(out, lines - 2);
-        return CopyPlace::Written;
-    };
-    let contents = cell.contents();
-    append_image_line(out, key, cell.version(), &contents[content]);
-    if content + 1 < contents.len() {
+    match copy.cells.entry_at(index) {
+        Some((key, cell)) => {
+            recall_size(&copy.cells);
+            let contents = cell.contents();
+            append_image_line(out, key, cell.version(), &contents[content]);
+            next_place(index, content, contents.len())
+        }
+        None => {
+            let count = lines - 2;
+            append_end(out, count);
+            CopyPlace::Written
+        }
+    }
+}
+
+// The place after a content of so many.
+fn next_place(index: usize, content: usize, count: usize) -> CopyPlace
+    requires index { index + 1 < 2 ^ 64 }
+    requires content { content < count }
+    ensures { result ≡ (if nat_lt (content + 1) count then Image index (content + 1) else Image (index + 1) 0) }
+{
+    if content + 1 < count {
         return CopyPlace::Image {
             index,
             content: content + 1,

@@ -4,6 +4,7 @@
 
 mod change;
 mod copy;
+mod copy_count;
 mod copy_draft;
 pub mod copy_laws;
 mod copy_line;
@@ -14,6 +15,8 @@ mod copy_text;
 mod copy_writing;
 mod counted_cells;
 mod coverage;
+pub mod cut_laws;
+mod cuts;
 mod fault;
 mod form;
 mod inside;
@@ -24,10 +27,12 @@ mod state;
 
 pub use change::Change;
 pub use copy::TabletCopy;
+pub use copy_count::{CopyCount, CopyStep};
 pub use copy_reading::read_copy;
-pub use copy_text::{CopyCount, CopyStep, CopyText};
+pub use copy_text::CopyText;
 pub use copy_writing::write_copy;
 pub use counted_cells::RecordCounts;
+pub use cuts::{CutFault, layout_of_copies};
 pub use fault::{CopyFault, CopyTextFault, OpFault, Shortfall};
 pub use inside::cells_within;
 pub use layout::{Layout, LayoutFault, MAX_BOUNDS};

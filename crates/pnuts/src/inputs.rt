@@ -67,8 +67,9 @@ where
     let alloc = rt.alloc();
     let faults = new_fault_log(alloc, service, streams.len())?;
     let opened = open_files(rt, alloc, streams, service.is_progress_told)?;
+    let counters = new_counters(rt, opened.counters)?;
     let notes = Notes {
-        counters: new_counters(rt, opened.counters)?,
+        counters,
         faults,
         messages: None,
         sockets: Vec::new(alloc),
@@ -87,10 +88,11 @@ where
 {
     let alloc = rt.alloc();
     let messages = new_messages(alloc)?;
+    let theirs = Arc::try_clone(&messages)?;
     let setting = StreamSetting {
         rt: *rt,
         alloc,
-        messages: Arc::try_clone(&messages)?,
+        messages: theirs,
         is_counted: service.is_progress_told || service.control.is_some(),
         socket_mode: service.socket_mode,
     };
@@ -112,7 +114,8 @@ where
 }
 
 fn new_messages(alloc: Global) -> Result<Arc<Messages>, AllocError> {
-    Ok(Arc::new(alloc, Messages::new(alloc)?)?)
+    let messages = Messages::new(alloc)?;
+    Ok(Arc::new(alloc, messages)?)
 }
 
 fn new_counters<R>(rt: &R, streams: Vec<StreamCounters>) -> Result<Arc<Counters>, AllocError>
@@ -129,11 +132,11 @@ fn new_fault_log(
     service: &Service,
     streams: usize,
 ) -> Result<Option<Arc<FaultLog>>, AllocError> {
-    if service.is_progress_told {
-        Ok(Some(Arc::new(alloc, FaultLog::new(alloc, streams)?)?))
-    } else {
-        Ok(None)
+    if !service.is_progress_told {
+        return Ok(None);
     }
+    let log = FaultLog::new(alloc, streams)?;
+    Ok(Some(Arc::new(alloc, log)?))
 }
 
 /// What accepts clients at the listening sockets. Where there are none, the files of the other sockets are removed.
@@ -162,13 +165,16 @@ fn new_acceptor(
     notes: &Notes,
 ) -> Result<SocketAcceptor, AllocError> {
     let Listeners { clients, control } = listeners;
+    let counters = Arc::try_clone(&notes.counters)?;
+    let faults = share(&notes.faults)?;
+    let messages = share(&notes.messages)?;
     Ok(SocketAcceptor {
         listener: clients,
         control,
         idle: service.idle,
-        counters: Arc::try_clone(&notes.counters)?,
-        faults: share(&notes.faults)?,
-        messages: share(&notes.messages)?,
+        counters,
+        faults,
+        messages,
     })
 }
 

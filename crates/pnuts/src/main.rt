@@ -5,20 +5,21 @@ ghost use Rattle.std.specs.Prelude.{◌≤◌, IfOk};
 ghost use Rattle.pn_serve.specs.declared.arguments.options.TheConstants.{MAX_SESSIONS};
 
 mod addresses;
+mod copies;
 mod failures;
 mod inputs;
 mod sessions;
 mod staying;
 
 use crate::addresses::listen;
+use crate::copies::{close_copies, start_from_copies};
 use crate::failures::fail;
 use crate::inputs::{Notes, Streams, open_acceptor, open_streams, refuse_start};
 use crate::sessions::serve_streams;
-use crate::staying::{answer_on, fail_to_stay};
-use pn_serve::{Plan, PlanFault, RunFault, Service, Settings, plan, run_to_exit};
-use pn_stay::{
-    MessagePrinter, SocketAcceptor, StayingServer, StreamSource, message_prefix, tell_progress,
-};
+use crate::staying::{answer_on, fail_to_stay, start_server};
+use pn_join::Name;
+use pn_serve::{Plan, PlanFault, RunFault, Service, Settings, StreamPath, plan, run_to_exit};
+use pn_stay::{MessagePrinter, SocketAcceptor, message_prefix, tell_progress};
 use std::env::Env;
 use std::fs::File;
 use std::io::BufReader;
@@ -37,15 +38,25 @@ const SCRIPT_READ_SIZE: usize = 65_536;
 const REFUSED: u8 = 2;
 
 fn main(rt: HostRuntime) -> ExitCode {
-    let Prepared {
+    let Planned {
         settings,
         service,
         streams,
+    } = match plan_serving(&rt) {
+        Ok(planned) => planned,
+        Err(status) => return status,
+    };
+    let opened = match start_from_copies(&rt, &settings, &service, &streams) {
+        Ok(opened) => opened,
+        Err(status) => return status,
+    };
+    let Prepared {
+        streams,
         acceptor,
         notes,
-    } = match prepare(&rt) {
+    } = match prepare(&rt, &service, streams) {
         Ok(prepared) => prepared,
-        Err(status) => return status,
+        Err(status) => return close_copies(&rt, opened, status),
     };
     let Notes {
         counters,
@@ -56,32 +67,25 @@ fn main(rt: HostRuntime) -> ExitCode {
     if service.is_progress_told {
         let telling = thread::spawn(&rt, move || tell_progress(&rt, rt.alloc(), &counters));
         if telling.is_err() {
-            return refuse_start(&rt, &service, &sockets);
+            return close_copies(&rt, opened, refuse_start(&rt, &service, &sockets));
         }
     }
     if let Some(messages) = messages {
         let prefix = message_prefix(service.is_progress_told);
         let Ok(printer) = MessagePrinter::new(rt.alloc(), messages, prefix) else {
-            return refuse_start(&rt, &service, &sockets);
+            return close_copies(&rt, opened, refuse_start(&rt, &service, &sockets));
         };
         if thread::spawn(&rt, move || printer.run(&rt)).is_err() {
-            return refuse_start(&rt, &service, &sockets);
+            return close_copies(&rt, opened, refuse_start(&rt, &service, &sockets));
         }
     }
     let (streams, connections) = match streams {
         Streams::Files(readers) => {
-            return serve_streams(&rt, settings, &service, &acceptor, readers);
+            return serve_streams(&rt, settings, opened, &service, &acceptor, readers);
         }
         Streams::Staying(streams, connections) => (streams, connections as usize),
     };
-    match StayingServer::start(
-        &rt,
-        rt.alloc(),
-        acceptor,
-        settings,
-        service.sessions,
-        connections,
-    ) {
+    match start_server(&rt, settings, opened, &service, acceptor, connections) {
         Ok(server) => {
             let mut server = server;
             let read = server.read_streams(&rt, rt.alloc(), streams);
@@ -93,32 +97,18 @@ fn main(rt: HostRuntime) -> ExitCode {
 
 // What is to be served.
 #[derive(Drop)]
-struct Prepared<R: Drop> {
+struct Planned {
     settings: Settings,
     service: Service,
-    streams: Streams<R>,
-    acceptor: SocketAcceptor,
-    notes: Notes,
+    streams: Vec<(Name, StreamPath)>,
 }
 
-// Opens what the arguments ask to be served. The error is the status with which the program ends: it has done all that it
-// was asked, or something is refused.
-fn prepare<R>(rt: &R) -> Result<Prepared<R>, ExitCode>
+// Parses what is to be served. The error is the status with which the program ends: it has done all that it was asked, or
+// its words are refused.
+fn plan_serving<R>(rt: &R) -> Result<Planned, ExitCode>
 where
-    R: AllocGlobal
-        + Env
-        + Files<File = File>
-        + Net<Listener = TcpListener, Stream = TcpStream>
-        + Input
-        + Print
-        + Eprint
-        + Threads
-        + Wait
-        + Clock
-        + Sync
-        + Copy
-        + Drop,
-    ensures { IfOk result (λ prepared. (1 ≤ prepared.service.sessions) × (prepared.service.sessions ≤ MAX_SESSIONS)) }
+    R: AllocGlobal + Env + Input + Print + Eprint + Threads + Sync,
+    ensures { IfOk result (λ planned. (1 ≤ planned.service.sessions) × (planned.service.sessions ≤ MAX_SESSIONS)) }
 {
     let Ok(words) = collect_words(rt) else {
         return Err(fail(rt, "memory"));
@@ -130,21 +120,49 @@ where
                 service,
                 streams,
             },
-        ) => {
-            let (streams, notes) = open_streams(rt, &service, streams)?;
-            let acceptor = open_acceptor(rt, &service, &notes, listen(rt, &service))?;
-            Ok(Prepared {
-                settings,
-                service,
-                streams,
-                acceptor,
-                notes,
-            })
-        }
+        ) => Ok(Planned {
+            settings,
+            service,
+            streams,
+        }),
         Ok(Plan::Replay(settings)) => Err(replay(rt, settings)),
         Ok(Plan::Help(text) | Plan::Version(text)) => Err(show(rt, text.as_str())),
         Err(fault) => Err(refuse_plan(rt, fault)),
     }
+}
+
+// What a server reads, what accepts its clients, and what is noted of it.
+#[derive(Drop)]
+struct Prepared<R: Drop> {
+    streams: Streams<R>,
+    acceptor: SocketAcceptor,
+    notes: Notes,
+}
+
+// Opens what is to be served, and listens. The error is the status with which the program ends.
+fn prepare<R>(
+    rt: &R,
+    service: &Service,
+    streams: Vec<(Name, StreamPath)>,
+) -> Result<Prepared<R>, ExitCode>
+where
+    R: AllocGlobal
+        + Files<File = File>
+        + Net<Listener = TcpListener, Stream = TcpStream>
+        + Print
+        + Eprint
+        + Wait
+        + Clock
+        + Copy
+        + Drop,
+{
+    let (streams, notes) = open_streams(rt, service, streams)?;
+    let acceptor = open_acceptor(rt, service, &notes, listen(rt, service))?;
+    Ok(Prepared {
+        streams,
+        acceptor,
+        notes,
+    })
 }
 
 fn collect_words(rt: &(impl AllocGlobal + Env)) -> io::Result<Vec<String>> {

@@ -1,11 +1,13 @@
 //! A server that ends with its sessions.
 
-ghost use Rattle.std.specs.Prelude.{◌≤◌};
+ghost use Rattle.std.specs.Prelude.{◌≤◌, IfSome};
+ghost use Rattle.pn_live.specs.Prelude.{tablets_in};
 ghost use Rattle.pn_serve.specs.declared.arguments.options.TheConstants.{MAX_SESSIONS};
+ghost use Rattle.pn_serve.specs.Server.Sessions.{AllRead};
 
 use crate::addresses::remove_places;
 use crate::failures::fail_noted;
-use pn_serve::{Service, Settings, serve};
+use pn_serve::{OpenedRegion, Service, Settings, serve, serve_from};
 use pn_stay::{FileSource, SocketAcceptor, message_prefix};
 use pn_stream::StreamReader;
 use std::fs::File;
@@ -15,10 +17,11 @@ use std::rt::Files;
 use std::sync::Wait;
 use std::thread::Threads;
 
-/// Serves streams to the end of its sessions, and ends what it listened on.
+/// Serves streams to the end of its sessions, from the region that is open or else from a new one, and ends what it listened on.
 pub(crate) fn serve_streams<R>(
     rt: &R,
     settings: Settings,
+    opened: Option<OpenedRegion>,
     service: &Service,
     acceptor: &SocketAcceptor,
     readers: Vec<StreamReader<FileSource>>,
@@ -34,18 +37,30 @@ where
         + Copy
         + Send
         + 'static,
-    requires { (1 ≤ service.now.sessions) × (service.now.sessions ≤ MAX_SESSIONS) }
+    requires sessions { (1 ≤ service.now.sessions) × (service.now.sessions ≤ MAX_SESSIONS) }
+    requires own { IfSome opened (λ region. AllRead (tablets_in region.live) region.readers.items) }
 {
     let mut out = io::writer(rt);
-    let served = serve(
-        rt,
-        rt.alloc(),
-        acceptor,
-        settings,
-        service.sessions,
-        readers,
-        &mut out,
-    );
+    let served = match opened {
+        None => serve(
+            rt,
+            rt.alloc(),
+            acceptor,
+            settings,
+            service.sessions,
+            readers,
+            &mut out,
+        ),
+        Some(opened) => serve_from(
+            rt,
+            rt.alloc(),
+            acceptor,
+            opened,
+            settings.workers(),
+            readers,
+            &mut out,
+        ),
+    };
     let _ = eprint!(rt; "{}", message_prefix(service.is_progress_told));
     remove_places(rt, service, &[]);
     match served {

@@ -1,16 +1,49 @@
 //! A server that stays: it ends only by a signal, or where a control session stops it.
 
+ghost use Rattle.std.specs.Prelude.{◌≤◌, vec_len, IfSome};
+ghost use Rattle.pn_live.specs.Prelude.{tablets_in};
+ghost use Rattle.pn_serve.specs.declared.arguments.options.TheConstants.{MAX_SESSIONS};
+ghost use Rattle.pn_serve.specs.Server.Sessions.{AllRead};
+
 use crate::addresses::remove_places;
 use crate::failures::{fail, fail_serving, fail_with};
-use pn_serve::{ServeFault, Service};
-use pn_stay::{StayingServer, message_prefix};
+use pn_serve::{OpenedRegion, ServeFault, Service, Settings};
+use pn_stay::{ServerSizes, SocketAcceptor, StayingServer, message_prefix};
 use std::io;
 use std::io::ErrorKind;
+use std::net::Net;
 use std::process::ExitCode;
 use std::rt::Files;
 use std::sync::Wait;
 use std::thread::Threads;
 use std::time::Clock;
+
+/// Begins to answer connections: from the region that is open, or else from a new one.
+pub(crate) fn start_server<R>(
+    rt: &R,
+    settings: Settings,
+    opened: Option<OpenedRegion>,
+    service: &Service,
+    acceptor: SocketAcceptor,
+    connections: usize,
+) -> io::Result<StayingServer>
+where
+    R: AllocGlobal + Threads + Wait + Net + Clock + Sync + Copy + Send + Drop + 'static,
+    requires sessions { (1 ≤ service.now.sessions) × (service.now.sessions ≤ MAX_SESSIONS) }
+    requires own { IfSome opened (λ region. AllRead (tablets_in region.live) region.readers.items) }
+    requires readers { IfSome opened (λ region. service.now.sessions ≤ vec_len region.readers) }
+{
+    let threads = service.sessions;
+    let Some(opened) = opened else {
+        return StayingServer::start(rt, rt.alloc(), acceptor, settings, threads, connections);
+    };
+    let sizes = ServerSizes {
+        threads,
+        connections,
+        workers: settings.workers(),
+    };
+    StayingServer::start_from(rt, rt.alloc(), acceptor, opened, sizes)
+}
 
 /// Prints why it does not stay, and ends what it listened on.
 pub(crate) fn fail_to_stay(

@@ -1,6 +1,4 @@
 //! What test programs are given: keys, layouts, deliveries, a client's question, readers and writers that fail, and replies shown in short.
-//!
-//! What live regions are given is a crate of its own, `test_kit_live`, so that the other tests need not wait for `pn_live`.
 #![tactic(auto)]
 
 mod asking;
@@ -12,7 +10,7 @@ mod stopping_writer;
 
 pub use asking::{Answer, ask};
 pub use given::{deliveries, image, keys, layout};
-pub use lines::{answer_lines, spell_out};
+pub use lines::{answer_lines, bars, newlines, spell_out};
 pub use piecewise_reader::PiecewiseReader;
 pub use reply_runs::ReplyRuns;
 pub use stopping_writer::{Stop, StoppingWriter};

@@ -1,7 +1,8 @@
-//! The lines of a test program: the loop over them, and long texts in a few letters.
+//! The lines of a test program: the loop over them, and texts of many lines or letters in one line.
 
-use std::alloc::{AllocGlobal, Global};
+use std::alloc::{AllocError, AllocGlobal, Global};
 use std::io::{Input, Print};
+use std::str;
 use std::test::Fail;
 
 /// Writes the answer to each line of the input, on a line of its own.
@@ -16,6 +17,17 @@ pub fn answer_lines<R: AllocGlobal + Input + Print, F: Fn(&str) -> Result<String
         println!(rt; "{text}")?;
     }
     Ok(())
+}
+
+/// The text of lines, each ended by a bar.
+pub fn newlines(alloc: Global, bars: &str) -> Result<String, AllocError> {
+    bars.replace(alloc, '|', "\n")
+}
+
+/// A text with a bar in place of each newline.
+pub fn bars(alloc: Global, text: &[u8]) -> Result<String, Fail> {
+    let text = str::from_utf8(text)?;
+    Ok(text.replace(alloc, '\n', "|")?)
 }
 
 /// The text that is spelled so that `~3~ab~` is `ababab`.

@@ -9,6 +9,7 @@ import ssl
 import sys
 import time
 from collections.abc import Callable, Sequence
+from contextlib import ExitStack
 from dataclasses import asdict
 from pathlib import Path
 from typing import Any
@@ -19,14 +20,16 @@ from .control import Control
 from .control_requests import LAST_NUMBER, Notice, Tablet
 from .errors import ConnectionFailed, PnutsError, TimedOut
 from .pauses import pause
-from .recovery import recover, save
+from .recovery import recover
+from .saving import save
 from .status import shown_status
 
 DEFAULT_CONTROL = "/run/pnuts/control"
 EXAMPLES = """examples:
   pnuts-ctl status
   pnuts-ctl --json watch --since 0
-  pnuts-ctl save region.copies --from tcp://10.0.0.2:7070
+  pnuts-ctl save region.copies --from tcp://10.0.0.2:7070 --from tcp://10.0.0.3:7070
+  pnuts-ctl save /var/lib/pnuts/copies --every 600
   pnuts-ctl recover 3 --from tcp://10.0.0.2:7070
   pnuts-ctl exporter --listen 127.0.0.1:9107
 
@@ -56,7 +59,9 @@ def parser() -> argparse.ArgumentParser:
     watch.add_argument("--since", type=int, metavar="N", help="begin after the change of this number (default: now)")
     copied = command(save_copies, "save", "write the copies of all tablets into a file, which is there whole or not at all")
     copied.add_argument("file", type=Path, metavar="FILE", help="the file")
-    copied.add_argument("--from", dest="peer", metavar="ADDRESS", help=f"{PEER} (default: the control socket's)")
+    copied.add_argument("--from", dest="peers", action="append", default=[], metavar="ADDRESS",
+                        help=f"{PEER}; of several, a later one is asked where an earlier one has no copy (default: the control socket's)")
+    copied.add_argument("--every", type=_seconds, metavar="SECONDS", help="write it anew again and again, until it is interrupted")
     _add_certificates(copied)
     lost = command(recover_tablet, "recover", "have a lost tablet adopt the copy of a peer, which is asked until it has what is needed")
     lost.add_argument("tablet", type=int, metavar="TABLET", help="its number, from 0")
@@ -79,12 +84,23 @@ def _add_certificates(words: argparse.ArgumentParser) -> None:
     words.add_argument("--certificate", metavar="FILE", help="the certificate, with its key, to show to tls://")
 
 
-def _peer(words: Words) -> Address:
-    """The peer that the words name, with its certificates."""
+def _peer(words: Words, text: str) -> Address:
+    """A peer that the words name, with its certificates."""
     context = ssl.create_default_context(cafile=words.authority)
     if words.certificate:
         context.load_cert_chain(words.certificate)
-    return address_of(words.peer, context)
+    return address_of(text, context)
+
+
+def _seconds(text: str) -> float:
+    """Seconds, some of them."""
+    try:
+        seconds = float(text)
+    except ValueError:
+        seconds = 0.0
+    if not 0 < seconds <= 1e9:
+        raise argparse.ArgumentTypeError(f"no seconds: {text!r}")
+    return seconds
 
 
 def _place(text: str) -> tuple[str, int]:
@@ -140,15 +156,28 @@ def _shown(change: Notice) -> str:
 
 
 def save_copies(region: Control, words: Words) -> int:
-    with Client(_peer(words) if words.peer else Unix(words.control)) as source:
-        count = save(source, words.file)
+    addresses = [_peer(words, it) for it in words.peers] or [Unix(words.control)]
+    if words.every is None:
+        _save_once(words, addresses)
+        return 0
+    while True:
+        try:
+            _save_once(words, addresses)
+        except (PnutsError, OSError) as fault:
+            print(f"pnuts-ctl: {fault}", file=sys.stderr, flush=True)
+        time.sleep(words.every)
+
+
+def _save_once(words: Words, addresses: Sequence[Address]) -> None:
+    """Writes the file, whole or not at all."""
+    with ExitStack() as stack:
+        count = save([stack.enter_context(Client(it, retries=1)) for it in addresses], words.file)
     size = words.file.stat().st_size
     say(words, {"bytes": size, "path": str(words.file), "tablets": count}, f"{words.file}: {count} tablets, {size} bytes")
-    return 0
 
 
 def recover_tablet(region: Control, words: Words) -> int:
-    with Client(_peer(words)) as peer:
+    with Client(_peer(words, words.peer)) as peer:
         size = recover(region, words.tablet, peer, words.timeout)
     text = f"tablet {words.tablet} serves" if size is None else f"tablet {words.tablet} adopted {size} bytes"
     say(words, {"bytes": size, "tablet": words.tablet}, text)

@@ -1,63 +1,15 @@
-"""Copies of a region: of all its tablets, and of one that another region lost."""
+"""The recovery of a tablet that a region lost, from the copy of another region."""
 
 from __future__ import annotations
 
-import json
 import time
-from collections.abc import Iterator
-from pathlib import Path
-from typing import Any
 
 from . import requests
 from .client import Client
 from .control import Control
-from .errors import BadLine, CopyBehind, PnutsError, Recovering, Refused
-from .files import write_parts
+from .errors import CopyBehind, Recovering, Refused
 from .pauses import pause
-
-
-class Unfit(PnutsError):
-    """A copy, or a tablet, that is not what was asked for."""
-
-
-def save(region: Client, path: Path) -> int:
-    """Writes the copies of all tablets, one after another, to a file, which is there whole or not at all. How many they are.
-
-    Each is of its own moment. The region needs no control socket.
-    """
-    count = 0
-
-    def counted() -> Iterator[bytes]:
-        nonlocal count
-        for count, text in enumerate(copies(region), start=1):
-            yield text
-
-    write_parts(path, counted())
-    return count
-
-
-def copies(region: Client) -> Iterator[bytes]:
-    """The copies of all tablets in their order, whose ranges have each key once."""
-    start, number = None, 0
-    while True:
-        try:
-            text = region.ask(requests.copy(number))
-        except BadLine as fault:
-            if number == 0 or fault.member != "tablet":
-                raise
-            break
-        head = head_of(text)
-        if head["from"] != start or number and start is None:
-            raise Unfit(f"the copy of tablet {number} begins at {head['from']!r}, not at {start!r}")
-        yield text
-        start, number = head["to"], number + 1
-    if start is not None:
-        raise Unfit(f"no tablet has the keys from {start!r} on")
-
-
-def head_of(text: bytes) -> Any:
-    """The first line of a copy, which has its range."""
-    return json.loads(text[: text.index(b"\n")])
+from .saving import Unfit, head_of
 
 
 def recover(region: Control, tablet: int, peer: Client, timeout: float) -> int | None:

@@ -1,5 +1,5 @@
--- The text of a reply that is still to be made.
-use Rattle.std.specs.Prelude.{◌≡◌, ◌≤◌, ⊥, ◌<◌, ◌⊎◌, ℕ, zero, suc, Bool, true, nat_lt, List, [], ◌∷◌, ◌++◌, length, map, drop, codes, zip, Option, None, Some, IfSome, Vec}
+-- The text of rows that is still to be made.
+use Rattle.std.specs.Prelude.{◌≡◌, ◌≤◌, ◌+◌, ◌==◌, if◌then◌else◌, ◌<◌, ℕ, zero, suc, Bool, true, nat_lt, List, [], ◌∷◌, ◌++◌, length, map, drop, codes, zip, Option, None, Some, IfSome, Vec}
 use Rattle.std.specs.declared.alloc.Global.{Global}
 use Rattle.std.specs.FinMap.{keys}
 use Rattle.std.specs.List.{slice_get}
@@ -11,17 +11,10 @@ use Rattle.pn_json.specs.Prelude.{AppendsText}
 use Rattle.pn_record.specs.Sets.{CellValue}
 use Rattle.pn_record.specs.States.{state_of}
 use Rattle.pn_record.specs.Writing.{content_data, version_data}
-use Rattle.pn_protocol.specs.declared.refusal.Refusal.TheVariants.{Memory}
-use Rattle.pn_protocol.specs.declared.reply.Reply.{Reply}
-use Rattle.pn_protocol.specs.declared.reply.Reply.TheVariants.{Copy, Page, Record as One, Records, Refused, Text}
 use Rattle.pn_protocol.specs.declared.reply.rows_text.Place.{Place}
 use Rattle.pn_protocol.specs.declared.reply.rows_text.Place.TheVariants.{Record, End}
-use Rattle.pn_protocol.specs.declared.reply.rows_text.Shown.{Shown}
-use Rattle.pn_protocol.specs.declared.reply.rows_text.Shown.TheVariants as shown
-use Rattle.pn_protocol.specs.declared.reply.text.Head.{Head}
-use Rattle.pn_protocol.specs.declared.reply.text.Head.TheVariants.{Short, Long}
-use Rattle.pn_protocol.specs.declared.reply.text.Rest.{Rest}
-use Rattle.pn_protocol.specs.declared.reply.text.Rest.TheVariants as rest
+use Rattle.pn_protocol.specs.declared.reply.shown_records.Shown.{Shown}
+use Rattle.pn_protocol.specs.declared.reply.shown_records.Shown.TheVariants as shown
 use Rattle.pn_protocol.specs.Reply.Record.{row_or_null}
 use Rattle.pn_protocol.specs.Reply.Rows.{state_word}
 
@@ -73,6 +66,10 @@ abbrev pub place_rest : List Found → List ℕ → Place → List ℕ
 place_rest records end (Record index content) = records_rest records end index content
 place_rest records end End = []
 
+-- the place after a part of a record, by the next content, or 0 after the last
+abbrev pub next_place : ℕ → ℕ → Place
+next_place index next = if next == 0 then Record (index + 1) 0 else Record index next
+
 -- the content is one of the record's, or the first
 abbrev pub HasContent : ℕ → Found → Type 0
 HasContent zero found = Unit {0}
@@ -96,17 +93,6 @@ end_of (shown.One key cell) = codes "}\n"
 end_of (shown.Keys names cells) = codes "]}\n"
 end_of (shown.Rows rows) = codes "]}\n"
 
--- what a reply begins with
-abbrev pub head_bytes : Head → List ℕ
-head_bytes (Short text) = text
-head_bytes (Long text) = text.items
-
--- what comes after that
-abbrev pub rest_bytes : Rest → List ℕ
-rest_bytes rest.Nothing = []
-rest_bytes (rest.Rows rows) = rows
-rest_bytes (rest.Lines copy) = copy.left
-
 -- the text of a record up to the next content, or to its end
 abbrev pub after_part : ℕ → Found → List ℕ
 after_part zero found = []
@@ -120,12 +106,3 @@ pub record MakesRecord (found : Found) (content : ℕ) (old new : Vec ℕ Global
   pub short : length part ≤ 60000
   pub some : 0 < length part
   pub next_is : HasContent next found
-
--- the reply, unless it shows records or has a long text: then the refusal out of memory
-abbrev pub IsShortFor : Reply → Reply → Type 0
-IsShortFor (Copy copy) short = short ≡ Refused Memory
-IsShortFor (Page page) short = short ≡ Refused Memory
-IsShortFor (One key cell) short = short ≡ Refused Memory
-IsShortFor (Records names cells) short = short ≡ Refused Memory
-IsShortFor (Text text) short = short ≡ Refused Memory
-IsShortFor reply short = short ≡ reply

@@ -1,10 +1,9 @@
 //! Replies to lookups and copies. Out of memory, the reply is that refusal.
 
-ghost use Rattle.std.specs.Prelude.{◌≡◌, MatchResult, IfOk};
-ghost use Rattle.pn_json.specs.Prelude.{line_of};
+ghost use Rattle.std.specs.Prelude.{◌≡◌, MatchResult};
 ghost use Rattle.pn_protocol.specs.declared.reply.Reply.TheVariants.{Text, Refused};
 ghost use Rattle.pn_protocol.specs.declared.refusal.Refusal.TheVariants.{Memory as no_memory};
-ghost use Rattle.pn_protocol.specs.Reply.Answers.{ShowsFound, ShowsPage, ShowsCopyOf};
+ghost use Rattle.pn_protocol.specs.Reply.Answers.{ShowsCopy, ShowsCopyOf, ShowsFound, ShowsPage};
 ghost use Rattle.pn_protocol.specs.Reply.Record.{get_data, read_data};
 ghost use Rattle.pn_protocol.specs.Reply.Scan.{scan_data};
 
@@ -65,11 +64,17 @@ pub fn answer_copy(alloc: Global, tablet: usize, copied: Result<TabletCopy, Copy
     ensures { ShowsCopyOf tablet copied result }
 {
     match copied {
-        Ok(copy) => match CopyCount::new(copy).go_on(usize::MAX) {
-            Ok(CopyStep::Done(copy)) => Reply::Copy(copy),
-            _ => Reply::Refused(Refusal::Memory),
-        },
+        Ok(copy) => copy_reply(copy),
         Err(fault) => refuse(alloc, CommandFault::Copy { tablet, fault }),
+    }
+}
+
+fn copy_reply(copy: TabletCopy) -> Reply
+    ensures { ShowsCopy copy result }
+{
+    match CopyCount::new(copy).go_on(usize::MAX) {
+        Ok(CopyStep::Done(text)) => Reply::Copy(text),
+        _ => Reply::Refused(Refusal::Memory),
     }
 }
 

@@ -1,38 +1,22 @@
 //! The rows of records as text, made a piece at a time in a buffer that has room for it.
 
-ghost use Rattle.std.specs.Prelude.{◌≡◌, ◌==◌, ◌&&◌, ◌<◌, ◌≤◌, ◌↔◌, ◌^◌, [], false, length, nat_lt, option_map, IsTrue, Some};
-ghost use Rattle.std.specs.List.{slice_get};
+ghost use Rattle.std.specs.Prelude.{◌≡◌, ◌==◌, ◌&&◌, ◌+◌, ◌<◌, ◌≤◌, ◌↔◌, ◌^◌, [], false, length, nat_lt, IsTrue, Some};
 ghost use Rattle.std.specs.Option.{option_copied};
 ghost use Rattle.pn_json.specs.Prelude.{AppendsText, MakesPiece};
-ghost use Rattle.pn_protocol.specs.Reply.Making.{HasContent, IsPlaceOf, MakesRecord, before_text, end_of, found_in, place_rest, row_end, rows_text};
-ghost use Rattle.pn_protocol.specs.declared.reply.rows_text.Place.TheVariants.{Record};
+ghost use Rattle.pn_protocol.specs.Reply.Making.{HasContent, IsPlaceOf, MakesRecord, before_text, end_of, found_in, next_place, place_rest, row_end, rows_text};
+ghost use Rattle.pn_protocol.specs.declared.reply.rows_text.Place.TheVariants.{End, Record};
 
-use crate::reply::prefetch::prefetch_rows;
 use crate::reply::rows::state_word;
+use crate::reply::shown_records::Shown;
 use pn_json::{append_comma, append_string, append_text};
 use pn_record::{Cell, Key, append_content, append_version};
-use pn_scan::Row;
 use std::marker::Model;
-
-/// How many rows are prefetched before they are written: as many as fit the nearest cache with their texts.
-const ROWS_AT_HAND: usize = 12;
 
 /// Records whose rows are made in pieces, and the end of a reply that shows them.
 #[derive(Drop)]
 pub(crate) struct RowsText {
     shown: Shown,
     place: Place,
-}
-
-/// The records that a reply shows.
-#[derive(Drop)]
-pub(crate) enum Shown {
-    /// The record of a key, or none.
-    One(Key, Option<Cell>),
-    /// The records of keys, in the order of the keys.
-    Keys(Vec<Key>, Vec<Option<Cell>>),
-    /// The rows of a page.
-    Rows(Vec<Row>),
 }
 
 /// Before what of the rows the text is.
@@ -73,75 +57,27 @@ impl RowsText {
     pub(crate) fn is_made(&self) -> bool
         ensures { IsTrue result ↔ (self.now ≡ []) }
     {
-        match self.place {
-            Place::Record { .. } => false,
-            Place::End => true,
-        }
+        is_end(self.place)
     }
 
     /// Makes a piece after what a buffer holds that has room for it.
     pub(crate) fn append_piece(&mut self, out: &mut Vec<u8>)
         ensures { MakesPiece 65536 self.old self.new out.old out.new }
     {
-        self.place = match self.place {
-            Place::Record { index, content } => append_from(out, &self.shown, index, content),
-            Place::End => Place::End,
-        };
+        self.place = append_at(out, &self.shown, self.place);
     }
 }
 
-impl Shown {
-    // The record of an index, if there are as many.
-    fn record_at(&self, index: usize) -> Option<(&Key, Option<&Cell>)>
-        ensures { option_map (λ found. (found.0.now, option_copied found.1)) result ≡ slice_get (found_in self.now) index }
-    {
-        match self {
-            Shown::One(key, cell) => {
-                if index > 0 {
-                    return None;
-                }
-                Some((key, cell.as_ref()))
-            }
-            Shown::Keys(keys, cells) => match (keys.get(index), cells.get(index)) {
-                (Some(key), Some(cell)) => Some((key, cell.as_ref())),
-                _ => None,
-            },
-            Shown::Rows(rows) => match rows.get(index) {
-                Some(row) => Some((&row.key, Some(&row.cell))),
-                None => None,
-            },
-        }
-    }
-
-    // Recalls for the prover that the records can be counted.
-    fn recall_count(&self)
-        ensures { length (found_in self.now) < 2 ^ 64 }
-    {
-        let _ = match self {
-            Shown::One(..) => 1,
-            Shown::Keys(keys, _) => keys.len(),
-            Shown::Rows(rows) => rows.len(),
-        };
-    }
-
-    // What comes after the records.
-    fn end(&self) -> &'static str
-        ensures { result.now ≡ end_of self.now }
-    {
-        match self {
-            Shown::One(..) => "}\n",
-            Shown::Keys(..) | Shown::Rows(_) => "]}\n",
-        }
-    }
-
-    // Prefetches the rows of a page, some at a time. No clause depends on it.
-    fn prefetch_from(&self, index: usize) {
-        if let Shown::Rows(rows) = self {
-            if index % ROWS_AT_HAND == 0 && index < rows.len() {
-                let end = rows.len().min(index.saturating_add(ROWS_AT_HAND));
-                prefetch_rows(&rows[index..end]);
-            }
-        }
+// Adds a piece from a place on. The next place.
+fn append_at(out: &mut Vec<u8>, shown: &Shown, place: Place) -> Place
+    requires { IsPlaceOf (found_in shown.now) place }
+    ensures piece { MakesPiece 65536 (place_rest (found_in shown.now) (end_of shown.now) place)
+        (place_rest (found_in shown.now) (end_of shown.now) result) out.old out.new }
+    ensures place { IsPlaceOf (found_in shown.now) result }
+{
+    match place {
+        Place::Record { index, content } => append_from(out, shown, index, content),
+        Place::End => Place::End,
     }
 }
 
@@ -152,19 +88,45 @@ fn append_from(out: &mut Vec<u8>, shown: &Shown, index: usize, content: usize) -
         (place_rest (found_in shown.now) (end_of shown.now) result) out.old out.new }
     ensures place { IsPlaceOf (found_in shown.now) result }
 {
-    let Some((key, cell)) = shown.record_at(index) else {
-        append_text(out, shown.end());
-        return Place::End;
-    };
-    shown.prefetch_from(index);
-    shown.recall_count();
-    append_comma(out, is_later_row(index, content));
-    match append_record(out, key, cell, content) {
-        0 => Place::Record {
+    match shown.record_at(index) {
+        Some((key, cell)) => {
+            shown.prefetch_from(index);
+            shown.recall_count();
+            append_comma(out, is_later_row(index, content));
+            let next = append_record(out, key, cell, content);
+            next_place(index, next)
+        }
+        None => {
+            append_text(out, shown.end());
+            Place::End
+        }
+    }
+}
+
+// The place after a part of a record, by the next content, or 0 after the last.
+fn next_place(index: usize, next: usize) -> Place
+    requires { index + 1 < 2 ^ 64 }
+    ensures { result ≡ next_place index next }
+{
+    if next == 0 {
+        return Place::Record {
             index: index + 1,
             content: 0,
-        },
-        content => Place::Record { index, content },
+        };
+    }
+    Place::Record {
+        index,
+        content: next,
+    }
+}
+
+// Whether nothing comes after a place.
+fn is_end(place: Place) -> bool
+    ensures { IsTrue result ↔ (place ≡ End) }
+{
+    match place {
+        Place::Record { .. } => false,
+        Place::End => true,
     }
 }
 

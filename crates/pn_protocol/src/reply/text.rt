@@ -1,13 +1,17 @@
 //! The text of a reply, made a piece at a time in a buffer that has room for it.
 
 ghost use Rattle.std.specs.Prelude.{◌≡◌, ◌≢◌, ◌+◌, ◌-◌, ◌<◌, ◌≤◌, ◌↔◌, [], ◌++◌, false, drop, length, min, take, vec_capacity, vec_len, IsTrue};
-ghost use Rattle.pn_json.specs.Prelude.{AppendsText, MakesPiece};
-ghost use Rattle.pn_protocol.specs.Reply.Making.{end_of, found_in, head_bytes, rest_bytes, rows_text};
+ghost use Rattle.pn_json.specs.Prelude.{AppendsText, MakesPiece, line_of};
+ghost use Rattle.pn_protocol.specs.Reply.Making.{end_of, found_in, rows_text};
+ghost use Rattle.pn_protocol.specs.Reply.Pieces.{head_bytes, rest_bytes};
+ghost use Rattle.pn_protocol.specs.Reply.Short.{number_reply_data};
 ghost use Rattle.pn_protocol.specs.Reply.Texts.{reply_text};
+ghost use Rattle.pn_protocol.specs.declared.reply.Reply.TheVariants.{Page};
 
-use crate::reply::rows_text::{RowsText, Shown};
+use crate::reply::rows_text::RowsText;
 use crate::reply::short::text_reply;
-use crate::{NumberName, Reply, ShortReply, number_reply, refusal_reply};
+use crate::reply::shown_records::Shown;
+use crate::{NumberName, PageReply, Reply, ShortReply, number_reply, refusal_reply};
 use pn_json::append_bytes;
 use pn_tablet::CopyText;
 use std::marker::Model;
@@ -43,7 +47,7 @@ enum Rest {
 
 impl Model for ReplyText {
     ghost use Rattle.std.specs.Prelude.{ℕ, List, ◌≤◌, ◌++◌, drop, length};
-    ghost use Rattle.pn_protocol.specs.Reply.Making.{head_bytes, rest_bytes};
+    ghost use Rattle.pn_protocol.specs.Reply.Pieces.{head_bytes, rest_bytes};
 
     ghost Value = { List ℕ };
 
@@ -58,33 +62,41 @@ impl ReplyText {
         ensures { result ≡ reply_text reply }
     {
         match reply {
-            Reply::Adopted(tablet) => ReplyText::short(number_reply(NumberName::Adopted, tablet)),
-            Reply::Changed(count) => ReplyText::short(number_reply(NumberName::Changed, count)),
+            Reply::Adopted(tablet) => ReplyText::number(NumberName::Adopted, tablet),
+            Reply::Changed(count) => ReplyText::number(NumberName::Changed, count),
             Reply::Copy(copy) => {
                 let lines = number_reply(NumberName::Lines, copy.lines());
                 ReplyText::of(Head::Short(lines), Rest::Lines(copy))
             }
-            Reply::Lost(tablet) => ReplyText::short(number_reply(NumberName::Lost, tablet)),
+            Reply::Lost(tablet) => ReplyText::number(NumberName::Lost, tablet),
             Reply::NotTaken(text) => ReplyText::of(Head::Long(text), Rest::Nothing),
-            Reply::Page(page) => ReplyText::rows(Head::Long(page.head), Shown::Rows(page.rows)),
+            Reply::Page(page) => ReplyText::page(page),
             Reply::Record { key, cell } => {
-                ReplyText::rows(Head::Short(text_reply("{\"row\":")), Shown::One(key, cell))
+                ReplyText::rows(text_head("{\"row\":"), Shown::One(key, cell))
             }
             Reply::Records { keys, cells } => {
-                ReplyText::rows(
-                    Head::Short(text_reply("{\"rows\":[")),
-                    Shown::Keys(keys, cells),
-                )
+                ReplyText::rows(text_head("{\"rows\":["), Shown::Keys(keys, cells))
             }
             Reply::Refused(refusal) => ReplyText::short(refusal_reply(&refusal)),
-            Reply::Relaid(count) => ReplyText::short(number_reply(NumberName::Tablets, count)),
+            Reply::Relaid(count) => ReplyText::number(NumberName::Tablets, count),
             Reply::Silent => ReplyText::short(ShortReply::new()),
-            Reply::Stopping(seconds) => ReplyText::short(number_reply(
-                NumberName::Stopping,
-                seconds,
-            )),
+            Reply::Stopping(seconds) => ReplyText::number(NumberName::Stopping, seconds),
             Reply::Text(text) => ReplyText::of(Head::Long(text), Rest::Nothing),
         }
+    }
+
+    // The line of a number.
+    fn number(name: NumberName, number: u64) -> ReplyText
+        ensures { result ≡ line_of (number_reply_data name number) }
+    {
+        ReplyText::short(number_reply(name, number))
+    }
+
+    fn page(page: PageReply) -> ReplyText
+        ensures { result ≡ reply_text (Page page) }
+    {
+        let PageReply { head, rows } = page;
+        ReplyText::rows(Head::Long(head), Shown::Rows(rows))
     }
 
     // One line.
@@ -115,7 +127,11 @@ impl ReplyText {
     pub fn is_made(&self) -> bool
         ensures { IsTrue result ↔ (self.now ≡ []) }
     {
-        self.made == self.head.as_bytes().len() && self.rest.is_made()
+        let head = self.head.as_bytes();
+        if self.made < head.len() {
+            return false;
+        }
+        self.rest.is_made()
     }
 
     /// Makes a piece after what a buffer holds. It asks nothing of memory.
@@ -136,10 +152,18 @@ impl ReplyText {
         let head = self.head.as_bytes();
         if self.made < head.len() {
             self.made = append_some(out, head, self.made);
-        } else {
-            self.rest.append_piece(out);
+            return;
         }
+        self.rest.append_piece(out);
     }
+}
+
+// A text that fits a short reply.
+fn text_head(text: &str) -> Head
+    requires { length text.now ≤ 128 }
+    ensures { head_bytes result ≡ text.now }
+{
+    Head::Short(text_reply(text))
 }
 
 impl Head {

@@ -68,12 +68,20 @@ control_in options =
     else if nat_lt MAX_SOCKET_BYTES (length (text_at (codes "control") options)) then Err (fault.Control why.LongPath)
     else Ok (Some (text_at (codes "control") options))
 
+-- the text of copies that the region starts from, whose layout is theirs
+abbrev pub copies_in : List Row → Result (Option Text) OptionFault
+copies_in options =
+    if is_absent (codes "copies") options then Ok None
+    else if not (bytes_eq (text_at (codes "bounds") options) (codes "[]")) then Err fault.Copies
+    else Ok (Some (text_at (codes "copies") options))
+
 -- how sessions are served
 abbrev pub service_in : IpAddr → List Row → Result ServiceValue OptionFault
 service_in host options = do
   address ← address_in host options
   mode ← permissions_in (text_at (codes "socket-mode") options)
   control ← control_in options
+  copies ← copies_in options
   Ok (record {
     sessions = number_at (codes "sessions") MAX_SESSIONS options;
     address = address;
@@ -82,6 +90,7 @@ service_in host options = do
     control = control;
     idle = idle_in options;
     is_progress_told = is_set (codes "progress") options;
+    copies = copies;
   })
 
 -- the arguments of the streams

@@ -71,6 +71,10 @@ progress_flag = flag_option (codes "progress")
 abbrev pub connections_option : Rule
 connections_option = number_option (codes "connections") (codes "1024") MAX_CONNECTIONS
 
+-- the text of copies that the region starts from
+abbrev pub copies_option : Rule
+copies_option = plain_option (codes "copies") values.NonEmptyString
+
 -- at least one stream, one argument each
 abbrev pub streams_words : Rule
 streams_words = record (new_rule (codes "streams")) { value_names = 1; action = Some Append; required = true }
@@ -84,9 +88,13 @@ abbrev pub with_service : App → App
 with_service app =
     with_rule (with_rule (with_rule (with_rule (with_rule (with_rule (with_rule (with_rule (with_rule (with_rule app sessions_option) listen_option) port_option) socket_option) socket_mode_option) stay_flag) control_option) connections_option) idle_option) progress_flag
 
+-- and from which copies the region starts
+abbrev pub with_start : App → App
+with_start app = with_rule (with_service app) copies_option
+
 -- streams are read while sessions are served
 abbrev pub serve : App
-serve = with_rule (with_service (with_rule (with_rule (new_app (codes "serve")) bounds_option) workers_option)) streams_words
+serve = with_rule (with_start (with_rule (with_rule (new_app (codes "serve")) bounds_option) workers_option)) streams_words
 
 -- the program, which needs a command, and has a version
 abbrev pub named_program : App

@@ -16,7 +16,8 @@ pub data AddressValue : Type 0 where
   path : List ℕ → AddressValue
 
 -- the sessions, where the server listens, the permissions of its sockets, the connections of a server that stays, the socket of its
--- control sessions, the seconds of a client that is idle, and whether progress is written
+-- control sessions, the seconds of a client that is idle, whether progress is written, and the path of the copies that the region
+-- starts from
 pub record ServiceValue : Type 0 where
   pub sessions : ℕ
   pub address : AddressValue
@@ -25,6 +26,7 @@ pub record ServiceValue : Type 0 where
   pub control : Option (List ℕ)
   pub idle : Option ℕ
   pub is_progress_told : Bool
+  pub copies : Option (List ℕ)
 
 -- a script; or the settings, the service and the streams to serve; or help, or the version
 pub data PlanValue : Type 0 where
@@ -52,6 +54,7 @@ service_value service = record {
   control = optional_bytes service.control;
   idle = service.idle;
   is_progress_told = service.is_progress_told;
+  copies = optional_bytes service.copies;
 }
 
 -- what a plan of the program says

@@ -25,7 +25,7 @@ pub(crate) const MAX_CONNECTIONS: u32 = 65_536;
 pub(crate) const MAX_IDLE: u32 = 86_400;
 
 /// The version that `--version` says, and `stats`.
-pub const VERSION: &str = "0.1.0";
+pub const VERSION: &str = "0.2.0";
 
 /// The examples of `pnuts --help`.
 const EXAMPLES: &str = "\
@@ -70,6 +70,9 @@ const SOCKET_MODE_HELP: &str =
 
 const CONTROL_HELP: &str =
     "With --stay: a Unix socket for those who run the region; only its owner may connect";
+
+const COPIES_HELP: &str =
+    "A text of copies, one of each tablet, that the region starts from; the layout is theirs";
 
 const STAY_HELP: &str =
     "Goes on until a signal or --control ends it, and reads one writer of a FIFO or socket after another";
@@ -127,6 +130,7 @@ fn serve<'w>(alloc: Global) -> Result<Command<'w>, AllocError>
         ))?
         .arg(plain(alloc, "idle", up_to(MAX_IDLE), "SECONDS", IDLE_HELP))?
         .arg(flag(alloc, "progress", PROGRESS_HELP))?
+        .arg(path(alloc, "copies", COPIES_HELP))?
         .arg(streams(alloc))
 }
 

@@ -38,6 +38,8 @@ pub struct Service {
     pub idle: Option<u32>,
     /// Whether progress is written to standard error each second.
     pub is_progress_told: bool,
+    /// The path of a text of copies that the region starts from. There are no bounds beside it.
+    pub copies: Option<String>,
 }
 
 /// Where a server listens.

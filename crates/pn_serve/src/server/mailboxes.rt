@@ -144,6 +144,11 @@ impl StreamMailboxes {
         if let Some(rounds) = &self.rounds {
             rounds.add(1);
         }
+        self.show(marks);
+    }
+
+    /// Shows how far the streams were taken.
+    pub(crate) fn show(&self, marks: &Marks) {
         for stream in self.streams.iter() {
             stream.show(marks);
         }

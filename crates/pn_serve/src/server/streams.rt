@@ -15,6 +15,7 @@ use crate::server::mailboxes::{AtFault, Reporter, StreamMailboxes, Wakeup};
 use crate::server::reporting::{next_input, report_stream};
 use crate::server::reports::Report;
 use crate::server::writers::{Origin, Stream};
+use pn_join::Marks;
 use pn_line::Source;
 use pn_live::LiveRegion;
 use std::alloc::{AllocError, Global};
@@ -31,7 +32,7 @@ pub struct Watchers {
     pub controls: Option<Arc<ControlMailboxes>>,
 }
 
-/// Reads streams into a live region until all have ended, or a control session asks the server to stop, at most 1,000 messages
+/// Reads streams into a live region, each after its mark, until all have ended, or a control session asks the server to stop, at most 1,000 messages
 /// of each a round. Between two rounds it does what control sessions ask for. A stream's fault ends that stream alone. The
 /// fault is `Start`, or `Round`, after which no stream is read. Rounds are counted where somebody looks at the count.
 pub fn read_streams<R, S, O>(
@@ -51,16 +52,17 @@ where
     ensures reads { ReadsBesides (map (λ stream. stream.name) streams.items) live.old live.new result }
     ensures same { tablets_in live.new ≡ tablets_in live.old }
 {
-    let mut mailboxes = start_threads::<R, S, O>(rt, alloc, streams, watchers)?;
+    let mut mailboxes = start_threads::<R, S, O>(rt, alloc, live.marks(), streams, watchers)?;
     let read = run_rounds(rt, alloc, live, workers, &mut mailboxes, &watchers.controls);
     mailboxes.close(rt);
     read
 }
 
-// Starts to read streams, each in its own thread. A refused thread, or out of memory, ends the reading.
+// Starts to read streams, each in its own thread, after their marks. A refused thread, or out of memory, ends the reading.
 fn start_threads<R, S, O>(
     rt: &R,
     alloc: Global,
+    marks: &Marks,
     streams: Vec<Stream<O>>,
     watchers: &Watchers,
 ) -> Result<StreamMailboxes, ServeFault>
@@ -76,11 +78,12 @@ where
         return Err(ServeFault::Start);
     };
     for stream in streams {
-        if let Err(_) = start_thread::<R, S, O>(rt, alloc, &mut mailboxes, stream) {
+        if let Err(_) = start_thread::<R, S, O>(rt, alloc, marks, &mut mailboxes, stream) {
             mailboxes.close(rt);
             return Err(ServeFault::Start);
         }
     }
+    mailboxes.show(marks);
     Ok(mailboxes)
 }
 
@@ -107,6 +110,7 @@ fn new_mailboxes(
 fn start_thread<R, S, O>(
     rt: &R,
     alloc: Global,
+    marks: &Marks,
     mailboxes: &mut StreamMailboxes,
     stream: Stream<O>,
 ) -> Result<(), AllocError>
@@ -120,10 +124,10 @@ where
 {
     let Stream {
         name,
-        after,
         origin,
         taken,
     } = stream;
+    let after = marks.position(&name);
     let reporter = mailboxes.add(alloc, name, taken)?;
     let host = *rt;
     thread::spawn(rt, move || {

@@ -42,12 +42,11 @@ pub trait Origin<S: Source + Drop> {
     fn stop_writer(&mut self, source: S);
 }
 
-/// A stream that is read from one writer after another, and what it was taken up to before.
+/// A stream that is read from one writer after another.
 #[derive(Drop)]
 pub struct Stream<O: Drop> {
     pub name: StreamName,
-    pub after: u64,
     pub origin: O,
-    /// Set to the region's mark of the stream after each round.
+    /// Set to the region's mark of the stream, at first and after each round.
     pub taken: Option<Arc<Counter>>,
 }

@@ -1,6 +1,6 @@
 //! Opens the streams of a server that stays: files that are read once, FIFOs and sockets.
 
-ghost use Rattle.std.specs.Prelude.{◌≡◌, [], ◌∷◌, ◌++◌, map, All, IfOk, OnOk};
+ghost use Rattle.std.specs.Prelude.{◌≡◌, [], ◌∷◌, ◌++◌, map, IfOk, OnOk};
 
 use crate::counters::StreamCounters;
 use crate::messages::Messages;
@@ -55,7 +55,6 @@ pub fn open_origins<R>(
 where
     R: Files<File = File> + Net + Wait + Clock + Copy + Drop,
     ensures names { IfOk result (λ opened. map (λ stream. stream.name) opened.streams.items ≡ map (λ stream. stream.0) streams.items) }
-    ensures first { IfOk result (λ opened. All (λ stream. stream.after ≡ 0) opened.streams.items) }
 {
     let mut opened = OpenedStreams {
         streams: Vec::with_capacity(setting.alloc, streams.len())?,
@@ -86,8 +85,6 @@ fn open_origin<R>(
 ) -> Result<(), OpenFault>
 where
     R: Files<File = File> + Net + Wait + Clock + Copy + Drop,
-    requires { All (λ stream. stream.after ≡ 0) opened.old.streams.items }
-    ensures first { OnOk result (All (λ stream. stream.after ≡ 0) opened.new.streams.items) }
     ensures names { OnOk result (map (λ stream. stream.name) opened.new.streams.items ≡ map (λ stream. stream.name) opened.old.streams.items ++ name ∷ []) }
 {
     let notes = new_notes(setting, name, &path)?;
@@ -96,7 +93,6 @@ where
     add_counters(&mut opened.counters, &notes, &writers, size)?;
     opened.streams.push(Stream {
         name,
-        after: 0,
         origin: StreamOrigin { notes, writers },
         taken: Some(taken),
     })?;

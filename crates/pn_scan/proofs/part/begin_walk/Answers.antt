@@ -1,9 +1,7 @@
 -- The walk begins where the first may be shown, and comes to the answer with what it took of the others.
-use Rattle.std.proofs.Common.{◌≡◌, [], drop, length-drop, ◌∙◌, arith}
+use Rattle.std.proofs.Common.{drop, length-drop, ◌∙◌, arith}
 use Rattle.std.proofs.lemmas.Result.{IfOk-weaker}
 use Rattle.pn_record.specs.CellMap.{Entries}
-use Rattle.pn_scan.specs.Parts.{part_at, walk_answer}
-use Rattle.pn_scan.specs.declared.walk.Part.{Part}
 use Rattle.pn_scan.proofs.Looking.{all_answer, begun_answer, none_below_later, to_answer}
 use Rattle.pn_scan.proofs.part.begin_walk.Goals as goal
 

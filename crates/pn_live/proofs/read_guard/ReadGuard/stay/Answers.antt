@@ -1,5 +1,5 @@
 -- Both positions are of one book. The reader leaves where it learnt of more than one attempt after the state found.
-use Rattle.std.proofs.Common.{◌≡◌, ◌+◌, ◌≤◌, true, false, length, ⊎_elim, ap, sym, subst, ◌∙◌}
+use Rattle.std.proofs.Common.{◌≡◌, ◌+◌, ◌≤◌, length, ⊎_elim, ap, sym, subst, ◌∙◌}
 use Rattle.std.proofs.lemmas.Bool.Decides.{leb_tells}
 use Rattle.pn_live.specs.declared.published_state.PublishedState.{PublishedState}
 use Rattle.pn_live.proofs.read_guard.ReadGuard.stay.Goals as goal

@@ -1,5 +1,5 @@
 -- The walk goes on, unless the first record is below `from`.
-use Rattle.std.proofs.Common.{◌≡◌, ◌+◌, ◌<◌, ◌≤◌, ℕ, List, Option, Bool, true, drop, length, length-drop, inl, inr, sym, ap, ◌∙◌, subst, arith}
+use Rattle.std.proofs.Common.{◌+◌, drop, length, length-drop, inl, sym, ap, ◌∙◌, arith}
 use Rattle.pn_record.specs.CellMap.{Entries}
 use Rattle.pn_scan.specs.Parts.{walk_answer}
 use Rattle.pn_scan.specs.WalkValues.{PartWalkValue}

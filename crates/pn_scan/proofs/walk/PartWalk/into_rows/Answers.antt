@@ -1,5 +1,5 @@
 -- The walk goes to the end, from the first record that is not below `from`.
-use Rattle.std.proofs.Common.{◌≡◌, ap, ◌∙◌, arith}
+use Rattle.std.proofs.Common.{ap, ◌∙◌, arith}
 use Rattle.pn_join.proofs.Rising.{Rising-from_sorted}
 use Rattle.pn_record.specs.CellMap.{Entries}
 use Rattle.pn_record.specs.Order.{bytes_cmp}

@@ -4,7 +4,7 @@ use Rattle.std.proofs.lemmas.Result.{IfOk-weaker}
 use Rattle.clap.specs.Simple.{with_rule}
 use Rattle.std.specs.Prelude.{codes}
 use Rattle.clap.specs.Words.{rule_of}
-use Rattle.pn_serve.specs.Arguments.Options.{connections_option, control_option, idle_option, listen_option, plain_option, port_option, progress_flag, sessions_option, socket_mode_option, socket_option, stay_flag, streams_words}
+use Rattle.pn_serve.specs.Arguments.Options.{connections_option, control_option, copies_option, idle_option, listen_option, plain_option, port_option, progress_flag, sessions_option, socket_mode_option, socket_option, stay_flag, streams_words}
 use Rattle.pn_serve.proofs.arguments.options.serve.Goals as goal
 
 pub returns-clause-app : goal.returns-clause-app
@@ -19,6 +19,7 @@ returns-clause-app c =
     let connections : rule_of c.number-3.result ≡ connections_option = c.number-3.ensures.rule in
     let idle : rule_of c.plain.result ≡ idle_option = c.plain.ensures.rule ∙ ap (plain_option (codes "idle")) c.up_to.ensures in
     let progress : rule_of c.flag-2.result ≡ progress_flag = c.flag-2.ensures.rule in
+    let copies : rule_of c.path-3.result ≡ copies_option = c.path-3.ensures.rule in
     let streams : rule_of c.streams.result ≡ streams_words = c.streams.ensures.rule in
     let one = c.in_ok-arg.ensures.shape c.number.ensures.local ∙ ap₂ with_rule c.in_ok-over_region.ensures.app sessions in
     let two = c.in_ok-arg-2.ensures.shape c.option.ensures.local ∙ ap₂ with_rule one listen in
@@ -30,7 +31,8 @@ returns-clause-app c =
     let eight = c.in_ok-arg-8.ensures.shape c.number-3.ensures.local ∙ ap₂ with_rule seven connections in
     let nine = c.in_ok-arg-9.ensures.shape c.plain.ensures.local ∙ ap₂ with_rule eight idle in
     let ten = c.in_ok-arg-10.ensures.shape c.flag-2.ensures.local ∙ ap₂ with_rule nine progress in
-    IfOk-weaker c.arg-11.result _ _ (λ r adds. adds.shape c.streams.ensures.local ∙ ap₂ with_rule ten streams) c.arg-11.ensures
+    let eleven = c.in_ok-arg-11.ensures.shape c.path-3.ensures.local ∙ ap₂ with_rule ten copies in
+    IfOk-weaker c.arg-12.result _ _ (λ r adds. adds.shape c.streams.ensures.local ∙ ap₂ with_rule eleven streams) c.arg-12.ensures
 
 neither : (a b : Bool) → a ≡ false → b ≡ false → (a || b) ≡ false
 neither a b one other = ap₂ (λ (x y : Bool). x || y) one other
@@ -47,4 +49,5 @@ returns-clause-local c =
     let eight = c.in_ok-arg-8.ensures.globals ∙ neither _ _ seven c.number-3.ensures.local in
     let nine = c.in_ok-arg-9.ensures.globals ∙ neither _ _ eight c.plain.ensures.local in
     let ten = c.in_ok-arg-10.ensures.globals ∙ neither _ _ nine c.flag-2.ensures.local in
-    IfOk-weaker c.arg-11.result _ _ (λ r adds. adds.globals ∙ neither _ _ ten c.streams.ensures.local) c.arg-11.ensures
+    let eleven = c.in_ok-arg-11.ensures.globals ∙ neither _ _ ten c.path-3.ensures.local in
+    IfOk-weaker c.arg-12.result _ _ (λ r adds. adds.globals ∙ neither _ _ eleven c.streams.ensures.local) c.arg-12.ensures

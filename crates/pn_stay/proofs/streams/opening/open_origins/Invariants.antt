@@ -1,9 +1,6 @@
 -- Each stream so far is opened.
-use Rattle.std.proofs.Common.{◌≡◌, map, All}
+use Rattle.std.proofs.Common.{◌≡◌, map}
 use Rattle.pn_stay.proofs.streams.opening.open_origins.Given as goal
 
 abbrev pub invariant-loop-name : goal.invariant-loop-name
-invariant-loop-name g l = record {
-  names : map (λ stream. stream.name) l.opened.streams.items ≡ map (λ stream. stream.0) l.yielded;
-  first : All (λ stream. stream.after ≡ 0) l.opened.streams.items;
-}
+invariant-loop-name g l = map (λ stream. stream.name) l.opened.streams.items ≡ map (λ stream. stream.0) l.yielded

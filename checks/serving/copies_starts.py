@@ -1,0 +1,270 @@
+"""The checks of `checks/run copies` of regions that start."""
+import json
+import os
+import random
+import signal
+import subprocess
+import sys
+import tempfile
+import threading
+import time
+from pathlib import Path
+
+from common.at_once import at_once
+from common.crates import TOP
+from common.served import Client, Served, same, written
+from faults.refusing import Refusals
+from replies.live_copies import copied, copy_line, streams_of
+from replies.random_values import KEYS, MANY_KEYS, bounds_of
+from serving.controlled import Session
+from serving.copies_texts import exchanged, fault_of, least_marks, messages_from, part_of, refusal, taken
+from serving.staying import Staying
+
+REGIONS = 100
+KILLS, STARTS = 1_000, 200
+ZEROS = 5 << 30
+# What a program may say where an allocation is refused before it listens.
+STARTS_NOT = (b"pnuts: memory", b"pnuts: copies: memory", b"pnuts: cannot start", b"pnuts: cannot listen", b"pnuts: cannot open")
+
+
+def region_fault(program: str, seed: int) -> str | None:
+    """What is wrong with a region that starts from the copies of another, and goes on with its streams."""
+    rng = random.Random(seed)
+    tablets = rng.choice([1, 2, 4, 64])
+    words = ["--workers", str(rng.choice([1, 2, 4, 16]))]
+    bounds = ["--bounds", json.dumps(bounds_of(rng, tablets))]
+    streams = streams_of(rng, MANY_KEYS if tablets == 64 else KEYS)
+    ends = {name: rng.randrange(len(images) + 1) for name, images in streams.items()}
+    with tempfile.TemporaryDirectory() as folder:
+        texts = taken(program, folder, [*words, *bounds], part_of(streams, ends), tablets)
+        wanted = taken(program, folder, [*words, *bounds], streams, tablets)
+        path = written(folder, "copies", b"".join(rng.sample(texts, tablets)))
+        named, control = [], os.path.join(folder, "control")
+        for name, images in streams.items():
+            first = rng.randrange(1, ends[name] + 2)
+            named.append((name, written(folder, f"{name}.rest", messages_from(images, first))))
+        with Staying(program, folder, named, *words, "--copies", path, "--control", control) as region:
+            with Client(region.port) as client:
+                found = [copied(client, copy_line(tablet, streams)) for tablet in range(tablets)]
+            with Session(control) as session:
+                same("the marks", session.told(do="marks"), {"marks": {name: len(images) for name, images in streams.items()}})
+        if found != wanted:
+            return f"the copies of seed {seed} are not those of a region that took all"
+        whole = [(name, written(folder, f"{name}.all", messages_from(images, 1))) for name, images in streams.items()]
+        with Served(program, whole, words=[*words, "--copies", path]) as served, Client(served.port) as client:
+            found = [copied(client, copy_line(tablet, streams)) for tablet in range(tablets)]
+        return None if found == wanted else f"the copies of seed {seed} without --stay are not those of a region that took all"
+
+
+def check_random_regions(program: str, folder: str) -> None:
+    """Regions of 1 to 64 tablets start from the copies of others in any order, and go on in the middle of their streams: in the end
+    they hold what a region holds that took all."""
+    faults = [fault for fault in at_once(lambda seed: region_fault(program, seed), range(REGIONS)) if fault]
+    same("what is wrong", faults[:1], [])
+
+
+def some_texts(program: str, folder: str, bounds: list[str]) -> list[bytes]:
+    """The copies of a region with some records of which some are in conflict."""
+    streams = streams_of(random.Random(7), KEYS)
+    few = {name: images[:30] for name, images in streams.items()}
+    return taken(program, folder, ["--bounds", json.dumps(bounds)], few, len(bounds) + 1)
+
+
+def check_faults(program: str, folder: str) -> None:
+    """A text that is cut at each line, or has a line damaged, doubled, left out or exchanged, or copies of two layouts, is refused
+    with its line or key before anything listens."""
+    texts = some_texts(program, folder, ["b", "ca"])
+    others = some_texts(program, folder, ["c"])
+    whole = b"".join(texts)
+    same("a text of copies", fault_of(whole), None)
+    lines = whole.splitlines(keepends=True)
+    cases = [b"".join(lines[:at]) for at in range(len(lines))]
+    cases += [b"".join(lines[:at]) + lines[at][: len(lines[at]) // 2] for at in range(len(lines))]
+    for at, line in enumerate(lines):
+        before, after = b"".join(lines[:at]), b"".join(lines[at + 1:])
+        cases += [before + b"x" + line + after, before + line + line + after, before + after, before + b" " * 70_000 + line + after]
+    cases += list(exchanged(lines))
+    for at, text in enumerate(texts):
+        cases += [b"".join(texts[:at] + texts[at + 1:]), whole + text]
+    cases += [texts[0] + others[1], others[0] + texts[1] + texts[2], whole + b"\n", whole + b"{", b"\0" * 100, whole * 30]
+    faults = list(at_once(lambda text: file_fault(program, folder, text), cases))
+    same("what is wrong", [fault for fault in faults if fault][:1], [])
+    print(f"    {len(cases)} texts")
+
+
+def file_fault(program: str, folder: str, text: bytes) -> str | None:
+    """What is wrong with a program that is given a text in a file."""
+    with tempfile.NamedTemporaryFile(dir=folder) as file:
+        file.write(text)
+        file.flush()
+        return text_fault(program, text, file.name)
+
+
+def text_fault(program: str, text: bytes, path: str) -> str | None:
+    """What is wrong with a program that is given a text at a path."""
+    wanted = fault_of(text)
+    if wanted is None:
+        with Served(program, [("east", "/dev/null")], words=["--copies", path]) as served:
+            return None if served.first.startswith(b"listening on ") else f"it does not start from {text[:200]!r}"
+    ended = refusal(program, path, "--workers", "4")
+    right = (1, "", f"pnuts: copies: {wanted}\n")
+    return None if ended == right else f"{ended}, not {right}, of {text[:300]!r}"
+
+
+def check_any_order(program: str, folder: str) -> None:
+    """Copies start a region in any order, and their layout is its own; with marks that the region takes as the least."""
+    texts = some_texts(program, folder, ["b", "c", "ca"])
+    for text in exchanged(texts):
+        path, control = written(folder, "copies", text), os.path.join(folder, "control")
+        with Staying(program, folder, [("east", "/dev/null")], "--copies", path, "--control", control, "--workers", "2"):
+            with Session(control) as session:
+                same("the tablets", [it["from"] for it in session.told(do="tablets")["tablets"]], [None, "b", "c", "ca"])
+                same("the copies", [session.copy(tablet) for tablet in range(4)], texts)
+                same("the marks", session.told(do="marks"), {"marks": least_marks(texts)})
+
+
+def check_words(program: str, folder: str) -> None:
+    """Bounds beside copies are refused with the words; a file that is not there, or no file, is named."""
+    path = written(folder, "copies", b"".join(some_texts(program, folder, ["b"])))
+    same("bounds beside copies", refusal(program, path, "--bounds", '["b"]'), (2, "", f"pnuts: copies: {path}: not with --bounds\n"))
+    gone = os.path.join(folder, "gone")
+    same("no file", refusal(program, gone)[:2], (1, ""))
+    same("why there is no file", refusal(program, gone)[2].startswith(f"pnuts: copies: {gone}: "), True)
+    same("a folder", refusal(program, folder), (1, "", "pnuts: copies: read\n"))
+    status, shown, said = refusal(program, "")
+    same("an empty path", (status, shown, bool(said)), (2, "", True))
+
+
+def check_no_copies(program: str, folder: str) -> None:
+    """What has no copies is refused at once, however much it is: nothing, 5 GB of zeros, zeros without an end."""
+    zeros = os.path.join(folder, "zeros")
+    with open(zeros, "wb") as file:
+        file.truncate(ZEROS)
+    for path, why in ((os.devnull, 'no copy has the key ""'), (zeros, "line 1: bad-line"), ("/dev/zero", "line 1: bad-line")):
+        same(path, refusal(program, path, "--workers", "4"), (1, "", f"pnuts: copies: {why}\n"))
+
+
+def check_slow_texts(program: str, folder: str) -> None:
+    """A text that is written while it is read is one like any other, and one whose writer goes is cut short."""
+    whole = b"".join(some_texts(program, folder, ["b", "ca"]))
+    for text in (whole, whole[:-9]):
+        path = os.path.join(folder, f"fifo-{len(text)}")
+        os.mkfifo(path)
+        writing = threading.Thread(target=write_slowly, args=[path, text])
+        writing.start()
+        same(f"{len(text)} bytes", text_fault(program, text, path), None)
+        writing.join()
+
+
+def write_slowly(path: str, text: bytes) -> None:
+    """Writes a text a piece after another."""
+    with open(path, "wb", buffering=0) as file:
+        for at in range(0, len(text), 1 + len(text) // 20):
+            file.write(text[at : at + 1 + len(text) // 20])
+            time.sleep(0.01)
+
+
+def check_killed_starts(program: str, folder: str) -> None:
+    """A start that is killed at any moment leaves the file of copies, and the next one serves them."""
+    texts = some_texts(program, folder, ["b"])
+    path, control = written(folder, "copies", b"".join(texts)), os.path.join(folder, "control")
+    words = ["--copies", path, "--control", control, "--socket", os.path.join(folder, "socket")]
+    line = [program, "serve", "--stay", *words, f"east=listen:{folder}/writers"]
+    rng = random.Random(5)
+    for _ in range(STARTS):
+        start = subprocess.Popen(line, stdout=subprocess.DEVNULL, stderr=subprocess.DEVNULL)
+        time.sleep(rng.uniform(0, 0.05))
+        start.kill()
+        start.wait()
+    with Staying(program, folder, [("east", f"listen:{folder}/writers")], *words), Session(control) as session:
+        same("the copies", [session.copy(tablet) for tablet in range(2)], texts)
+    same("the file", Path(path).read_bytes(), b"".join(texts))
+
+
+def check_too_many_streams(program: str, folder: str) -> None:
+    """Copies of more than 16 streams are refused; of 16, some of which no word names, they are not, and their marks stay."""
+    for count in (16, 17):
+        marks = "".join(f'{{"at":{at},"stream":"s{at:02}"}}\n' for at in range(1, count + 1))
+        path = written(folder, "copies", f'{{"copy":1,"from":null,"to":null}}\n{marks}{{"end":{count}}}\n'.encode())
+        if count == 17:
+            same("17 streams", refusal(program, path), (1, "", "pnuts: copies: too-many-streams\n"))
+            continue
+        control = os.path.join(folder, "control")
+        with Staying(program, folder, [("s01", "/dev/null")], "--copies", path, "--control", control), Session(control) as session:
+            same("the marks", session.told(do="marks"), {"marks": {f"s{at:02}": at for at in range(1, count + 1)}})
+
+
+def check_refused_allocations(program: str, folder: str) -> None:
+    """Each allocation of a start is refused in turn: it says so before it listens, or serves what the copies have."""
+    texts = some_texts(program, folder, ["b"])
+    path = written(folder, "copies", b"".join(texts))
+
+    def run_fault(given: dict[str, str]) -> str | None:
+        served = Served(program, [("east", "/dev/null")], words=["--copies", path, "--workers", "2"], environment=given)
+        with served:
+            if not served.first:
+                status, shown, said = served.end()
+                last = said.splitlines()[-1] if said else b""
+                is_right = status == 1 and not shown and last.startswith(STARTS_NOT)
+                return None if is_right else f"status {status}, {shown!r}, {said!r}"
+            try:
+                with Client(served.port) as client:
+                    client.socket.settimeout(2.0)
+                    reply = client.ask({"do": "copy", "tablet": 1})
+                    if "lines" not in reply:
+                        return None if reply.get("error") in ("memory", "no-entry") else f"it replies {reply}"
+                    text = b"".join(client.reply() for _ in range(reply["lines"]))
+                    return None if text == texts[1] else f"it serves {text!r}"
+            except (OSError, ValueError):
+                return None if os.path.exists(given["REFUSED_MARK"]) else "it does not reply"
+
+    try:
+        count = Refusals(folder).count("copies", run_fault)
+    except SystemExit as fault:
+        raise AssertionError(str(fault)) from fault
+    print(f"    {count} allocations refused")
+
+
+def check_killed_saves(program: str, folder: str, kills: int = KILLS) -> None:
+    """Of saves that are killed at random moments each leaves the file that was there, or a whole one."""
+    sys.path.insert(0, str(TOP / "clients/python/src"))
+    from pnuts_client import Client as Peer
+    from pnuts_client.saving import save
+
+    path = Path(folder) / "saved"
+    texts = some_texts(program, folder, ["b", "ca"])
+    control, source = os.path.join(folder, "control"), written(folder, "copies", b"".join(texts))
+    rng, kinds, longest = random.Random(11), [0, 0], 0.0
+
+    def begin() -> int:
+        """A process that saves, and ends with 0 where it has."""
+        child = os.fork()
+        if not child:
+            status = 1
+            try:
+                with Peer(f"unix:{control}") as peer:
+                    status = int(save(peer, path) != len(texts))
+            finally:
+                os._exit(status)
+        return child
+
+    with Staying(program, folder, [("east", "/dev/null")], "--copies", source, "--control", control):
+        for _ in range(20):
+            start = time.monotonic()
+            same("how a save ends", os.waitpid(begin(), 0)[1], 0)
+            longest = max(longest, time.monotonic() - start)
+        whole = path.read_bytes()
+        for _ in range(kills):
+            path.write_bytes(b"old")
+            child = begin()
+            time.sleep(rng.uniform(0, longest))
+            os.kill(child, signal.SIGKILL)
+            os.waitpid(child, 0)
+            found = path.read_bytes()
+            if found not in (b"old", whole):
+                raise AssertionError(f"a save that was killed left {found[:200]!r}")
+            kinds[found == whole] += 1
+            for part in Path(folder).glob(".saved.*"):
+                part.unlink()
+    same("some were killed before they ended, and some after", all(kinds), True)
+    print(f"    {kinds[0]} killed before the file was there, {kinds[1]} after")

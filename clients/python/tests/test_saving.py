@@ -1,0 +1,109 @@
+"""Copies of all tablets in a file, from one region or several."""
+
+from __future__ import annotations
+
+import contextlib
+import io
+import tempfile
+import unittest
+from collections.abc import Iterator
+from contextlib import ExitStack, contextmanager
+from pathlib import Path
+from unittest.mock import patch
+
+from pnuts_client import Client, PnutsError, ctl
+from pnuts_client.saving import save
+
+from .support import fake, replies
+
+FIRST = '{"copy":1,"from":null,"to":"g"}\n{"at":3,"stream":"east"}\n{"end":1}\n'
+OLDER = FIRST.replace('"at":3', '"at":2')
+LAST = '{"copy":1,"from":"g","to":null}\n{"at":3,"stream":"east"}\n{"end":1}\n'
+WHOLE = '{"copy":1,"from":null,"to":null}\n{"end":0}\n'
+RECOVERING = '{"error":"recovering","tablet":1}\n'
+BEHIND = '{"error":"behind","has":2,"stream":"east","wanted":3}\n'
+NO_TABLET = '{"error":"out-of-range","member":"tablet"}\n'
+NO_PEER = "tcp://127.0.0.1:1"
+
+
+def given(text: str) -> str:
+    """The reply of a copy."""
+    lines = text.count("\n")
+    return f'{{"lines":{lines}}}\n{text}'
+
+
+@contextmanager
+def peers(*shown: tuple[str, ...]) -> Iterator[list[str]]:
+    """Regions whose sessions answer these replies, one after another, and their addresses."""
+    with ExitStack() as stack:
+        yield [f"tcp://127.0.0.1:{stack.enter_context(fake(replies(*it)))}" for it in shown]
+
+
+class SavingTest(unittest.TestCase):
+    """What a file is written from."""
+
+    def setUp(self) -> None:
+        folder = tempfile.TemporaryDirectory()
+        self.addCleanup(folder.cleanup)
+        self.path = Path(folder.name) / "copies"
+
+    def saved(self, *shown: tuple[str, ...], more: tuple[str, ...] = ()) -> int:
+        """How many tablets are saved from these regions, and from more addresses before them."""
+        with peers(*shown) as addresses, ExitStack() as stack:
+            clients = [stack.enter_context(Client(it, retries=0)) for it in (*more, *addresses)]
+            count = save(clients, self.path)
+        return count
+
+    def test_of_one_region(self) -> None:
+        self.assertEqual(self.saved((given(FIRST), given(LAST))), 2)
+        self.assertEqual(self.path.read_text(encoding="utf-8"), FIRST + LAST)
+        self.assertEqual(self.saved((given(WHOLE),)), 1)
+        self.assertEqual(self.path.read_text(encoding="utf-8"), WHOLE)
+
+    def test_another_is_asked_where_one_recovers_or_is_behind(self) -> None:
+        self.assertEqual(self.saved((BEHIND, RECOVERING), (given(OLDER), BEHIND), (given(LAST),)), 2)
+        self.assertEqual(self.path.read_text(encoding="utf-8"), OLDER + LAST)
+
+    def test_another_is_asked_where_one_is_gone(self) -> None:
+        self.assertEqual(self.saved((given(FIRST), given(LAST)), more=(NO_PEER,)), 2)
+
+    def test_another_layout_is_passed_over(self) -> None:
+        self.assertEqual(self.saved((given(FIRST), RECOVERING), (given(WHOLE),), (given(LAST),)), 2)
+        self.assertEqual(self.path.read_text(encoding="utf-8"), FIRST + LAST)
+
+    def test_a_save_is_whole_or_not_at_all(self) -> None:
+        self.path.write_text("before", encoding="utf-8")
+        for shown, said in (
+            (((given(FIRST), RECOVERING), (NO_TABLET,)), "recovering: tablet 1"),
+            (((given(FIRST), NO_TABLET),), "no tablet has the keys from 'g' on"),
+            (((given(FIRST), given(WHOLE)),), "the copy of tablet 1 begins at None, not at 'g'"),
+            ((), "there is no region to copy from"),
+        ):
+            with self.subTest(said), self.assertRaises(PnutsError) as raised:
+                self.saved(*shown)
+            self.assertEqual(str(raised.exception), said)
+            self.assertEqual(list(self.path.parent.iterdir()), [self.path])
+            self.assertEqual(self.path.read_text(encoding="utf-8"), "before")
+
+    def test_the_program_saves_again_and_again(self) -> None:
+        sleeps: list[float] = []
+
+        def slept(seconds: float) -> None:
+            sleeps.append(seconds)
+            if len(sleeps) == 3:
+                raise KeyboardInterrupt
+
+        errors, said = io.StringIO(), io.StringIO()
+        connections = (replies(given(FIRST), given(LAST)), replies(RECOVERING), replies(given(WHOLE)))
+        with fake(*connections) as port, patch("pnuts_client.ctl.time.sleep", slept):
+            with contextlib.redirect_stderr(errors), contextlib.redirect_stdout(said):
+                words = ["save", str(self.path), "--from", f"tcp://127.0.0.1:{port}", "--every", "5"]
+                self.assertEqual(ctl.main(words), 130)
+        self.assertEqual(sleeps, [5.0, 5.0, 5.0])
+        self.assertEqual(errors.getvalue(), "pnuts-ctl: recovering: tablet 1\n")
+        self.assertEqual(said.getvalue(), f"{self.path}: 2 tablets, {len(FIRST + LAST)} bytes\n{self.path}: 1 tablets, {len(WHOLE)} bytes\n")
+        self.assertEqual(self.path.read_text(encoding="utf-8"), WHOLE)
+
+
+if __name__ == "__main__":
+    unittest.main()

@@ -1,0 +1,6 @@
+-- All lines are counted at once.
+use Rattle.pn_protocol.proofs.MadeReplies.{copy_made}
+use Rattle.pn_protocol.proofs.reply.answers.copy_reply.Goals as goal
+
+pub returns-in-Ok-Done : goal.returns-in-Ok-Done
+returns-in-Ok-Done c = copy_made c.args.copy _ c.in-Ok-Done.text c.in-Ok-Done.ensures

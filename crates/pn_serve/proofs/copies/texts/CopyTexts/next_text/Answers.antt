@@ -1,0 +1,49 @@
+-- A line more is gathered, or the text ends.
+use Rattle.std.proofs.Common.{◌≡◌, ◌∙◌, [], Ok, ap, length, refl, rules, arith}
+use Rattle.pn_serve.proofs.CopyTexts.{cut-end, cut-long, cut-part, gathered-line, gathered-none, none-left, nothing}
+use Rattle.pn_serve.proofs.copies.texts.CopyTexts.next_text.Goals as goal
+
+pub loop-lines-init : goal.loop-lines-init
+loop-lines-init g c = record {
+  gathered = λ bytes is. rw c.new-text.ensures.items (gathered-none bytes _ is);
+  next = refl;
+  few = search rules;
+}
+
+pub loop-lines-preserved : goal.loop-lines-preserved
+loop-lines-preserved g c =
+    let adds = rw c.in-Line.is at c.in_ok-add_line.ensures.adds in
+    let grows = c.in_ok-add_line.ensures.grows (ap Ok c.in-Line.is) in
+    record {
+      gathered = λ bytes is. gathered-line bytes _ _ _ _ _ (c.loop-lines.invariant.gathered bytes is) adds;
+      next = c.in_ok-add_line.ensures.next ∙ c.loop-lines.invariant.next;
+      few = omega (arith, c.loop-lines.invariant.few, grows);
+    }
+
+pub returns-in-End-clause-cut : goal.returns-in-End-clause-cut
+returns-in-End-clause-cut g c = λ bytes is.
+    let adds = rw c.in-End.is at c.in_ok-add_line.ensures.adds in
+    let same = c.in_ok-add_line.ensures.next ∙ c.loop-lines.invariant.next in
+    rw c.cut_out.ensures.source (rw c.cut_out.ensures.cut (cut-end _ bytes _ _ _ _ _ _ _ (c.loop-lines.invariant.gathered bytes is) adds same c.cut_out.ensures.next))
+
+pub returns-in-Last-clause-cut : goal.returns-in-Last-clause-cut
+returns-in-Last-clause-cut g c = λ bytes is.
+    let adds = rw c.in-Last.is at c.in_ok-add_line.ensures.adds in
+    let same = c.in_ok-add_line.ensures.next ∙ c.loop-lines.invariant.next in
+    let zero : length c.add_line.new.text.items ≡ 0 = search rules in
+    let (all, left) = none-left bytes _ _ _ _ _ (c.loop-lines.invariant.gathered bytes is) adds (nothing _ zero) in
+    ([], left, (all, refl, same))
+
+pub returns-in-Last-2-clause-cut : goal.returns-in-Last-2-clause-cut
+returns-in-Last-2-clause-cut g c = λ bytes is.
+    let adds = rw c.in-Last-2.is at c.in_ok-add_line.ensures.adds in
+    let same = c.in_ok-add_line.ensures.next ∙ c.loop-lines.invariant.next in
+    let cut = c.cut_out-in-Last-2.ensures in
+    rw cut.source (rw cut.cut (cut-part _ bytes _ _ _ _ _ _ _ (c.loop-lines.invariant.gathered bytes is) adds same cut.next))
+
+pub returns-in-TooLong-clause-cut : goal.returns-in-TooLong-clause-cut
+returns-in-TooLong-clause-cut g c = λ bytes is.
+    let adds = rw c.in-TooLong.is at c.in_ok-add_line.ensures.adds in
+    let same = c.in_ok-add_line.ensures.next ∙ c.loop-lines.invariant.next in
+    let cut = c.cut_out-in-TooLong.ensures in
+    rw cut.source (rw cut.cut (cut-long _ bytes _ _ _ _ _ _ _ (c.loop-lines.invariant.gathered bytes is) adds same cut.next))

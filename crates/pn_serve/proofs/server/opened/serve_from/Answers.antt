@@ -1,0 +1,26 @@
+-- What is written is the number of the readers that came back.
+use Rattle.std.proofs.Common.{◌≡◌, Err, vec_len}
+use Rattle.std.specs.Io.KnownBytes.{Appends}
+use Rattle.pn_line.specs.Sent.{AppendsPrefix}
+use Rattle.pn_protocol.specs.Reply.Short.{served_line}
+use Rattle.pn_serve.specs.declared.server.fault.ServeFault.TheVariants.{Write}
+use Rattle.pn_serve.proofs.OpenedServing.{opened_serving_ends}
+use Rattle.pn_serve.proofs.ServedStreams.{of_sessions, of_sessions_in_part, err_first, ok_err_first}
+use Rattle.pn_serve.proofs.server.opened.serve_from.Goals as goal
+
+pub returns-clause-ends : goal.returns-clause-ends
+returns-clause-ends g c =
+    opened_serving_ends g.S.Source.left c.args.streams.items c.args.opened.live c.serve_opened-served.result c.tell_served.result c.serve_opened-served.ensures.ends
+    (err_first c.serve_opened-served.result (λ fault. c.tell_served.result ≡ Err fault) (c.tell_served.new.out ≡ c.args.out.now) c.tell_served.ensures.fault)
+    (ok_err_first c.serve_opened-served.result c.tell_served.result (λ fault. fault ≡ Write) g.W.Sink.may_fail c.tell_served.ensures.write)
+
+pub returns-clause-served : goal.returns-clause-served
+returns-clause-served g c =
+    of_sessions (vec_len c.args.opened.readers) (λ n. Appends (g.W.Sink.contents c.args.out.now) (g.W.Sink.contents c.tell_served.new.out) (served_line n))
+    c.serve_opened-served.result c.tell_served.result c.serve_opened-served.ensures.count c.tell_served.ensures.all c.tell_served.ensures.ok
+
+pub returns-clause-part : goal.returns-clause-part
+returns-clause-part g c =
+    of_sessions_in_part (vec_len c.args.opened.readers) (λ n. AppendsPrefix (g.W.Sink.contents c.args.out.now) (g.W.Sink.contents c.tell_served.new.out) (served_line n))
+    c.serve_opened-served.result c.tell_served.result c.serve_opened-served.ensures.count c.serve_opened-served.ensures.fault
+    (err_first c.serve_opened-served.result (λ fault. c.tell_served.result ≡ Err fault) (c.tell_served.new.out ≡ c.args.out.now) c.tell_served.ensures.fault) c.tell_served.ensures.err

@@ -1,0 +1,81 @@
+-- How the texts of copies are cut out of a text in which they stand one after another.
+use Rattle.std.specs.Prelude.{◌≡◌, ◌==◌, ℕ, ◌+◌, ◌<◌, ◌≤◌, Bool, true, false, List, [], ◌∷◌, ◌++◌, ◌⊎◌, length, min, All, codes}
+use Rattle.std.specs.List.{starts_with}
+use Rattle.pn_line.specs.Line.{max_line_bytes}
+use Rattle.pn_line.specs.Reads.{IsUnbroken}
+use Rattle.pn_line.specs.Text.{text_of}
+
+-- the text of a copy: its bytes, the number of its first line in the whole text, how many of its lines end in a newline, and
+-- whether the line after these is too long
+pub record CutValue : Type 0 where
+  pub text : List ℕ
+  pub first : ℕ
+  pub lines : ℕ
+  pub is_too_long : Bool
+
+-- what is left of the whole text: the number of its next line, and its bytes
+pub record TextLeft : Type 0 where
+  pub next : ℕ
+  pub bytes : List ℕ
+
+-- the number of a line, which goes up to the greatest of 64 bits
+abbrev pub line_number : ℕ → ℕ
+line_number n = min n 18446744073709551615
+
+-- the line begins as the end of a copy does
+abbrev pub begins_end : List ℕ → Bool
+begins_end line = starts_with ◌==◌ line (codes "{\"end\":")
+
+-- a line, short enough, that begins as the end of a copy does, or does not
+pub record IsLineThat (ends : Bool) (line : List ℕ) : Type 0 where
+  pub unbroken : IsUnbroken line
+  pub short : length line ≤ max_line_bytes
+  pub begins : begins_end line ≡ ends
+
+-- the text goes up to and with the first line that begins as an end does
+pub record HasEnd (bytes : List ℕ) (cut : CutValue) (rest : List ℕ) : Type 0 where
+  pub before : List (List ℕ)
+  pub last : List ℕ
+  pub inner : All (IsLineThat false) before
+  pub ends : IsLineThat true last
+  pub text_is : cut.text ≡ text_of (before ++ last ∷ [])
+  pub lines_are : cut.lines ≡ length before + 1
+  pub whole : cut.is_too_long ≡ false
+  pub bytes_are : bytes ≡ cut.text ++ rest
+
+-- no line begins so, and the text is all that is left: lines, and then a part of a line, which may be empty
+pub record HasNoEnd (bytes : List ℕ) (cut : CutValue) (rest : List ℕ) : Type 0 where
+  pub before : List (List ℕ)
+  pub part : List ℕ
+  pub inner : All (IsLineThat false) before
+  pub part_unbroken : IsUnbroken part
+  pub part_short : length part ≤ max_line_bytes
+  pub text_is : cut.text ≡ text_of before ++ part
+  pub lines_are : cut.lines ≡ length before
+  pub whole : cut.is_too_long ≡ false
+  pub bytes_are : bytes ≡ cut.text
+  pub rest_is : rest ≡ []
+
+-- before a line begins so, one is too long, at which reading stops
+pub record HasLongLine (bytes : List ℕ) (cut : CutValue) (rest : List ℕ) : Type 0 where
+  pub before : List (List ℕ)
+  pub long : List ℕ
+  pub after : List ℕ
+  pub inner : All (IsLineThat false) before
+  pub unbroken : IsUnbroken long
+  pub is_long : max_line_bytes < length long
+  pub text_is : cut.text ≡ text_of before
+  pub lines_are : cut.lines ≡ length before
+  pub cut_off : cut.is_too_long ≡ true
+  pub bytes_are : bytes ≡ cut.text ++ (long ++ (after ++ rest))
+
+-- the next text of a copy is cut out
+pub record IsCut (left : TextLeft) (cut : CutValue) (later : TextLeft) : Type 0 where
+  pub first_is : cut.first ≡ left.next
+  pub next_is : later.next ≡ line_number (left.next + cut.lines)
+  pub way : HasEnd left.bytes cut later.bytes ⊎ HasNoEnd left.bytes cut later.bytes ⊎ HasLongLine left.bytes cut later.bytes
+
+-- these texts are cut out, one after another
+abbrev pub AreCuts : TextLeft → List CutValue → TextLeft → Type 0
+AreCuts left [] later = left ≡ later
+AreCuts left (cut ∷ cuts) later = (between : TextLeft) × IsCut left cut between × AreCuts between cuts later

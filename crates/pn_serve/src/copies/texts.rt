@@ -1,0 +1,192 @@
+//! The texts of copies, cut out of a text in which they stand one after another.
+
+ghost use Rattle.std.specs.Prelude.{◌≡◌, ◌+◌, ◌<◌, ◌≤◌, ℕ, List, [], ◌++◌, vec_len, false, true, Ok, Some, IfOk, IfErr, MatchOption};
+ghost use Rattle.pn_line.specs.LineEnd.{ReadsTo};
+ghost use Rattle.pn_line.specs.Prelude.{so_far};
+ghost use Rattle.pn_serve.specs.Copies.Cutting.{AreCuts, IsCut, begins_end, line_number};
+ghost use Rattle.pn_serve.specs.Copies.Lines.{Adds, IsNoTextFault};
+
+use crate::CopiesFault;
+use pn_line::{BoundedEnd, LineBuffer, Source, read_bounded_line};
+use std::alloc::{AllocError, Global};
+use std::marker::Model;
+
+/// What the last line of a copy begins with.
+const END_WORD: &[u8] = b"{\"end\":";
+
+/// The text of one copy.
+#[derive(Drop)]
+pub(crate) struct CopyText {
+    pub(crate) text: Vec<u8>,
+    /// The number of its first line in the whole text, from 1.
+    pub(crate) first: u64,
+    /// How many of its lines end in a newline.
+    pub(crate) lines: u64,
+    /// Whether the line after them is too long, and was not read to its end.
+    pub(crate) is_too_long: bool,
+}
+
+impl Model for CopyText {
+    ghost use Rattle.pn_serve.specs.Copies.Cutting.{CutValue};
+
+    ghost Value = { CutValue };
+
+    ghost view = { λ cut. record { text = cut.text.items; first = cut.first; lines = cut.lines; is_too_long = cut.is_too_long } };
+}
+
+/// What is left of a text of copies.
+#[derive(Drop)]
+pub(crate) struct CopyTexts<S: Drop> {
+    alloc: Global,
+    source: S,
+    line: LineBuffer,
+    // The number of the next line, from 1.
+    next: u64,
+}
+
+impl<S: Drop> Model for CopyTexts<S> {
+    ghost use Rattle.pn_serve.specs.Copies.Lines.{CopyTextsValue};
+
+    ghost Value = { CopyTextsValue S };
+
+    ghost view = { λ texts. record { source = texts.source; line = texts.line; next = texts.next } };
+}
+
+impl<S: Source + Drop> CopyTexts<S> {
+    /// A text of which nothing was read yet.
+    pub(crate) fn new(alloc: Global, source: S) -> Result<CopyTexts<S>, AllocError>
+        ensures source { IfOk result (λ texts. texts.source ≡ source) }
+        ensures next { IfOk result (λ texts. texts.next ≡ 1) }
+    {
+        Ok(CopyTexts {
+            alloc,
+            source,
+            line: LineBuffer::new(alloc)?,
+            next: 1,
+        })
+    }
+
+    /// The texts of the next copies, at most so many. Fewer come only at the end.
+    pub(crate) fn next_texts(&mut self, most: usize) -> Result<Vec<CopyText>, CopiesFault>
+        ensures cuts { IfOk result (λ texts. (bytes : List ℕ) → S.left self.old.source ≡ Some bytes
+            → (rest : List ℕ) × (S.left self.new.source ≡ Some rest)
+            × AreCuts (record { next = self.old.next; bytes = bytes }) texts.items (record { next = self.new.next; bytes = rest })) }
+        ensures none { IfOk result (λ texts. (bytes : List ℕ) → S.left self.old.source ≡ Some bytes → texts.items ≡ [] → 1 ≤ most → bytes ≡ []) }
+        ensures fault { IfErr result (IsNoTextFault S.may_fail) }
+    {
+        let mut texts = Vec::with_capacity(self.alloc, most)?;
+        for _ in 0..most {
+            match self.next_text()? {
+                Some(text) => texts.push(text)?,
+                None => return Ok(texts),
+            }
+        }
+        Ok(texts)
+    }
+
+    // The text of the next copy: up to and with the first line that begins as an end does. At the end it is what is left.
+    fn next_text(&mut self) -> Result<Option<CopyText>, CopiesFault>
+        ensures cut { IfOk result (λ found. (bytes : List ℕ) → S.left self.old.source ≡ Some bytes
+            → (rest : List ℕ) × (S.left self.new.source ≡ Some rest)
+            × MatchOption found ((bytes ≡ []) × (rest ≡ []) × (self.new.next ≡ self.old.next))
+            (λ text. IsCut (record { next = self.old.next; bytes = bytes }) text (record { next = self.new.next; bytes = rest }))) }
+        ensures fault { IfErr result (IsNoTextFault S.may_fail) }
+    {
+        let mut text = Vec::new(self.alloc);
+        for lines in 0..u64::MAX {
+            match self.add_line(&mut text)? {
+                Added::Line => {}
+                Added::End => return Ok(Some(self.cut_out(text, lines + 1, false))),
+                Added::Last if text.is_empty() => return Ok(None),
+                Added::Last => return Ok(Some(self.cut_out(text, lines, false))),
+                Added::TooLong => return Ok(Some(self.cut_out(text, lines, true))),
+            }
+        }
+        unreachable!()
+    }
+
+    // Reads a line onto the text, with its newline.
+    fn add_line(&mut self, text: &mut Vec<u8>) -> Result<Added, CopiesFault>
+        ensures adds { IfOk result (λ added. (bytes : List ℕ) → S.left self.old.source ≡ Some bytes
+            → Adds added text.old.items text.new.items bytes (S.left self.new.source)) }
+        ensures next { self.new.next ≡ self.old.next }
+        ensures grows { result ≡ Ok Added.Line → vec_len text.old < vec_len text.new }
+        ensures fault { IfErr result (IsNoTextFault S.may_fail) }
+    {
+        match self.read_line()? {
+            BoundedEnd::TooLong => Ok(Added::TooLong),
+            BoundedEnd::EndOfInput => {
+                add_bytes(text, self.line.bytes())?;
+                Ok(Added::Last)
+            }
+            BoundedEnd::Newline { .. } => {
+                add_bytes(text, self.line.bytes())?;
+                add_bytes(text, b"\n")?;
+                Ok(added_line(self.line.bytes()))
+            }
+        }
+    }
+
+    // Reads the next line.
+    fn read_line(&mut self) -> Result<BoundedEnd, CopiesFault>
+        ensures reads { IfOk result (λ end. ReadsTo end (so_far []) self.new.line (S.left self.old.source) (S.left self.new.source)) }
+        ensures next { self.new.next ≡ self.old.next }
+        ensures fault { IfErr result (IsNoTextFault S.may_fail) }
+    {
+        self.line.start();
+        match read_bounded_line(&mut self.line, &mut self.source) {
+            Ok(end) => Ok(end),
+            Err(_) => Err(CopiesFault::Read),
+        }
+    }
+
+    // The text of a copy, whose lines are counted.
+    fn cut_out(&mut self, text: Vec<u8>, lines: u64, is_too_long: bool) -> CopyText
+        ensures cut { result ≡ record { text = text.items; first = self.old.next; lines = lines; is_too_long = is_too_long } }
+        ensures source { self.new.source ≡ self.old.source }
+        ensures next { self.new.next ≡ line_number (self.old.next + lines) }
+    {
+        let first = self.next;
+        self.next = first.saturating_add(lines);
+        CopyText {
+            text,
+            first,
+            lines,
+            is_too_long,
+        }
+    }
+}
+
+// What was added to a text.
+#[derive(Clone, Copy)]
+enum Added {
+    /// A line.
+    Line,
+    /// A line that begins as an end does.
+    End,
+    /// What is left before the end of the whole text, which has no newline.
+    Last,
+    /// Nothing, as the line is too long.
+    TooLong,
+}
+
+// Adds bytes to a text.
+fn add_bytes(text: &mut Vec<u8>, bytes: &[u8]) -> Result<(), CopiesFault>
+    ensures added { IfOk result (λ _. text.new.items ≡ text.old.items ++ bytes.now) }
+    ensures fault { IfErr result (λ fault. fault ≡ CopiesFault.Memory) }
+{
+    text.extend_from_slice(bytes)?;
+    Ok(())
+}
+
+// Which line was added.
+fn added_line(line: &[u8]) -> Added
+    ensures end { begins_end line.now ≡ true → result ≡ Added.End }
+    ensures inner { begins_end line.now ≡ false → result ≡ Added.Line }
+{
+    if line.starts_with(END_WORD) {
+        Added::End
+    } else {
+        Added::Line
+    }
+}

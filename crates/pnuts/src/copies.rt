@@ -1,0 +1,146 @@
+//! A region that starts from copies.
+
+ghost use Rattle.std.specs.Prelude.{◌≤◌, vec_len, IfOk, IfSome};
+ghost use Rattle.pn_live.specs.Prelude.{tablets_in};
+ghost use Rattle.pn_serve.specs.declared.arguments.options.TheConstants.{MAX_SESSIONS};
+ghost use Rattle.pn_serve.specs.Server.Sessions.{AllRead};
+
+use crate::failures::{fail, fail_at};
+use pn_join::{Marks, Name};
+use pn_serve::{
+    CopiesFault, CopiesReader, MAX_CONTROLS, OpenedRegion, Service, Settings, StreamPath,
+    close_region, open_copies,
+};
+use pn_tablet::{MAX_BOUNDS, TabletCopy};
+use std::fs::File;
+use std::io::BufReader;
+use std::process::ExitCode;
+use std::rt::Files;
+use std::sync::Wait;
+use std::thread::Threads;
+use std::time::{Clock, Duration, Instant};
+
+/// How many bytes of copies are read at a time.
+const READ_SIZE: usize = 1_048_576;
+
+/// Opens a live region that starts from the copies that are named, if some are, or prints why not. It prints which streams of
+/// the copies are not read.
+pub(crate) fn start_from_copies<R>(
+    rt: &R,
+    settings: &Settings,
+    service: &Service,
+    streams: &[(Name, StreamPath)],
+) -> Result<Option<OpenedRegion>, ExitCode>
+where
+    R: AllocGlobal + Files<File = File> + Eprint + Threads + Wait + Sync + Clock,
+    requires { (1 ≤ service.now.sessions) × (service.now.sessions ≤ MAX_SESSIONS) }
+    ensures own { IfOk result (λ opened. IfSome opened (λ region. AllRead (tablets_in region.live) region.readers.items)) }
+    ensures readers { IfOk result (λ opened. IfSome opened (λ region. service.now.sessions ≤ vec_len region.readers)) }
+{
+    let Some(path) = &service.copies else {
+        return Ok(None);
+    };
+    let file = match File::open(rt, path.as_str()) {
+        Ok(file) => file,
+        Err(error) => return Err(fail_at(rt, "copies", path.as_str(), &error, true)),
+    };
+    let Ok(source) = BufReader::with_capacity(rt.alloc(), READ_SIZE, file) else {
+        return Err(fail(rt, "memory"));
+    };
+    match open_from(rt, settings, service, source) {
+        Ok(opened) => {
+            tell_unread(rt, opened.live.marks(), streams);
+            Ok(Some(opened))
+        }
+        Err(fault) => {
+            let _ = eprintln!(rt; "pnuts: copies: {fault}");
+            Err(ExitCode::FAILURE)
+        }
+    }
+}
+
+// Prints which streams have marks and are not read.
+fn tell_unread(rt: &impl Eprint, marks: &Marks, streams: &[(Name, StreamPath)]) {
+    for at in 0..marks.len() {
+        let Some((name, _)) = marks.entry_at(at) else {
+            return;
+        };
+        if !streams
+            .iter()
+            .any(|stream| stream.0.as_str() == name.as_str())
+        {
+            let _ = eprintln!(rt; "pnuts: copies: stream {} is not read", name.as_str());
+        }
+    }
+}
+
+// Opens a live region that starts from the copies of a file.
+fn open_from<R>(
+    rt: &R,
+    settings: &Settings,
+    service: &Service,
+    source: BufReader<File>,
+) -> Result<OpenedRegion, CopiesFault>
+where
+    R: AllocGlobal + Eprint + Threads + Wait + Sync + Clock,
+    requires { (1 ≤ service.now.sessions) × (service.now.sessions ≤ MAX_SESSIONS) }
+    ensures own { IfOk result (λ region. AllRead (tablets_in region.live) region.readers.items) }
+    ensures readers { IfOk result (λ region. service.now.sessions ≤ vec_len region.readers) }
+{
+    let copies = read_copies(rt, settings.workers(), service.is_progress_told, source)?;
+    let controls = if service.control.is_some() {
+        MAX_CONTROLS
+    } else {
+        0
+    };
+    open_copies(rt, rt.alloc(), copies, service.sessions + controls)
+}
+
+// The copies of a file. It says how many were read, once a second.
+fn read_copies<R>(
+    rt: &R,
+    workers: usize,
+    is_told: bool,
+    source: BufReader<File>,
+) -> Result<Vec<TabletCopy>, CopiesFault>
+where
+    R: AllocGlobal + Eprint + Threads + Sync + Clock,
+{
+    let mut reader = CopiesReader::new(rt.alloc(), source, workers)?;
+    let mut told = Instant::now(rt).ok();
+    for _ in 0..=MAX_BOUNDS + 1 {
+        if !reader.read_some(rt, rt.alloc())? {
+            return Ok(reader.into_copies());
+        }
+        if is_told && has_passed(rt, &told) {
+            let _ = eprintln!(rt; "pnuts: copies: {} tablets", reader.count());
+            told = Instant::now(rt).ok();
+        }
+    }
+    Ok(reader.into_copies())
+}
+
+// Whether a second has passed.
+fn has_passed(rt: &impl Clock, since: &Option<Instant>) -> bool {
+    match since {
+        Some(then) => match then.elapsed(rt) {
+            Ok(passed) => passed >= Duration::from_secs(1),
+            Err(_) => false,
+        },
+        None => false,
+    }
+}
+
+/// Ends a region that is not served, if one is open, and answers the status.
+pub(crate) fn close_copies(
+    rt: &impl Wait,
+    opened: Option<OpenedRegion>,
+    status: ExitCode,
+) -> ExitCode
+    requires { IfSome opened (λ region. AllRead (tablets_in region.live) region.readers.items) }
+{
+    if let Some(OpenedRegion { live, readers }) = opened {
+        let _ = close_region(rt, live, readers);
+    }
+    status
+}

@@ -1,0 +1,49 @@
+//! Cases of `pn_stream`.
+//!
+//! `message` reads one line. `whole`, `pieces`, `cuts`, `looks`, `lines` and `writers` name ways in which a stream comes to its
+//! reader.
+//!
+//! After these come `batch`, `ready` or `resume` (the first message, then as `ready`), the position, the calls, the most messages of a call, the first and the last message, and
+//! further text.
+
+mod case;
+mod pipe;
+mod reading;
+mod writers;
+
+use case::Case;
+use pn_stream::{StreamFault, read_message};
+use reading::{read_by_lines, read_in_pieces, read_in_two, read_whole, read_with_a_failing_look};
+use std::alloc::Global;
+use std::test::Fail;
+use writers::read_by_writers;
+
+/// The answer to a case.
+pub(crate) fn answer(alloc: Global, line: &str) -> Result<String, Fail> {
+    let (what, text) = line.split_once(' ').unwrap_or((line, ""));
+    match what {
+        "message" => message(alloc, text),
+        "memory" => Ok(format!(in alloc; "{}", StreamFault::Memory)?),
+        _ => read_stream(alloc, what, &Case::read(alloc, text)?),
+    }
+}
+
+// The position and the key of the message that a line is, or why it is none.
+fn message(alloc: Global, line: &str) -> Result<String, Fail> {
+    match read_message(alloc, line.as_bytes()) {
+        Ok((at, image)) => Ok(format!(in alloc; "{at} {}", image.key.as_str())?),
+        Err(fault) => Ok(format!(in alloc; "{fault}")?),
+    }
+}
+
+// What readers give of the stream, which comes in the way that is named.
+fn read_stream(alloc: Global, how: &str, case: &Case) -> Result<String, Fail> {
+    match how {
+        "whole" => read_whole(alloc, case),
+        "pieces" => read_in_pieces(alloc, case),
+        "cuts" => read_in_two(alloc, case),
+        "looks" => read_with_a_failing_look(alloc, case),
+        "writers" => read_by_writers(alloc, case),
+        _ => read_by_lines(alloc, case),
+    }
+}

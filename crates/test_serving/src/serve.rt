@@ -1,0 +1,63 @@
+//! Cases of `pn_serve`.
+//!
+//! `plan` and `says` read words; `run`, `blocks`, `writes` and `sessions` meet slow and failing readers and writers; `session` and
+//! `serve` answer sessions, `kinds` counts lines of one, and `control` answers a control session; `start` opens a region from copies; `read`
+//! reads streams, and `writers` one whose writers come one after another. A bar is a newline.
+
+mod control;
+mod copies;
+mod kinds;
+pub(crate) mod loopback;
+mod plans;
+mod rounds;
+mod scripts;
+mod sessions;
+mod talk;
+mod writers;
+
+use control::answer_control;
+use copies::start;
+use kinds::count_kinds;
+use loopback::serve_stream;
+use plans::{plan_reply, says};
+use rounds::few_rounds;
+use scripts::{blocks, run_over, write_three_bytes};
+use sessions::{answer_session, fail_sessions};
+use std::alloc::Global;
+use std::net::{Net, TcpListener, TcpStream};
+use std::sync::Wait;
+use std::test::Fail;
+use std::thread::Threads;
+use std::time::Clock;
+use writers::read_writers;
+
+/// The answer to a case.
+pub(crate) fn answer_serve<R>(rt: &R, alloc: Global, line: &str) -> Result<String, Fail>
+where
+    R: Net<Listener = TcpListener, Stream = TcpStream>
+        + Threads
+        + Wait
+        + Clock
+        + Sync
+        + Copy
+        + Send
+        + Drop
+        + 'static,
+{
+    let (word, rest) = line.split_once(' ').unwrap_or((line, ""));
+    match word {
+        "plan" => plan_reply(alloc, rest),
+        "says" => says(alloc, rest),
+        "run" => run_over(rt, alloc, rest),
+        "blocks" => blocks(rt, alloc, rest),
+        "session" => answer_session(rt, alloc, rest),
+        "sessions" => fail_sessions(rt, alloc, rest),
+        "control" => answer_control(rt, alloc, rest),
+        "kinds" => count_kinds(rt, alloc, rest),
+        "serve" => serve_stream(rt, alloc, rest),
+        "start" => start(rt, alloc, rest),
+        "read" => few_rounds(rt, alloc),
+        "writers" => read_writers(rt, alloc, rest),
+        _ => write_three_bytes(alloc),
+    }
+}

@@ -1,0 +1,111 @@
+//! Regions that start from texts of copies.
+
+ghost use Rattle.std.specs.Prelude.{◌≤◌, IfOk};
+ghost use Rattle.pn_live.specs.Prelude.{tablets_in};
+ghost use Rattle.pn_live.specs.declared.region.opening.TheConstants.{MAX_READERS};
+ghost use Rattle.pn_serve.specs.Server.Sessions.{AllRead};
+
+use pn_join::{Marks, Name, NoMemory};
+use pn_line::InMemory;
+use pn_live::LiveRegion;
+use pn_serve::{CopiesFault, CopiesReader, OpenedRegion, close_region, open_copies};
+use pn_tablet::TabletCopy;
+use std::alloc::{AllocError, Global};
+use std::sync::Wait;
+use std::test::Fail;
+use std::thread::Threads;
+use test_kit::{newlines, spell_out};
+
+/// How many times a reader is asked at most.
+const TURNS: usize = 100;
+
+/// What a region that starts has, whose copies so many workers read from a text in which a bar is a newline; or why it does not.
+pub(crate) fn start<R: Threads + Wait + Sync>(
+    rt: &R,
+    alloc: Global,
+    line: &str,
+) -> Result<String, Fail> {
+    let (workers, bars) = line.split_once(' ').ok_or(NoMemory)?;
+    let workers = workers.parse::<usize>()?;
+    if workers < 1 {
+        return Err(Fail::new("no worker"));
+    }
+    let bars = spell_out(alloc, bars)?;
+    let text = newlines(alloc, bars.as_str())?;
+    Ok(start_by(rt, alloc, workers, text.as_bytes())?)
+}
+
+fn start_by<R: Threads + Wait + Sync>(
+    rt: &R,
+    alloc: Global,
+    workers: usize,
+    text: &[u8],
+) -> Result<String, AllocError>
+    requires { 1 ≤ workers }
+{
+    match open_text(rt, alloc, workers, text, 2) {
+        Ok(opened) => show(rt, alloc, opened),
+        Err(fault) => format!(in alloc; "{fault}"),
+    }
+}
+
+/// A region with this many readers that starts from a text of copies.
+pub(crate) fn open_text<R: Threads + Wait + Sync>(
+    rt: &R,
+    alloc: Global,
+    workers: usize,
+    text: &[u8],
+    readers: usize,
+) -> Result<OpenedRegion, CopiesFault>
+    requires workers { 1 ≤ workers }
+    requires readers { (1 ≤ readers) × (readers ≤ MAX_READERS) }
+    ensures { IfOk result (λ opened. AllRead (tablets_in opened.live) opened.readers.items) }
+{
+    let copies = read_copies(rt, alloc, workers, text)?;
+    open_copies(rt, alloc, copies, readers)
+}
+
+fn read_copies<R: Threads + Sync>(
+    rt: &R,
+    alloc: Global,
+    workers: usize,
+    text: &[u8],
+) -> Result<Vec<TabletCopy>, CopiesFault>
+    requires { 1 ≤ workers }
+{
+    let mut reader = CopiesReader::new(alloc, InMemory::new(text), workers)?;
+    for _ in 0..TURNS {
+        if !reader.read_some(rt, alloc)? {
+            break;
+        }
+    }
+    Ok(reader.into_copies())
+}
+
+// What a region has, which is closed.
+fn show<R: Wait>(rt: &R, alloc: Global, opened: OpenedRegion) -> Result<String, AllocError>
+    requires { AllRead (tablets_in opened.live) opened.readers.items }
+{
+    let OpenedRegion { live, readers } = opened;
+    let count = readers.len();
+    let shown = region_text(alloc, &live, count);
+    let is_closed = close_region(rt, live, readers).is_ok();
+    let mut text = shown?;
+    write!(text, ", closed: {is_closed}")?;
+    Ok(text)
+}
+
+// How many tablets and readers it has, and its marks.
+fn region_text(alloc: Global, live: &LiveRegion, readers: usize) -> Result<String, AllocError> {
+    let tablets = live.layout().count();
+    let east = position(live.marks(), b"east");
+    let west = position(live.marks(), b"west");
+    format!(in alloc; "{tablets} tablets, {readers} readers, east {east}, west {west}")
+}
+
+fn position(marks: &Marks, name: &[u8]) -> u64 {
+    match Name::read(name) {
+        Ok(name) => marks.position(&name),
+        Err(_) => 0,
+    }
+}

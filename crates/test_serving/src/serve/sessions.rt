@@ -1,0 +1,199 @@
+//! Lines that a session answers by a reader of a live region.
+
+ghost use Rattle.std.specs.Prelude.{◌≡◌, ◌⊎◌, ◌<◌, length, All};
+ghost use Rattle.pn_live.specs.LiveRegions.{IsReaderIn, tablets_in};
+ghost use Rattle.pn_live.specs.Readers.{tablets_of};
+
+use crate::regions::{close, end, hand_back, open, open_one, take_out};
+use pn_apply::Open;
+use pn_join::{Name, NoMemory};
+use pn_line::{Discard, EndlessSource, InMemory, Sink, Source};
+use pn_live::{LiveReader, LiveRegion};
+use pn_record::read_image;
+use pn_serve::{Counts, RunFault, session};
+use pn_stream::Delivery;
+use std::alloc::{AllocError, Global};
+use std::sync::Wait;
+use std::test::Fail;
+use std::thread::Threads;
+use test_kit::{PiecewiseReader, ReplyRuns, Stop, StoppingWriter, bars, layout, newlines};
+
+/// An image, the lines of a session over it, and their replies.
+const IMAGE: &str = r#"{"fields":{"n":-7,"v":"x"},"key":"k","master":"w","version":[1,5]}"#;
+
+const LINES: &str = r#"{"do":"read","key":"k"}
+{"do":"get","keys":["k","z"]}
+{"do":"lose","tablet":0}
+"#;
+
+const REPLIES: &str =
+    r#"{"row":{"contents":[{"fields":{"n":-7,"v":"x"},"master":"w"}],"key":"k","state":"one","version":[1,5]}}
+{"rows":[{"contents":[{"fields":{"n":-7,"v":"x"},"master":"w"}],"key":"k","state":"one","version":[1,5]},null]}
+{"error":"read-only"}
+"#;
+
+// One delivery of the image that the first line is.
+fn delivery_of(alloc: Global, lines: &str) -> Option<Vec<Delivery>> {
+    let line = lines.lines().next()?;
+    let image = read_image(alloc, line.as_bytes()).ok()?;
+    let mut images = Vec::with_capacity(alloc, 1).ok()?;
+    images.push(image).ok()?;
+    let delivery = Delivery::new(Name::read(b"east").ok()?, 1, images)?;
+    let mut given = Vec::with_capacity(alloc, 1).ok()?;
+    given.push(delivery).ok()?;
+    Some(given)
+}
+
+// How many records the round of the first line changes.
+fn count_changed<R: Threads + Wait + Sync>(
+    rt: &R,
+    alloc: Global,
+    live: &mut LiveRegion,
+    lines: &str,
+) -> Option<u64>
+    ensures { tablets_in live.new ≡ tablets_in live.old }
+{
+    let given = delivery_of(alloc, lines)?;
+    let (round, _front) = live.round(rt, given, 1, &Open).ok()?;
+    Some(round.changed)
+}
+
+// Answers the lines by a reader of a live region.
+fn replies(
+    alloc: Global,
+    live: &LiveRegion,
+    readers: &mut Vec<LiveReader>,
+    lines: &str,
+    written: &mut Vec<u8>,
+) -> Option<Counts>
+    requires { All (IsReaderIn live.now) readers.old.items }
+    ensures { All (IsReaderIn live.now) readers.new.items }
+{
+    let mut reader = take_out(live, readers)?;
+    let mut input = InMemory::new(lines.as_bytes());
+    let ended = answer_by(alloc, &mut reader, &mut input, written);
+    hand_back(live, readers, reader);
+    ended.ok()
+}
+
+// Answers a session by a reader.
+fn answer_by<S: Source, W: Sink>(
+    alloc: Global,
+    reader: &mut LiveReader,
+    input: &mut S,
+    output: &mut W,
+) -> Result<Counts, RunFault>
+    ensures { tablets_of reader.new ≡ tablets_of reader.old }
+{
+    session(alloc, reader, input, output)
+}
+
+/// The replies of a session, and how many lines it refused. The first line is an image, which was taken before, and no line to the session.
+pub(crate) fn answer_session<R: Threads + Wait + Sync>(
+    rt: &R,
+    alloc: Global,
+    text: &str,
+) -> Result<String, Fail> {
+    let lines = newlines(alloc, text)?;
+    let mut written = Vec::new(alloc);
+    let (changed, counts) = answer_lines(rt, alloc, lines.as_str(), &mut written).ok_or(NoMemory)?;
+    let replies = bars(alloc, &written)?;
+    let (lines, refused) = (counts.lines, counts.refused);
+    Ok(format!(in alloc; "{changed} changed, {lines} lines, {refused} refused: {replies}")?)
+}
+
+// How many records the first line changes, and how many lines are answered.
+fn answer_lines<R: Threads + Wait + Sync>(
+    rt: &R,
+    alloc: Global,
+    lines: &str,
+    written: &mut Vec<u8>,
+) -> Option<(u64, Counts)> {
+    let layout = layout(alloc, "")?;
+    let (mut live, mut readers) = open(rt, alloc, layout, 1).ok()?;
+    let changed = count_changed(rt, alloc, &mut live, lines);
+    let counts = replies(alloc, &live, &mut readers, lines, written);
+    close(rt, live, readers).ok()?;
+    Some((changed?, counts?))
+}
+
+/// How sessions end whose readers or writers fail, at each call in turn, and one whose input has no end.
+pub(crate) fn fail_sessions<R: Threads + Wait + Sync>(
+    rt: &R,
+    alloc: Global,
+    how: &str,
+) -> Result<String, Fail> {
+    let layout = layout(alloc, "").ok_or(NoMemory)?;
+    let (mut live, mut reader) = open_one(rt, alloc, layout).ok_or(NoMemory)?;
+    let changed = count_changed(rt, alloc, &mut live, IMAGE);
+    let ends = match how {
+        "over readers that fail" => over_failing_readers(alloc, &mut reader),
+        "over a source without end" => over_endless_source(alloc, &mut reader),
+        _ => into_failing_writers(alloc, &mut reader),
+    };
+    end(rt, alloc, live);
+    let text = ends?;
+    changed.ok_or(NoMemory)?;
+    Ok(text)
+}
+
+// Readers that show a byte at a time.
+fn over_failing_readers(alloc: Global, reader: &mut LiveReader) -> Result<String, Fail> {
+    let mut ends = ReplyRuns::new(alloc);
+    for look in 1..=LINES.len() {
+        let mut input = PiecewiseReader::failing(LINES.as_bytes(), 1, look);
+        let mut written = Vec::new(alloc);
+        let ended = answer_by(alloc, reader, &mut input, &mut written);
+        let text = read_end_text(alloc, ended, &written)?;
+        ends.push(text)?;
+    }
+    ends.text()
+}
+
+// Whether a session ended by a fault of its input, after the first of the replies, and how many bytes these are.
+fn read_end_text(
+    alloc: Global,
+    ended: Result<Counts, RunFault>,
+    written: &[u8],
+) -> Result<String, AllocError> {
+    let is_due = matches!(ended, Err(RunFault::Read)) && REPLIES.as_bytes().starts_with(written);
+    format!(in alloc; "{is_due}, {} bytes", written.len())
+}
+
+// A line without end.
+fn over_endless_source(alloc: Global, reader: &mut LiveReader) -> Result<String, Fail> {
+    let text = vec![in alloc; b'x'; 1_000_000]?;
+    let fault = endless_session(alloc, reader, &text);
+    Ok(format!(in alloc; "{fault}")?)
+}
+
+// A session over a text that is said again and again: there is too much of it, or memory ran out before the first look.
+fn endless_session(alloc: Global, reader: &mut LiveReader, text: &[u8]) -> RunFault
+    requires { 0 < length text.now }
+    ensures { (result ≡ RunFault.TooManyTurns) ⊎ (result ≡ RunFault.Memory) }
+{
+    let mut input = EndlessSource::new(text);
+    match session(alloc, reader, &mut input, &mut Discard) {
+        Ok(_) => unreachable!(),
+        Err(fault) => fault,
+    }
+}
+
+// Writers that take a byte at a time. Counts those that had just the bytes before the call that failed.
+fn into_failing_writers(alloc: Global, reader: &mut LiveReader) -> Result<String, Fail> {
+    let mut stopped = 0u64;
+    for count in 0..REPLIES.len() {
+        let mut input = InMemory::new(LINES.as_bytes());
+        let mut output = StoppingWriter::new(alloc, 1, count.saturating_add(1), Stop::Fails);
+        let ended = answer_by(alloc, reader, &mut input, &mut output);
+        if matches!(ended, Err(RunFault::Write)) && has_first_replies(&output, count) {
+            stopped = stopped.saturating_add(1);
+        }
+    }
+    Ok(format!(in alloc; "{stopped} of {}", REPLIES.len())?)
+}
+
+// Whether a writer took this many of the first bytes of the replies, and no others.
+fn has_first_replies(output: &StoppingWriter, count: usize) -> bool {
+    output.taken.len() == count && REPLIES.as_bytes().starts_with(&output.taken)
+}

@@ -1,0 +1,98 @@
+//! A connection's turns, and the buffers that they use: each call where it succeeds.
+
+use crate::stay::echo::Echo;
+use crate::stay::{TURNS, read_pieces, read_takes, show};
+use pn_join::{Name, NoMemory};
+use pn_line::{InMemory, LineBuffer, LineEnd, Sink, Source, read_line};
+use pn_stay::{
+    ConnectionState, Counters, CountingSource, InputBuffer, InputCounters, Pause, ScriptedSink,
+    ScriptedSource, StreamCounters, ThreadBuffers, TurnOutcome,
+};
+use std::alloc::Global;
+use std::sync::Arc;
+use std::test::Fail;
+use test_kit::newlines;
+
+/// How each turn of a connection paused, what its socket took, and how many lines were answered.
+pub(crate) fn take_turns(alloc: Global, line: &str) -> Result<String, Fail> {
+    let (takes, text) = line.split_once(' ').unwrap_or(("", ""));
+    let pieces = read_pieces(alloc, text)?;
+    let takes = read_takes(alloc, takes)?;
+    let mut input = ScriptedSource::new(&pieces);
+    let mut output = ScriptedSink::new(alloc, &takes);
+    let mut buffers = ThreadBuffers::new(alloc)?;
+    let mut state = ConnectionState::new(alloc);
+    let mut pauses = String::new(alloc);
+    for _ in 0..TURNS {
+        match state.turn(&mut buffers, &mut Echo, &mut input, &mut output) {
+            TurnOutcome::Goes(pause) => pauses.push(sign(pause))?,
+            TurnOutcome::Ended(_) => break,
+        }
+    }
+    let taken = show(alloc, output.bytes())?;
+    let lines = buffers.take_line_counts().answered;
+    Ok(format!(in alloc; "{pauses} {taken} of {lines} lines")?)
+}
+
+fn sign(pause: Pause) -> char {
+    match pause {
+        Pause::Turn => 't',
+        Pause::Input => 'i',
+        Pause::Output => 'o',
+    }
+}
+
+/// What an input buffer holds after each of two reads.
+pub(crate) fn read_input(alloc: Global, text: &str) -> Result<String, Fail> {
+    let pieces = read_pieces(alloc, text)?;
+    let mut input = ScriptedSource::new(&pieces);
+    let mut buffer = InputBuffer::new(alloc)?;
+    let first = buffer.read_from(&mut input)?;
+    let held = show(alloc, buffer.bytes())?;
+    let second = buffer.read_from(&mut input)?;
+    let then = show(alloc, buffer.bytes())?;
+    Ok(format!(in alloc; "{held} {first}, {then} {second}")?)
+}
+
+/// The lines and bytes that were counted of a source, under the name of a stream.
+pub(crate) fn count_input(alloc: Global, text: &str) -> Result<String, Fail> {
+    let text = newlines(alloc, text)?;
+    let input = Arc::new(alloc, InputCounters::new())?;
+    let counted = Arc::try_clone(&input)?;
+    let counters = new_counters(alloc, input).ok_or(NoMemory)?;
+    let more = read_lines(alloc, text.as_str().as_bytes(), counted)?;
+    let mut shown = String::new(alloc);
+    if let Some(stream) = counters.streams.first() {
+        let (lines, bytes) = (stream.input.lines.get(), stream.input.bytes.get());
+        write!(shown, "{} {lines} {bytes} {more}", stream.name.as_str())?;
+    }
+    Ok(shown)
+}
+
+// Reads the lines of a text, which are counted. Whether there is more.
+fn read_lines(alloc: Global, text: &[u8], counted: Arc<InputCounters>) -> Result<bool, Fail> {
+    let mut source = CountingSource::new(InMemory::new(text), Some(counted));
+    let mut line = LineBuffer::new(alloc)?;
+    for _ in 0..TURNS {
+        if read_line(&mut line, &mut source)? == LineEnd::EndOfInput {
+            break;
+        }
+    }
+    Ok(source.has_more()?)
+}
+
+fn new_counters(alloc: Global, input: Arc<InputCounters>) -> Option<Counters> {
+    let name = Name::read(b"east").ok()?;
+    let mut streams = Vec::with_capacity(alloc, 1).ok()?;
+    streams
+        .push(StreamCounters {
+            name,
+            input,
+            taken: None,
+            told: None,
+            status: None,
+            size: None,
+        })
+        .ok()?;
+    Counters::new(alloc, streams).ok()
+}

@@ -1,0 +1,241 @@
+//! A stream in memory, served at a port and at a path: by sessions that end, and by a server that stays.
+
+use crate::reading::{FIRST, Script, readers_of, settings, stream_of};
+use crate::serve::loopback::{Served, outcome};
+use crate::stay::talks::{At, flood, talk};
+use pn_serve::{Counter, Stream, serve};
+use pn_stay::{Counters, Listener, OWNER_ALONE, SocketAcceptor, StayingServer};
+use std::alloc::{AllocError, Global};
+use std::fs::Files;
+use std::net::{IpAddr, Ipv4Addr, Net, TcpListener, TcpStream};
+use std::os::unix::fs::PermissionsExt;
+use std::sync::{Arc, Wait};
+use std::test::Fail;
+use std::thread::Threads;
+use std::time::{Clock, Duration};
+use std::{fs, io, thread};
+
+/// The name of a socket's file.
+const PATH: &str = "socket-of-test";
+
+/// The permissions of a socket that a group may use, too.
+const GROUP: u32 = 0o660;
+
+/// All permissions.
+const ALL: u32 = 0o777;
+
+/// For how many milliseconds at most it waits for a server to have read its stream.
+const PATIENCE: u32 = 10_000;
+
+// Listens at a port, or at the path, and says where.
+fn listen<R>(rt: &R, at: &str) -> io::Result<(Listener, At)>
+where
+    R: Files + Net<Listener = TcpListener, Stream = TcpStream>,
+{
+    if at == "path" {
+        let listener = Listener::bind_path(rt, PATH, OWNER_ALONE)?;
+        return Ok((listener, At::Path(PATH)));
+    }
+    let listener = Listener::bind_port(rt, IpAddr::V4(Ipv4Addr::LOCALHOST), 0)?;
+    let at = place_of(&listener)?;
+    Ok((listener, at))
+}
+
+fn place_of(listener: &Listener) -> io::Result<At> {
+    match listener {
+        Listener::Tcp(listener) => Ok(At::Port(listener.local_addr()?)),
+        Listener::Unix(_) => Ok(At::Path(PATH)),
+    }
+}
+
+fn remove_socket<R: Files>(rt: &R, at: &str) -> io::Result<()> {
+    if at == "path" {
+        fs::remove_file(rt, PATH)?;
+    }
+    Ok(())
+}
+
+/// Accepts clients at a socket, and control sessions at another one if there is one.
+pub(crate) fn new_acceptor(
+    alloc: Global,
+    listener: Listener,
+    control: Option<Listener>,
+    idle: Option<u32>,
+) -> Result<SocketAcceptor, AllocError> {
+    let counters = Counters::new(alloc, Vec::new(alloc))?;
+    let counters = Arc::new(alloc, counters)?;
+    Ok(SocketAcceptor {
+        control,
+        listener,
+        idle,
+        counters,
+        faults: None,
+        messages: None,
+    })
+}
+
+/// Serves one session: what its client has read, what was written, whether rounds and lines were counted, and how many
+/// clients are left.
+pub(crate) fn serve_session<R>(rt: &R, alloc: Global, at: &str) -> Result<String, Fail>
+where
+    R: Files
+        + Net<Listener = TcpListener, Stream = TcpStream>
+        + Threads
+        + Wait
+        + Sync
+        + Copy
+        + Send
+        + 'static,
+{
+    let (listener, to) = listen(rt, at)?;
+    let acceptor = new_acceptor(alloc, listener, None, Some(60))?;
+    let theirs = *rt;
+    let client = thread::spawn(rt, move || talk(&theirs, alloc, to, false))?;
+    let served = serve_one(rt, alloc, &acceptor);
+    let told = client.join(rt)?;
+    remove_socket(rt, at)?;
+    let served = outcome(alloc, served)?;
+    let mut text = format!(in alloc; "{told:?}, {served}")?;
+    add_counts(&mut text, &acceptor.counters)?;
+    Ok(text)
+}
+
+// Serves one session.
+fn serve_one<R>(rt: &R, alloc: Global, acceptor: &SocketAcceptor) -> Option<Served>
+where
+    R: Threads + Wait + Sync + Copy + Send + 'static,
+{
+    let settings = settings(alloc)?;
+    let readers = readers_of(alloc, FIRST)?;
+    let mut written = Vec::new(alloc);
+    let ended = serve(rt, alloc, acceptor, settings, 1, readers, &mut written);
+    Some((ended, written))
+}
+
+fn add_counts(text: &mut String, counters: &Counters) -> Result<(), AllocError> {
+    let is_counted = counters.rounds.get() > 0 && counters.clients.lines.get() > 0;
+    let open = counters.connections.open.get();
+    write!(text, ", {is_counted}, {open}")
+}
+
+/// Answers a client of a server that stays, until it is idle for too long: what it has read, and whether the server has read
+/// all streams to their ends.
+pub(crate) fn stay_until_idle<R>(rt: &R, alloc: Global, at: &str) -> Result<String, Fail>
+where
+    R: Files
+        + Net<Listener = TcpListener, Stream = TcpStream>
+        + Threads
+        + Wait
+        + Clock
+        + Sync
+        + Copy
+        + Send
+        + Drop
+        + 'static,
+{
+    let (listener, to) = listen(rt, at)?;
+    let ended = start(rt, alloc, listener)?;
+    let told = talk(rt, alloc, to, true);
+    remove_socket(rt, at)?;
+    let read = if wait_for(rt, &ended) {
+        "all read"
+    } else {
+        "still reading"
+    };
+    let told = told?;
+    Ok(format!(in alloc; "{told:?}, {read}")?)
+}
+
+// Starts a server that stays, which counts its end of reading.
+fn start<R>(rt: &R, alloc: Global, listener: Listener) -> io::Result<Arc<Counter>>
+where
+    R: Files
+        + Net<Listener = TcpListener, Stream = TcpStream>
+        + Threads
+        + Wait
+        + Clock
+        + Sync
+        + Copy
+        + Send
+        + Drop
+        + 'static,
+{
+    let ended = Arc::new(alloc, Counter::new())?;
+    let theirs = Arc::try_clone(&ended)?;
+    let host = *rt;
+    thread::spawn(rt, move || stay(&host, alloc, listener, &theirs))?;
+    Ok(ended)
+}
+
+/// How many replies are whole that a server sends to a client which asks very often, and reads late.
+pub(crate) fn answer_flood<R>(rt: &R, alloc: Global) -> Result<String, Fail>
+where
+    R: Files
+        + Net<Listener = TcpListener, Stream = TcpStream>
+        + Threads
+        + Wait
+        + Clock
+        + Sync
+        + Copy
+        + Send
+        + Drop
+        + 'static,
+{
+    let (listener, to) = listen(rt, "path")?;
+    let _ended = start(rt, alloc, listener)?;
+    talk(rt, alloc, to, false)?;
+    let flooded = flood(rt, alloc, PATH)?;
+    remove_socket(rt, "path")?;
+    Ok(flooded)
+}
+
+// Whether a number is greater than zero, now or within ten seconds.
+fn wait_for<R: Clock>(rt: &R, number: &Counter) -> bool {
+    for _ in 0..PATIENCE {
+        if number.get() > 0 {
+            return true;
+        }
+        thread::sleep(rt, Duration::from_millis(1));
+    }
+    false
+}
+
+// A server that stays. None where it does not begin; else it ends only with the program. It counts its end of reading.
+fn stay<R>(rt: &R, alloc: Global, listener: Listener, ended: &Counter) -> Option<()>
+where
+    R: Threads + Wait + Net + Clock + Sync + Copy + Send + Drop + 'static,
+{
+    let streams = one_stream(rt, alloc)?;
+    let settings = settings(alloc)?;
+    let acceptor = new_acceptor(alloc, listener, None, Some(2)).ok()?;
+    let mut server = StayingServer::start(rt, alloc, acceptor, settings, 2, 16).ok()?;
+    let read = server.read_streams(rt, alloc, streams).ok();
+    ended.add(1);
+    let _ = server.wait(rt, alloc);
+    read
+}
+
+fn one_stream<R: Wait + Clock + Copy>(rt: &R, alloc: Global) -> Option<Vec<Stream<Script<R>>>> {
+    let text = String::from_str(alloc, FIRST).ok()?;
+    let stream = stream_of(rt, alloc, b"east", text, 0)?;
+    let mut streams = Vec::with_capacity(alloc, 1).ok()?;
+    streams.push(stream).ok()?;
+    Some(streams)
+}
+
+/// Listens at a path where nobody listens any more, and not where somebody does; and the permissions of its file.
+pub(crate) fn listen_twice<R: Files + Net>(rt: &R, alloc: Global) -> Result<String, Fail> {
+    let first = Listener::bind_path(rt, PATH, GROUP)?;
+    let beside = Listener::bind_path(rt, PATH, OWNER_ALONE).is_ok();
+    let shared = mode_of(rt)?;
+    drop(first);
+    let later = Listener::bind_path(rt, PATH, OWNER_ALONE).is_ok();
+    let owned = mode_of(rt)?;
+    fs::remove_file(rt, PATH)?;
+    Ok(format!(in alloc; "{beside} {later} {shared} {owned}")?)
+}
+
+fn mode_of<R: Files>(rt: &R) -> io::Result<u32> {
+    let metadata = fs::metadata(rt, PATH)?;
+    Ok(metadata.permissions().mode() & ALL)
+}

@@ -1,0 +1,283 @@
+//! Writers of a stream, one after another: at a socket, and at a FIFO. And lines for standard error.
+
+use crate::reading::push_message;
+use crate::stay::show;
+use crate::stay::talks::connect;
+use pn_join::{LAST_POSITION, Name, NoMemory};
+use pn_serve::{Origin, Stream, StreamPath, WriterEnd};
+use pn_stay::{
+    Messages, OWNER_ALONE, StreamOrigin, StreamSetting, StreamSource, WaitingLines, open_origins,
+    remove_sockets,
+};
+use pn_stream::{ResumeFault, StreamReader};
+use std::alloc::{AllocError, Global};
+use std::fs::{File, Files, OpenOptions};
+use std::io::{BufRead, BufReader, Read, Write};
+use std::net::Net;
+use std::os::fd::AsRawFd;
+use std::os::unix::net::UnixStream;
+use std::sync::{Arc, Wait};
+use std::test::Fail;
+use std::thread::Threads;
+use std::time::Clock;
+use std::{io, thread};
+
+/// The path of a stream's socket.
+const STREAM_PATH: &str = "stream-of-test";
+
+/// How many messages a call reads at most.
+const MOST: usize = 10;
+
+/// How many calls read a writer at most.
+const CALLS: u32 = 100;
+
+/// How many lines are left for standard error.
+const LINES: u32 = 1_030;
+
+/// A stream, the messages about it, and the paths of its sockets.
+#[derive(Drop)]
+struct Opened<R: Drop> {
+    stream: Stream<StreamOrigin<R>>,
+    messages: Arc<Messages>,
+    sockets: Vec<String>,
+}
+
+fn open<R>(rt: &R, alloc: Global, path: StreamPath) -> Option<Opened<R>>
+where
+    R: Files<File = File> + Net + Wait + Clock + Copy + Drop,
+{
+    let messages = Messages::new(alloc).ok()?;
+    let messages = Arc::new(alloc, messages).ok()?;
+    let theirs = Arc::try_clone(&messages).ok()?;
+    let setting = StreamSetting {
+        rt: *rt,
+        alloc,
+        messages: theirs,
+        is_counted: false,
+        socket_mode: OWNER_ALONE,
+    };
+    let paths = one_path(alloc, path)?;
+    let opened = open_origins(&setting, paths).ok()?;
+    let mut streams = opened.streams;
+    let stream = streams.pop()?;
+    Some(Opened {
+        stream,
+        messages,
+        sockets: opened.sockets,
+    })
+}
+
+fn one_path(alloc: Global, path: StreamPath) -> Option<Vec<(Name, StreamPath)>> {
+    let name = Name::read(b"east").ok()?;
+    let mut paths = Vec::with_capacity(alloc, 1).ok()?;
+    paths.push((name, path)).ok()?;
+    Some(paths)
+}
+
+// Reads the next two writers of a stream to their ends.
+fn read_two<R>(alloc: Global, stream: &mut Stream<StreamOrigin<R>>) -> Option<u64>
+where
+    R: Files<File = File> + Net + Wait + Clock + Copy + Drop,
+{
+    let last = read_writer(alloc, stream, 0)?;
+    read_writer(alloc, stream, last)
+}
+
+// Reads the next writer of a stream to its end, and answers up to which position the stream was read.
+fn read_writer<R>(alloc: Global, stream: &mut Stream<StreamOrigin<R>>, last: u64) -> Option<u64>
+where
+    R: Files<File = File> + Net + Wait + Clock + Copy + Drop,
+{
+    let last = last.min(LAST_POSITION);
+    let source = stream.origin.next_writer(last)?;
+    let mut reader = StreamReader::new(alloc, stream.name, last, source);
+    let end = read_to_end(stream, &mut reader);
+    let last = last.max(reader.position());
+    stream.origin.end_writer(reader.into_source(), &end, last);
+    Some(last)
+}
+
+fn read_to_end<R>(
+    stream: &mut Stream<StreamOrigin<R>>,
+    reader: &mut StreamReader<StreamSource<R>>,
+) -> WriterEnd
+where
+    R: Files<File = File> + Net + Wait + Clock + Copy + Drop,
+{
+    match reader.resume() {
+        Ok(Some(_)) => note(stream, reader.position()),
+        Ok(None) => return WriterEnd::End,
+        Err(fault) => return end_of(fault, reader.position(), 1),
+    }
+    read_rest(stream, reader)
+}
+
+fn read_rest<R>(
+    stream: &mut Stream<StreamOrigin<R>>,
+    reader: &mut StreamReader<StreamSource<R>>,
+) -> WriterEnd
+where
+    R: Files<File = File> + Net + Wait + Clock + Copy + Drop,
+{
+    for line in 2..CALLS {
+        match reader.next_ready(MOST) {
+            Ok(delivery) if delivery.images().is_empty() => break,
+            Ok(_) => note(stream, reader.position()),
+            Err(fault) => {
+                return end_of(ResumeFault::Stream(fault), reader.position(), line as u64);
+            }
+        }
+    }
+    WriterEnd::End
+}
+
+fn end_of(fault: ResumeFault, last: u64, line: u64) -> WriterEnd {
+    WriterEnd::Fault {
+        fault,
+        position: last.saturating_add(1),
+        line,
+    }
+}
+
+// Notes that all up to a position was handed on and taken.
+fn note<R>(stream: &mut Stream<StreamOrigin<R>>, position: u64)
+where
+    R: Files<File = File> + Net + Wait + Clock + Copy + Drop,
+{
+    stream.origin.hand_on(position);
+    if let Some(taken) = &stream.taken {
+        taken.set(position);
+    }
+}
+
+fn message(alloc: Global, position: u64) -> Result<String, AllocError> {
+    let mut text = String::new(alloc);
+    push_message(&mut text, position, "k", 0)?;
+    Ok(text)
+}
+
+// What was left for standard error, with bars between the lines.
+fn show_messages<R: Wait>(rt: &R, alloc: Global, messages: &Messages) -> Result<String, Fail> {
+    let mut waiting = WaitingLines::new(alloc)?;
+    messages.exchange(rt, &mut waiting);
+    let mut text = String::new(alloc);
+    for line in waiting.lines().iter() {
+        text.push_str(line.as_str())?;
+        text.push('|')?;
+    }
+    Ok(text)
+}
+
+/// What the writers of a stream read, where they can, the messages about them, and up to which position the stream was read.
+pub(crate) fn read_opened<R>(rt: &R, alloc: Global, how: &str) -> Result<String, Fail>
+where
+    R: Files<File = File> + Net + Threads + Wait + Clock + Copy + Drop,
+{
+    if how == "socket" {
+        read_socket(rt, alloc)
+    } else {
+        read_fifo(rt, alloc)
+    }
+}
+
+// Two writers at a socket. The first leaves out two messages of the stream, and the second begins too late.
+fn read_socket<R>(rt: &R, alloc: Global) -> Result<String, Fail>
+where
+    R: Files<File = File> + Net + Threads + Wait + Clock + Copy + Drop,
+{
+    let path = StreamPath::Listen(String::from_str(alloc, STREAM_PATH)?);
+    let mut opened = open(rt, alloc, path).ok_or(NoMemory)?;
+    let writers = connect_twice(rt)?;
+    let client = thread::spawn(rt, move || write_twice(alloc, writers))?;
+    let last = read_two(alloc, &mut opened.stream).ok_or(NoMemory)?;
+    let told = client.join(rt)?;
+    remove_sockets(rt, &opened.sockets);
+    let said = show_messages(rt, alloc, &opened.messages)?;
+    let told = show(alloc, told.as_bytes())?;
+    Ok(format!(in alloc; "{told} {said} {last}")?)
+}
+
+fn connect_twice<R: Net>(rt: &R) -> io::Result<(UnixStream, UnixStream)> {
+    let first = connect(rt, STREAM_PATH)?;
+    let second = connect(rt, STREAM_PATH)?;
+    Ok((first, second))
+}
+
+// Two writers: what both have read.
+fn write_twice(alloc: Global, writers: (UnixStream, UnixStream)) -> io::Result<String> {
+    let (first, second) = writers;
+    let mut told = String::new(alloc);
+    write_once(alloc, first, &mut told, (1, 5))?;
+    write_once(alloc, second, &mut told, (9, 9))?;
+    Ok(told)
+}
+
+// Writes a message, and another one once something has come back.
+fn write_once(
+    alloc: Global,
+    stream: UnixStream,
+    told: &mut String,
+    positions: (u64, u64),
+) -> io::Result<()> {
+    let other = stream.try_clone()?;
+    let mut lines = BufReader::new(alloc, other)?;
+    lines.read_line(told)?;
+    send(&stream, message(alloc, positions.0)?)?;
+    lines.read_line(told)?;
+    // (the socket may have been closed after the reason was read)
+    let _ = send(&stream, message(alloc, positions.1)?);
+    let _ = lines.read_line(told);
+    Ok(())
+}
+
+fn send(stream: &UnixStream, line: String) -> io::Result<()> {
+    let mut stream = stream;
+    stream.write_all(line.as_bytes())
+}
+
+// Two writers of a FIFO, of which the first leaves half a line.
+fn read_fifo<R>(rt: &R, alloc: Global) -> Result<String, Fail>
+where
+    R: Files<File = File> + Net + Wait + Clock + Copy + Drop,
+{
+    let (reader, writer) = io::pipe(rt)?;
+    let path = format!(in alloc; "/proc/self/fd/{}", reader.as_raw_fd())?;
+    let same = String::from_str(alloc, path.as_str())?;
+    let mut opened = open(rt, alloc, StreamPath::File(same)).ok_or(NoMemory)?;
+    write_half(alloc, writer)?;
+    let last = read_writer(alloc, &mut opened.stream, 0).ok_or(NoMemory)?;
+    write_again(rt, alloc, path.as_str())?;
+    let last = read_writer(alloc, &mut opened.stream, last).ok_or(NoMemory)?;
+    let said = show_messages(rt, alloc, &opened.messages)?;
+    Ok(format!(in alloc; "{said} {last}")?)
+}
+
+fn write_half<W: Write + Drop>(alloc: Global, writer: W) -> io::Result<()> {
+    let mut writer = writer;
+    let whole = message(alloc, 1)?;
+    writer.write_all(whole.as_bytes())?;
+    writer.write_all(b"{\"at\":2,")
+}
+
+fn write_again<R: Files<File = File>>(rt: &R, alloc: Global, path: &str) -> io::Result<()> {
+    let mut text = message(alloc, 1)?;
+    push_message(&mut text, 2, "k", 0)?;
+    let mut writer = OpenOptions::new().write(true).open(rt, path)?;
+    writer.write_all(text.as_bytes())
+}
+
+/// How many lines wait of very many that were left, how many were dropped, and whether the first one waits.
+pub(crate) fn leave_many<R: Wait>(rt: &R, alloc: Global) -> Result<String, Fail> {
+    let messages = Messages::new(alloc)?;
+    for number in 0..LINES {
+        messages.leave(rt, format!(in alloc; "{number}"));
+    }
+    let mut waiting = WaitingLines::new(alloc)?;
+    messages.exchange(rt, &mut waiting);
+    let count = waiting.lines().len();
+    let is_first = match waiting.lines().first() {
+        Some(line) => line.as_str() == "0",
+        None => false,
+    };
+    Ok(format!(in alloc; "{count} {} {is_first}", waiting.dropped())?)
+}
