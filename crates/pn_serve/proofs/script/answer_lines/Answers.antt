@@ -34,28 +34,28 @@ reads-preserved g c =
       knows = knows_on (M.reader c.args.machine.now) (M.reader c.reads.machine) (M.reader c.advance.new.machine) was.knows c.in-None.ensures.knows;
     }
 
-pub returns-clause-ends : goal.returns-clause-ends
-returns-clause-ends g c = c.in-Some.ensures.runs (start_at c.args.machine.now (g.S.Source.left c.args.input.now) (g.W.Sink.contents c.args.output.now)) c.recall_moves.ensures c.reads.invariant.stands
+pub returns-in-Some-clause-ends : goal.returns-in-Some-clause-ends
+returns-in-Some-clause-ends g c = c.in-Some.ensures.runs (start_at c.args.machine.now (g.S.Source.left c.args.input.now) (g.W.Sink.contents c.args.output.now)) c.recall_moves.ensures c.reads.invariant.stands
 
-pub returns-clause-read : goal.returns-clause-read
-returns-clause-read g c = λ is. subst (λ (e : Result Counts RunFault). CanEndBy g.S.Source.may_fail g.W.Sink.may_fail g.S.Source.may_end e) is (c.in-Some.ensures.foresees c.reads.invariant.foresees)
+pub returns-in-Some-clause-read : goal.returns-in-Some-clause-read
+returns-in-Some-clause-read g c = λ is. subst (λ (e : Result Counts RunFault). CanEndBy g.S.Source.may_fail g.W.Sink.may_fail g.S.Source.may_end e) is (c.in-Some.ensures.foresees c.reads.invariant.foresees)
 
-pub returns-clause-write : goal.returns-clause-write
-returns-clause-write g c = λ is. subst (λ (e : Result Counts RunFault). CanEndBy g.S.Source.may_fail g.W.Sink.may_fail g.S.Source.may_end e) is (c.in-Some.ensures.foresees c.reads.invariant.foresees)
+pub returns-in-Some-clause-write : goal.returns-in-Some-clause-write
+returns-in-Some-clause-write g c = λ is. subst (λ (e : Result Counts RunFault). CanEndBy g.S.Source.may_fail g.W.Sink.may_fail g.S.Source.may_end e) is (c.in-Some.ensures.foresees c.reads.invariant.foresees)
 
-pub returns-clause-knows : goal.returns-clause-knows
-returns-clause-knows g c =
+pub returns-in-Some-clause-knows : goal.returns-in-Some-clause-knows
+returns-in-Some-clause-knows g c =
     let M = g.M.LineHandler in
     knows_on (M.reader c.args.machine.now) (M.reader c.reads.machine) (M.reader c.advance.new.machine) c.reads.invariant.knows c.in-Some.ensures.knows
 
-pub returns-clause-few : goal.returns-clause-few
-returns-clause-few g c = can_few g.S.Source.may_fail g.W.Sink.may_fail g.S.Source.may_end c.in-Some.ended (c.in-Some.ensures.foresees c.reads.invariant.foresees)
+pub returns-in-Some-clause-few : goal.returns-in-Some-clause-few
+returns-in-Some-clause-few g c = can_few g.S.Source.may_fail g.W.Sink.may_fail g.S.Source.may_end c.in-Some.ended (c.in-Some.ensures.foresees c.reads.invariant.foresees)
 
-pub returns-clause-looks : goal.returns-clause-looks
-returns-clause-looks g c = omega (arith, c.in-Some.ensures.looks, c.reads.invariant.looks)
+pub returns-in-Some-clause-looks : goal.returns-in-Some-clause-looks
+returns-in-Some-clause-looks g c = omega (arith, c.in-Some.ensures.looks, c.reads.invariant.looks)
 
-pub returns-clause-end : goal.returns-clause-end
-returns-clause-end g c = can_end g.S.Source.may_fail g.W.Sink.may_fail g.S.Source.may_end c.in-Some.ended (c.in-Some.ensures.foresees c.reads.invariant.foresees)
+pub returns-in-Some-clause-end : goal.returns-in-Some-clause-end
+returns-in-Some-clause-end g c = can_end g.S.Source.may_fail g.W.Sink.may_fail g.S.Source.may_end c.in-Some.ended (c.in-Some.ensures.foresees c.reads.invariant.foresees)
 
-pub returns-clause-begun : goal.returns-clause-begun
-returns-clause-begun g c = can_fault g.S.Source.may_fail g.W.Sink.may_fail g.S.Source.may_end c.in-Some.ended (c.in-Some.ensures.foresees c.reads.invariant.foresees)
+pub returns-in-Some-clause-begun : goal.returns-in-Some-clause-begun
+returns-in-Some-clause-begun g c = can_fault g.S.Source.may_fail g.W.Sink.may_fail g.S.Source.may_end c.in-Some.ended (c.in-Some.ensures.foresees c.reads.invariant.foresees)
