@@ -63,6 +63,7 @@ impl GetWalk {
     pub fn go_on(self, reader: &mut LiveReader, most: usize) -> Result<GetWalk, ScanFault>
         ensures goes { (trace : List (LookMade LiveReaderValue)) → IsOnGet reader.old.layout self trace → GetsOn reader.old.layout reader.old reader.new self.keys result trace }
         ensures few { IfOk result (λ walk. walk.read ≤ self.read + most) }
+        ensures left { IfOk result (λ walk. length walk.keys - walk.read ≡ length self.keys - self.read - most) }
         ensures all { IfOk result (λ walk. length self.keys ≤ self.read + most → walk.read ≡ length self.keys) }
         ensures same { tablets_of reader.new ≡ tablets_of reader.old }
     {

@@ -2,7 +2,7 @@
 
 ghost use Rattle.std.specs.Prelude.{◌≡◌, ◌<◌, ◌≤◌, ◌+◌, ◌++◌, ◌⊎◌, true, false, List, length, None, IfOk};
 ghost use Rattle.pn_tablet.specs.Prelude.{IsLayout};
-ghost use Rattle.pn_scan.specs.Paging.{going_in, rows_to_come, IsNearer, IsNewWalk, IsOnPage, LookMade, PagesTo};
+ghost use Rattle.pn_scan.specs.Paging.{going_in, records_left, rows_to_come, IsNearer, IsNewWalk, IsOnPage, LookMade, PagesTo};
 ghost use Rattle.pn_scan.specs.Parts.{part_at};
 ghost use Rattle.pn_scan.specs.Queries.{QueryValue};
 
@@ -65,6 +65,16 @@ impl PageWalk {
     /// How many records the last step looked at; where its look is to be gone on with, as many as were asked for.
     pub fn looked(&self) -> usize {
         self.looked
+    }
+
+    /// How many records are still to be looked at before the next look.
+    pub fn left(&self) -> usize
+        ensures { result ≡ records_left self.now.part }
+    {
+        match &self.part {
+            Some(part) => part.left(),
+            None => 0,
+        }
     }
 
     /// Looks at so many more records at most, or into the next tablet.

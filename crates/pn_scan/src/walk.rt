@@ -108,6 +108,13 @@ impl PartWalk {
         }
     }
 
+    /// How many records are still to be looked at.
+    pub(crate) fn left(&self) -> usize
+        ensures { result ≡ length self.now.rest }
+    {
+        self.rest.len().saturating_sub(self.index)
+    }
+
     // The first rows, once all is looked at.
     fn into_rows(self, query: &Query) -> Result<Vec<Row>, NoMemory>
         ensures { IfOk result (λ rows. rows.items ≡ (walk_answer query.now self).0) }

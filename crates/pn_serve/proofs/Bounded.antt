@@ -120,11 +120,11 @@ module _ (old new : LineLoopValue) (before after : Option (List ℕ)) where
     ends_idle NoRoom ends = tt
     ends_idle (Ends other) ends = tt
 
-    pub ends_counted : (step : Step) → EndsTo ended old before new after step → CountsUnits old new step
-    ends_counted (Next units) ends = absurd ends
-    ends_counted NoInput ends = absurd ends
-    ends_counted NoRoom ends = tt
-    ends_counted (Ends other) ends = tt
+    pub ends_counted : (first : LineLoopValue) (step : Step) → EndsTo ended old before new after step → CountsUnits first new step
+    ends_counted first (Next units) ends = absurd ends
+    ends_counted first NoInput ends = absurd ends
+    ends_counted first NoRoom ends = tt
+    ends_counted first (Ends other) ends = tt
 
     pub ends_foresees : (read write end : Type 0) (step : Step) → ((other : Result Counts RunFault) → step ≡ Ends other → (other ≡ ended) ⊎ write) → EndsTo ended old before new after step → CanEndBy read write end ended → ForeseesStep read write end new step
     ends_foresees read write end (Next units) fault ends can = absurd ends
@@ -217,3 +217,13 @@ end_foresees read write end old new was reading can some none = by (cases_eq old
     by (inr some_bytes) =
         let few : old.state.counts.lines < MAX_LINES = ⊎_elim (λ below. below) (λ all. absurd (some_bytes all.1)) at.0 in
         takes_foresees true (record old { line = so_far []; state = record old.state { last = true } }) new read write end (some some_bytes) few refl (λ _. can)
+
+-- and no reply waits unless it is still to be handed on
+pub end_out : (handed_on : Type 0) (old new : LineLoopValue)
+    → (old.line.count ≢ 0 → Takes true (record old { line = so_far []; state = record old.state { last = true } }) new)
+    → (old.line.count ≡ 0 → (reply : Reply) × HasReply false (record old { line = so_far []; state = record old.state { last = true } }) reply new) → IsOutAs old handed_on → IsOutAs new handed_on
+end_out handed_on old new some none was = by (cases_eq old.line.count 0)
+  where
+    by : (old.line.count ≡ 0) ⊎ (old.line.count ≢ 0) → IsOutAs new handed_on
+    by (inl empty) = let (reply, takes) = none empty in takes_out false (record old { line = so_far []; state = record old.state { last = true } }) new handed_on (Done reply, takes) was
+    by (inr bytes) = takes_out true (record old { line = so_far []; state = record old.state { last = true } }) new handed_on (some bytes) was

@@ -78,7 +78,7 @@ module _ (moves : Moving LiveReaderValue) (knows : (old new : LiveReaderValue) �
   line_knows old new line reply (inr short) = knows_same old new short.1.0
 
   -- while a line is looked up
-  going_knows : (old new : LiveReaderValue) (command : CommandValue) (going : Going) → LooksOn moves old command new going → KnowsNoLess old new
+  pub going_knows : (old new : LiveReaderValue) (command : CommandValue) (going : Going) → LooksOn moves old command new going → KnowsNoLess old new
   going_knows old new (scan query) (Page asked walk) on = trace_knows old new on.1.0 on.1.1.made on.1.2
   going_knows old new (scan query) (Keys walk) on = absurd on
   going_knows old new (scan query) (Copy count) on = absurd on

@@ -135,25 +135,29 @@ pub nothing_left : (last : Bool) (counts : Counts) → stage_left (stage_after l
 nothing_left true counts = refl
 nothing_left false counts = refl
 
+-- a loop that reads has a step to do, and the last
+pub reads_more : (run : LineLoopValue) → run.state.stage ≡ Reading → 1 < reads_left run
+reads_more run reading = omega (arith, reads_of run reading)
+
 -- the last part was answered, or begun
-module _ (old new : LineLoopValue) (reading : old.state.stage ≡ Reading) where
-  replied_last : (line : Bool) (reply : Reply) → HasReply line (record old { line = so_far []; state = record old.state { last = true } }) reply new → (reads_left new < reads_left old) × (looks_left new ≡ 0) × IsFreshAt new.state.stage new
+module _ (old new : LineLoopValue) where
+  replied_last : (line : Bool) (reply : Reply) → HasReply line (record old { line = so_far []; state = record old.state { last = true } }) reply new → (reads_left new ≡ 1) × (looks_left new ≡ 0) × IsFreshAt new.state.stage new
   replied_last line reply takes = (
-    omega (arith, reads_of old reading, ap (λ (s : Stage). reads_at s new) takes.stage),
+    ap (λ (s : Stage). reads_at s new) takes.stage,
     ap (λ (s : Stage). looks_left_at s new) takes.stage,
     subst (λ (s : Stage). IsFreshAt s new) (sym takes.stage) tt,
   )
 
   pub end_nearer : (old.line.count ≢ 0 → Takes true (record old { line = so_far []; state = record old.state { last = true } }) new)
       → (old.line.count ≡ 0 → (reply : Reply) × HasReply false (record old { line = so_far []; state = record old.state { last = true } }) reply new)
-      → (reads_left new < reads_left old) × (looks_left new ≡ 0) × IsFreshAt new.state.stage new
+      → (reads_left new ≡ 1) × (looks_left new ≡ 0) × IsFreshAt new.state.stage new
   end_nearer some none = by (cases_eq old.line.count 0)
     where
-      taken : Takes true (record old { line = so_far []; state = record old.state { last = true } }) new → (reads_left new < reads_left old) × (looks_left new ≡ 0) × IsFreshAt new.state.stage new
+      taken : Takes true (record old { line = so_far []; state = record old.state { last = true } }) new → (reads_left new ≡ 1) × (looks_left new ≡ 0) × IsFreshAt new.state.stage new
       taken (Done reply, takes) = replied_last true reply takes
-      taken (Begun going, is) = subst (λ (r : LineLoopValue). (reads_left r < reads_left old) × (looks_left r ≡ 0) × IsFreshAt r.state.stage r) (sym is) (omega (arith, reads_of old reading), refl, refl)
+      taken (Begun going, is) = subst (λ (r : LineLoopValue). (reads_left r ≡ 1) × (looks_left r ≡ 0) × IsFreshAt r.state.stage r) (sym is) (refl, refl, refl)
 
-      by : (old.line.count ≡ 0) ⊎ (old.line.count ≢ 0) → (reads_left new < reads_left old) × (looks_left new ≡ 0) × IsFreshAt new.state.stage new
+      by : (old.line.count ≡ 0) ⊎ (old.line.count ≢ 0) → (reads_left new ≡ 1) × (looks_left new ≡ 0) × IsFreshAt new.state.stage new
       by (inl empty) = let (reply, takes) = none empty in replied_last false reply takes
       by (inr some_bytes) = taken (some some_bytes)
 

@@ -145,8 +145,9 @@ pub(crate) fn answer_lines<M: LineHandler, S: Source, W: Sink>(
 {
     machine.recall_moves();
     'reads: loop {
-        if let Some(ended) = lines.advance(machine, input, output) {
-            return ended;
+        match lines.advance(machine, input, output) {
+            None => {}
+            Some(ended) => return ended,
         }
     }
 }

@@ -3,7 +3,7 @@ use Rattle.std.specs.Prelude.{◌≡◌, ◌≤◌, ◌+◌, ◌-◌, ◌*◌, �
 use Rattle.pn_join.specs.Marks.{Positions}
 use Rattle.pn_live.specs.Copying.{IsCopied}
 use Rattle.pn_join.specs.declared.memory.NoMemory.{NoMemory}
-use Rattle.pn_live.specs.Getting.{GetWalkValue, IsOnGet}
+use Rattle.pn_live.specs.Getting.{EndsGet, GetWalkValue, IsOnGet}
 use Rattle.pn_live.specs.Readers.{LiveReaderValue, LooksLive}
 use Rattle.pn_protocol.specs.Command.Lines.{lookup_at}
 use Rattle.pn_protocol.specs.Command.Meaning.{CommandValue, copy, get, scan}
@@ -22,9 +22,10 @@ use Rattle.pn_scan.specs.declared.page_walk.PageStep.TheVariants as pages
 use Rattle.pn_scan.specs.Queries.{QueryValue}
 use Rattle.pn_scan.specs.Paging.{Gaps, IsOnPage, LookMade, Moving, records_left, steps_left}
 use Rattle.pn_tablet.specs.Copies.{TabletCopyValue}
+use Rattle.pn_tablet.specs.Layouts.{Bounds}
 use Rattle.pn_tablet.specs.Tablets.{TabletStateValue}
-use Rattle.pn_tablet.specs.declared.copy_text.CopyStep.{CopyStep}
-use Rattle.pn_tablet.specs.declared.copy_text.CopyStep.TheVariants as copies
+use Rattle.pn_tablet.specs.declared.copy_count.CopyStep.{CopyStep}
+use Rattle.pn_tablet.specs.declared.copy_count.CopyStep.TheVariants as copies
 use Rattle.pn_serve.specs.declared.machine.line_handler.Answer.{Answer}
 use Rattle.pn_serve.specs.declared.machine.line_handler.Answer.TheVariants.{Done, Going as Begun}
 use Rattle.pn_serve.specs.declared.sessions.going.Going.{Going}
@@ -58,12 +59,12 @@ PageAnswer query (Ok (pages.Next walk)) (Begun going) = going ≡ Page query wal
 PageAnswer query (Err fault) (Done reply) = ShowsFound scan_data (Err fault) reply
 PageAnswer query step answer = ⊥
 
--- what a get is answered with: the cells of its keys, why there are none, or that it is to be gone on with
-abbrev pub KeysAnswer : Result GetWalkValue ScanFault → Result (List (Option CellValue)) ScanFault → Answer → Type 0
-KeysAnswer (Ok walk) shown (Begun going) = going ≡ Keys walk
-KeysAnswer (Ok walk) shown (Done reply) = (walk.read ≡ length walk.keys) × ShowsFound (get_data walk.keys) shown reply
-KeysAnswer (Err fault) shown (Done reply) = ShowsFound {A = List (Option CellValue)} (λ cells. get_data [] cells) (Err fault) reply
-KeysAnswer (Err fault) shown (Begun going) = ⊥
+-- what a get is answered with, by these looks: the cells of its keys, why there are none, or that it is to be gone on with
+abbrev pub KeysAnswer : Bounds → List (LookMade LiveReaderValue) → Result GetWalkValue ScanFault → Answer → Type 0
+KeysAnswer bounds trace (Ok walk) (Done reply) = (shown : Result (List (Option CellValue)) ScanFault) × EndsGet bounds walk.keys shown trace × ShowsFound (get_data walk.keys) shown reply
+KeysAnswer bounds trace (Ok walk) (Begun going) = going ≡ Keys walk
+KeysAnswer bounds trace (Err fault) (Done reply) = ShowsFound {A = List (Option CellValue)} (λ cells. get_data [] cells) (Err fault) reply
+KeysAnswer bounds trace (Err fault) (Begun going) = ⊥
 
 -- what a copy is answered with, once its lines are counted
 abbrev pub CopyAnswer : Result CopyStep NoMemory → Answer → Type 0
@@ -91,7 +92,7 @@ left_of (Copy count) = length count.copy.cells - count.index
 
 -- how much of a lookup is left: its tablets, then the records of the one that is looked into; its keys; or its cells
 abbrev pub going_left : Going → ℕ
-going_left (Page query walk) = (walk.end - walk.next) * 2 ^ 64 + steps_left walk.part
+going_left (Page query walk) = (walk.end - walk.next) * 2 ^ 65 + steps_left walk.part
 going_left (Keys walk) = length walk.keys - walk.read
 going_left (Copy count) = length count.copy.cells - count.index
 
@@ -100,3 +101,9 @@ abbrev pub kind_of : Going → LineKind
 kind_of (Page query walk) = kinds.Scan
 kind_of (Keys walk) = kinds.Get
 kind_of (Copy count) = kinds.Copy
+
+-- what a page has still to look at before its next look is counted in 64 bits
+abbrev pub HasFew : Result PageStep ScanFault → Type 0
+HasFew (Ok (pages.Done page)) = Unit {0}
+HasFew (Ok (pages.Next walk)) = steps_left walk.part ≤ 2 ^ 64
+HasFew (Err fault) = Unit {0}

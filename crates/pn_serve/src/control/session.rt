@@ -107,8 +107,9 @@ fn answer_lines<R: Wait + Clock, C: StatsSource + Drop, S: Source, W: Sink>(
     ensures begun { IfErr result (λ fault. fault ≢ RunFault.Memory) }
 {
     'reads: loop {
-        if let Some(ended) = lines.advance(handler, input, output) {
-            return ended;
+        match lines.advance(handler, input, output) {
+            None => {}
+            Some(ended) => return ended,
         }
         if handler.is_closed() && lines.is_between_lines() {
             return lines.close(output);

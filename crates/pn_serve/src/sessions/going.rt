@@ -1,11 +1,18 @@
 //! Lookups of a session that are gone on with: a page, the records of keys, or a copy.
 
-ghost use Rattle.std.specs.Prelude.{◌≡◌};
+ghost use Rattle.std.specs.Prelude.{◌≡◌, ◌<◌, ◌≤◌, ℕ, List, length, IfErr, IfOk};
+ghost use Rattle.pn_live.specs.Getting.{IsOnGet};
 ghost use Rattle.pn_live.specs.Prelude.{LiveReaderValue};
 ghost use Rattle.pn_protocol.specs.Command.Meaning.{CommandValue};
+ghost use Rattle.pn_scan.specs.Paging.{LookMade};
 ghost use Rattle.pn_scan.specs.Prelude.{Stays};
+ghost use Rattle.pn_serve.specs.Lines.Going.{answer_left};
+ghost use Rattle.pn_serve.specs.declared.sessions.going.Going.{Going as GoingOn};
 ghost use Rattle.pn_serve.specs.Session.Knowing.{KnowsNoLess};
-ghost use Rattle.pn_serve.specs.Session.Looking.{LooksOn, LooksTo, kind_of};
+ghost use Rattle.pn_serve.specs.Session.Looking.{CopyAnswer, HasFew, KeysAnswer, LooksOn, LooksTo, PageAnswer, going_left, kind_of};
+ghost use Rattle.pn_tablet.specs.CopyCounts.{CountsOn};
+ghost use Rattle.pn_tablet.specs.CopyMaking.{CopyCountValue};
+ghost use Rattle.pn_tablet.specs.Layouts.{Bounds};
 
 use crate::machine::line_handler::Answer;
 use pn_join::NoMemory;
@@ -67,11 +74,13 @@ impl Going {
     ) -> (Answer, usize)
         ensures alone { (was between : LiveReaderValue) (command : CommandValue) → LooksOn Stays was command between self → Stays between reader.old → LooksTo Stays was command reader.new result.0 }
         ensures shared { (was between : LiveReaderValue) (command : CommandValue) → LooksOn KnowsNoLess was command between self → KnowsNoLess between reader.old → LooksTo KnowsNoLess was command reader.new result.0 }
+        ensures nearer { 0 < records → answer_left result.0 ≤ going_left self }
         ensures knows { KnowsNoLess reader.old reader.new }
     {
         match self {
             Going::Page(query, walk) => {
                 let step = walk.go_on(alloc, reader, &query, records);
+                recall_few(&step);
                 let looked = looked_by(&step);
                 (page_answer(alloc, query, step), looked)
             }
@@ -94,8 +103,19 @@ fn looked_by(step: &Result<PageStep, ScanFault>) -> usize {
     }
 }
 
+// What a page has still to look at before its next look is counted in 64 bits.
+fn recall_few(step: &Result<PageStep, ScanFault>)
+    ensures { HasFew step.now }
+{
+    if let Ok(PageStep::Next(walk)) = step {
+        let _left = walk.left();
+    }
+}
+
 // The answer of a page, once it is found.
-fn page_answer(alloc: Global, query: Query, step: Result<PageStep, ScanFault>) -> Answer {
+fn page_answer(alloc: Global, query: Query, step: Result<PageStep, ScanFault>) -> Answer
+    ensures { PageAnswer query step result }
+{
     match step {
         Ok(PageStep::Done(page)) => Answer::Done(answer_scan(alloc, Ok(page))),
         Ok(PageStep::Next(walk)) => Answer::Going(Going::Page(query, walk)),
@@ -104,26 +124,28 @@ fn page_answer(alloc: Global, query: Query, step: Result<PageStep, ScanFault>) -
 }
 
 // The answer of a get, once all keys are read.
-fn keys_answer(alloc: Global, walk: Result<GetWalk, ScanFault>) -> Answer {
+fn keys_answer(alloc: Global, walk: Result<GetWalk, ScanFault>) -> Answer
+    ensures answers { (bounds : Bounds) (trace : List (LookMade LiveReaderValue)) → IfOk walk (λ keys. IsOnGet bounds keys trace) → KeysAnswer bounds trace walk result }
+    ensures some { IfOk walk (λ keys. (going : GoingOn) → result ≡ Answer.Going going → (going ≡ Going.Keys keys) × (keys.read < length keys.keys)) }
+    ensures fault { IfErr walk (λ _. answer_left result ≡ 0) }
+{
     let walk = match walk {
         Ok(walk) => walk,
-        Err(fault) => return refused(alloc, fault),
+        Err(fault) => return Answer::Done(refuse(alloc, CommandFault::Lookup(fault))),
     };
     if walk.left() > 0 {
         return Answer::Going(Going::Keys(walk));
     }
     match walk.end() {
         Ok((keys, cells)) => Answer::Done(answer_get(alloc, keys, Ok(cells))),
-        Err(fault) => refused(alloc, fault),
+        Err(fault) => Answer::Done(refuse(alloc, CommandFault::Lookup(fault))),
     }
 }
 
-fn refused(alloc: Global, fault: ScanFault) -> Answer {
-    Answer::Done(refuse(alloc, CommandFault::Lookup(fault)))
-}
-
 // The answer of a copy, once its lines are counted.
-fn copy_answer(step: Result<CopyStep, NoMemory>) -> Answer {
+fn copy_answer(step: Result<CopyStep, NoMemory>) -> Answer
+    ensures { (records : ℕ) (count : CopyCountValue) → CountsOn records count step → CopyAnswer step result }
+{
     match step {
         Ok(CopyStep::Done(copy)) => Answer::Done(Reply::Copy(copy)),
         Ok(CopyStep::Next(count)) => Answer::Going(Going::Copy(count)),

@@ -13,7 +13,7 @@ invariant-reads g l = record {
   settled : IsSettled l.lines;
   looks : g.S.Source.looks l.input + looks_left l.lines ≤ g.S.Source.looks l.initial.input + looks_left new_loop;
   out : IsOutAs l.lines (g.W.Sink.is_handed_on l.output);
-  foresees : Foresees g.S.Source.may_fail g.W.Sink.may_fail l.lines;
+  foresees : Foresees g.S.Source.may_fail g.W.Sink.may_fail g.S.Source.may_end l.lines;
   knows : KnowsNoLess (g.M.LineHandler.reader l.initial.machine) (g.M.LineHandler.reader l.machine);
 }
 

@@ -70,8 +70,9 @@ impl LineLoop {
         ensures knows { KnowsNoLess (M.reader machine.old) (M.reader machine.new) }
     {
         'looks: loop {
-            if let Err(fault) = self.write_out(output) {
-                return Some(Err(fault));
+            match self.write_out(output) {
+                Ok(()) => {}
+                Err(fault) => return Some(Err(fault)),
             }
             match self.state.take_stage() {
                 Stage::Looking(going) => {
@@ -98,7 +99,7 @@ impl LineLoop {
         'pieces: while self.state.has_text() {
             match self.write_on(output) {
                 Step::Next(_) => {}
-                Step::NoInput | Step::NoRoom | Step::Ends(_) => return Err(RunFault::Write),
+                _ => return Err(RunFault::Write),
             }
         }
         Ok(())
@@ -121,7 +122,8 @@ impl LineLoop {
     {
         match self.flush(output) {
             Ok(SendOutcome::All) => Ok(self.counts()),
-            _ => Err(RunFault::Write),
+            Ok(SendOutcome::Waits) => Err(RunFault::Write),
+            Err(_) => Err(RunFault::Write),
         }
     }
 }
