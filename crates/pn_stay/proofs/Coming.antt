@@ -5,10 +5,14 @@ use Rattle.std.specs.Io.KnownBytes.{Consumes, IsAtEnd, Keeps, prepend_known}
 use Rattle.std.specs.declared.io.Error.{Error}
 use Rattle.pn_serve.specs.declared.script.line_loop.state.Stage.{Stage}
 use Rattle.pn_serve.specs.declared.script.line_loop.state.Stage.TheVariants.{Reading}
-use Rattle.pn_serve.specs.Lines.States.{LineLoopValue, Start}
+use Rattle.pn_live.specs.Prelude.{LiveReaderValue}
+use Rattle.pn_serve.specs.Lines.States.{LineLoopValue, Start, new_loop, start_at}
 use Rattle.pn_serve.specs.Lines.Stepping.{Handling, IsReading, Stands, StandsAt}
 use Rattle.pn_serve.proofs.Standing.{at_untold, told_or}
-use Rattle.pn_stay.specs.Turns.{IsRead}
+use Rattle.pn_serve.specs.Session.Knowing.{IsSteady}
+use Rattle.pn_serve.proofs.Running.{Stands-new}
+use Rattle.pn_stay.specs.Connections.{new_connection}
+use Rattle.pn_stay.specs.Turns.{Continues, IsRead}
 use Rattle.pn_stay.specs.declared.steps.Came.{Came}
 use Rattle.pn_stay.specs.declared.steps.Came.TheVariants as came
 
@@ -68,3 +72,13 @@ module _ {V : Type 0} (handling : Handling V) (start : Start V) (written : Optio
   pub Ends-known : (leaves : Option (List ℕ)) → IsAtEnd leaves → Stands handling start (prepend_known [] leaves) written machine run → IfSome start.left (λ _. prepend_known [] leaves ≡ Some [])
   Ends-known None end stands = told_or start.left _ _ (at_reading None stands) (λ none. at_untold start.left _ none) (λ script told is. absurd (none_known is.read.rest is.read.left_is))
   Ends-known (Some x) end stands = if_known start.left (Some x ≡ Some []) (ap Some end)
+
+pub Keeps-front : (left leaves : Option (List ℕ)) → Keeps left leaves → Keeps (prepend_known [] left) (prepend_known [] leaves)
+Keeps-front None leaves kept = tt
+Keeps-front (Some x) None kept = absurd kept
+Keeps-front (Some x) (Some y) kept = kept
+
+-- a new connection stands at the start of its script
+pub Continues-new : {V : Type 0} (handling : Handling V) (reader : V → LiveReaderValue) → IsSteady reader handling.moves → (machine : V) (left written : Option (List ℕ)) → Continues handling (start_at machine left written) left written machine new_connection
+Continues-new handling reader steady machine None written = Stands-new handling steady.preorder machine None written new_loop refl
+Continues-new handling reader steady machine (Some script) written = Stands-new handling steady.preorder machine (Some script) written new_loop refl

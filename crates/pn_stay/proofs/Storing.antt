@@ -2,10 +2,12 @@
 use Rattle.std.proofs.Common.{◌≡◌, ◌≢◌, ◌⊎◌, ◌<◌, ◌≤◌, ℕ, Bool, true, false, Option, None, Some, List, [], ◌∷◌, ◌++◌, Contains, inl, inr, refl, sym, ap, ◌∙◌, subst, append_assoc}
 use Rattle.std.specs.Prelude.{Result, Ok, Err, IfOk, OnErr}
 use Rattle.std.specs.Io.KnownBytes.{prepend_known}
+use Rattle.std.proofs.KnownBytes.{Appends-nil}
 use Rattle.std.proofs.lemmas.List.Elements.{All-nil, Contains-append_right}
 use Rattle.pn_line.specs.Line.{LineBufferValue, so_far}
 use Rattle.pn_line.specs.LinesRead.{PartRead}
 use Rattle.pn_line.specs.Reads.{HasShown}
+use Rattle.pn_line.specs.Sent.{AppendsPrefix}
 use Rattle.pn_line.specs.declared.writing.WriteFault.{WriteFault}
 use Rattle.pn_line.proofs.LineLaws.{kept_bytes-short}
 use Rattle.pn_serve.specs.declared.script.Counts.{Counts}
@@ -145,6 +147,10 @@ module _ {V : Type 0} (handling : Handling V) (start : Start V) (left written : 
   Turns-stored old new NoInput outcome stores steps cut = kept_or old new Input outcome stores steps (cut steps)
   Turns-stored old new NoRoom outcome stores steps cut = kept_or old new Output outcome stores steps.0 steps.2
   Turns-stored old new (Ends ended) outcome stores steps cut = ended_so old new ended outcome stores steps
+
+-- of what waits nothing was written
+pub AppendsPrefix-none : (written : Option (List ℕ)) (bs : List ℕ) → AppendsPrefix written written bs
+AppendsPrefix-none written bs = record { sent = []; back = bs; appends = Appends-nil written; whole = refl }
 
 -- ---- pauses
 
