@@ -3,6 +3,7 @@ import json
 import os
 import random
 import signal
+import socket
 import subprocess
 import sys
 import tempfile
@@ -12,17 +13,17 @@ from pathlib import Path
 
 from common.at_once import at_once
 from common.crates import TOP
-from common.served import Client, Served, same, written
+from common.served import Client, Served, message, same, written
 from faults.refusing import Refusals
 from replies.live_copies import copied, copy_line, streams_of
 from replies.random_values import KEYS, MANY_KEYS, bounds_of
 from serving.controlled import Session
 from serving.copies_texts import exchanged, fault_of, least_marks, messages_from, part_of, refusal, taken
-from serving.staying import Staying
+from serving.staying import Staying, until
 
 REGIONS = 100
 KILLS, STARTS = 1_000, 200
-ZEROS = 5 << 30
+ZEROS, LAST_POSITION = 5 << 30, 10**15
 # What a program may say where an allocation is refused before it listens.
 STARTS_NOT = (b"pnuts: memory", b"pnuts: copies: memory", b"pnuts: cannot start", b"pnuts: cannot listen", b"pnuts: cannot open")
 
@@ -192,6 +193,24 @@ def check_too_many_streams(program: str, folder: str) -> None:
         control = os.path.join(folder, "control")
         with Staying(program, folder, [("s01", "/dev/null")], "--copies", path, "--control", control), Session(control) as session:
             same("the marks", session.told(do="marks"), {"marks": {f"s{at:02}": at for at in range(1, count + 1)}})
+
+
+def check_writers(program: str, folder: str) -> None:
+    """A writer at a socket is told what the copies have of its stream. What comes next is taken, and what would leave a gap is not."""
+    for mark in (5, LAST_POSITION - 2):
+        path = written(folder, "copies", f'{{"copy":1,"from":null,"to":null}}\n{{"at":{mark},"stream":"east"}}\n{{"end":1}}\n'.encode())
+        place, control = os.path.join(folder, "writers"), os.path.join(folder, "control")
+        with Staying(program, folder, [("east", f"listen:{place}")], "--copies", path, "--control", control), Session(control) as session:
+            until("the stream has its position", lambda: session.told(do="stats")["streams"][0]["position"] == mark)
+            gap = f'{{"error":"gap","got":{mark + 2},"wanted":{mark + 1}}}\n'
+            for at, wanted, then in ((mark + 2, gap, mark), (mark + 1, "", mark + 1)):
+                with socket.socket(socket.AF_UNIX) as writer, writer.makefile("rb") as told:
+                    writer.connect(place)
+                    writer.sendall(message(at, "k", 0, "x"))
+                    writer.shutdown(socket.SHUT_WR)
+                    said = told.read().decode().replace(f'{{"taken":{at}}}\n', "")
+                same(f"what the writer of {at} is told", said, f'{{"after":{mark}}}\n{wanted}')
+                same("the marks", session.told(do="marks"), {"marks": {"east": then}})
 
 
 def check_refused_allocations(program: str, folder: str) -> None:

@@ -15,7 +15,7 @@ from pathlib import Path
 
 import pika
 
-from running import CLIENT, FEEDS, RUN, Processes, Word, kill
+from running import CLIENT, FEEDS, RUN, Processes, Word, kill, until
 
 # Three machines run at first, and a fourth takes the place of one that is lost.
 COUNT, ALL = 3, 4
@@ -213,12 +213,22 @@ class Machine:
         run(*self.within, RABBIT / program, "--longnames", *words, environment=self.environment())
 
     def replace_broker(self, lost: Machine, new: Machine) -> None:
-        """Has its node forget that of a lost machine, whose place in each stream a new one takes."""
+        """Has its node forget that of a lost machine, whose place in each stream a new one takes. A stream that has no leader for a
+        moment refuses that, and is asked again.
+        """
         for name in RANGES:
-            self.tell_broker("rabbitmq-streams", "delete_replica", name, lost.node)
-        self.tell_broker("rabbitmqctl", "forget_cluster_node", lost.node)
+            until(f"{name} is no more at {lost.name}", lambda: self.does_broker("rabbitmq-streams", "delete_replica", name, lost.node))
+        until(f"{lost.name} is forgotten", lambda: self.does_broker("rabbitmqctl", "forget_cluster_node", lost.node))
         for name in RANGES:
-            self.tell_broker("rabbitmq-streams", "add_replica", name, new.node)
+            until(f"{name} is at {new.name}", lambda: self.does_broker("rabbitmq-streams", "add_replica", name, new.node))
+
+    def does_broker(self, program: str, *words: Word) -> bool:
+        """Whether its node of the broker does something."""
+        try:
+            self.tell_broker(program, *words)
+            return True
+        except subprocess.CalledProcessError:
+            return False
 
     def start_proxy(self) -> None:
         """The proxy before its regions, which themselves listen on loopback alone."""
@@ -278,7 +288,10 @@ class Machine:
             if program.poll() is None:
                 kill(program)
         for path in RUN.glob(f"{self.name}[-.]*"):
-            shutil.rmtree(path) if path.is_dir() else path.unlink()
+            if path.is_dir():
+                shutil.rmtree(path)
+            else:
+                path.unlink()
 
     def start_feed_anew(self, name: str) -> None:
         """Kills a feed, and starts another one."""

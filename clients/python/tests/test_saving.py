@@ -4,6 +4,9 @@ from __future__ import annotations
 
 import contextlib
 import io
+import os
+import signal
+import socket
 import tempfile
 import unittest
 from collections.abc import Iterator
@@ -84,6 +87,16 @@ class SavingTest(unittest.TestCase):
             self.assertEqual(str(raised.exception), said)
             self.assertEqual(list(self.path.parent.iterdir()), [self.path])
             self.assertEqual(self.path.read_text(encoding="utf-8"), "before")
+
+    def test_a_save_that_is_ended_leaves_nothing(self) -> None:
+        def end(connection: socket.socket) -> None:
+            replies(given(FIRST), end=True)(connection)
+            os.kill(os.getpid(), signal.SIGTERM)
+
+        self.addCleanup(signal.signal, signal.SIGTERM, signal.getsignal(signal.SIGTERM))
+        with fake(end, end) as port:
+            self.assertEqual(ctl.main(["save", str(self.path), "--from", f"tcp://127.0.0.1:{port}"]), 130)
+        self.assertEqual(list(self.path.parent.iterdir()), [])
 
     def test_the_program_saves_again_and_again(self) -> None:
         sleeps: list[float] = []

@@ -16,7 +16,7 @@ use Rattle.pn_serve.specs.Copies.Cutting.{AreCuts, CutValue, IsCut, TextLeft}
 use Rattle.pn_serve.specs.Copies.Reading.{AreAdded, AreRead, CopiesReaderValue, HasRead, StopsAt, StopsReading, StopsText, copy_in_cut, read_in, told_in}
 use Rattle.pn_serve.proofs.CopyTexts.{cuts-append}
 use Rattle.pn_serve.specs.declared.copies.fault.CopiesFault.{CopiesFault}
-use Rattle.pn_serve.specs.declared.copies.fault.CopiesFault.TheVariants.{Line, Memory, NoCopy, Read, Refused, TooMany, TooManyStreams, TwoCopies}
+use Rattle.pn_serve.specs.declared.copies.fault.CopiesFault.TheVariants.{Line, Memory, NoCopy, Read, TooMany, TooManyStreams, TwoCopies}
 
 -- these of the copies that were read were added, and the rest is to come
 pub record AddedSoFar (reads : List (Result TabletCopyValue CopiesFault)) (old new : List TabletCopyValue) (rest : List (Result TabletCopyValue CopiesFault)) : Type 0 where
@@ -195,7 +195,6 @@ at_fault may_fail text TooMany stops = stops (λ is. cc)
 at_fault may_fail text (NoCopy key) stops = stops (λ is. cc)
 at_fault may_fail text (TwoCopies key) stops = stops (λ is. cc)
 at_fault may_fail text TooManyStreams stops = stops (λ is. cc)
-at_fault may_fail text Refused stops = stops (λ is. cc)
 
 pub stopped : {S : Type 0} (left : S → Option (List ℕ)) (may_fail : Type 0) (text : List ℕ) (old : CopiesReaderValue S) (later : S) (after : ℕ) (some : List CutValue) (reads : List (Result TabletCopyValue CopiesFault)) (fault : CopiesFault)
     → CutsOut left old.source old.next some later after → AreRead some reads → (fault ≢ Memory → StopsAt reads old.copies fault) → HasRead left text old → StopsReading may_fail text fault

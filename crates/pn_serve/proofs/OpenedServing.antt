@@ -2,9 +2,10 @@
 use Rattle.std.proofs.Common.{◌≡◌, ◌≢◌, ℕ, List, Option, sym, subst}
 use Rattle.std.specs.Prelude.{Result, Ok, Err, IfErr, OnOk, MatchResult}
 use Rattle.pn_stream.specs.Batches as batches
-use Rattle.pn_live.specs.LiveRegions.{LiveRegionValue}
+use Rattle.pn_tablet.specs.Layouts.{Bounds}
+use Rattle.pn_live.specs.LiveRegions.{IsNewLive, LiveRegionValue}
 use Rattle.pn_serve.specs.Server.Opened.{EndsOpened, EndsOpenedRegion}
-use Rattle.pn_serve.specs.Server.Served.{EndsReading}
+use Rattle.pn_serve.specs.Server.Served.{EndsReading, EndsRegion}
 use Rattle.pn_serve.specs.declared.server.fault.ServeFault.{ServeFault}
 use Rattle.pn_serve.specs.declared.server.fault.ServeFault.TheVariants.{Start, Stream, Round, Close, Write}
 
@@ -21,6 +22,15 @@ module _ {S : Type 0} (left : S → Option (List ℕ)) (streams : List (batches.
   opened_ends closed count (Err fault) closing result ends first closes = subst (EndsOpenedRegion left opened streams) (sym first) (stopped closed fault ends)
   opened_ends closed count (Ok done) (Ok region) result ends first closes = subst (EndsOpenedRegion left opened streams) (sym closes) (record { closed = closed; ends = ends })
   opened_ends closed count (Ok done) (Err fault) result ends first closes = subst (EndsOpenedRegion left opened streams) (sym closes) (record { closed = closed; ends = ends })
+
+  -- a new live region that is open is one of its layout
+  pub as_region : (layout : Bounds) → IsNewLive layout opened → (result : Result ℕ ServeFault) → EndsOpenedRegion left opened streams result → EndsRegion left layout streams result
+  as_region layout is_new (Ok count) ends = record { opened = opened; closed = ends.closed; is_new = is_new; ends = ends.ends }
+  as_region layout is_new (Err (Stream name)) ends = record { opened = opened; closed = ends.closed; is_new = is_new; ends = ends.ends }
+  as_region layout is_new (Err Round) ends = record { opened = opened; closed = ends.closed; is_new = is_new; ends = ends.ends }
+  as_region layout is_new (Err Close) ends = record { opened = opened; closed = ends.closed; is_new = is_new; ends = ends.ends }
+  as_region layout is_new (Err Start) ends = tt
+  as_region layout is_new (Err Write) ends = absurd ends
 
   pub opened_no_write : (result : Result ℕ ServeFault) → EndsOpenedRegion left opened streams result → IfErr result (λ fault. fault ≢ Write)
   opened_no_write (Ok count) ends = tt

@@ -62,24 +62,6 @@ module _ {S : Type 0} (left : S → Option (List ℕ)) (streams : List (batches.
       (subst (λ (ss : List (batches.Stream S)). OnOk result (All (IsTakenWhole left new.marks) ss)) are (subst (λ (m : Positions). OnOk result (All (IsTakenWhole left m) read_by)) same taken))
       (subst (λ (ss : List (batches.Stream S)). IfErr result (NamesOne (names_of ss))) are rest)
 
-  module _ (layout : Bounds) (opened closed : LiveRegionValue) (is_new : IsNewLive layout opened) where
-    abbrev serves : (reading : Result (Unit {0}) ServeFault) → EndsReading left streams opened closed reading → Serves left layout streams reading
-    serves reading ends = record { opened = opened; closed = closed; is_new = is_new; ends = ends }
-
-    stopped : (fault : ServeFault) → EndsReading left streams opened closed (Err fault) → EndsRegion left layout streams (Err fault)
-    stopped (Stream name) ends = serves (Err (Stream name)) ends
-    stopped Round ends = serves (Err Round) ends
-    stopped Start ends = tt
-    stopped Close ends = absurd ends
-    stopped Write ends = absurd ends
-
-    -- it was closed
-    pub region_ends : {A B : Type 0} (count : ℕ) (reading : Result (Unit {0}) ServeFault) (closing : Result A B) (result : Result ℕ ServeFault) → EndsReading left streams opened closed reading
-        → IfErr reading (λ fault. result ≡ Err fault) → OnOk reading (MatchResult closing (λ _. result ≡ Ok count) (λ _. result ≡ Err Close)) → EndsRegion left layout streams result
-    region_ends count (Err fault) closing result ends first closes = subst (EndsRegion left layout streams) (sym first) (stopped fault ends)
-    region_ends count (Ok done) (Ok region) result ends first closes = subst (EndsRegion left layout streams) (sym closes) (serves (Ok tt) ends)
-    region_ends count (Ok done) (Err fault) result ends first closes = subst (EndsRegion left layout streams) (sym closes) (serves (Ok tt) ends)
-
   -- no live region was opened
   pub not_opened : (layout : Bounds) (fault : ServeFault) (result : Result ℕ ServeFault) → IsErrAnd result (λ other. other ≡ fault) → fault ≡ Start → EndsRegion left layout streams result
   not_opened layout fault result answered start =

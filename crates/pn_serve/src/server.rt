@@ -40,6 +40,7 @@ pub use events::take_commands;
 pub use fault::ServeFault;
 pub use fault_log::{FaultLog, StreamFailure};
 pub use opened::serve_from;
+use opened::serve_opened;
 use pn_join::{Marks, NoMemory};
 use pn_line::{Sink, Source, WriteFault, write_all_of};
 use pn_live::{LiveReader, LiveRegion};
@@ -126,12 +127,8 @@ where
 {
     let Settings { layout, workers } = settings;
     let (live, readers) = open_region(rt, alloc, layout, sessions)?;
-    let mut region = OpenedRegion { live, readers };
-    let served = serve_streams(rt, alloc, listener, &mut region, workers, streams);
-    let OpenedRegion { live, readers } = region;
-    let count = readers.len();
-    let closed = close_region(rt, live, readers);
-    conclude(served, closed, count)
+    let opened = OpenedRegion { live, readers };
+    serve_opened(rt, alloc, listener, opened, workers, streams)
 }
 
 /// Opens a live region with this many readers.

@@ -9,8 +9,8 @@ use pn_line::InMemory;
 use pn_live::LiveRegion;
 use pn_region::Region;
 use pn_serve::{
-    Counter, OpenedRegion, Origin, Settings, Stream, Watchers, WriterEnd, close_region, open_region,
-    read_streams,
+    Counter, OpenedRegion, Origin, Settings, Stream, Watchers, WriterEnd, close_region,
+    open_region, read_streams,
 };
 use pn_stream::StreamReader;
 use std::alloc::{AllocError, Global};

@@ -5,6 +5,7 @@ from __future__ import annotations
 import argparse
 import json
 import os
+import signal
 import ssl
 import sys
 import time
@@ -157,6 +158,8 @@ def _shown(change: Notice) -> str:
 
 def save_copies(region: Control, words: Words) -> int:
     addresses = [_peer(words, it) for it in words.peers] or [Unix(words.control)]
+    # What is written so far is removed where it is ended, too.
+    signal.signal(signal.SIGTERM, signal.default_int_handler)
     if words.every is None:
         _save_once(words, addresses)
         return 0

@@ -4,6 +4,7 @@ from __future__ import annotations
 
 import json
 from collections.abc import Iterator, Sequence
+from concurrent.futures import ThreadPoolExecutor
 from pathlib import Path
 from typing import Any
 
@@ -27,7 +28,7 @@ def save(regions: Client | Sequence[Client], path: Path) -> int:
 
     def counted() -> Iterator[bytes]:
         nonlocal count
-        for count, text in enumerate(copies(regions), start=1):
+        for count, text in enumerate(_ahead(copies(regions)), start=1):
             yield text
 
     write_parts(path, counted())
@@ -41,6 +42,19 @@ def copies(regions: Client | Sequence[Client]) -> Iterator[bytes]:
         text = _copy_from([regions] if isinstance(regions, Client) else regions, number, start)
         yield text
         start, number = head_of(text)["to"], number + 1
+
+
+def _ahead(texts: Iterator[bytes]) -> Iterator[bytes]:
+    """The texts, each of which is asked for while the one before is written."""
+
+    def following() -> bytes:
+        return next(texts, b"")
+
+    with ThreadPoolExecutor(1) as pool:
+        found = pool.submit(following)
+        while text := found.result():
+            found = pool.submit(following)
+            yield text
 
 
 def head_of(text: bytes) -> Any:

@@ -1,6 +1,7 @@
 //! Why a region does not start from copies.
 
 ghost use Rattle.std.specs.Prelude.{◌≡◌};
+ghost use Rattle.pn_serve.specs.Copies.{NoRefusal, cut_fault, start_fault};
 ghost use Rattle.pn_serve.specs.declared.copies.fault.CopiesFault.TheVariants.{Memory as no_memory};
 
 use pn_join::NoMemory;
@@ -26,8 +27,6 @@ pub enum CopiesFault {
     TwoCopies(Option<Key>),
     /// The copies are of more than 16 streams.
     TooManyStreams,
-    /// A copy was not adopted.
-    Refused,
     Memory,
 }
 
@@ -40,7 +39,6 @@ impl fmt::Display for CopiesFault {
             CopiesFault::NoCopy(key) => write!(f, "no copy has the key {:?}", key_text(key)),
             CopiesFault::TwoCopies(key) => write!(f, "two copies have the key {:?}", key_text(key)),
             CopiesFault::TooManyStreams => f.write_str("too-many-streams"),
-            CopiesFault::Refused => f.write_str("refused"),
             CopiesFault::Memory => f.write_str("memory"),
         }
     }
@@ -91,6 +89,8 @@ impl<T: Drop> From<AllocFailed<T>> for CopiesFault {
 }
 
 impl From<CutFault> for CopiesFault {
+    ghost from_gives = { λ cut fault. fault ≡ cut_fault cut };
+
     fn from(fault: CutFault) -> CopiesFault {
         match fault {
             CutFault::TooMany => CopiesFault::TooMany,
@@ -101,14 +101,16 @@ impl From<CutFault> for CopiesFault {
     }
 }
 
-impl From<StartFault> for CopiesFault {
-    fn from(fault: StartFault) -> CopiesFault {
-        match fault {
-            StartFault::Advance(AdvanceFault::TooManyStreams) => CopiesFault::TooManyStreams,
-            StartFault::Adopt(AdoptFault::WrongRange | AdoptFault::TooOld { .. }) => {
-                CopiesFault::Refused
-            }
-            _ => CopiesFault::Memory,
-        }
+/// Why a live region of all tablets does not start, where no copy is refused.
+pub(crate) fn start_fault(fault: StartFault) -> CopiesFault
+    requires { NoRefusal fault }
+    ensures { result ≡ start_fault fault }
+{
+    match fault {
+        StartFault::Advance(AdvanceFault::TooManyStreams) => CopiesFault::TooManyStreams,
+        StartFault::Adopt(AdoptFault::WrongRange | AdoptFault::TooOld { .. }) => unreachable!(),
+        StartFault::Open(_)
+        | StartFault::Adopt(AdoptFault::Memory)
+        | StartFault::Advance(AdvanceFault::Memory) => CopiesFault::Memory,
     }
 }

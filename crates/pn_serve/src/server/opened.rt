@@ -47,8 +47,8 @@ where
     tell_served(served, out)
 }
 
-// Serves over a live region that is open, and closes it. Answers how many readers came back.
-fn serve_opened<R, L, S>(
+/// Serves over a live region that is open, and closes it. Answers how many readers came back.
+pub(crate) fn serve_opened<R, L, S>(
     rt: &R,
     alloc: Global,
     listener: &L,

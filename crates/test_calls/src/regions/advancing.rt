@@ -29,7 +29,7 @@ pub(crate) fn advance<R: Threads + Sync>(rt: &R, alloc: Global, counts: &str) ->
 fn advance_few<R: Threads + Sync>(rt: &R, alloc: Global, counts: &str) -> Option<String> {
     let mut region = region(alloc, BOUNDS)?;
     for (tablet, count) in counts.split(' ').enumerate() {
-        let keys = words(alloc, 0, count.parse::<usize>().ok()?)?;
+        let keys = words_between(alloc, KEYS, 0, count.parse::<usize>().ok()?)?;
         let source = filled(rt, alloc, BOUNDS, keys.as_str())?;
         adopt(alloc, &mut region, tablet, &source)?;
     }
@@ -64,7 +64,7 @@ fn copy_of(alloc: Global, source: &Region, tablet: usize) -> Option<TabletCopy>
 fn go_on<R: Threads + Sync>(rt: &R, alloc: Global, region: &mut Region) -> Option<String> {
     let mark = mark_of(region)?;
     let gap = gap_past(rt, alloc, region, mark)?;
-    let next = words(alloc, usize::try_from(mark).ok()?, 8)?;
+    let next = words_between(alloc, KEYS, usize::try_from(mark).ok()?, 8)?;
     let given = deliveries(alloc, mark.checked_add(1)?, next.as_str(), 0)?;
     let changed = bring(rt, region, given)?;
     let records = count_records(region)?;
@@ -95,16 +95,20 @@ fn count_records(region: &Region) -> Option<usize> {
     Some(records)
 }
 
-// The keys from one message to before another.
-fn words(alloc: Global, from: usize, to: usize) -> Option<String> {
-    let mut words = String::new(alloc);
-    for (message, key) in KEYS.split(' ').enumerate() {
-        if from <= message && message < to {
-            words.push_str(key).ok()?;
-            words.push(' ').ok()?;
+// The words from one index to before another.
+fn words_between(alloc: Global, words: &str, from: usize, to: usize) -> Option<String> {
+    let mut some = String::new(alloc);
+    for (index, word) in words.split(' ').enumerate() {
+        if from <= index && index < to {
+            push_word(&mut some, word)?;
         }
     }
-    Some(words)
+    Some(some)
+}
+
+fn push_word(words: &mut String, word: &str) -> Option<()> {
+    words.push_str(word).ok()?;
+    words.push(' ').ok()
 }
 
 // Why marks do not advance where the one tablet adopted copies of 17 streams.

@@ -9,7 +9,11 @@ use test_kit::{deliveries, layout};
 
 /// A new region of the tablets between these bounds.
 pub(crate) fn region(alloc: Global, bounds: &str) -> Option<Region> {
-    Region::new(alloc, layout(alloc, bounds)?).ok()
+    let layout = layout(alloc, bounds)?;
+    match Region::new(alloc, layout) {
+        Ok(region) => Some(region),
+        Err(_) => None,
+    }
 }
 
 /// Brings deliveries to a region, by one worker. How many records they change.

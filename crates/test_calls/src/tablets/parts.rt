@@ -2,9 +2,7 @@
 
 use pn_join::{Marks, NoMemory};
 use pn_record::{Key, Records};
-use pn_tablet::{
-    Range, TabletCopy, TabletOp, TabletState, cells_within, read_copy, write_copy,
-};
+use pn_tablet::{Range, TabletCopy, TabletOp, TabletState, cells_within, read_copy, write_copy};
 use std::alloc::Global;
 use std::test::Fail;
 use test_kit::newlines;

@@ -12,9 +12,9 @@ use pn_serve::{
 use std::alloc::{AllocError, Global};
 use std::sync::{Arc, Wait};
 use std::test::Fail;
+use std::thread;
 use std::thread::Threads;
 use std::time::Clock;
-use std::thread;
 use test_kit::{bars, layout, newlines};
 
 /// Says what a server may have done.

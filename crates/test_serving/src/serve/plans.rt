@@ -100,10 +100,7 @@ fn plan_of<'w>(alloc: Global, words: &'w [String]) -> Result<Plan, PlanFault<'w>
     plan(alloc, words)
 }
 
-fn answer_text(
-    alloc: Global,
-    planned: Result<Plan, PlanFault<'_>>,
-) -> Result<String, AllocError> {
+fn answer_text(alloc: Global, planned: Result<Plan, PlanFault<'_>>) -> Result<String, AllocError> {
     match planned {
         Ok(planned) => plan_text(alloc, &planned),
         Err(PlanFault::Words(_)) => String::from_str(alloc, "words"),

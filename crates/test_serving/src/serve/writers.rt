@@ -70,7 +70,10 @@ fn open_after<R: Threads + Wait + Sync>(rt: &R, alloc: Global, after: u64) -> Op
 fn copy_after(alloc: Global, after: u64) -> Result<String, AllocError> {
     let mut text = String::from_str(alloc, "{\"copy\":1,\"from\":null,\"to\":null}\n")?;
     if after > 0 {
-        write!(text, "{{\"at\":{after},\"stream\":\"east\"}}\n{{\"end\":1}}\n")?;
+        write!(
+            text,
+            "{{\"at\":{after},\"stream\":\"east\"}}\n{{\"end\":1}}\n"
+        )?;
     } else {
         text.push_str("{\"end\":0}\n")?;
     }

@@ -1,26 +1,20 @@
--- What was read is what the closed region took.
-use Rattle.std.proofs.Common.{subst}
+-- What is served is a new region.
+use Rattle.std.proofs.Common.{◌≡◌, Result, ℕ, IfOk, subst}
 use Rattle.pn_live.specs.LiveRegions.{IsNewLive}
 use Rattle.pn_serve.specs.Settings.{SettingsValue}
-use Rattle.pn_serve.proofs.ServedStreams.{not_opened, region_ends, no_write, all_back}
+use Rattle.pn_serve.specs.declared.server.fault.ServeFault.{ServeFault}
+use Rattle.pn_serve.proofs.OpenedServing.{as_region}
+use Rattle.pn_serve.proofs.ServedStreams.{not_opened, no_write}
 use Rattle.pn_serve.proofs.server.serve_region.Goals as goal
 
 pub returns-clause-ends : goal.returns-clause-ends
 returns-clause-ends g c =
     let is_new = subst (λ (settings : SettingsValue). IsNewLive settings.layout c.in_ok-live.live) c.settings.view_is c.in_ok-live.ensures.is_new in
-    region_ends g.S.Source.left c.args.streams.items c.args.settings.layout c.in_ok-live.live c.serve_streams-served.new.region.live is_new c.len-count.result
-    c.serve_streams-served.result c.close_region-closed.result c.conclude.result c.serve_streams-served.ensures.ends c.conclude.ensures.served c.conclude.ensures.closed
-
-pub returns-clause-fault : goal.returns-clause-fault
-returns-clause-fault g c =
-    let is_new = subst (λ (settings : SettingsValue). IsNewLive settings.layout c.in_ok-live.live) c.settings.view_is c.in_ok-live.ensures.is_new in
-    no_write g.S.Source.left c.args.streams.items c.args.settings.layout c.conclude.result
-    (region_ends g.S.Source.left c.args.streams.items c.args.settings.layout c.in_ok-live.live c.serve_streams-served.new.region.live is_new c.len-count.result
-    c.serve_streams-served.result c.close_region-closed.result c.conclude.result c.serve_streams-served.ensures.ends c.conclude.ensures.served c.conclude.ensures.closed)
+    as_region g.S.Source.left c.args.streams.items c.in_ok-live.live c.args.settings.layout is_new c.serve_opened.result c.serve_opened.ensures.ends
 
 pub returns-clause-count : goal.returns-clause-count
 returns-clause-count g c =
-    all_back c.len-count.result _ _ c.args.sessions c.serve_streams-served.result c.close_region-closed.result c.conclude.result c.conclude.ensures.served c.conclude.ensures.closed c.len-count.ensures c.serve_streams-served.ensures.all c.in_ok-live.ensures.count
+    subst (λ (n : ℕ). IfOk c.serve_opened.result (λ count. count ≡ n)) c.in_ok-live.ensures.count c.serve_opened.ensures.count
 
 pub returns-in_err-live-clause-ends : goal.returns-in_err-live-clause-ends
 returns-in_err-live-clause-ends g c =

@@ -8,19 +8,21 @@ use Rattle.pn_protocol.proofs.reply.text.ReplyText.new.Goals as goal
 
 pub returns-in-Copy : goal.returns-in-Copy
 returns-in-Copy c =
-    c.of.ensures ∙ ap (λ (line : List ℕ). line ++ c.in-Copy.copy.left) (c.number_reply-lines.ensures ∙ ap (λ (n : ℕ). line_of (lines_data n)) c.lines.ensures)
+    rw c.in-Copy.is (c.of.ensures ∙ ap (λ (line : List ℕ). line ++ c.in-Copy.copy.left) (c.number_reply-lines.ensures ∙ ap (λ (n : ℕ). line_of (lines_data n)) c.lines.ensures))
 
 pub returns-in-NotTaken : goal.returns-in-NotTaken
-returns-in-NotTaken c = c.of-in-NotTaken.ensures ∙ append-nil c.in-NotTaken.text.items
+returns-in-NotTaken c = rw c.in-NotTaken.is (c.of-in-NotTaken.ensures ∙ append-nil c.in-NotTaken.text.items)
 
 pub returns-in-Record : goal.returns-in-Record
 returns-in-Record c =
-    c.rows.ensures ∙ ap (λ (head : List ℕ). head ++ rows_text false ((c.in-Record.key, c.in-Record.cell) ∷ []) (codes "}\n")) c.text_head.ensures ∙ read_made c.in-Record.key c.in-Record.cell
+    rw c.in-Record.is
+    (c.rows.ensures ∙ ap (λ (head : List ℕ). head ++ rows_text false ((c.in-Record.key, c.in-Record.cell) ∷ []) (codes "}\n")) c.text_head.ensures ∙ read_made c.in-Record.key c.in-Record.cell)
 
 pub returns-in-Records : goal.returns-in-Records
 returns-in-Records c =
-    c.rows-in-Records.ensures ∙ ap (λ (head : List ℕ). head ++ rows_text false (zip c.in-Records.keys.items c.in-Records.cells.items) (codes "]}\n")) c.text_head-in-Records.ensures
-    ∙ get_made c.in-Records.keys.items c.in-Records.cells.items
+    rw c.in-Records.is
+    (c.rows-in-Records.ensures ∙ ap (λ (head : List ℕ). head ++ rows_text false (zip c.in-Records.keys.items c.in-Records.cells.items) (codes "]}\n")) c.text_head-in-Records.ensures
+    ∙ get_made c.in-Records.keys.items c.in-Records.cells.items)
 
 pub returns-in-Text : goal.returns-in-Text
-returns-in-Text c = c.of-in-Text.ensures ∙ append-nil c.in-Text.text.items
+returns-in-Text c = rw c.in-Text.is (c.of-in-Text.ensures ∙ append-nil c.in-Text.text.items)
