@@ -51,10 +51,11 @@ shown_rows : (rows : Entries) → map record_data (map (λ (row : List ℕ × Ce
 shown_rows [] = refl
 shown_rows (row ∷ rows) = ap (λ (l : List Data). row_data row ∷ l) (shown_rows rows)
 
-pub page_made : (head : List ℕ) (rows : Entries) → head ++ rows_text false (map (λ (row : List ℕ × CellValue). (row.0, Some row.1)) rows) (codes "]}\n") ≡ head ++ (items_text false (items_of (map row_data rows)) ++ codes "}\n")
+pub page_made : (head : List ℕ) (rows : Entries) → head ++ rows_text false (map (λ (row : List ℕ × CellValue). (row.0, Some row.1)) rows) (codes "]}\n") ≡ (head ++ items_text false (items_of (map row_data rows))) ++ codes "}\n"
 page_made head rows =
     let records = map (λ (row : List ℕ × CellValue). (row.0, Some row.1)) rows in
     ap (λ (l : List ℕ). head ++ l) (sym (rows_items false records (codes "}\n")) ∙ ap (λ (ds : List Data). items_text false (items_of ds) ++ codes "}\n") (shown_rows rows))
+    ∙ sym (append_assoc head (items_text false (items_of (map row_data rows))) (codes "}\n"))
 
 -- ---- pieces
 
@@ -99,12 +100,13 @@ value_text d line text has is =
     is ∙ (λ i. before i ++ print (tokens i)) ∙ print-outline d
 
 -- a head, its rows and the end are the reply to a scan
-pub page_text : (rows : Entries) (next : Option QueryValue) → head_text next ++ (items_text false (items_of (map row_data rows)) ++ codes "}\n") ≡ line_of (scan_data (rows, next))
+pub page_text : (rows : Entries) (next : Option QueryValue) → (head_text next ++ items_text false (items_of (map row_data rows))) ++ codes "}\n" ≡ line_of (scan_data (rows, next))
 unfolding line_of scan_data serde_json_on_literals
 page_text rows next =
     let query = compact_text (next_data next) in
     let shown = items_text false (items_of (map row_data rows)) in
-    ap (λ (l : List ℕ). codes "{\"next\":" ++ l)
+    append_assoc (head_text next) shown (codes "}\n")
+    ∙ ap (λ (l : List ℕ). codes "{\"next\":" ++ l)
     (append_assoc query (codes ",\"rows\":[") (shown ++ codes "}\n")
     ∙ ap (λ (l : List ℕ). query ++ (codes ",\"rows\":[" ++ l)) (sym (append_assoc shown (codes "}") (codes "\n")))
     ∙ sym (append_assoc query (codes ",\"rows\":[" ++ (shown ++ codes "}")) (codes "\n")))
