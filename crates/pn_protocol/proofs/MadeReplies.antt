@@ -1,6 +1,6 @@
 -- The texts of replies: what they begin with, and the rows or the lines after that.
 use Rattle.std.proofs.Common.{◌≡◌, ◌≢◌, ℕ, ◌+◌, ◌<◌, ◌≤◌, inl, inr, Bool, true, false, List, [], ◌∷◌, ◌++◌, map, length, take, drop, zip, Option, Some, codes, refl, sym, ap, ◌∙◌, subst, append_assoc, arith, length-append, length-drop, drop-drop, ◌-◌}
-use Rattle.std.specs.Prelude.{◌↔◌, IsTrue, Vec, Ok, min}
+use Rattle.std.specs.Prelude.{◌↔◌, IsTrue, Vec, min}
 use Rattle.std.specs.declared.alloc.Global.{Global}
 use Rattle.std.proofs.lemmas.List.{drop_all, length-take, take-append-drop}
 use Rattle.serde_json.specs.Data.{Data, array}
@@ -17,9 +17,8 @@ use Rattle.pn_record.specs.CellMap.{Entries}
 use Rattle.pn_record.specs.Sets.{CellValue}
 use Rattle.pn_scan.specs.Queries.{QueryValue}
 use Rattle.pn_tablet.specs.Copies.{TabletCopyValue}
-use Rattle.pn_tablet.specs.CopyCounts.{CountsOn}
 use Rattle.pn_tablet.specs.CopyMaking.{CopyTextValue, lines_of_copy}
-use Rattle.pn_tablet.specs.declared.copy_count.CopyStep.TheVariants.{Done}
+use Rattle.pn_tablet.specs.CopyWriting.{copy_text}
 use Rattle.pn_protocol.specs.declared.reply.Reply.TheVariants.{Copy}
 use Rattle.pn_protocol.specs.Reply.Making.{Found, record_data, record_text, rows_text}
 use Rattle.pn_protocol.specs.Reply.Record.{get_data, read_data}
@@ -111,9 +110,6 @@ page_text rows next =
     ∙ ap (λ (l : List ℕ). query ++ (codes ",\"rows\":[" ++ l)) (sym (append_assoc shown (codes "}") (codes "\n")))
     ∙ sym (append_assoc query (codes ",\"rows\":[" ++ (shown ++ codes "}")) (codes "\n")))
 
--- the lines of a copy of which all are counted
-pub copy_made : (copy : TabletCopyValue) (records : ℕ) (text : CopyTextValue) → CountsOn records (record { copy = copy; index = 0 }) (Ok (Done text)) → ShowsCopy copy (Copy text)
-copy_made copy records text is =
-    let same = is.0 in
-    let all = is.1 in
-    inl (refl, λ i. line_of (lines_data (lines_of_copy (same i))) ++ all i)
+-- the text of a copy, after the number of its lines
+pub copy_made : (copy : TabletCopyValue) (text : CopyTextValue) → text.copy ≡ copy → text.left ≡ copy_text copy → ShowsCopy copy (Copy text)
+copy_made copy text same all = inl (refl, λ i. line_of (lines_data (lines_of_copy (same i))) ++ all i)
