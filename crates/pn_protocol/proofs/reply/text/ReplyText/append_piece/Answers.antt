@@ -1,5 +1,5 @@
 -- A piece of the head, or of the rest.
-use Rattle.std.proofs.Common.{◌++◌, ℕ, List, drop, ap, subst, arith}
+use Rattle.std.proofs.Common.{◌++◌, ℕ, List, drop, subst, arith}
 use Rattle.pn_json.specs.AppendedText.{MakesPiece}
 use Rattle.pn_protocol.specs.Reply.Pieces.{head_bytes, rest_bytes}
 use Rattle.pn_protocol.proofs.MadeReplies.{head_part, rest_part}
