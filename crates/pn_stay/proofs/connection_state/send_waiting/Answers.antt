@@ -1,5 +1,4 @@
 -- What waits is sent, or the writer takes no more.
-use Rattle.std.proofs.Common.{refl}
 use Rattle.pn_serve.specs.Lines.States.{waits_in}
 use Rattle.pn_serve.specs.Lines.Stepping.{by}
 use Rattle.pn_serve.proofs.Buffers.{AppendsPrefix-sends}
@@ -21,6 +20,6 @@ returns-in-Ok-Waits-clause-steps g c = λ start left steady stands.
     let new = c.flush.new.self in
     let sent = c.in-Ok-Waits.ensures.ok in (
       Stands-sent H steady.preorder start left before after c.args.machine.now old new sent stands,
-      some_waits new.replies new.state.left (c.in-Ok-Waits.ensures.waits refl).0,
+      some_waits new.replies new.state.left (c.in-Ok-Waits.ensures.waits c.in-Ok-Waits.field-0-is).0,
       c.recall_cut.ensures start left before after steady stands (AppendsPrefix-sends before after (waits_in old) (waits_in new) sent.sends),
     )
