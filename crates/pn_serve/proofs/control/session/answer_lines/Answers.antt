@@ -20,7 +20,7 @@ use Rattle.pn_serve.proofs.control.session.answer_lines.Goals as goal
 
 pub reads-init : goal.reads-init
 reads-init g c =
-    let is = c.requires in record {
+    let is = c.requires.new in record {
       stands = Stands-new (by Stays AnswersControl EndsControl (λ _ _ _ _. ⊥) (λ _ _ _ _. ⊥)) stays_preorder c.args.handler.now (g.S.Source.left c.args.input.now) (g.W.Sink.contents c.args.output.now) c.args.lines.now is;
       settled = subst (λ (r : LineLoopValue). IsSettled r) (sym is) (λ looking. looking, refl);
       looks = omega (arith, ap looks_left is);
