@@ -1,6 +1,6 @@
 -- Where control sessions end.
-use Rattle.std.proofs.Common.{◌≡◌, ◌≢◌, ◌⊎◌, ◌<◌, ◌≤◌, ℕ, true, List, [], ◌++◌, Option, None, Some, length, refl, ap, ◌∙◌, subst, sym, inl, inr, arith, ⊎_elim}
-use Rattle.std.specs.Prelude.{Result, Ok, Err, IfOk, IfErr, IsErrOf, OnErr}
+use Rattle.std.proofs.Common.{◌≡◌, ℕ, true, List, [], ◌++◌, Option, None, Some, length, refl, ap, ◌∙◌, subst, sym, inl, inr, arith}
+use Rattle.std.specs.Prelude.{Result, Ok, Err, IfOk, IfErr, OnErr}
 use Rattle.std.specs.Io.KnownBytes.{Appends, Keeps}
 use Rattle.pn_line.specs.Line.{LineBufferValue}
 use Rattle.pn_line.specs.LinesRead.{LinesRead, PartRead}
@@ -11,15 +11,13 @@ use Rattle.pn_live.specs.Readers.{LiveReaderValue}
 use Rattle.pn_scan.specs.Paging.{Stays}
 use Rattle.pn_serve.specs.Control.Ends.{AnswersClient, AnsweredSome, ControlEnds, control_start}
 use Rattle.pn_serve.specs.Control.Lines.{ControlState, at_rest, is_closed, AnswersControl, EndsControl}
-use Rattle.pn_serve.specs.Lines.Bounds.{Foresees, ForeseesAt}
 use Rattle.pn_serve.specs.Lines.Ends.{EndsBy}
 use Rattle.pn_serve.specs.Lines.Served.{AllAnswer}
 use Rattle.pn_serve.specs.Lines.States.{LineLoopValue, Start, waits_in}
 use Rattle.pn_serve.specs.Lines.Stepping.{IsReading, Stands, StandsAt, by}
 use Rattle.pn_serve.specs.declared.script.Counts.{Counts}
 use Rattle.pn_serve.specs.declared.script.RunFault.{RunFault}
-use Rattle.pn_serve.specs.declared.script.RunFault.TheVariants.{Read, Write, Memory}
-use Rattle.pn_serve.specs.declared.script.TheConstants.{MAX_LINES}
+use Rattle.pn_serve.specs.declared.script.RunFault.TheVariants.{Write, Memory}
 use Rattle.pn_serve.specs.declared.script.line_loop.state.Stage.{Stage}
 use Rattle.pn_serve.specs.declared.script.line_loop.state.Stage.TheVariants.{Reading}
 use Rattle.pn_serve.specs.declared.sessions.going.Going.{Going}
@@ -81,25 +79,3 @@ module _ (goes goes_last : ControlState → List ℕ → ControlState → Going 
   closed_ends (Err found) stands empty closed ok err faulty fault =
       inl (subst (λ (f : RunFault). EndsBy AnswersControl EndsControl start left after state (Err f)) (sym fault.0)
       (HasEnded-alone AnswersControl EndsControl goes goes_last start left after state (Err Write) (cut_reading (by Stays AnswersControl EndsControl goes goes_last) stays_preorder start left before after state run err (closed_reading stands))))
-
-  pub closed_few : (result : Result Counts RunFault) (read write end sent : Type 0) → Foresees read write end run → IfOk result (λ counts. (counts ≡ run.state.counts) × sent) → IfOk result (λ counts. counts.lines ≤ MAX_LINES)
-  closed_few (Ok counts) read write end sent foresees ok =
-      let at : ForeseesAt Reading read write end run = subst (λ (s : Stage). ForeseesAt s read write end run) reading foresees in
-      let same : counts.lines ≡ run.state.counts.lines = ap (λ (n : Counts). n.lines) ok.0 in
-      ⊎_elim (λ few. omega (arith, few, same)) (λ all. omega (arith, all.0, same)) at.0
-  closed_few (Err found) read write end sent foresees ok = tt
-
--- it may end by a fault of the writer alone
-pub closed_begun : (result : Result Counts RunFault) (faulty : Type 0) → IfErr result (λ fault. (fault ≡ Write) × faulty) → IfErr result (λ fault. fault ≢ Memory)
-closed_begun (Ok counts) faulty fault = tt
-closed_begun (Err found) faulty fault = λ is. write_memory (sym fault.0 ∙ is)
-  where
-    write_memory : Write ≡ Memory → ⊥
-    write_memory same = cc
-
-pub closed_read : (result : Result Counts RunFault) (faulty reads : Type 0) → IfErr result (λ fault. (fault ≡ Write) × faulty) → IsErrOf result Read → reads
-closed_read (Ok counts) faulty reads fault is = absurd is
-closed_read (Err found) faulty reads fault is = absurd (write_read (sym fault.0 ∙ is))
-  where
-    write_read : Write ≡ Read → ⊥
-    write_read same = cc

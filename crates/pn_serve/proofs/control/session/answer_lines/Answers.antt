@@ -14,6 +14,7 @@ use Rattle.pn_serve.specs.Lines.Bounds.{CanEndBy, Foresees, ForeseesAt, IsOutAs,
 use Rattle.pn_serve.specs.Lines.States.{LineLoopValue, start_at}
 use Rattle.pn_serve.specs.Lines.Stepping.{StandsAt, by}
 use Rattle.pn_serve.proofs.Alone.{HasEnded-alone}
+use Rattle.pn_serve.proofs.ControlEnds.{closed_ends}
 use Rattle.pn_serve.proofs.Knowing.{knows_itself, knows_on}
 use Rattle.pn_serve.proofs.Running.{Stands-new, can_fault, can_few, stays_preorder}
 use Rattle.pn_serve.proofs.control.session.answer_lines.Goals as goal
@@ -51,3 +52,11 @@ returns-in-Some-clause-looks g c = omega (arith, c.in-Some.ensures.looks, c.read
 
 pub returns-in-Some-clause-begun : goal.returns-in-Some-clause-begun
 returns-in-Some-clause-begun g c = can_fault g.S.Source.may_fail g.W.Sink.may_fail g.S.Source.may_end c.in-Some.ended (c.in-Some.ensures.foresees c.reads.invariant.foresees)
+
+pub returns-then-is_between_lines-clause-ends : goal.returns-then-is_between_lines-clause-ends
+returns-then-is_between_lines-clause-ends g c =
+    let start = start_at c.args.handler.now (g.S.Source.left c.args.input.now) (g.W.Sink.contents c.args.output.now) in
+    let stands = c.in-None.ensures.runs start (record { preorder = stays_preorder; same = λ old new is. ap (λ (s : ControlState). tablets_of s.reader) is }) c.reads.invariant.stands in
+    let between = c.is_between_lines.ensures.0 c.if-is_between_lines.true in
+    closed_ends (λ _ _ _ _. ⊥) (λ _ _ _ _. ⊥) start (g.S.Source.left c.advance.new.input) (g.W.Sink.contents c.advance.new.output) (g.W.Sink.contents c.close.new.output) c.advance.new.machine c.advance.new.self between.0 c.close.result stands between.1
+    (sym c.is_closed.ensures ∙ c.if-is_closed.true) c.close.ensures.ok c.close.ensures.err g.W.Sink.may_fail c.close.ensures.fault
