@@ -33,7 +33,7 @@ loop-index-preserved c =
           let so_far = was.goes trace on in (
             so_far.0 ++ made ∷ [],
             follows_more c.args.reader.now c.loop-index.reader so_far.0 made so_far.1 refl,
-            subst (λ (l : List (LookMade LiveReaderValue)). IsOnGet bounds walk l) (append_assoc trace so_far.0 (made ∷ [])) (key_read c.loop-index.cells so_far.2 inside c.index.ensures.value same refl look.1 c.in_ok-cells.cells more.memory more.cells),
+            subst (λ (l : List (LookMade LiveReaderValue)). IsOnGet bounds walk l) (append_assoc trace so_far.0 (made ∷ [])) (key_read c.loop-index.cells so_far.2 inside c.index.ensures same refl look.1 c.in_ok-cells.cells more.memory more.cells),
           );
       capacity = capacity_more c.loop-index.cells c.in_ok-cells.cells (length keys) c.loop-index.index was.capacity more.kept;
       same = looks_same _ _ _ look.1.looked ∙ was.same;
@@ -51,7 +51,7 @@ returns-in_err-cells-clause-goes c = λ trace is_on.
     let so_far = was.goes trace (subst (λ (w : GetWalkValue). IsOnGet bounds w trace) (sym c.self.view_is) is_on) in
     let gave = err_from_is_err_and c.from_residual.result c.from_residual.ensures.1 in
     let fault = c.in_err-cells.field-0.0 in
-    let ends = key_refused c.loop-index.cells so_far.2 inside c.index.ensures.value same refl look.1 fault c.in_err-cells.ensures.fault.0 in
+    let ends = key_refused c.loop-index.cells so_far.2 inside c.index.ensures same refl look.1 fault c.in_err-cells.ensures.fault.0 in
     subst (λ (r : Result GetWalkValue ScanFault). GetsOn bounds c.args.reader.now c.cell.new.self c.args.self.keys r trace) (sym (gave.1 ∙ ap Err gave.2))
     (subst (λ (ks : List (List ℕ)). GetsOn bounds c.args.reader.now c.cell.new.self ks (Err fault) trace) (ap (λ (w : GetWalkValue). w.keys) c.self.view_is) (
       so_far.0 ++ made ∷ [],
@@ -68,7 +68,9 @@ returns-clause-goes c = λ trace is_on.
     let so_far = c.loop-index.invariant.goes trace (subst (λ (w : GetWalkValue). IsOnGet bounds w trace) (sym c.self.view_is) is_on) in
     let all : c.loop-index.index ≡ c.self.inside.read + c.min.result = omega arith in (
       ap (λ (w : GetWalkValue). w.keys) c.self.view_is,
-      so_far.0,
-      so_far.1,
-      subst (λ (n : ℕ). IsOnGet bounds (record { keys = c.self.inside.keys.items; cells = at_hand c.loop-index.cells; read = n }) (trace ++ so_far.0)) all so_far.2,
+      (
+        so_far.0,
+        so_far.1,
+        subst (λ (n : ℕ). IsOnGet bounds (record { keys = c.self.inside.keys.items; cells = at_hand c.loop-index.cells; read = n }) (trace ++ so_far.0)) all so_far.2,
+      ),
     )
