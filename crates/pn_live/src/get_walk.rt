@@ -2,9 +2,10 @@
 
 ghost use Rattle.std.specs.Prelude.{◌≡◌, ◌+◌, ◌-◌, ◌≤◌, List, length, IfOk};
 ghost use Rattle.pn_tablet.specs.Prelude.{Bounds};
+ghost use Rattle.pn_scan.specs.Paging.{OnlyLooks};
 ghost use Rattle.pn_scan.specs.Prelude.{LookMade};
 ghost use Rattle.pn_live.specs.Getting.{cells_shown, EndsGet, GetsOn, IsNewGet, IsOnGet};
-ghost use Rattle.pn_live.specs.Readers.{LiveReaderValue, tablets_of};
+ghost use Rattle.pn_live.specs.Readers.{LiveReaderValue, LooksLive, tablets_of};
 
 use crate::LiveReader;
 use crate::reader::with_cell;
@@ -65,6 +66,7 @@ impl GetWalk {
         ensures few { IfOk result (λ walk. walk.read ≤ self.read + most) }
         ensures left { IfOk result (λ walk. length walk.keys - walk.read ≡ length self.keys - self.read - most) }
         ensures all { IfOk result (λ walk. length self.keys ≤ self.read + most → walk.read ≡ length self.keys) }
+        ensures looked { OnlyLooks LooksLive reader.old reader.new }
         ensures same { tablets_of reader.new ≡ tablets_of reader.old }
     {
         let GetWalk {

@@ -1,6 +1,6 @@
 -- The texts of replies: what they begin with, and the rows or the lines after that.
 use Rattle.std.proofs.Common.{◌≡◌, ◌≢◌, ℕ, ◌+◌, ◌<◌, ◌≤◌, inl, inr, Bool, true, false, List, [], ◌∷◌, ◌++◌, map, length, take, drop, zip, Option, Some, codes, refl, sym, ap, ◌∙◌, subst, append_assoc, arith, length-append, length-drop, drop-drop, ◌-◌}
-use Rattle.std.specs.Prelude.{◌↔◌, IsTrue, Vec, Ok, min}
+use Rattle.std.specs.Prelude.{◌↔◌, IsTrue, Vec, min}
 use Rattle.std.specs.declared.alloc.Global.{Global}
 use Rattle.std.proofs.lemmas.List.{drop_all, length-take, take-append-drop}
 use Rattle.serde_json.specs.Data.{Data, array}
@@ -17,9 +17,8 @@ use Rattle.pn_record.specs.CellMap.{Entries}
 use Rattle.pn_record.specs.Sets.{CellValue}
 use Rattle.pn_scan.specs.Queries.{QueryValue}
 use Rattle.pn_tablet.specs.Copies.{TabletCopyValue}
-use Rattle.pn_tablet.specs.CopyCounts.{CountsOn}
 use Rattle.pn_tablet.specs.CopyMaking.{CopyTextValue, lines_of_copy}
-use Rattle.pn_tablet.specs.declared.copy_count.CopyStep.TheVariants.{Done}
+use Rattle.pn_tablet.specs.CopyWriting.{copy_text}
 use Rattle.pn_protocol.specs.declared.reply.Reply.TheVariants.{Copy}
 use Rattle.pn_protocol.specs.Reply.Making.{Found, record_data, record_text, rows_text}
 use Rattle.pn_protocol.specs.Reply.Record.{get_data, read_data}
@@ -51,10 +50,11 @@ shown_rows : (rows : Entries) → map record_data (map (λ (row : List ℕ × Ce
 shown_rows [] = refl
 shown_rows (row ∷ rows) = ap (λ (l : List Data). row_data row ∷ l) (shown_rows rows)
 
-pub page_made : (head : List ℕ) (rows : Entries) → head ++ rows_text false (map (λ (row : List ℕ × CellValue). (row.0, Some row.1)) rows) (codes "]}\n") ≡ head ++ (items_text false (items_of (map row_data rows)) ++ codes "}\n")
+pub page_made : (head : List ℕ) (rows : Entries) → head ++ rows_text false (map (λ (row : List ℕ × CellValue). (row.0, Some row.1)) rows) (codes "]}\n") ≡ (head ++ items_text false (items_of (map row_data rows))) ++ codes "}\n"
 page_made head rows =
     let records = map (λ (row : List ℕ × CellValue). (row.0, Some row.1)) rows in
     ap (λ (l : List ℕ). head ++ l) (sym (rows_items false records (codes "}\n")) ∙ ap (λ (ds : List Data). items_text false (items_of ds) ++ codes "}\n") (shown_rows rows))
+    ∙ sym (append_assoc head (items_text false (items_of (map row_data rows))) (codes "}\n"))
 
 -- ---- pieces
 
@@ -99,19 +99,17 @@ value_text d line text has is =
     is ∙ (λ i. before i ++ print (tokens i)) ∙ print-outline d
 
 -- a head, its rows and the end are the reply to a scan
-pub page_text : (rows : Entries) (next : Option QueryValue) → head_text next ++ (items_text false (items_of (map row_data rows)) ++ codes "}\n") ≡ line_of (scan_data (rows, next))
+pub page_text : (rows : Entries) (next : Option QueryValue) → (head_text next ++ items_text false (items_of (map row_data rows))) ++ codes "}\n" ≡ line_of (scan_data (rows, next))
 unfolding line_of scan_data serde_json_on_literals
 page_text rows next =
     let query = compact_text (next_data next) in
     let shown = items_text false (items_of (map row_data rows)) in
-    ap (λ (l : List ℕ). codes "{\"next\":" ++ l)
+    append_assoc (head_text next) shown (codes "}\n")
+    ∙ ap (λ (l : List ℕ). codes "{\"next\":" ++ l)
     (append_assoc query (codes ",\"rows\":[") (shown ++ codes "}\n")
     ∙ ap (λ (l : List ℕ). query ++ (codes ",\"rows\":[" ++ l)) (sym (append_assoc shown (codes "}") (codes "\n")))
     ∙ sym (append_assoc query (codes ",\"rows\":[" ++ (shown ++ codes "}")) (codes "\n")))
 
--- the lines of a copy of which all are counted
-pub copy_made : (copy : TabletCopyValue) (records : ℕ) (text : CopyTextValue) → CountsOn records (record { copy = copy; index = 0 }) (Ok (Done text)) → ShowsCopy copy (Copy text)
-copy_made copy records text is =
-    let same = is.0 in
-    let all = is.1 in
-    inl (refl, λ i. line_of (lines_data (lines_of_copy (same i))) ++ all i)
+-- the text of a copy, after the number of its lines
+pub copy_made : (copy : TabletCopyValue) (text : CopyTextValue) → text.copy ≡ copy → text.left ≡ copy_text copy → ShowsCopy copy (Copy text)
+copy_made copy text same all = inl (refl, λ i. line_of (lines_data (lines_of_copy (same i))) ++ all i)

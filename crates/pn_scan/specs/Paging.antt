@@ -35,6 +35,10 @@ abbrev pub Follows : {V : Type 0} → V → List (LookMade V) → V → Type 0
 Follows old [] new = new ≡ old
 Follows old (made ∷ more) new = (made.old ≡ old) × Follows made.new more new
 
+-- nothing was done but looks
+abbrev pub OnlyLooks : {V : Type 0} → (V → Look → V → Type 0) → V → V → Type 0
+OnlyLooks {V} looks old new = (made : List (LookMade V)) × Follows old made new × AreMade looks made
+
 -- what may become of a view between two looks
 abbrev pub Moving : Type 0 → Type 1
 Moving V = V → V → Type 0

@@ -2,7 +2,7 @@
 
 ghost use Rattle.std.specs.Prelude.{◌≡◌, ◌<◌, ◌≤◌, ◌+◌, ◌++◌, ◌⊎◌, true, false, List, length, None, IfOk};
 ghost use Rattle.pn_tablet.specs.Prelude.{IsLayout};
-ghost use Rattle.pn_scan.specs.Paging.{going_in, records_left, rows_to_come, IsNearer, IsNewWalk, IsOnPage, LookMade, PagesTo};
+ghost use Rattle.pn_scan.specs.Paging.{going_in, records_left, rows_to_come, IsNearer, IsNewWalk, IsOnPage, LookMade, OnlyLooks, PagesTo};
 ghost use Rattle.pn_scan.specs.Parts.{part_at};
 ghost use Rattle.pn_scan.specs.Queries.{QueryValue};
 
@@ -88,6 +88,7 @@ impl PageWalk {
         ensures goes { (trace : List (LookMade V)) → IsOnPage V.looks (V.bounds view.old) query.now self trace
             → PagesTo V.looks (V.bounds view.old) query.now view.old view.new result trace }
         ensures nearer { 0 < records → IfOk result (IsNearer self) }
+        ensures looked { OnlyLooks V.looks view.old view.new }
         ensures layout { V.bounds view.new ≡ V.bounds view.old }
     {
         let PageWalk {
@@ -125,6 +126,7 @@ impl PageWalk {
         ensures goes { (trace : List (LookMade V)) → IsOnPage V.looks (V.bounds view.old) query.now self trace
             → PagesTo V.looks (V.bounds view.old) query.now view.old view.new result trace }
         ensures nearer { IfOk result (IsNearer self) }
+        ensures looked { OnlyLooks V.looks view.old view.new }
         ensures layout { V.bounds view.new ≡ V.bounds view.old }
     {
         if self.is_whole(view.layout(), query) {

@@ -1,5 +1,5 @@
 -- Lookups that are gone on with come to their replies.
-use Rattle.std.proofs.Common.{◌≡◌, ◌⊎◌, ◌+◌, ◌*◌, ◌-◌, ◌^◌, ◌<◌, ◌≤◌, ℕ, List, [], ◌++◌, length, Option, IfOk, IfErr, inl, inr, refl, sym, ap, ◌∙◌, subst, arith}
+use Rattle.std.proofs.Common.{◌≡◌, ◌⊎◌, ◌+◌, ◌*◌, ◌-◌, ◌^◌, ◌<◌, ◌≤◌, ℕ, List, [], ◌∷◌, ◌++◌, length, Option, IfOk, IfErr, inl, inr, refl, sym, ap, ◌∙◌, subst, arith}
 use Rattle.std.specs.Prelude.{Result, Ok, Err}
 use Rattle.pn_join.specs.Marks.{Positions}
 use Rattle.pn_join.specs.declared.memory.NoMemory.{NoMemory}
@@ -10,7 +10,7 @@ use Rattle.pn_tablet.specs.CopyMaking.{CopyCountValue}
 use Rattle.pn_tablet.specs.declared.copy_count.CopyStep.{CopyStep}
 use Rattle.pn_tablet.specs.declared.copy_count.CopyStep.TheVariants as copies
 use Rattle.pn_tablet.specs.Layouts.{Bounds}
-use Rattle.pn_scan.specs.Paging.{Gaps, IsNearer, IsOnPage, IsPreorder, LookMade, LooksAfter, Moving, PagesTo, looks_in, steps_left}
+use Rattle.pn_scan.specs.Paging.{AreMade, Follows, Gaps, IsNearer, IsOnPage, IsPreorder, LookMade, LooksAfter, Moving, OnlyLooks, PagesTo, looks_in, steps_left}
 use Rattle.pn_scan.specs.Queries.{QueryValue}
 use Rattle.pn_scan.specs.Reads.{IsGet}
 use Rattle.pn_scan.specs.declared.fault.ScanFault.{ScanFault}
@@ -18,6 +18,8 @@ use Rattle.pn_scan.specs.declared.page_walk.PageStep.{PageStep}
 use Rattle.pn_scan.specs.declared.page_walk.PageStep.TheVariants as pages
 use Rattle.pn_scan.specs.WalkValues.{PageWalkValue}
 use Rattle.pn_scan.proofs.Paging.{gaps_more, looks_after, scanned}
+use Rattle.pn_scan.proofs.PageBegins.{new_page}
+use Rattle.pn_live.proofs.GetEnds.{new_get}
 use Rattle.pn_live.specs.Getting.{EndsGet, GetWalkValue, GetsOn, IsOnGet}
 use Rattle.pn_live.specs.Copying.{IsCopied}
 use Rattle.pn_live.specs.Readers.{LiveReaderValue, LooksLive, Tablets}
@@ -31,8 +33,8 @@ use Rattle.pn_serve.specs.declared.sessions.going.Going.{Going}
 use Rattle.pn_serve.specs.declared.sessions.going.Going.TheVariants.{Page, Keys, Copy}
 use Rattle.pn_serve.specs.Lines.Going.{answer_left}
 use Rattle.pn_serve.specs.Session.Knowing.{KnowsNoLess}
-use Rattle.pn_serve.specs.Session.Looking.{CopyAnswer, HasFew, IsOnCopy, KeysAnswer, LooksOn, LooksTo, PageAnswer, going_left}
-use Rattle.pn_serve.proofs.Knowing.{going_knows}
+use Rattle.pn_serve.specs.Session.Looking.{AreNewKeys, CopyAnswer, HasFew, IsNewPage, IsOnCopy, KeysAnswer, LooksOn, LooksTo, PageAnswer, going_left}
+use Rattle.pn_serve.proofs.Knowing.{going_knows, knows_on, knows_same, look_knows}
 
 module _ (moves : Moving LiveReaderValue) (pre : IsPreorder moves) (was between old new : LiveReaderValue) (moved : moves between old) where
   -- a page was gone on with
@@ -197,3 +199,27 @@ copy_nearer count records (Ok (copies.Next more)) (Begun going) some to is =
     omega (arith, here, cells, to.1, to.2, some)
 copy_nearer count records (Err fault) (Done reply) some to shows = omega arith
 copy_nearer count records (Err fault) (Begun going) some to shows = absurd shows
+
+-- ---- a lookup begins
+
+module _ (moves : Moving LiveReaderValue) (pre : IsPreorder moves) (old : LiveReaderValue) where
+  pub begins_page : (query : QueryValue) (going : Going) → IsNewPage old.layout query going → LooksOn moves old (scan query) old going
+  begins_page query (Page asked walk) new = (new.0, ([], new_page LooksLive old.layout query walk new.1, pre.stays old))
+  begins_page query (Keys walk) new = absurd new
+  begins_page query (Copy count) new = absurd new
+
+  pub begins_keys : (keys : List (List ℕ)) (going : Going) → AreNewKeys keys going → LooksOn moves old (get keys) old going
+  begins_keys keys (Page asked walk) new = absurd new
+  begins_keys keys (Keys walk) new = (new.keys_are, ([], new_get old.layout keys walk new, pre.stays old))
+  begins_keys keys (Copy count) new = absurd new
+
+-- ---- what a reader knows after looks
+
+-- looks alone leave it knowing no less
+pub only_looks_know : (old new : LiveReaderValue) → OnlyLooks LooksLive old new → KnowsNoLess old new
+only_looks_know old new only = by old only.0 only.1 only.2
+  where
+    by : (was : LiveReaderValue) (made : List (LookMade LiveReaderValue)) → Follows was made new → AreMade LooksLive made → KnowsNoLess was new
+    by was [] follows are = knows_same was new follows
+    by was (one ∷ made) follows are =
+        knows_on was one.new new (subst (λ (r : LiveReaderValue). KnowsNoLess r one.new) follows.0 (look_knows one.old one.new one.look are.0)) (by one.new made follows.1 are.1)

@@ -1,4 +1,6 @@
 pub mod Ahead
 pub mod Buffers
+pub mod Coming
 pub mod Crossing
 pub mod Quarters
+pub mod Storing

@@ -1,6 +1,7 @@
 -- What a connection keeps between two turns.
-use Rattle.std.specs.Prelude.{◌≡◌, ◌≤◌, ◌⊎◌, ℕ, min, length, List, [], ◌++◌, Option, None, Some}
-use Rattle.pn_line.specs.Line.{LineBufferValue, so_far, max_kept, max_line_bytes}
+use Rattle.std.specs.Prelude.{◌≡◌, ◌≢◌, ◌≤◌, ◌⊎◌, ℕ, List, [], ◌++◌, Option, None, Some}
+use Rattle.pn_line.specs.Line.{LineBufferValue, so_far, max_line_bytes}
+use Rattle.pn_serve.specs.declared.script.line_loop.state.Stage.TheVariants.{Reading}
 use Rattle.pn_serve.specs.Lines.States.{LineLoopValue, LineStateValue, new_state}
 
 -- the line that is being read, the input that is read after it, the replies that its socket has not taken, and where its loop is
@@ -32,6 +33,9 @@ replies_in (Some replies) = replies
 abbrev pub SameInput : LineBufferValue → List ℕ → LineBufferValue → List ℕ → Type 0
 SameInput line held new_line new_held = ((new_line ≡ line) × (new_held ≡ held)) ⊎ ((line.count ≤ max_line_bytes) × (new_line ≡ so_far []) × (new_held ≡ line.bytes ++ held))
 
--- a line of which as much is kept as fits
-abbrev pub IsLine : LineBufferValue → Type 0
-IsLine line = length line.bytes ≡ min line.count max_kept
+-- the connection is the same: its input as far as it reads, and its line is none else
+pub record IsKept (old new : ConnectionValue) : Type 0 where
+  pub state : new.state ≡ old.state
+  pub replies : new.replies ≡ old.replies
+  pub input : old.state.stage ≡ Reading → SameInput old.line old.held new.line new.held
+  pub none : old.state.stage ≢ Reading → (new.line ≡ so_far []) × (new.held ≡ old.held)

@@ -5,10 +5,12 @@ use Rattle.std.specs.Io.KnownBytes.{prepend_known}
 use Rattle.std.specs.declared.io.Error.{Error}
 use Rattle.std.specs.declared.io.ErrorKind.TheVariants.{WouldBlock}
 use Rattle.pn_serve.specs.declared.script.line_loop.state.Stage.TheVariants.{Reading}
+use Rattle.pn_serve.specs.declared.script.RunFault.TheVariants.{Write}
 use Rattle.pn_serve.specs.declared.script.line_loop.steps.Step.{Step}
+use Rattle.pn_serve.specs.declared.script.line_loop.steps.Step.TheVariants.{Next, NoInput, NoRoom, Ends}
 use Rattle.pn_serve.specs.Lines.States.{LineLoopValue, Start, waits_in}
 use Rattle.pn_serve.specs.Lines.Stepping.{Handling, HasEnded, Stands, StepsTo as LoopStepsTo, with_rest}
-use Rattle.pn_stay.specs.Connections.{ConnectionValue, loop_of}
+use Rattle.pn_stay.specs.Connections.{ConnectionValue, IsKept, loop_of}
 use Rattle.pn_stay.specs.declared.connection_state.ThreadBuffers.{ThreadBuffers}
 use Rattle.pn_stay.specs.declared.connection_state.Pause.{Pause}
 use Rattle.pn_stay.specs.declared.connection_state.Pause.TheVariants.{Turn, Input, Output}
@@ -37,6 +39,32 @@ Pauses kept Output = kept.replies ≢ []
 abbrev pub PausesWell : ConnectionValue → TurnOutcome → Type 0
 PausesWell kept (Goes pause) = Pauses kept pause
 PausesWell kept (Ended ended) = Unit {0}
+
+-- where a step waits it pauses so
+abbrev pub WaitsWell : ConnectionValue → Step → Type 0
+WaitsWell kept (Next units) = Unit {0}
+WaitsWell kept NoInput = Pauses kept Input
+WaitsWell kept NoRoom = Pauses kept Output
+WaitsWell kept (Ends ended) = Unit {0}
+
+-- the same at the end of a turn, where no bytes wait for others' turns
+abbrev pub StopsWell : ConnectionValue → Step → Type 0
+StopsWell kept (Next units) = Pauses kept Turn
+StopsWell kept NoInput = Pauses kept Input
+StopsWell kept NoRoom = Pauses kept Output
+StopsWell kept (Ends ended) = Unit {0}
+
+-- the connection is kept in a pause, or there was no memory for that
+abbrev pub KeepsOr : ConnectionValue → Pause → ConnectionValue → TurnOutcome → Type 0
+KeepsOr old pause new (Goes other) = (other ≡ pause) × IsKept old new
+KeepsOr old pause new (Ended ended) = ended ≡ Err Write
+
+-- the connection is kept after a step, unless it has ended
+abbrev pub Stores : ConnectionValue → Step → ConnectionValue → TurnOutcome → Type 0
+Stores old (Next units) new outcome = KeepsOr old Turn new outcome
+Stores old NoInput new outcome = KeepsOr old Input new outcome
+Stores old NoRoom new outcome = KeepsOr old Output new outcome
+Stores old (Ends ended) new outcome = outcome ≡ Ended ended
 
 module _ {V : Type 0} (handling : Handling V) where
   -- its loop stands over the input that is held and what is left of its source

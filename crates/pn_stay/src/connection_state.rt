@@ -1,10 +1,10 @@
 //! The state of a connection: it is answered as a session is, in turns, between which it keeps as little as it can.
 
-ghost use Rattle.std.specs.Prelude.{◌≡◌, ◌+◌, ◌-◌, ◌^◌, ◌≤◌, ℕ, List, [], Option, min};
-ghost use Rattle.pn_serve.specs.Lines.Stepping.{by};
+ghost use Rattle.std.specs.Prelude.{◌≡◌, ◌≢◌, ◌+◌, ◌-◌, ◌^◌, ◌≤◌, ℕ, List, [], Option, min};
+ghost use Rattle.pn_serve.specs.Lines.Stepping.{by, Stands, StepsTo};
 ghost use Rattle.pn_serve.specs.Lines.States.{Start};
 ghost use Rattle.pn_stay.specs.Connections.{new_connection};
-ghost use Rattle.pn_stay.specs.Turns.{Continues, PausesWell, TurnsTo};
+ghost use Rattle.pn_stay.specs.Turns.{in_buffers, Continues, PausesWell, StepsIn, StopsWell, TurnsTo};
 ghost use Rattle.pn_serve.specs.Session.Knowing.{IsSteady, KnowsNoLess};
 
 mod storage;
@@ -70,13 +70,13 @@ pub struct ConnectionState {
 impl Model for ConnectionState {
     ghost use Rattle.std.specs.Prelude.{◌≤◌, vec_len};
     ghost use Rattle.pn_stay.specs.declared.input_buffer.TheConstants.{INPUT_CAPACITY};
-    ghost use Rattle.pn_stay.specs.Connections.{ConnectionValue, IsLine, line_in, replies_in};
+    ghost use Rattle.pn_stay.specs.Connections.{ConnectionValue, line_in, replies_in};
 
     ghost Value = { ConnectionValue };
 
     ghost view = { λ kept. record { line = line_in kept.line; held = kept.held.items; replies = replies_in kept.replies; state = kept.state } };
 
-    ghost invariant = { λ kept. IsLine (line_in kept.line) × (vec_len kept.held ≤ INPUT_CAPACITY) };
+    ghost invariant = { λ kept. vec_len kept.held ≤ INPUT_CAPACITY };
 }
 
 /// Why a turn ended.
@@ -134,11 +134,12 @@ impl ConnectionState {
         let step = send_and_step(buffers, machine, input, output);
         let after = buffers.lines.counts();
         add_lines(&mut buffers.answered, before, after);
+        buffers.lines.recall_cut(&*machine);
         self.store(buffers, step)
     }
 }
 
-// Sends what waits, and takes the steps of a turn where nothing is left of it. What they left is sent in the end.
+// Sends what waits, and takes the steps of a turn where nothing is left of it.
 fn send_and_step<M: LineHandler, R: Read, W: Sink>(
     buffers: &mut ThreadBuffers,
     machine: &mut M,
@@ -146,12 +147,30 @@ fn send_and_step<M: LineHandler, R: Read, W: Sink>(
     output: &mut W,
 ) -> Step
     requires ready { M.ready }
+    ensures steps { (start : Start M) → IsSteady M.reader M.moves → Continues (by M.moves M.makes M.ends M.goes M.goes_last) start (R.remaining input.old) (W.contents output.old) machine.old (in_buffers buffers.old)
+        → StepsIn (by M.moves M.makes M.ends M.goes M.goes_last) start (R.remaining input.new) (W.contents output.new) machine.new buffers.new result }
+    ensures stops { StopsWell (in_buffers buffers.new) result }
     ensures knows { KnowsNoLess (M.reader machine.old) (M.reader machine.new) }
 {
-    let sent = send_waiting(buffers, &*machine, output);
-    if sent != Step::Next(0) {
-        return sent;
+    match send_waiting(buffers, &*machine, output) {
+        Step::Next(_) => step_and_send(buffers, machine, input, output),
+        step => step,
     }
+}
+
+// Takes the steps of a turn, and sends what they left.
+fn step_and_send<M: LineHandler, R: Read, W: Sink>(
+    buffers: &mut ThreadBuffers,
+    machine: &mut M,
+    input: &mut R,
+    output: &mut W,
+) -> Step
+    requires ready { M.ready }
+    ensures steps { (start : Start M) → IsSteady M.reader M.moves → Continues (by M.moves M.makes M.ends M.goes M.goes_last) start (R.remaining input.old) (W.contents output.old) machine.old (in_buffers buffers.old)
+        → StepsIn (by M.moves M.makes M.ends M.goes M.goes_last) start (R.remaining input.new) (W.contents output.new) machine.new buffers.new result }
+    ensures stops { StopsWell (in_buffers buffers.new) result }
+    ensures knows { KnowsNoLess (M.reader machine.old) (M.reader machine.new) }
+{
     match take_steps(buffers, machine, input, output) {
         Step::Next(_) => send_waiting(buffers, &*machine, output),
         step => step,
@@ -163,7 +182,12 @@ fn send_waiting<M: LineHandler, W: Sink>(
     buffers: &mut ThreadBuffers,
     machine: &M,
     output: &mut W,
-) -> Step {
+) -> Step
+    ensures steps { (start : Start M) (left : Option (List ℕ)) → IsSteady M.reader M.moves → Stands (by M.moves M.makes M.ends M.goes M.goes_last) start left (W.contents output.old) machine.now buffers.old.lines
+        → StepsTo (by M.moves M.makes M.ends M.goes M.goes_last) start left (W.contents output.new) machine.now buffers.new.lines result }
+    ensures input { buffers.new.input ≡ buffers.old.input }
+    ensures stops { StopsWell (in_buffers buffers.new) result }
+{
     if buffers.lines.is_sent() {
         return Step::Next(0);
     }

@@ -28,6 +28,7 @@ pub fn answer_in_turns<M: LineHandler, R: Read, W: Sink>(
 {
     let mut buffers = ThreadBuffers::new(alloc)?;
     let mut state = ConnectionState::new(alloc);
+    machine.recall_moves();
     'turns: for _turn in 0..turns {
         match state.turn(&mut buffers, machine, input, output) {
             TurnOutcome::Goes(_) => {}

@@ -2,10 +2,11 @@
 
 ghost use Rattle.std.specs.Prelude.{◌≡◌, ◌≢◌, ◌⊎◌, ◌+◌, ◌≤◌, ℕ, List, [], Option};
 ghost use Rattle.std.specs.IoError.{error_kind};
+ghost use Rattle.pn_serve.specs.Lines.Bounds.{IsIdleAt};
 ghost use Rattle.pn_serve.specs.Lines.States.{Start};
 ghost use Rattle.pn_serve.specs.Session.Knowing.{IsSteady, KnowsNoLess};
 ghost use Rattle.pn_serve.specs.Lines.Stepping.{by};
-ghost use Rattle.pn_stay.specs.Turns.{in_buffers, Continues, StepsIn, IsRead};
+ghost use Rattle.pn_stay.specs.Turns.{in_buffers, Continues, IsRead, StepsIn, WaitsWell};
 
 use crate::connection_state::ThreadBuffers;
 use crate::socket::is_wait;
@@ -27,6 +28,7 @@ pub(crate) fn take_steps<M: LineHandler, R: Read, W: Sink>(
     requires ready { M.ready }
     ensures steps { (start : Start M) → IsSteady M.reader M.moves → Continues (by M.moves M.makes M.ends M.goes M.goes_last) start (R.remaining input.old) (W.contents output.old) machine.old (in_buffers buffers.old)
         → StepsIn (by M.moves M.makes M.ends M.goes M.goes_last) start (R.remaining input.new) (W.contents output.new) machine.new buffers.new result }
+    ensures waits { WaitsWell (in_buffers buffers.new) result }
     ensures knows { KnowsNoLess (M.reader machine.old) (M.reader machine.new) }
 {
     let mut units = TURN_UNITS;
@@ -50,6 +52,7 @@ fn take_step<M: LineHandler, R: Read, W: Sink>(
     requires ready { M.ready }
     ensures steps { (start : Start M) → IsSteady M.reader M.moves → Continues (by M.moves M.makes M.ends M.goes M.goes_last) start (R.remaining input.old) (W.contents output.old) machine.old (in_buffers buffers.old)
         → StepsIn (by M.moves M.makes M.ends M.goes M.goes_last) start (R.remaining input.new) (W.contents output.new) machine.new buffers.new result }
+    ensures waits { WaitsWell (in_buffers buffers.new) result }
     ensures knows { KnowsNoLess (M.reader machine.old) (M.reader machine.new) }
 {
     let step = buffers
@@ -69,6 +72,10 @@ fn read_more<M: LineHandler, R: Read>(
 ) -> Step
     requires ready { M.ready }
     requires empty { buffers.old.input ≡ [] }
+    requires idle { IsIdleAt Step.NoInput buffers.old.lines }
+    ensures steps { (start : Start M) (written : Option (List ℕ)) → IsSteady M.reader M.moves → Continues (by M.moves M.makes M.ends M.goes M.goes_last) start (R.remaining input.old) written machine.old (in_buffers buffers.old)
+        → StepsIn (by M.moves M.makes M.ends M.goes M.goes_last) start (R.remaining input.new) written machine.new buffers.new result }
+    ensures waits { WaitsWell (in_buffers buffers.new) result }
     ensures knows { KnowsNoLess (M.reader machine.old) (M.reader machine.new) }
 {
     let read = buffers.input.read_from(input);

@@ -3,7 +3,7 @@ use Rattle.std.specs.Prelude.{◌≡◌, ◌≤◌, ◌+◌, ◌-◌, ◌*◌, �
 use Rattle.pn_join.specs.Marks.{Positions}
 use Rattle.pn_live.specs.Copying.{IsCopied}
 use Rattle.pn_join.specs.declared.memory.NoMemory.{NoMemory}
-use Rattle.pn_live.specs.Getting.{EndsGet, GetWalkValue, IsOnGet}
+use Rattle.pn_live.specs.Getting.{EndsGet, GetWalkValue, IsNewGet, IsOnGet}
 use Rattle.pn_live.specs.Readers.{LiveReaderValue, LooksLive}
 use Rattle.pn_protocol.specs.Command.Lines.{lookup_at}
 use Rattle.pn_protocol.specs.Command.Meaning.{CommandValue, copy, get, scan}
@@ -20,7 +20,7 @@ use Rattle.pn_scan.specs.declared.fault.ScanFault.{ScanFault}
 use Rattle.pn_scan.specs.declared.page_walk.PageStep.{PageStep}
 use Rattle.pn_scan.specs.declared.page_walk.PageStep.TheVariants as pages
 use Rattle.pn_scan.specs.Queries.{QueryValue}
-use Rattle.pn_scan.specs.Paging.{Gaps, IsOnPage, LookMade, Moving, records_left, steps_left}
+use Rattle.pn_scan.specs.Paging.{Gaps, IsNewWalk, IsOnPage, LookMade, Moving, records_left, steps_left}
 use Rattle.pn_tablet.specs.Copies.{TabletCopyValue}
 use Rattle.pn_tablet.specs.Layouts.{Bounds}
 use Rattle.pn_tablet.specs.Tablets.{TabletStateValue}
@@ -107,3 +107,15 @@ abbrev pub HasFew : Result PageStep ScanFault → Type 0
 HasFew (Ok (pages.Done page)) = Unit {0}
 HasFew (Ok (pages.Next walk)) = steps_left walk.part ≤ 2 ^ 64
 HasFew (Err fault) = Unit {0}
+
+-- a page of which nothing was looked for
+abbrev pub IsNewPage : Bounds → QueryValue → Going → Type 0
+IsNewPage bounds query (Page asked walk) = (asked ≡ query) × IsNewWalk bounds query walk
+IsNewPage bounds query (Keys walk) = ⊥
+IsNewPage bounds query (Copy count) = ⊥
+
+-- keys of which none was read
+abbrev pub AreNewKeys : List (List ℕ) → Going → Type 0
+AreNewKeys keys (Page asked walk) = ⊥
+AreNewKeys keys (Keys walk) = IsNewGet keys walk
+AreNewKeys keys (Copy count) = ⊥

@@ -9,7 +9,7 @@ ghost use Rattle.pn_scan.specs.Prelude.{Stays};
 ghost use Rattle.pn_serve.specs.Lines.Going.{answer_left};
 ghost use Rattle.pn_serve.specs.declared.sessions.going.Going.{Going as GoingOn};
 ghost use Rattle.pn_serve.specs.Session.Knowing.{KnowsNoLess};
-ghost use Rattle.pn_serve.specs.Session.Looking.{CopyAnswer, HasFew, KeysAnswer, LooksOn, LooksTo, PageAnswer, going_left, kind_of};
+ghost use Rattle.pn_serve.specs.Session.Looking.{AreNewKeys, CopyAnswer, HasFew, IsNewPage, KeysAnswer, LooksOn, LooksTo, PageAnswer, going_left, kind_of};
 ghost use Rattle.pn_tablet.specs.CopyCounts.{CountsOn};
 ghost use Rattle.pn_tablet.specs.CopyMaking.{CopyCountValue};
 ghost use Rattle.pn_tablet.specs.Layouts.{Bounds};
@@ -39,18 +39,24 @@ pub enum Going {
 
 impl Going {
     /// A page of which nothing was looked for.
-    pub(super) fn page(alloc: Global, reader: &LiveReader, query: Query) -> Going {
+    pub(super) fn page(alloc: Global, reader: &LiveReader, query: Query) -> Going
+        ensures { IsNewPage reader.now.layout query result }
+    {
         let walk = PageWalk::new(alloc, reader.layout(), &query);
         Going::Page(query, walk)
     }
 
     /// The records of keys of which none was read.
-    pub(super) fn keys(alloc: Global, keys: Vec<Key>) -> Going {
+    pub(super) fn keys(alloc: Global, keys: Vec<Key>) -> Going
+        ensures { AreNewKeys keys.items result }
+    {
         Going::Keys(GetWalk::new(alloc, keys))
     }
 
     /// A copy of which no line is counted.
-    pub(super) fn copy(copy: TabletCopy) -> Going {
+    pub(super) fn copy(copy: TabletCopy) -> Going
+        ensures { result ≡ Going.Copy (record { copy = copy; index = 0 }) }
+    {
         Going::Copy(CopyCount::new(copy))
     }
 

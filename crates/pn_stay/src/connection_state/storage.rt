@@ -1,87 +1,131 @@
 //! What a connection keeps is loaded into the buffers of its thread, and stored again after a turn.
 
-ghost use Rattle.std.specs.Prelude.{◌≡◌, ◌+◌, ◌≤◌, ℕ, List, [], ◌++◌, Option, length, vec_len, IfOk};
-ghost use Rattle.pn_stay.specs.Connections.{IsLine, SameInput, line_in};
+ghost use Rattle.std.specs.Prelude.{◌≡◌, ◌≢◌, ◌+◌, ◌≤◌, ℕ, List, [], ◌++◌, Option, length, vec_len, IfOk, IfSome, IsTrue};
+ghost use Rattle.pn_stay.specs.Connections.{SameInput, line_in, replies_in};
+ghost use Rattle.pn_stay.specs.Turns.{in_buffers, KeepsOr, PausesWell, StopsWell, Stores};
 
 use crate::connection_state::{ConnectionState, Pause, ThreadBuffers, TurnOutcome};
 use crate::input_buffer::INPUT_CAPACITY;
 use pn_line::{Discard, LineBuffer, MAX_LINE_BYTES};
-use pn_serve::{ReplyBuffer, RunFault, Step};
+use pn_serve::{LineLoop, ReplyBuffer, RunFault, Step};
 use std::alloc::{AllocError, Global};
 use std::mem;
 
 impl ConnectionState {
     // Loads what it keeps into the buffers. Where there is no memory for replies that it may have to keep, long ones are refused.
-    pub(super) fn load(&mut self, buffers: &mut ThreadBuffers) {
-        let _ = buffers.lines.flush(&mut Discard);
-        buffers.lines.begin_line();
+    pub(super) fn load(&mut self, buffers: &mut ThreadBuffers)
+        ensures { in_buffers buffers.new ≡ self.old }
+    {
+        drop_replies(&mut buffers.lines);
+        load_line(&mut buffers.lines, self.line.take());
         buffers.lines.swap_state(&mut self.state);
-        if let Some(mut line) = self.line.take() {
-            buffers.lines.swap_line(&mut line);
-        }
         buffers.input.fill(&self.held);
         self.held = Vec::new(self.alloc);
-        let can_keep = self.load_replies(buffers);
+        let can_keep = load_replies(self.alloc, buffers, &mut self.replies);
         buffers.lines.set_scarce(!can_keep);
     }
 
-    // Goes on with its own buffer of replies, in whose place it has the thread's meanwhile. Where it has none, whether there is a spare
-    // one, which it may have to keep.
-    fn load_replies(&mut self, buffers: &mut ThreadBuffers) -> bool {
-        if let Some(replies) = &mut self.replies {
-            buffers.lines.swap_replies(replies);
-            return true;
+    // Stores it until its next turn, unless it has ended. Out of memory, it ends as by a fault of the writer.
+    pub(super) fn store(&mut self, buffers: &mut ThreadBuffers, step: Step) -> TurnOutcome
+        ensures stores { Stores (in_buffers buffers.old) step self.new result }
+        ensures pauses { StopsWell (in_buffers buffers.old) step → PausesWell self.new result }
+    {
+        match step {
+            Step::Next(_) => self.keep(buffers, Pause::Turn),
+            Step::NoInput => self.keep(buffers, Pause::Input),
+            Step::NoRoom => self.keep(buffers, Pause::Output),
+            Step::Ends(ended) => TurnOutcome::Ended(ended),
         }
-        if buffers.spare.is_none() {
-            buffers.spare = ReplyBuffer::new(self.alloc).ok();
-        }
-        buffers.spare.is_some()
     }
 
-    // Stores it until its next turn, or ends it.
-    pub(super) fn store(&mut self, buffers: &mut ThreadBuffers, step: Step) -> TurnOutcome {
-        let pause = match step {
-            Step::Next(_) => Pause::Turn,
-            Step::NoInput => Pause::Input,
-            Step::NoRoom => Pause::Output,
-            Step::Ends(ended) => return TurnOutcome::Ended(ended),
+    // Keeps it in a pause, if there is memory for that.
+    fn keep(&mut self, buffers: &mut ThreadBuffers, pause: Pause) -> TurnOutcome
+        ensures { KeepsOr (in_buffers buffers.old) pause self.new result }
+    {
+        buffers.lines.begin_unless_reading();
+        let Ok(stored) = unload_input(self.alloc, buffers) else {
+            return TurnOutcome::Ended(Err(RunFault::Write));
         };
-        let has_kept = self.keep_replies(buffers);
-        buffers.lines.swap_state(&mut self.state);
-        if !has_kept {
+        self.line = stored.line;
+        self.held = stored.held;
+        if !keep_replies(buffers, &mut self.replies) {
             return TurnOutcome::Ended(Err(RunFault::Write));
         }
-        self.keep_input(buffers, pause)
+        buffers.lines.swap_state(&mut self.state);
+        TurnOutcome::Goes(pause)
     }
+}
 
-    // Keeps the buffer of replies where some wait or are still to be made. False where the thread has no other.
-    fn keep_replies(&mut self, buffers: &mut ThreadBuffers) -> bool {
-        let mut others = match self.replies.take() {
-            Some(threads) => Some(threads),
-            None => mem::replace(&mut buffers.spare, None),
-        };
-        if !buffers.lines.has_replies() {
-            buffers.spare = others;
-            return true;
+// Drops the replies that wait.
+fn drop_replies(lines: &mut LineLoop)
+    ensures { lines.new.replies ≡ [] }
+{
+    let _ = lines.flush(&mut Discard);
+}
+
+// Goes on with a line that was begun, or with none.
+fn load_line(lines: &mut LineLoop, line: Option<LineBuffer>)
+    ensures { lines.new ≡ record lines.old { line = line_in line } }
+{
+    match line {
+        Some(line) => {
+            let mut line = line;
+            lines.swap_line(&mut line);
         }
-        if let Some(replies) = &mut others {
+        None => lines.begin_line(),
+    }
+}
+
+// Goes on with the replies that are kept, in whose place there are the thread's meanwhile. Where there are none, whether the thread
+// has another buffer, since they may have to be kept.
+fn load_replies(
+    alloc: Global,
+    buffers: &mut ThreadBuffers,
+    kept: &mut Option<ReplyBuffer>,
+) -> bool
+    requires none { buffers.old.lines.replies ≡ [] }
+    ensures lines { buffers.new.lines ≡ record buffers.old.lines { replies = replies_in kept.old } }
+    ensures input { buffers.new.input ≡ buffers.old.input }
+{
+    match kept {
+        Some(replies) => {
             buffers.lines.swap_replies(replies);
+            true
         }
-        self.replies = others;
-        self.replies.is_some()
-    }
-
-    // Takes the input out of the buffers. Out of memory, it is lost as by a fault of the reader.
-    fn keep_input(&mut self, buffers: &mut ThreadBuffers, pause: Pause) -> TurnOutcome {
-        match unload_input(self.alloc, buffers) {
-            Ok(stored) => {
-                self.line = stored.line;
-                self.held = stored.held;
-                TurnOutcome::Goes(pause)
+        None => {
+            if buffers.spare.is_none() {
+                buffers.spare = ReplyBuffer::new(alloc).ok();
             }
-            Err(_) => TurnOutcome::Ended(Err(RunFault::Read)),
+            buffers.spare.is_some()
         }
     }
+}
+
+// Keeps the buffer of replies where some wait or are still to be made. False where the thread has no other.
+fn keep_replies(buffers: &mut ThreadBuffers, kept: &mut Option<ReplyBuffer>) -> bool
+    ensures kept { IsTrue result → replies_in kept.new ≡ buffers.old.lines.replies }
+    ensures state { buffers.new.lines.state ≡ buffers.old.lines.state }
+{
+    let others = match kept.take() {
+        Some(threads) => Some(threads),
+        None => buffers.spare.take(),
+    };
+    if !buffers.lines.has_replies() {
+        buffers.spare = others;
+        return true;
+    }
+    *kept = swap_replies(&mut buffers.lines, others);
+    kept.is_some()
+}
+
+// Gives the replies that wait, where there is another buffer to go on with.
+fn swap_replies(lines: &mut LineLoop, others: Option<ReplyBuffer>) -> Option<ReplyBuffer>
+    ensures given { IfSome result (λ replies. replies ≡ lines.old.replies) }
+    ensures state { lines.new.state ≡ lines.old.state }
+{
+    let mut replies = others?;
+    lines.swap_replies(&mut replies);
+    Some(replies)
 }
 
 // The input of a connection between two turns.
@@ -93,10 +137,10 @@ struct StoredInput {
 
 // Takes the input out of the buffers: as bytes, and the line in its own buffer where it is too long for them.
 fn unload_input(alloc: Global, buffers: &mut ThreadBuffers) -> Result<StoredInput, AllocError>
-    requires line { IsLine buffers.old.lines.line }
     ensures same { IfOk result (λ stored. SameInput buffers.old.lines.line buffers.old.input (line_in stored.line) stored.held.items) }
-    ensures line { IfOk result (λ stored. IsLine (line_in stored.line)) }
     ensures fits { IfOk result (λ stored. vec_len stored.held ≤ INPUT_CAPACITY) }
+    ensures kept { buffers.new.lines.state ≡ buffers.old.lines.state }
+    ensures replies { buffers.new.lines.replies ≡ buffers.old.lines.replies }
 {
     let unread = buffers.input.bytes();
     let part = buffers.lines.line();

@@ -1,5 +1,6 @@
 //! A page and a get that are gone on with while rounds change the tablets: a look shows its tablet as its entry found it.
 
+use crate::regions::{end, open_one};
 use pn_apply::Open;
 use pn_live::{GetWalk, LiveReader, LiveRegion};
 use pn_record::{Cell, Value};
@@ -8,7 +9,6 @@ use std::alloc::Global;
 use std::sync::Wait;
 use std::thread::Threads;
 use test_kit::{deliveries, keys, layout};
-use test_kit_live::{end, open_one};
 
 /// How many records the tablet has: more than one entry looks at.
 const RECORDS: u64 = 1_500;
@@ -86,15 +86,13 @@ fn page_beside<R: Threads + Wait + Sync>(
     end_page(alloc, reader, query, walk)
 }
 
-// The numbers of the versions that pages show: one that a round comes into, one that is then read, and one of the round.
-type Shown = (Vec<u64>, Vec<u64>, Vec<u64>);
-
-fn numbers(alloc: Global, page: &Page) -> Option<Vec<u64>> {
-    let mut numbers = Vec::new(alloc);
+// The numbers of the versions of a page's rows.
+fn numbers(alloc: Global, page: &Page) -> Option<String> {
+    let mut text = String::new(alloc);
     for row in &page.rows {
-        numbers.push(row.cell.version().number).ok()?;
+        write!(text, " {}", row.cell.version().number).ok()?;
     }
-    Some(numbers)
+    Some(text)
 }
 
 fn show<R: Threads + Wait + Sync>(
@@ -102,52 +100,42 @@ fn show<R: Threads + Wait + Sync>(
     alloc: Global,
     live: &mut LiveRegion,
     reader: &mut LiveReader,
-) -> Option<Shown> {
-    if !take(rt, alloc, live, 1, words(alloc)?.as_str()) {
+) -> Option<String> {
+    let words = words(alloc)?;
+    if !take(rt, alloc, live, 1, words.as_str()) {
         return None;
     }
     let (old, new) = (query_of(alloc, "7")?, query_of(alloc, "8")?);
     let beside = page_beside(rt, alloc, live, reader, &old)?;
+    let beside = numbers(alloc, &beside)?;
     let then = reader.scan(&old).ok()?;
+    let then = numbers(alloc, &then)?;
     let later = reader.scan(&new).ok()?;
-    Some((
-        numbers(alloc, &beside)?,
-        numbers(alloc, &then)?,
-        numbers(alloc, &later)?,
-    ))
+    let later = numbers(alloc, &later)?;
+    format!(in alloc; "found{beside}, then{then}, later{later}").ok()
 }
 
-fn show_all<R: Threads + Wait + Sync>(rt: &R, alloc: Global) -> Option<Shown> {
-    let (mut live, mut reader) = open_one(rt, alloc, layout(alloc, "")?)?;
+/// What a page shows that a round comes into after its entry, what the same page shows then, and what one of the round shows.
+pub(crate) fn page_over_round<R: Threads + Wait + Sync>(rt: &R, alloc: Global) -> Option<String> {
+    let layout = layout(alloc, "")?;
+    let (mut live, mut reader) = open_one(rt, alloc, layout)?;
     let shown = show(rt, alloc, &mut live, &mut reader);
     end(rt, alloc, live);
     shown
 }
 
-#[test]
-fn a_look_past_its_entry_shows_what_the_entry_found(rt: HostRuntime) {
-    let alloc = rt.alloc();
-    let Some((beside, then, later)) = show_all(&rt, alloc) else {
-        panic!(rt; "no page");
-    };
-    assert!(rt; beside.as_slice() == [7]);
-    assert!(rt; then.is_empty());
-    assert!(rt; later.as_slice() == [8]);
-}
-
-// The versions of keys, of which one is read before a round and the others after it.
+// Reads one key before a round, and the others after it.
 fn get_beside<R: Threads + Wait + Sync>(
     rt: &R,
     alloc: Global,
     live: &mut LiveRegion,
     reader: &mut LiveReader,
-) -> Option<(usize, Vec<u64>)> {
+) -> Option<String> {
     if !take(rt, alloc, live, 1, "a n") {
         return None;
     }
-    let walk = GetWalk::new(alloc, keys(alloc, "n a z")?)
-        .go_on(reader, 1)
-        .ok()?;
+    let walk = GetWalk::new(alloc, keys(alloc, "n a z")?);
+    let walk = walk.go_on(reader, 1).ok()?;
     let left = walk.left();
     if !take(rt, alloc, live, 3, "a@6 n@6 z@6") {
         return None;
@@ -157,30 +145,23 @@ fn get_beside<R: Threads + Wait + Sync>(
         return None;
     }
     let (keys, cells) = walk.end().ok()?;
-    Some((left + keys.len(), numbers_of(alloc, &cells)?))
+    let numbers = numbers_of(alloc, &cells)?;
+    format!(in alloc; "{left} of {} left, then{numbers}", keys.len()).ok()
 }
 
-fn numbers_of(alloc: Global, cells: &[Option<Cell>]) -> Option<Vec<u64>> {
-    let mut numbers = Vec::new(alloc);
+fn numbers_of(alloc: Global, cells: &[Option<Cell>]) -> Option<String> {
+    let mut text = String::new(alloc);
     for cell in cells.iter().flatten() {
-        numbers.push(cell.version().number).ok()?;
+        write!(text, " {}", cell.version().number).ok()?;
     }
-    Some(numbers)
+    Some(text)
 }
 
-fn get_all<R: Threads + Wait + Sync>(rt: &R, alloc: Global) -> Option<(usize, Vec<u64>)> {
-    let (mut live, mut reader) = open_one(rt, alloc, layout(alloc, "m")?)?;
+/// How many keys a get has left when a round comes, and the numbers of the versions that it gets.
+pub(crate) fn get_over_round<R: Threads + Wait + Sync>(rt: &R, alloc: Global) -> Option<String> {
+    let layout = layout(alloc, "m")?;
+    let (mut live, mut reader) = open_one(rt, alloc, layout)?;
     let got = get_beside(rt, alloc, &mut live, &mut reader);
     end(rt, alloc, live);
     got
-}
-
-#[test]
-fn a_get_goes_on_key_by_key(rt: HostRuntime) {
-    let alloc = rt.alloc();
-    let Some((count, numbers)) = get_all(&rt, alloc) else {
-        panic!(rt; "no get");
-    };
-    assert_eq!(rt; count, 5);
-    assert!(rt; numbers.as_slice() == [5, 6, 6]);
 }

@@ -1,6 +1,6 @@
 //! How a line loop takes what its input has at hand.
 
-ghost use Rattle.std.specs.Prelude.{◌≡◌, ◌⊎◌, ◌+◌, ◌≤◌, ◌<◌, ℕ, List, [], Option, Err, OnSome};
+ghost use Rattle.std.specs.Prelude.{◌≡◌, ◌≢◌, ◌⊎◌, ◌+◌, ◌≤◌, ◌<◌, ℕ, List, [], Option, Err, OnSome};
 ghost use Rattle.std.specs.Io.KnownBytes.{IsAtEnd};
 ghost use Rattle.pn_line.specs.declared.line_buffer.TheConstants.{ENDLESS};
 ghost use Rattle.pn_serve.specs.Lines.Bounds.{CountsUnits, Foresees, ForeseesStep, HandsOnAtMost, HandsOnStep, IsIdleAt, IsOutAs, ReadsOn};
@@ -39,6 +39,7 @@ impl LineLoop {
         ensures reads { ReadsOn (S.looks input.old) (S.looks input.new) self.old self.new result }
         ensures end { result ≡ Step.NoInput → S.may_end }
         ensures at_end { result ≡ Step.NoInput → OnSome (S.left input.old) (IsAtEnd (S.left input.new)) }
+        ensures held { result ≡ Step.NoRoom → self.new.replies ≢ [] }
         ensures room { result ≡ Step.NoRoom → W.may_fail }
         ensures foresees { Foresees S.may_fail W.may_fail S.may_end self.old → ForeseesStep S.may_fail W.may_fail S.may_end self.new result }
         ensures knows { KnowsNoLess (M.reader machine.old) (M.reader machine.new) }
@@ -82,6 +83,7 @@ impl LineLoop {
         ensures reads { ReadsOn (S.looks input.old) (S.looks input.new) self.old self.new result }
         ensures end { result ≡ Step.NoInput → S.may_end }
         ensures at_end { result ≡ Step.NoInput → OnSome (S.left input.old) (IsAtEnd (S.left input.new)) }
+        ensures held { result ≡ Step.NoRoom → self.new.replies ≢ [] }
         ensures room { result ≡ Step.NoRoom → W.may_fail }
         ensures foresees { Foresees S.may_fail W.may_fail S.may_end self.old → ForeseesStep S.may_fail W.may_fail S.may_end self.new result }
         ensures knows { KnowsNoLess (M.reader machine.old) (M.reader machine.new) }

@@ -239,6 +239,16 @@ impl LineLoop {
         self.line.start();
     }
 
+    /// Begins a new line, unless one is read.
+    pub fn begin_unless_reading(&mut self)
+        ensures reading { self.old.state.stage ≡ Stage.Reading → self.new ≡ self.old }
+        ensures begun { self.old.state.stage ≢ Stage.Reading → self.new ≡ record self.old { line = so_far [] } }
+    {
+        if !self.state.is_reading() {
+            self.line.start();
+        }
+    }
+
     /// Goes on with another line, and gives the one that is read.
     pub fn swap_line(&mut self, line: &mut LineBuffer)
         ensures line { self.new ≡ record self.old { line = line.old } }

@@ -26,6 +26,7 @@ impl LineLoop {
         ensures counted { CountsUnits self.old self.new result }
         ensures works { WorksOn self.old self.new result }
         ensures out { self.new.state.out ≡ self.old.state.out }
+        ensures held { result ≡ Step.NoRoom → self.new.replies ≢ [] }
         ensures room { result ≡ Step.NoRoom → W.may_fail }
         ensures fault { result ≡ Step.Ends (Err RunFault.Write) → W.may_fail }
     {
@@ -43,6 +44,7 @@ impl LineLoop {
         ensures out { IsOutAs self.old (W.is_handed_on output.old) → IsOutAs self.new (W.is_handed_on output.new) }
         ensures idle { result ≡ Step.NoInput → self.new.state.out ≡ true }
         ensures few { HandsOnAtMost REPLY_CAPACITY self.old self.new }
+        ensures held { result ≡ Step.NoRoom → self.new.replies ≢ [] }
         ensures room { result ≡ Step.NoRoom → W.may_fail }
         ensures fault { result ≡ Step.Ends (Err RunFault.Write) → W.may_fail }
     {
@@ -62,6 +64,7 @@ impl LineLoop {
         ensures out { self.new.state.out ≡ true → (waits_in self.new ≡ []) × W.is_handed_on output.new }
         ensures all { (units : ℕ) → result ≡ Step.Next units → self.new.state.out ≡ true }
         ensures few { HandsOnAtMost REPLY_CAPACITY self.old self.new }
+        ensures held { result ≡ Step.NoRoom → self.new.replies ≢ [] }
         ensures room { result ≡ Step.NoRoom → W.may_fail }
         ensures fault { result ≡ Step.Ends (Err RunFault.Write) → W.may_fail }
     {
@@ -83,6 +86,7 @@ impl LineLoop {
         ensures out { self.new.state.out ≡ true → (waits_in self.new ≡ []) × W.is_handed_on output.new }
         ensures handed_on { HandsOnStep result (W.is_handed_on output.new) }
         ensures few { HandsOnAtMost REPLY_CAPACITY self.old self.new }
+        ensures held { result ≡ Step.NoRoom → self.new.replies ≢ [] }
         ensures room { result ≡ Step.NoRoom → W.may_fail }
         ensures fault { (other : Result Counts RunFault) → result ≡ Step.Ends other → (other ≡ ended) ⊎ W.may_fail }
     {

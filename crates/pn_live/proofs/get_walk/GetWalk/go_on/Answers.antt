@@ -1,10 +1,11 @@
 -- Each look finds the cell of one key more, until one is refused or enough are read.
 use Rattle.std.proofs.Common.{◌≡◌, ◌+◌, ◌<◌, ◌∷◌, ◌++◌, [], ℕ, List, length, Err, Result, refl, sym, ap, ◌∙◌, subst, arith, append-nil, append_assoc}
 use Rattle.std.proofs.lemmas.Result.{err_from_is_err_and}
+use Rattle.pn_scan.proofs.Paging.{made_more}
 use Rattle.pn_scan.specs.Paging.{LookMade}
 use Rattle.pn_scan.specs.declared.fault.ScanFault.{ScanFault}
 use Rattle.pn_live.specs.Getting.{GetWalkValue, EndsGet, GetsOn, IsOnGet}
-use Rattle.pn_live.specs.Readers.{LiveReaderValue, Tablets}
+use Rattle.pn_live.specs.Readers.{LiveReaderValue, LooksLive, Tablets}
 use Rattle.pn_live.proofs.GetWalks.{at_hand, follows_more, key_read, key_refused}
 use Rattle.pn_live.proofs.Getting.{capacity_more}
 use Rattle.pn_live.proofs.Knowing.{looks_same}
@@ -14,6 +15,7 @@ pub loop-index-init : goal.loop-index-init
 loop-index-init c = record {
   goes = λ trace on. ([], refl, subst (λ (l : List (LookMade LiveReaderValue)). IsOnGet c.args.reader.now.layout (record { keys = c.self.inside.keys.items; cells = at_hand c.self.inside.cells; read = c.self.inside.read }) l) (sym (append-nil trace)) on);
   capacity = c.self.invariant.1;
+  looked = ([], refl, tt);
   same = refl;
 }
 
@@ -36,6 +38,7 @@ loop-index-preserved c =
             subst (λ (l : List (LookMade LiveReaderValue)). IsOnGet bounds walk l) (append_assoc trace so_far.0 (made ∷ [])) (key_read c.loop-index.cells so_far.2 inside c.index.ensures same refl look.1 c.in_ok-cells.cells more.memory more.cells),
           );
       capacity = capacity_more c.loop-index.cells c.in_ok-cells.cells (length keys) c.loop-index.index was.capacity more.kept;
+      looked = (was.looked.0 ++ made ∷ [], follows_more c.args.reader.now c.loop-index.reader was.looked.0 made was.looked.1 refl, made_more LooksLive was.looked.0 made was.looked.2 look.1.looked);
       same = looks_same _ _ _ look.1.looked ∙ was.same;
     }
 
@@ -74,3 +77,10 @@ returns-clause-goes c = λ trace is_on.
         subst (λ (n : ℕ). IsOnGet bounds (record { keys = c.self.inside.keys.items; cells = at_hand c.loop-index.cells; read = n }) (trace ++ so_far.0)) all so_far.2,
       ),
     )
+
+pub returns-in_err-cells-clause-looked : goal.returns-in_err-cells-clause-looked
+returns-in_err-cells-clause-looked c =
+    let was = c.loop-index.invariant in
+    let look = c.cell.ensures.look in
+    let made : LookMade LiveReaderValue = record { old = c.loop-index.reader; look = (_, look.0); new = c.cell.new.self } in
+    (was.looked.0 ++ made ∷ [], follows_more c.args.reader.now c.loop-index.reader was.looked.0 made was.looked.1 refl, made_more LooksLive was.looked.0 made was.looked.2 look.1.looked)

@@ -11,4 +11,4 @@ pub returns-in-Ok : goal.returns-in-Ok
 returns-in-Ok c =
     let rows = c.args.page.rows.items in
     let is : c.in-Ok.head.items ≡ head_text c.args.page.next = search rules in
-    inl (refl, ap (λ (l : List ℕ). l ++ (items_text false (items_of (map row_data rows)) ++ codes "}\n")) is ∙ page_text rows c.args.page.next)
+    inl (refl, ap (λ (l : List ℕ). (l ++ items_text false (items_of (map row_data rows))) ++ codes "}\n") is ∙ page_text rows c.args.page.next)

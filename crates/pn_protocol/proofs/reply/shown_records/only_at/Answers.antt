@@ -1,5 +1,5 @@
 -- The only record is the first.
-use Rattle.std.proofs.Common.{Some, ap, ◌∙◌}
+use Rattle.std.proofs.Common.{Some, ◌∙◌}
 use Rattle.pn_protocol.specs.Reply.Making.{Found}
 use Rattle.pn_protocol.proofs.ShownRecords.{first_record, only_record}
 use Rattle.pn_protocol.proofs.reply.shown_records.only_at.Goals as goal

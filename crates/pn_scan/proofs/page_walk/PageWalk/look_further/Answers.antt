@@ -2,7 +2,7 @@
 use Rattle.std.proofs.Common.{◌≡◌, ◌<◌, ◌≤◌, ◌⊎◌, ◌+◌, ◌-◌, ℕ, [], ◌∷◌, length, Result, Ok, Err, refl, sym, ap, ◌∙◌, subst, arith}
 use Rattle.std.proofs.lemmas.Result.{err_from_is_err_and}
 use Rattle.pn_tablet.specs.Layouts.{Bounds, IsLayout}
-use Rattle.pn_scan.specs.Paging.{IsOnPage, PagesTo}
+use Rattle.pn_scan.specs.Paging.{IsOnPage, LookMade, PagesTo}
 use Rattle.pn_scan.specs.Parts.{part_at}
 use Rattle.pn_scan.specs.Views.{LooksOnce, rows_at}
 use Rattle.pn_scan.specs.WalkValues.{PageWalkValue}
@@ -81,3 +81,18 @@ returns-clause-goes g c = λ trace is_on.
     let once = subst (λ (n : ℕ). LooksOnce looks bounds old c.part.new.self (part_at query) (Ok c.in_ok-part.part) (rows_at query n) (c.walk.inside.tablet, look.0)) room look.1 in
     let next = c.in_ok-with_part.ensures in
     (_ ∷ [], (refl, refl), looked_on on none more.0 more.2 refl once (part_at query c.in_ok-part.part) once.answers _ (next.rows query) next.ends.0 next.ends.1)
+
+pub returns-in_err-page_of-clause-looked : goal.returns-in_err-page_of-clause-looked
+returns-in_err-page_of-clause-looked g c = ([], refl, tt)
+
+pub returns-then-is_whole-clause-looked : goal.returns-then-is_whole-clause-looked
+returns-then-is_whole-clause-looked g c = ([], refl, tt)
+
+pub returns-in_err-part-clause-looked : goal.returns-in_err-part-clause-looked
+returns-in_err-part-clause-looked g c = let look = c.in_err-part.ensures.look in let made : LookMade g.row.V.Denot = record { old = c.args.view.now; look = (_, look.0); new = c.part.new.self } in (made ∷ [], (refl, refl), (look.1.looked, tt))
+
+pub returns-in_err-with_part-clause-looked : goal.returns-in_err-with_part-clause-looked
+returns-in_err-with_part-clause-looked g c = let look = c.in_ok-part.ensures.look in let made : LookMade g.row.V.Denot = record { old = c.args.view.now; look = (_, look.0); new = c.part.new.self } in (made ∷ [], (refl, refl), (look.1.looked, tt))
+
+pub returns-clause-looked : goal.returns-clause-looked
+returns-clause-looked g c = let look = c.in_ok-part.ensures.look in let made : LookMade g.row.V.Denot = record { old = c.args.view.now; look = (_, look.0); new = c.part.new.self } in (made ∷ [], (refl, refl), (look.1.looked, tt))
