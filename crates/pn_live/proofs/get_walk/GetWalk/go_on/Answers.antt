@@ -25,10 +25,10 @@ loop-index-preserved c =
     let more = c.in_ok-cells.ensures in
     let look = c.cell.ensures.look in
     let keys = c.self.inside.keys.items in
+    let inside : c.loop-index.index < length keys = omega arith in
     let bounds = c.args.reader.now.layout in
     let made : LookMade LiveReaderValue = record { old = c.loop-index.reader; look = (_, look.0); new = c.cell.new.self } in
     let same = ap (λ (tablets : Tablets). tablets.layout) was.same in
-    let inside : c.loop-index.index < length keys = omega arith in
     let walk : GetWalkValue = record { keys = keys; cells = at_hand c.in_ok-cells.cells; read = c.loop-index.index + 1 } in
     record {
       goes = λ trace on.
@@ -47,10 +47,10 @@ returns-in_err-cells-clause-goes c = λ trace is_on.
     let was = c.loop-index.invariant in
     let look = c.cell.ensures.look in
     let keys = c.self.inside.keys.items in
+    let inside : c.loop-index.index < length keys = omega arith in
     let bounds = c.args.reader.now.layout in
     let made : LookMade LiveReaderValue = record { old = c.loop-index.reader; look = (_, look.0); new = c.cell.new.self } in
     let same = ap (λ (tablets : Tablets). tablets.layout) was.same in
-    let inside : c.loop-index.index < length keys = omega arith in
     let so_far = was.goes trace (subst (λ (w : GetWalkValue). IsOnGet bounds w trace) (sym c.self.view_is) is_on) in
     let gave = err_from_is_err_and c.from_residual.result c.from_residual.ensures.1 in
     let fault = c.in_err-cells.field-0.0 in
