@@ -195,3 +195,10 @@ pub ends_some : (moves : Moving LiveReaderValue) (old new : LiveReaderValue) (li
 ends_some moves old new line [] answer is some answered = absurd (omega (arith, some, ap (λ (l : LineBufferValue). l.count) is))
 ends_some moves old new line (b ∷ part) (Done reply) is some answered = answers_so_far moves old new line (b ∷ part) (Done reply) is answered
 ends_some moves old new line (b ∷ part) (Begun going) is some answered = answers_so_far moves old new line (b ∷ part) (Begun going) is answered
+
+-- a last part that is looked up so far
+pub last_on : (moves : Moving LiveReaderValue) (was between now : LiveReaderValue) (text : List ℕ) (going : Going) (answer : Answer) → LooksForLast moves was text between going
+    → ((command : CommandValue) → LooksOn moves was command between going → LooksTo moves was command now answer) → AnswersLast (EndsLines moves) (LooksForLast moves) was text now answer
+last_on moves was between now [] going answer looks on = absurd looks
+last_on moves was between now (b ∷ text) going (Done reply) looks on = answers_said moves was now (b ∷ text) looks.command (Done reply) looks.reads (on looks.command looks.so_far)
+last_on moves was between now (b ∷ text) going (Begun next) looks on = answers_said moves was now (b ∷ text) looks.command (Begun next) looks.reads (on looks.command looks.so_far)

@@ -6,13 +6,15 @@ use Rattle.std.specs.declared.io.Error.{Error}
 use Rattle.pn_serve.specs.declared.script.line_loop.state.Stage.{Stage}
 use Rattle.pn_serve.specs.declared.script.line_loop.state.Stage.TheVariants.{Reading}
 use Rattle.pn_live.specs.Prelude.{LiveReaderValue}
+use Rattle.pn_serve.specs.declared.script.line_loop.steps.Step.{Step}
+use Rattle.pn_serve.specs.declared.script.line_loop.steps.Step.TheVariants.{Next, NoInput, NoRoom, Ends}
 use Rattle.pn_serve.specs.Lines.States.{LineLoopValue, Start, new_loop, start_at}
 use Rattle.pn_serve.specs.Lines.Stepping.{Handling, IsReading, Stands, StandsAt}
 use Rattle.pn_serve.proofs.Standing.{at_untold, told_or}
 use Rattle.pn_serve.specs.Session.Knowing.{IsSteady}
 use Rattle.pn_serve.proofs.Running.{Stands-new}
-use Rattle.pn_stay.specs.Connections.{new_connection}
-use Rattle.pn_stay.specs.Turns.{Continues, IsRead}
+use Rattle.pn_stay.specs.Connections.{ConnectionValue, new_connection}
+use Rattle.pn_stay.specs.Turns.{Continues, IsRead, WaitsWell}
 use Rattle.pn_stay.specs.declared.steps.Came.{Came}
 use Rattle.pn_stay.specs.declared.steps.Came.TheVariants as came
 
@@ -82,3 +84,11 @@ Keeps-front (Some x) (Some y) kept = kept
 pub Continues-new : {V : Type 0} (handling : Handling V) (reader : V → LiveReaderValue) → IsSteady reader handling.moves → (machine : V) (left written : Option (List ℕ)) → Continues handling (start_at machine left written) left written machine new_connection
 Continues-new handling reader steady machine None written = Stands-new handling steady.preorder machine None written new_loop refl
 Continues-new handling reader steady machine (Some script) written = Stands-new handling steady.preorder machine (Some script) written new_loop refl
+
+-- ---- pauses
+
+pub waits_well : (kept : ConnectionValue) (step : Step) → (step ≡ NoInput → ⊥) → (step ≡ NoRoom → kept.replies ≢ []) → WaitsWell kept step
+waits_well kept (Next units) input room = tt
+waits_well kept NoInput input room = absurd (input refl)
+waits_well kept NoRoom input room = room refl
+waits_well kept (Ends ended) input room = tt
