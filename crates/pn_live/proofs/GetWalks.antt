@@ -93,7 +93,7 @@ module _ {bounds : Bounds} {keys : List (List ℕ)} {read : ℕ} {trace : List (
         → IsOnGet bounds (record { keys = keys; cells = at_hand more; read = read + 1 }) (trace ++ made ∷ [])
     key_read more memory made_so =
         let cell = found_cell found (cell_at key look) once.answers memory in
-        let now = getting_more {new = tt} getting inside at same here tt once.found cell.0 refl cell.1 in
+        let now = getting_more getting inside at {new = tt} same here tt once.found cell.0 refl cell.1 in
         record {
           made = made_more LooksLive trace made on.made once.looked;
           found = subst (AllByRecursion (IsFoundIn bounds)) (sym are_all) now.found;
@@ -106,7 +106,7 @@ module _ {bounds : Bounds} {keys : List (List ℕ)} {read : ℕ} {trace : List (
 
     pub key_refused : (why : ScanFault) → found ≡ Err why → EndsGet bounds keys (Err why) (trace ++ made ∷ [])
     key_refused why is =
-        let got = get_fails {new = tt} getting inside at same here tt once.found (λ (cells : List (Option CellValue)). cells) why (Err why) refl (subst (λ (r : Read). Answers (λ cell. cell) r (cell_at key look)) is once.answers) in
+        let got = get_fails getting inside at {new = tt} same here tt once.found (λ (cells : List (Option CellValue)). cells) why (Err why) refl (subst (λ (r : Read). Answers (λ cell. cell) r (cell_at key look)) is once.answers) in
         record {
           made = made_more LooksLive trace made on.made once.looked;
           found = subst (AllByRecursion (IsFoundIn bounds)) (sym are_all) got.found;

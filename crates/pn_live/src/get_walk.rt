@@ -24,7 +24,8 @@ pub struct GetWalk {
 }
 
 impl Model for GetWalk {
-    ghost use Rattle.std.specs.Prelude.{◌≡◌, ◌≤◌, option_map, length, vec_capacity, vec_len, IfSome};
+    ghost use Rattle.std.specs.Prelude.{◌≡◌, ◌≤◌, List, Option, option_map, length, vec_capacity, vec_len, IfSome};
+    ghost use Rattle.pn_record.specs.Prelude.{CellValue};
     ghost use Rattle.pn_live.specs.Getting.{GetWalkValue};
 
     ghost Value = { GetWalkValue };
@@ -33,7 +34,7 @@ impl Model for GetWalk {
 
     ghost coded = { get_walk_code };
 
-    ghost view = { λ walk. record { keys = walk.keys.items; cells = option_map (λ cells. cells.items) walk.cells; read = walk.read } };
+    ghost view = { λ walk. record { keys = walk.keys.items; cells = option_map {U = List (Option CellValue)} (λ cells. cells.items) walk.cells; read = walk.read } };
 
     ghost invariant = { λ walk. (walk.read ≤ length walk.keys.items) × IfSome walk.cells (λ cells. (length walk.keys.items ≤ vec_capacity cells) × (vec_len cells ≡ walk.read)) };
 }

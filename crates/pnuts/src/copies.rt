@@ -105,6 +105,7 @@ fn read_copies<R>(
 ) -> Result<Vec<TabletCopy>, CopiesFault>
 where
     R: AllocGlobal + Eprint + Threads + Sync + Clock,
+    requires { 1 ≤ workers }
 {
     let mut reader = CopiesReader::new(rt.alloc(), source, workers)?;
     let mut told = Instant::now(rt).ok();

@@ -179,6 +179,10 @@ where
     Some(serve(rt, alloc, listener, settings, 1, streams, written))
 }
 
+fn first_copy() -> &'static [u8] {
+    COPY.as_bytes()
+}
+
 // Serves over a stream of the first message, in a region that starts from a copy that took it.
 fn serve_copy<R>(
     rt: &R,
@@ -190,7 +194,7 @@ where
     R: Threads + Wait + Sync + Copy + Send + 'static,
 {
     let streams = readers_of(alloc, FIRST)?;
-    let opened = open_text(rt, alloc, 1, COPY.as_bytes(), 1).ok()?;
+    let opened = open_text(rt, alloc, 1, first_copy(), 1).ok()?;
     Some(serve_from(rt, alloc, listener, opened, 1, streams, written))
 }
 

@@ -11,7 +11,7 @@ use std::thread::Threads;
 use test_kit::{PiecewiseReader, ReplyRuns, Stop, StoppingWriter};
 
 /// The script, and its replies.
-pub(crate) const SCRIPT: &str =
+const SCRIPT: &str =
     r#"{"batches":[{"first":1,"images":[{"fields":{"v":"x"},"key":"k","master":"w","version":[1,0]}],"stream":"east"}],"do":"deliver"}
 {"batches":[{"first":1,"images":[{"fields":{"v":"x"},"key":"k","master":"w","version":[1,0]}],"stream":"east"}],"do":"deliver"}
 {"do":"scan","query":{}}
@@ -23,6 +23,15 @@ const REPLIES: &str = r#"{"changed":1}
 {"next":null,"rows":[{"contents":[{"fields":{"v":"x"},"master":"w"}],"key":"k","state":"one","version":[1,0]}]}
 {"error":"bad-shape","member":"whole"}
 "#;
+
+/// The script. Functions that take it from here know nothing of its bytes, which the prover would look at.
+pub(crate) fn script() -> &'static [u8] {
+    SCRIPT.as_bytes()
+}
+
+fn due_replies() -> &'static [u8] {
+    REPLIES.as_bytes()
+}
 
 /// How runs of the script end.
 pub(crate) fn run_over<R: Threads + Sync>(
@@ -44,7 +53,7 @@ pub(crate) fn run_over<R: Threads + Sync>(
 
 // How a run ended, how many bytes it wrote, and whether they are the first of the replies.
 fn outcome(alloc: Global, ended: Result<Counts, RunFault>, written: &[u8]) -> Result<String, Fail> {
-    let is_prefix = REPLIES.as_bytes().starts_with(written);
+    let is_prefix = due_replies().starts_with(written);
     let mut text = end_text(alloc, ended)?;
     write!(text, ", {} bytes: {is_prefix}", written.len())?;
     Ok(text)
@@ -83,7 +92,7 @@ fn read_from<R: Threads + Sync, S: Source + Drop>(
 fn in_pieces<R: Threads + Sync>(rt: &R, alloc: Global) -> Result<String, Fail> {
     let mut runs = ReplyRuns::new(alloc);
     for size in [1, 2, 7, 1_000] {
-        let pieces = PiecewiseReader::new(SCRIPT.as_bytes(), size);
+        let pieces = PiecewiseReader::new(script(), size);
         let text = read_from(rt, alloc, pieces)?;
         runs.push(text)?;
     }
@@ -92,7 +101,7 @@ fn in_pieces<R: Threads + Sync>(rt: &R, alloc: Global) -> Result<String, Fail> {
 
 // Readers that show a byte at a time, of which each fails at another.
 fn failing_readers<R: Threads + Sync>(rt: &R, alloc: Global) -> Result<String, Fail> {
-    let script = SCRIPT.as_bytes();
+    let script = script();
     let mut runs = ReplyRuns::new(alloc);
     for look in 1..=script.len() {
         let text = read_from(rt, alloc, PiecewiseReader::failing(script, 1, look))?;
@@ -103,7 +112,7 @@ fn failing_readers<R: Threads + Sync>(rt: &R, alloc: Global) -> Result<String, F
 
 // Sources that show a line at a time, of which each fails at another.
 fn failing_sources<R: Threads + Sync>(rt: &R, alloc: Global) -> Result<String, Fail> {
-    let script = SCRIPT.as_bytes();
+    let script = script();
     let mut runs = ReplyRuns::new(alloc);
     for look in 1..6 {
         let text = read_from(rt, alloc, FailingSource::new(script, look))?;
@@ -117,7 +126,7 @@ fn write_into<R: Threads + Sync>(
     alloc: Global,
     mut output: StoppingWriter,
 ) -> Result<String, Fail> {
-    let mut input = InMemory::new(SCRIPT.as_bytes());
+    let mut input = InMemory::new(script());
     let ended = run_script(rt, alloc, &mut input, &mut output);
     outcome(alloc, ended, &output.taken)
 }
@@ -130,7 +139,7 @@ fn stop_in_flush<R: Threads + Sync>(rt: &R, alloc: Global) -> Result<String, Fai
 // Writers that take a byte at a time, of which each stops at another. Counts those that had just the bytes before it.
 fn stopping_writers<R: Threads + Sync>(rt: &R, alloc: Global, stop: Stop) -> Result<String, Fail> {
     let mut stopped = 0u64;
-    for count in 0..REPLIES.len() {
+    for count in 0..due_replies().len() {
         let output = StoppingWriter::new(alloc, 1, count.saturating_add(1), stop);
         let text = write_into(rt, alloc, output)?;
         let due = stop_text(alloc, count)?;
@@ -138,7 +147,7 @@ fn stopping_writers<R: Threads + Sync>(rt: &R, alloc: Global, stop: Stop) -> Res
             stopped = stopped.saturating_add(1);
         }
     }
-    Ok(format!(in alloc; "{stopped} of {}", REPLIES.len())?)
+    Ok(format!(in alloc; "{stopped} of {}", due_replies().len())?)
 }
 
 fn stop_text(alloc: Global, count: usize) -> Result<String, AllocError> {

@@ -32,6 +32,15 @@ const REPLIES: &str =
 {"error":"read-only"}
 "#;
 
+// The lines, and the replies. Functions that take them from here know nothing of their bytes, which the prover would look at.
+fn session_lines() -> &'static [u8] {
+    LINES.as_bytes()
+}
+
+fn due_replies() -> &'static [u8] {
+    REPLIES.as_bytes()
+}
+
 // One delivery of the image that the first line is.
 fn delivery_of(alloc: Global, lines: &str) -> Option<Vec<Delivery>> {
     let line = lines.lines().next()?;
@@ -140,8 +149,8 @@ pub(crate) fn fail_sessions<R: Threads + Wait + Sync>(
 // Readers that show a byte at a time.
 fn over_failing_readers(alloc: Global, reader: &mut LiveReader) -> Result<String, Fail> {
     let mut ends = ReplyRuns::new(alloc);
-    for look in 1..=LINES.len() {
-        let mut input = PiecewiseReader::failing(LINES.as_bytes(), 1, look);
+    for look in 1..=session_lines().len() {
+        let mut input = PiecewiseReader::failing(session_lines(), 1, look);
         let mut written = Vec::new(alloc);
         let ended = answer_by(alloc, reader, &mut input, &mut written);
         let text = read_end_text(alloc, ended, &written)?;
@@ -156,7 +165,7 @@ fn read_end_text(
     ended: Result<Counts, RunFault>,
     written: &[u8],
 ) -> Result<String, AllocError> {
-    let is_due = matches!(ended, Err(RunFault::Read)) && REPLIES.as_bytes().starts_with(written);
+    let is_due = matches!(ended, Err(RunFault::Read)) && due_replies().starts_with(written);
     format!(in alloc; "{is_due}, {} bytes", written.len())
 }
 
@@ -182,18 +191,18 @@ fn endless_session(alloc: Global, reader: &mut LiveReader, text: &[u8]) -> RunFa
 // Writers that take a byte at a time. Counts those that had just the bytes before the call that failed.
 fn into_failing_writers(alloc: Global, reader: &mut LiveReader) -> Result<String, Fail> {
     let mut stopped = 0u64;
-    for count in 0..REPLIES.len() {
-        let mut input = InMemory::new(LINES.as_bytes());
+    for count in 0..due_replies().len() {
+        let mut input = InMemory::new(session_lines());
         let mut output = StoppingWriter::new(alloc, 1, count.saturating_add(1), Stop::Fails);
         let ended = answer_by(alloc, reader, &mut input, &mut output);
         if matches!(ended, Err(RunFault::Write)) && has_first_replies(&output, count) {
             stopped = stopped.saturating_add(1);
         }
     }
-    Ok(format!(in alloc; "{stopped} of {}", REPLIES.len())?)
+    Ok(format!(in alloc; "{stopped} of {}", due_replies().len())?)
 }
 
 // Whether a writer took this many of the first bytes of the replies, and no others.
 fn has_first_replies(output: &StoppingWriter, count: usize) -> bool {
-    output.taken.len() == count && REPLIES.as_bytes().starts_with(&output.taken)
+    output.taken.len() == count && due_replies().starts_with(&output.taken)
 }

@@ -1,6 +1,6 @@
 //! A script that is a talk: each line comes only once the replies to those before it are out.
 
-use crate::serve::scripts::{SCRIPT, run_script};
+use crate::serve::scripts::{run_script, script};
 use std::alloc::Global;
 use std::cell::Cell;
 use std::io;
@@ -60,7 +60,7 @@ impl Write for Hearing<'_> {
 pub(crate) fn talk<R: Threads + Sync>(rt: &R, alloc: Global) -> Result<String, Fail> {
     let heard = Cell::new(0);
     let mut input = Asking {
-        rest: SCRIPT.as_bytes(),
+        rest: script(),
         said: 0,
         heard: &heard,
     };
