@@ -1,24 +1,33 @@
 -- Where control sessions end.
-use Rattle.std.proofs.Common.{◌≡◌, ℕ, List, [], ◌++◌, Option, None, Some, length, refl, ap, ◌∙◌, subst, sym, inl, arith}
-use Rattle.std.specs.Prelude.{Err}
+use Rattle.std.proofs.Common.{◌≡◌, ◌≢◌, ◌⊎◌, ◌<◌, ◌≤◌, ℕ, true, List, [], ◌++◌, Option, None, Some, length, refl, ap, ◌∙◌, subst, sym, inl, inr, arith, ⊎_elim}
+use Rattle.std.specs.Prelude.{Result, Ok, Err, IfOk, IfErr, IsErrOf, OnErr}
 use Rattle.std.specs.Io.KnownBytes.{Appends, Keeps}
 use Rattle.pn_line.specs.Line.{LineBufferValue}
 use Rattle.pn_line.specs.LinesRead.{LinesRead, PartRead}
+use Rattle.pn_line.specs.Sent.{AppendsPrefix}
 use Rattle.pn_line.specs.Text.{text_of}
 use Rattle.pn_line.proofs.SentLaws.{Sends-flushed}
 use Rattle.pn_live.specs.Readers.{LiveReaderValue}
 use Rattle.pn_scan.specs.Paging.{Stays}
-use Rattle.pn_serve.specs.Control.Ends.{AnswersClient, AnsweredSome, control_start}
-use Rattle.pn_serve.specs.Control.Lines.{ControlState, at_rest, AnswersControl, EndsControl}
+use Rattle.pn_serve.specs.Control.Ends.{AnswersClient, AnsweredSome, ControlEnds, control_start}
+use Rattle.pn_serve.specs.Control.Lines.{ControlState, at_rest, is_closed, AnswersControl, EndsControl}
+use Rattle.pn_serve.specs.Lines.Bounds.{Foresees, ForeseesAt}
+use Rattle.pn_serve.specs.Lines.Ends.{EndsBy}
 use Rattle.pn_serve.specs.Lines.Served.{AllAnswer}
 use Rattle.pn_serve.specs.Lines.States.{LineLoopValue, Start, waits_in}
-use Rattle.pn_serve.specs.Lines.Stepping.{IsReading, by}
+use Rattle.pn_serve.specs.Lines.Stepping.{IsReading, Stands, StandsAt, by}
 use Rattle.pn_serve.specs.declared.script.Counts.{Counts}
-use Rattle.pn_serve.specs.declared.script.RunFault.TheVariants.{Memory}
+use Rattle.pn_serve.specs.declared.script.RunFault.{RunFault}
+use Rattle.pn_serve.specs.declared.script.RunFault.TheVariants.{Read, Write, Memory}
+use Rattle.pn_serve.specs.declared.script.TheConstants.{MAX_LINES}
+use Rattle.pn_serve.specs.declared.script.line_loop.state.Stage.{Stage}
+use Rattle.pn_serve.specs.declared.script.line_loop.state.Stage.TheVariants.{Reading}
 use Rattle.pn_serve.specs.declared.sessions.going.Going.{Going}
 use Rattle.pn_serve.specs.Session.Knowing.{KnowsNoLess}
-use Rattle.pn_serve.proofs.Alone.{all_at_once}
-use Rattle.pn_serve.proofs.Standing.{no_length}
+use Rattle.pn_serve.proofs.Alone.{HasEnded-alone, all_at_once}
+use Rattle.pn_serve.proofs.Running.{stays_preorder}
+use Rattle.pn_serve.proofs.Serving.{OnTold}
+use Rattle.pn_serve.proofs.Standing.{cut_reading, no_length}
 
 keeps_itself : (bytes : Option (List ℕ)) → Keeps bytes bytes
 keeps_itself None = tt
@@ -57,3 +66,40 @@ answered_some goes goes_last start script left before after state run counts sta
 pub client_knows : (reader now : LiveReaderValue) (old new : ControlState) → old ≡ at_rest reader → KnowsNoLess old.reader new.reader → now ≡ new.reader → KnowsNoLess reader now
 client_knows reader now old new is knows same =
     subst (λ (r : LiveReaderValue). KnowsNoLess reader r) (sym same) (subst (λ (s : ControlState). KnowsNoLess s.reader new.reader) is knows)
+
+-- a session that is closed between two lines, once what waits is written or the writer failed
+module _ (goes goes_last : ControlState → List ℕ → ControlState → Going → Type 0) (start : Start ControlState) (left before after : Option (List ℕ)) (state : ControlState) (run : LineLoopValue)
+    (reading : run.state.stage ≡ Reading) where
+  closed_reading : Stands (by Stays AnswersControl EndsControl goes goes_last) start left before state run → StandsAt (by Stays AnswersControl EndsControl goes goes_last) Reading start left before state run
+  closed_reading stands = subst (λ (s : Stage). StandsAt (by Stays AnswersControl EndsControl goes goes_last) s start left before state run) reading stands
+
+  pub closed_ends : (result : Result Counts RunFault) → Stands (by Stays AnswersControl EndsControl goes goes_last) start left before state run → run.line.count ≡ 0 → is_closed state ≡ true
+      → IfOk result (λ counts. (counts ≡ run.state.counts) × Appends before after (waits_in run)) → OnErr result (AppendsPrefix before after (waits_in run)) → (faulty : Type 0) → IfErr result (λ fault. (fault ≡ Write) × faulty)
+      → ControlEnds start left after state result
+  closed_ends (Ok counts) stands empty closed ok err faulty fault =
+      inr (closed, OnTold start.left _ _ (λ script is. answered_some goes goes_last start script left before after state run counts is empty ok.1 ok.0) (closed_reading stands))
+  closed_ends (Err found) stands empty closed ok err faulty fault =
+      inl (subst (λ (f : RunFault). EndsBy AnswersControl EndsControl start left after state (Err f)) (sym fault.0)
+      (HasEnded-alone AnswersControl EndsControl goes goes_last start left after state (Err Write) (cut_reading (by Stays AnswersControl EndsControl goes goes_last) stays_preorder start left before after state run err (closed_reading stands))))
+
+  pub closed_few : (result : Result Counts RunFault) (read write end sent : Type 0) → Foresees read write end run → IfOk result (λ counts. (counts ≡ run.state.counts) × sent) → IfOk result (λ counts. counts.lines ≤ MAX_LINES)
+  closed_few (Ok counts) read write end sent foresees ok =
+      let at : ForeseesAt Reading read write end run = subst (λ (s : Stage). ForeseesAt s read write end run) reading foresees in
+      let same : counts.lines ≡ run.state.counts.lines = ap (λ (n : Counts). n.lines) ok.0 in
+      ⊎_elim (λ few. omega (arith, few, same)) (λ all. omega (arith, all.0, same)) at.0
+  closed_few (Err found) read write end sent foresees ok = tt
+
+-- it may end by a fault of the writer alone
+pub closed_begun : (result : Result Counts RunFault) (faulty : Type 0) → IfErr result (λ fault. (fault ≡ Write) × faulty) → IfErr result (λ fault. fault ≢ Memory)
+closed_begun (Ok counts) faulty fault = tt
+closed_begun (Err found) faulty fault = λ is. write_memory (sym fault.0 ∙ is)
+  where
+    write_memory : Write ≡ Memory → ⊥
+    write_memory same = cc
+
+pub closed_read : (result : Result Counts RunFault) (faulty reads : Type 0) → IfErr result (λ fault. (fault ≡ Write) × faulty) → IsErrOf result Read → reads
+closed_read (Ok counts) faulty reads fault is = absurd is
+closed_read (Err found) faulty reads fault is = absurd (write_read (sym fault.0 ∙ is))
+  where
+    write_read : Write ≡ Read → ⊥
+    write_read same = cc

@@ -78,11 +78,7 @@ fn load_line(lines: &mut LineLoop, line: Option<LineBuffer>)
 
 // Goes on with the replies that are kept, in whose place there are the thread's meanwhile. Where there are none, whether the thread
 // has another buffer, since they may have to be kept.
-fn load_replies(
-    alloc: Global,
-    buffers: &mut ThreadBuffers,
-    kept: &mut Option<ReplyBuffer>,
-) -> bool
+fn load_replies(alloc: Global, buffers: &mut ThreadBuffers, kept: &mut Option<ReplyBuffer>) -> bool
     requires none { buffers.old.lines.replies ≡ [] }
     ensures lines { buffers.new.lines ≡ record buffers.old.lines { replies = replies_in kept.old } }
     ensures input { buffers.new.input ≡ buffers.old.input }

@@ -112,12 +112,13 @@ fn answer_text(alloc: Global, planned: Result<Plan, PlanFault<'_>>) -> Result<St
 pub(crate) fn says(alloc: Global, line: &str) -> Result<String, Fail> {
     let (text, line) = line.split_once('|').unwrap_or((line, ""));
     let words = words(alloc, line)?;
-    Ok(said_text(alloc, plan_of(alloc, &words), text)?)
+    let planned = plan_of(alloc, &words);
+    Ok(said_text(alloc, &planned, text)?)
 }
 
 fn said_text(
     alloc: Global,
-    planned: Result<Plan, PlanFault<'_>>,
+    planned: &Result<Plan, PlanFault<'_>>,
     text: &str,
 ) -> Result<String, AllocError> {
     match planned {
