@@ -1,5 +1,5 @@
 -- What a read brings to a connection.
-use Rattle.std.proofs.Common.{◌≡◌, ◌≢◌, ◌⊎◌, ℕ, Bool, true, false, Option, None, Some, List, [], ◌++◌, IfSome, inl, inr, refl, sym, ap, ◌∙◌, subst}
+use Rattle.std.proofs.Common.{◌≡◌, ◌≢◌, ℕ, Bool, true, false, Option, None, Some, List, [], IfSome, inl, inr, refl, sym, ap, subst}
 use Rattle.std.specs.Prelude.{Result, Ok, Err, IfOk, OnErr}
 use Rattle.std.specs.Io.KnownBytes.{Consumes, IsAtEnd, Keeps, prepend_known}
 use Rattle.std.specs.declared.io.Error.{Error}
@@ -9,13 +9,12 @@ use Rattle.pn_live.specs.Prelude.{LiveReaderValue}
 use Rattle.pn_serve.specs.declared.script.line_loop.steps.Step.{Step}
 use Rattle.pn_serve.specs.declared.script.line_loop.steps.Step.TheVariants.{Next, NoInput, NoRoom, Ends}
 use Rattle.pn_serve.specs.Lines.States.{LineLoopValue, Start, new_loop, start_at}
-use Rattle.pn_serve.specs.Lines.Stepping.{Handling, IsReading, Stands, StandsAt}
+use Rattle.pn_serve.specs.Lines.Stepping.{Handling, Stands, StandsAt}
 use Rattle.pn_serve.proofs.Standing.{at_untold, told_or}
 use Rattle.pn_serve.specs.Session.Knowing.{IsSteady}
 use Rattle.pn_serve.proofs.Running.{Stands-new}
 use Rattle.pn_stay.specs.Connections.{ConnectionValue, new_connection}
 use Rattle.pn_stay.specs.Turns.{Continues, IsRead, WaitsWell}
-use Rattle.pn_stay.specs.declared.steps.Came.{Came}
 use Rattle.pn_stay.specs.declared.steps.Came.TheVariants as came
 
 -- ---- by what came

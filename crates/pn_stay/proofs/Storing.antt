@@ -1,6 +1,6 @@
 -- A connection that is kept between two turns stands where it stood.
-use Rattle.std.proofs.Common.{◌≡◌, ◌≢◌, ◌⊎◌, ◌<◌, ◌≤◌, ℕ, Bool, true, false, Option, None, Some, List, [], ◌∷◌, ◌++◌, Contains, inl, inr, refl, sym, ap, ◌∙◌, subst, append_assoc}
-use Rattle.std.specs.Prelude.{Result, Ok, Err, IfOk, OnErr}
+use Rattle.std.proofs.Common.{◌≡◌, ◌≢◌, ◌≤◌, ℕ, Bool, true, false, Option, None, Some, List, [], ◌∷◌, ◌++◌, Contains, inl, inr, refl, sym, ap, ◌∙◌, subst, append_assoc}
+use Rattle.std.specs.Prelude.{Result, Err}
 use Rattle.std.specs.Io.KnownBytes.{prepend_known}
 use Rattle.std.proofs.KnownBytes.{Appends-nil}
 use Rattle.std.proofs.lemmas.List.Elements.{All-nil, Contains-append_right}
@@ -8,7 +8,6 @@ use Rattle.pn_line.specs.Line.{LineBufferValue, so_far}
 use Rattle.pn_line.specs.LinesRead.{PartRead}
 use Rattle.pn_line.specs.Reads.{HasShown}
 use Rattle.pn_line.specs.Sent.{AppendsPrefix}
-use Rattle.pn_line.specs.declared.writing.WriteFault.{WriteFault}
 use Rattle.pn_line.proofs.LineLaws.{kept_bytes-short}
 use Rattle.pn_serve.specs.declared.script.Counts.{Counts}
 use Rattle.pn_serve.specs.declared.script.RunFault.{RunFault}
@@ -17,33 +16,21 @@ use Rattle.pn_serve.specs.declared.script.line_loop.state.Stage.{Stage}
 use Rattle.pn_serve.specs.declared.script.line_loop.state.Stage.TheVariants.{Reading, Looking, Ending}
 use Rattle.pn_serve.specs.declared.script.line_loop.steps.Step.{Step}
 use Rattle.pn_serve.specs.declared.script.line_loop.steps.Step.TheVariants.{Next, NoInput, NoRoom, Ends}
-use Rattle.pn_serve.specs.declared.script.replies.SendOutcome.{SendOutcome}
-use Rattle.pn_serve.specs.declared.script.replies.SendOutcome.TheVariants.{All as AllSent, Waits}
 use Rattle.pn_serve.specs.declared.sessions.going.Going.{Going}
 use Rattle.pn_serve.specs.Lines.States.{LineStateValue, Start}
 use Rattle.pn_serve.specs.Lines.Stepping.{Handling, HasEnded, IsLooking, IsReading, Stands, StandsAt, StepsTo}
 use Rattle.pn_serve.proofs.Serving.{OnTold}
 use Rattle.pn_stay.specs.Connections.{ConnectionValue, IsKept, SameInput, loop_of}
-use Rattle.pn_stay.specs.Turns.{Continues, KeepsOr, Pauses, PausesWell, StopsWell, Stores, TurnsTo}
+use Rattle.pn_stay.specs.Turns.{Continues, KeepsOr, Stores, TurnsTo}
 use Rattle.pn_stay.specs.declared.connection_state.Pause.{Pause}
 use Rattle.pn_stay.specs.declared.connection_state.Pause.TheVariants.{Turn, Input, Output}
 use Rattle.pn_stay.specs.declared.connection_state.TurnOutcome.{TurnOutcome}
 use Rattle.pn_stay.specs.declared.connection_state.TurnOutcome.TheVariants.{Goes, Ended}
 
--- what is discarded does not wait
-pub nothing_kept : (sent : Result SendOutcome WriteFault) (replies : List ℕ) → IfOk sent (λ s. s ≡ AllSent → replies ≡ []) → IfOk sent (λ s. s ≡ Waits → (replies ≢ []) × ⊥) → OnErr sent ⊥ → replies ≡ []
-nothing_kept (Ok AllSent) replies all waits fault = all refl
-nothing_kept (Ok Waits) replies all waits fault = absurd (waits refl).1
-nothing_kept (Err e) replies all waits fault = absurd fault
-
 -- where bytes wait, something waits
 pub some_waits : (replies left : List ℕ) → replies ≢ [] → replies ++ left ≢ []
 some_waits [] left some = λ none. some refl
 some_waits (b ∷ replies) left some = λ none. cc
-
-pub none_waits : (replies left : List ℕ) → replies ++ left ≡ [] → replies ≡ []
-none_waits [] left none = refl
-none_waits (b ∷ replies) left none = absurd cc
 
 -- known bytes with others in front of them
 front : (bs held new_held : List ℕ) (left : Option (List ℕ)) (rest : List ℕ) → new_held ≡ bs ++ held → prepend_known held left ≡ Some rest → prepend_known new_held left ≡ Some (bs ++ rest)
@@ -151,24 +138,3 @@ module _ {V : Type 0} (handling : Handling V) (start : Start V) (left written : 
 -- of what waits nothing was written
 pub AppendsPrefix-none : (written : Option (List ℕ)) (bs : List ℕ) → AppendsPrefix written written bs
 AppendsPrefix-none written bs = record { sent = []; back = bs; appends = Appends-nil written; whole = refl }
-
--- ---- pauses
-
-pauses_kept : (old new : ConnectionValue) (pause : Pause) → IsKept old new → Pauses old pause → Pauses new pause
-pauses_kept old new Turn kept pauses = kept.replies ∙ pauses
-pauses_kept old new Input kept pauses =
-    (ap (λ (r : List ℕ). r ++ new.state.left) kept.replies ∙ ap (λ (s : LineStateValue). old.replies ++ s.left) kept.state ∙ pauses.0, ap (λ (s : LineStateValue). s.stage) kept.state ∙ pauses.1)
-pauses_kept old new Output kept pauses = λ none. pauses (sym kept.replies ∙ none)
-
-pauses_or : (old new : ConnectionValue) (pause : Pause) (outcome : TurnOutcome) → KeepsOr old pause new outcome → Pauses old pause → PausesWell new outcome
-pauses_or old new pause (Goes other) keeps pauses = subst (λ (p : Pause). Pauses new p) (sym keeps.0) (pauses_kept old new pause keeps.1 pauses)
-pauses_or old new pause (Ended ended) keeps pauses = tt
-
-ended_well : (new : ConnectionValue) (ended : Result Counts RunFault) (outcome : TurnOutcome) → outcome ≡ Ended ended → PausesWell new outcome
-ended_well new ended outcome is = subst (λ (o : TurnOutcome). PausesWell new o) (sym is) tt
-
-pub Pauses-stored : (old new : ConnectionValue) (step : Step) (outcome : TurnOutcome) → Stores old step new outcome → StopsWell old step → PausesWell new outcome
-Pauses-stored old new (Next units) outcome stores stops = pauses_or old new Turn outcome stores stops
-Pauses-stored old new NoInput outcome stores stops = pauses_or old new Input outcome stores stops
-Pauses-stored old new NoRoom outcome stores stops = pauses_or old new Output outcome stores stops
-Pauses-stored old new (Ends ended) outcome stores stops = ended_well new ended outcome stores

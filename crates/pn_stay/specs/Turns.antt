@@ -8,8 +8,8 @@ use Rattle.pn_serve.specs.declared.script.line_loop.state.Stage.TheVariants.{Rea
 use Rattle.pn_serve.specs.declared.script.RunFault.TheVariants.{Write}
 use Rattle.pn_serve.specs.declared.script.line_loop.steps.Step.{Step}
 use Rattle.pn_serve.specs.declared.script.line_loop.steps.Step.TheVariants.{Next, NoInput, NoRoom, Ends}
-use Rattle.pn_serve.specs.Lines.States.{LineLoopValue, Start, waits_in}
-use Rattle.pn_serve.specs.Lines.Stepping.{Handling, HasEnded, Stands, StepsTo as LoopStepsTo, with_rest}
+use Rattle.pn_serve.specs.Lines.States.{Start, waits_in}
+use Rattle.pn_serve.specs.Lines.Stepping.{Handling, HasEnded, Stands, StepsTo as LoopStepsTo}
 use Rattle.pn_stay.specs.Connections.{ConnectionValue, IsKept, loop_of}
 use Rattle.pn_stay.specs.declared.connection_state.ThreadBuffers.{ThreadBuffers}
 use Rattle.pn_stay.specs.declared.connection_state.Pause.{Pause}

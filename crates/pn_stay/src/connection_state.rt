@@ -1,6 +1,6 @@
 //! The state of a connection: it is answered as a session is, in turns, between which it keeps as little as it can.
 
-ghost use Rattle.std.specs.Prelude.{◌≡◌, ◌≢◌, ◌+◌, ◌-◌, ◌^◌, ◌≤◌, ℕ, List, [], Option, min};
+ghost use Rattle.std.specs.Prelude.{◌≡◌, ◌+◌, ◌-◌, ◌^◌, ◌≤◌, ℕ, List, Option, min};
 ghost use Rattle.pn_serve.specs.Lines.Stepping.{by, Stands, StepsTo};
 ghost use Rattle.pn_serve.specs.Lines.States.{Start};
 ghost use Rattle.pn_stay.specs.Connections.{new_connection};

@@ -1,18 +1,14 @@
 -- The loop begins, goes on, and ends; or the session is closed between two lines.
-use Rattle.std.proofs.Common.{◌≡◌, ◌⊎◌, ◌+◌, ◌<◌, ◌≤◌, ℕ, List, [], Option, IfSome, inl, inr, refl, sym, ap, ◌∙◌, subst, arith, ⊎_elim}
-use Rattle.std.specs.Prelude.{Result, Ok, Err}
+use Rattle.std.proofs.Common.{inl, refl, sym, ap, ◌∙◌, subst, arith}
+use Rattle.std.specs.Prelude.{Result}
 use Rattle.pn_live.specs.Readers.{tablets_of}
 use Rattle.pn_scan.specs.Paging.{Stays}
 use Rattle.pn_serve.specs.declared.script.Counts.{Counts}
 use Rattle.pn_serve.specs.declared.script.RunFault.{RunFault}
-use Rattle.pn_serve.specs.declared.script.RunFault.TheVariants.{Write}
-use Rattle.pn_serve.specs.declared.script.line_loop.state.Stage.{Stage}
-use Rattle.pn_serve.specs.declared.script.line_loop.state.Stage.TheVariants.{Reading}
-use Rattle.pn_serve.specs.Control.Ends.{AnsweredSome, ControlEnds}
 use Rattle.pn_serve.specs.Control.Lines.{ControlState, AnswersControl, EndsControl}
-use Rattle.pn_serve.specs.Lines.Bounds.{CanEndBy, Foresees, ForeseesAt, IsOutAs, IsSettled, looks_left}
+use Rattle.pn_serve.specs.Lines.Bounds.{CanEndBy, Foresees, IsOutAs, IsSettled, looks_left}
 use Rattle.pn_serve.specs.Lines.States.{LineLoopValue, start_at}
-use Rattle.pn_serve.specs.Lines.Stepping.{StandsAt, by}
+use Rattle.pn_serve.specs.Lines.Stepping.{by}
 use Rattle.pn_serve.proofs.Alone.{HasEnded-alone}
 use Rattle.pn_serve.proofs.ControlEnds.{closed_ends}
 use Rattle.pn_serve.proofs.Knowing.{knows_itself, knows_on}

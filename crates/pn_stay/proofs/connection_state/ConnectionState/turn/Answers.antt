@@ -1,11 +1,11 @@
 -- A turn begins with what the connection keeps, and ends with what it keeps then.
-use Rattle.std.proofs.Common.{◌≡◌, sym, subst}
+use Rattle.std.proofs.Common.{sym, subst}
 use Rattle.std.specs.Io.KnownBytes.{prepend_known}
 use Rattle.pn_serve.specs.Lines.States.{waits_in}
 use Rattle.pn_serve.specs.Lines.Stepping.{by}
 use Rattle.pn_stay.specs.Connections.{ConnectionValue, loop_of}
 use Rattle.pn_stay.specs.Turns.{Continues, in_buffers}
-use Rattle.pn_stay.proofs.Storing.{AppendsPrefix-none, Pauses-stored, Turns-stored}
+use Rattle.pn_stay.proofs.Storing.{AppendsPrefix-none, Turns-stored}
 use Rattle.pn_stay.proofs.connection_state.ConnectionState.turn.Goals as goal
 
 pub returns-clause-turns : goal.returns-clause-turns
