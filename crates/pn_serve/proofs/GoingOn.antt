@@ -39,7 +39,7 @@ use Rattle.pn_serve.proofs.Knowing.{going_knows, knows_on, knows_same, look_know
 module _ (moves : Moving LiveReaderValue) (pre : IsPreorder moves) (was between old new : LiveReaderValue) (moved : moves between old) where
   -- a page was gone on with
   module _ (query : QueryValue) (walk : PageWalkValue) (so_far : LooksOn moves was (scan query) between (Page query walk)) where
-    trace : List (LookMade LiveReaderValue)
+    abbrev trace : List (LookMade LiveReaderValue)
     trace = so_far.1.0
 
     pub page_goes : (step : Result PageStep ScanFault) (answer : Answer) → PagesTo LooksLive was.layout query old new step trace → PageAnswer query step answer → LooksTo moves was (scan query) new answer

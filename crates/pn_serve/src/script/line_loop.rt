@@ -47,6 +47,11 @@ impl Model for LineLoop {
 
     ghost Value = { LineLoopValue };
 
+    ghost use Rattle.pn_serve.specs.contracts.script.line_loop.state.Stage as stages;
+    ghost use Rattle.std.specs.Coded.{codes};
+
+    ghost coded = { Prim.hlevel (codes, stages.the_row.coded) };
+
     ghost view = { λ run. record { line = run.line; replies = run.replies; state = run.state } };
 }
 
