@@ -53,6 +53,11 @@ impl Model for LineState {
 
     ghost Value = { LineStateValue };
 
+    ghost use Rattle.pn_serve.specs.contracts.script.line_loop.state.Stage as stages;
+    ghost use Rattle.std.specs.Coded.{codes};
+
+    ghost coded = { Prim.hlevel (codes, stages.the_row.coded) };
+
     ghost view = { λ state. record { stage = state.stage; left = text_left state.text; more = state.more; out = state.is_out; last = state.is_last; counts = state.counts } };
 }
 
