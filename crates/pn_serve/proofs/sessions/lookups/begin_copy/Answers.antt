@@ -10,4 +10,4 @@ pub returns-in-Ok-clause-begins : goal.returns-in-Ok-clause-begins
 returns-in-Ok-clause-begins c =
     let found = c.in-Ok.ensures.copy in
     subst (λ (going : Going). LooksOn Stays c.args.reader.now (copy c.args.need.now c.args.tablet) c.copy.new.self going) (sym c.copy-in-Ok.ensures)
-    (record { within = ?; found = found.0; reached = c.copy.new.self; copied = found.1; moved = refl })
+    (record { within = omega arith; found = found.0; reached = c.copy.new.self; copied = found.1; moved = refl })
