@@ -36,7 +36,7 @@ module _ (old new : LineLoopValue) (before after : Option (List ℕ)) where
       at : (stage : Stage) → ForeseesAt stage read write end old → ForeseesAt stage read write end new
       at Reading is = (
         subst (λ (c : Counts). (c.lines < MAX_LINES) ⊎ ((c.lines ≡ MAX_LINES) × (new.line.count ≡ 0))) (sym kept.counts)
-        (subst (λ (l : LineBufferValue). (old.state.counts.lines < MAX_LINES) ⊎ ((old.state.counts.lines ≡ MAX_LINES) × (l.count ≡ 0))) (sym kept.line) is.0),
+            (subst (λ (l : LineBufferValue). (old.state.counts.lines < MAX_LINES) ⊎ ((old.state.counts.lines ≡ MAX_LINES) × (l.count ≡ 0))) (sym kept.line) is.0),
         kept.last ∙ is.1,
       )
       at (Looking going) is = (subst (λ (c : Counts). c.lines < MAX_LINES) (sym kept.counts) is.0, ap (λ (l : LineBufferValue). l.count) kept.line ∙ is.1, λ last. is.2 (sym kept.last ∙ last))

@@ -153,7 +153,7 @@ module _ (moves : Moving LiveReaderValue) (pre : IsPreorder moves) (was between 
   up_given_up text (get keys) (Keys walk) said on =
       let more = on.1.0 ++ no_looks in
       let ends = subst (λ (l : List (LookMade LiveReaderValue)). EndsGet was.layout keys (Err look_memory) l) (sym (append-nil on.1.0))
-          (subst (λ (ks : List (List ℕ)). EndsGet was.layout ks (Err look_memory) on.1.0) on.0 (keys_without_memory was.layout walk on.1.0 on.1.1)) in
+      (subst (λ (ks : List (List ℕ)). EndsGet was.layout ks (Err look_memory) on.1.0) on.0 (keys_without_memory was.layout walk on.1.0 on.1.1)) in
       let there = got_by moves pre was between now now moved was.layout keys (Err look_memory) more ends (gaps_more moves was between now now on.1.0 [] pre on.1.2 moved refl) in
       refused_after text (get keys) said record { seen = looks_in more; answer = Err look_memory; reached = there.0; got = there.1; moved = there.2; shows = refl }
   up_given_up text (copy need tablet) (Copy count) said on =

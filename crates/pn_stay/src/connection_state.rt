@@ -74,6 +74,11 @@ impl Model for ConnectionState {
 
     ghost Value = { ConnectionValue };
 
+    ghost use Rattle.pn_serve.specs.contracts.script.line_loop.state.Stage as stages;
+    ghost use Rattle.std.specs.Coded.{codes};
+
+    ghost coded = { Prim.hlevel (codes, stages.the_row.coded) };
+
     ghost view = { λ kept. record { line = line_in kept.line; held = kept.held.items; replies = replies_in kept.replies; state = kept.state } };
 
     ghost invariant = { λ kept. vec_len kept.held ≤ INPUT_CAPACITY };

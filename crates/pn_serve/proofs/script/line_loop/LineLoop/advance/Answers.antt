@@ -58,9 +58,9 @@ returns-in-NoInput-clause-runs g c =
     let mid = c.step.new.self in
     let r = c.in-NoInput.ensures.reads c.requires.settled in
     λ start steady stands.
-        let stood = Stands-here (by M.moves M.makes M.ends M.goes M.goes_last) steady.preorder start after c.step.new.machine mid leaves (c.in-NoInput.ensures.steps start (Some []) steady (Stands-whole (by M.moves M.makes M.ends M.goes M.goes_last) steady.preorder start before c.args.machine.now old left stands)) in
-        let ended = at_end_of (by M.moves M.makes M.ends M.goes M.goes_last) steady.preorder start left leaves before after c.args.machine.now c.step.new.machine old mid r.0 c.in-NoInput.ensures.idle.0 stands stood (c.in-NoInput.ensures.at_end refl) in
-        c.settle-in-NoInput.ensures.runs start leaves steady (c.end_input.ensures.stands start leaves after steady ended stood)
+    let stood = Stands-here (by M.moves M.makes M.ends M.goes M.goes_last) steady.preorder start after c.step.new.machine mid leaves (c.in-NoInput.ensures.steps start (Some []) steady (Stands-whole (by M.moves M.makes M.ends M.goes M.goes_last) steady.preorder start before c.args.machine.now old left stands)) in
+    let ended = at_end_of (by M.moves M.makes M.ends M.goes M.goes_last) steady.preorder start left leaves before after c.args.machine.now c.step.new.machine old mid r.0 c.in-NoInput.ensures.idle.0 stands stood (c.in-NoInput.ensures.at_end refl) in
+    c.settle-in-NoInput.ensures.runs start leaves steady (c.end_input.ensures.stands start leaves after steady ended stood)
 
 pub returns-in-NoInput-clause-reads : goal.returns-in-NoInput-clause-reads
 returns-in-NoInput-clause-reads g c =
@@ -85,8 +85,8 @@ returns-in-NoInput-clause-handed_on g c =
 pub returns-in-NoInput-clause-foresees : goal.returns-in-NoInput-clause-foresees
 returns-in-NoInput-clause-foresees g c =
     λ was.
-        foresees_run g.S.Source.may_fail g.W.Sink.may_fail g.S.Source.may_end c.end_input.new.self c.settle-in-NoInput.new.self c.settle-in-NoInput.result c.settle-in-NoInput.ensures.foresees c.settle-in-NoInput.ensures.fault
-        (end_foresees g.S.Source.may_fail g.W.Sink.may_fail g.S.Source.may_end c.step.new.self c.end_input.new.self (c.in-NoInput.ensures.foresees was) c.in-NoInput.ensures.idle.0 (c.in-NoInput.ensures.end refl) c.end_input.ensures.some c.end_input.ensures.none)
+    foresees_run g.S.Source.may_fail g.W.Sink.may_fail g.S.Source.may_end c.end_input.new.self c.settle-in-NoInput.new.self c.settle-in-NoInput.result c.settle-in-NoInput.ensures.foresees c.settle-in-NoInput.ensures.fault
+    (end_foresees g.S.Source.may_fail g.W.Sink.may_fail g.S.Source.may_end c.step.new.self c.end_input.new.self (c.in-NoInput.ensures.foresees was) c.in-NoInput.ensures.idle.0 (c.in-NoInput.ensures.end refl) c.end_input.ensures.some c.end_input.ensures.none)
 
 pub returns-in-NoInput-clause-knows : goal.returns-in-NoInput-clause-knows
 returns-in-NoInput-clause-knows g c =

@@ -22,11 +22,11 @@ returns-clause-stands g c =
     ∙ ap (λ (r : LineLoopValue). let m : LineLoopValue = record r { line = so_far []; state = record r.state { last = true } } in m) c.self.view_is
     ∙ ap (λ (r : LineLoopValue). let m : LineLoopValue = record r { state = record r.state { last = true } } in m) (part_kept old c.has_part-is_line.new.self test has.some has.none) in
     λ start left written steady ended stands.
-        Steps-end (by M.moves M.makes M.ends M.goes M.goes_last) steady.preorder start left written c.args.machine.now c.answer_end-answer.new.self old new test ended c.requires.reading stands (waits_none old.replies old.state.left c.requires.idle).1 c.requires.below
-        (λ yes. (has.some yes).1) (λ no. (has.none no).1) (subst (λ (r : LineLoopValue). Takes test r new) mid_is c.take_answer.ensures.takes)
-        (λ text is. subst (λ (r : LineLoopValue). TakesLine (AnswersLast M.ends M.goes_last) test c.args.machine.now text c.answer_end-answer.new.self r new) mid_is
-        (c.take_answer.ensures.last c.args.machine.now c.answer_end-answer.new.self text
-        (c.answer_end-answer.ensures.ends text (ap (λ (r : LineLoopValue). r.line) c.self.view_is ∙ part_is old c.has_part-is_line.new.self test has.some has.none text is))))
+    Steps-end (by M.moves M.makes M.ends M.goes M.goes_last) steady.preorder start left written c.args.machine.now c.answer_end-answer.new.self old new test ended c.requires.reading stands (waits_none old.replies old.state.left c.requires.idle).1 c.requires.below
+    (λ yes. (has.some yes).1) (λ no. (has.none no).1) (subst (λ (r : LineLoopValue). Takes test r new) mid_is c.take_answer.ensures.takes)
+    (λ text is. subst (λ (r : LineLoopValue). TakesLine (AnswersLast M.ends M.goes_last) test c.args.machine.now text c.answer_end-answer.new.self r new) mid_is
+    (c.take_answer.ensures.last c.args.machine.now c.answer_end-answer.new.self text
+    (c.answer_end-answer.ensures.ends text (ap (λ (r : LineLoopValue). r.line) c.self.view_is ∙ part_is old c.has_part-is_line.new.self test has.some has.none text is))))
 
 pub returns-clause-some : goal.returns-clause-some
 returns-clause-some g c =
@@ -40,8 +40,8 @@ returns-clause-some g c =
     ∙ ap (λ (r : LineLoopValue). let m : LineLoopValue = record r { line = so_far []; state = record r.state { last = true } } in m) c.self.view_is
     ∙ ap (λ (r : LineLoopValue). let m : LineLoopValue = record r { state = record r.state { last = true } } in m) (part_kept old c.has_part-is_line.new.self test has.some has.none) in
     λ some.
-        let yes = some_is old c.has_part-is_line.new.self test has.none some in
-        subst (λ (b : Bool). Takes b (let m : LineLoopValue = record old { line = so_far []; state = record old.state { last = true } } in m) new) yes (subst (λ (r : LineLoopValue). Takes test r new) mid_is c.take_answer.ensures.takes)
+    let yes = some_is old c.has_part-is_line.new.self test has.none some in
+    subst (λ (b : Bool). Takes b (let m : LineLoopValue = record old { line = so_far []; state = record old.state { last = true } } in m) new) yes (subst (λ (r : LineLoopValue). Takes test r new) mid_is c.take_answer.ensures.takes)
 
 pub returns-clause-none : goal.returns-clause-none
 returns-clause-none g c =
@@ -56,8 +56,8 @@ returns-clause-none g c =
     ∙ ap (λ (r : LineLoopValue). let m : LineLoopValue = record r { line = so_far []; state = record r.state { last = true } } in m) c.self.view_is
     ∙ ap (λ (r : LineLoopValue). let m : LineLoopValue = record r { state = record r.state { last = true } } in m) (part_kept old c.has_part-is_line.new.self test has.some has.none) in
     λ empty.
-        let is = none_is old c.has_part-is_line.new.self test has.some has.none empty in
-        let answered = c.answer_end-answer.ensures.ends [] (ap (λ (r : LineLoopValue). r.line) c.self.view_is ∙ is.1) in
-        last_replied M.ends M.goes_last false c.args.machine.now c.answer_end-answer.new.self (let m : LineLoopValue = record old { line = so_far []; state = record old.state { last = true } } in m) new
-        (subst (λ (b : Bool). TakesLine (AnswersLast M.ends M.goes_last) b c.args.machine.now [] c.answer_end-answer.new.self (let m : LineLoopValue = record old { line = so_far []; state = record old.state { last = true } } in m) new) is.0
-        (subst (λ (r : LineLoopValue). TakesLine (AnswersLast M.ends M.goes_last) test c.args.machine.now [] c.answer_end-answer.new.self r new) mid_is (c.take_answer.ensures.last c.args.machine.now c.answer_end-answer.new.self [] answered)))
+    let is = none_is old c.has_part-is_line.new.self test has.some has.none empty in
+    let answered = c.answer_end-answer.ensures.ends [] (ap (λ (r : LineLoopValue). r.line) c.self.view_is ∙ is.1) in
+    last_replied M.ends M.goes_last false c.args.machine.now c.answer_end-answer.new.self (let m : LineLoopValue = record old { line = so_far []; state = record old.state { last = true } } in m) new
+    (subst (λ (b : Bool). TakesLine (AnswersLast M.ends M.goes_last) b c.args.machine.now [] c.answer_end-answer.new.self (let m : LineLoopValue = record old { line = so_far []; state = record old.state { last = true } } in m) new) is.0
+    (subst (λ (r : LineLoopValue). TakesLine (AnswersLast M.ends M.goes_last) test c.args.machine.now [] c.answer_end-answer.new.self r new) mid_is (c.take_answer.ensures.last c.args.machine.now c.answer_end-answer.new.self [] answered)))

@@ -15,8 +15,8 @@ returns-in_err-flush-clause-err g c =
 pub returns-in-All-clause-out : goal.returns-in-All-clause-out
 returns-in-All-clause-out g c =
     λ out.
-        let no = turned c.has_text-is_out.result (sym out ∙ ap (λ (s : LineStateValue). s.out) c.set_out-in-All.ensures) in
-        let made : c.set_out.new.self.left ≡ [] = (no_text c.has_text-is_out.result c.set_out.new.self.left c.has_text-is_out.ensures).0 no in (
-          none_wait c.flush.new.self c.set_out-in-All.new.self.left (c.in_ok-flush.ensures.all.0 c.in-All.is) (ap (λ (s : LineStateValue). s.left) c.set_out-in-All.ensures ∙ made),
-          c.in_ok-flush.ensures.handed_on c.in-All.is,
-        )
+    let no = turned c.has_text-is_out.result (sym out ∙ ap (λ (s : LineStateValue). s.out) c.set_out-in-All.ensures) in
+    let made : c.set_out.new.self.left ≡ [] = (no_text c.has_text-is_out.result c.set_out.new.self.left c.has_text-is_out.ensures).0 no in (
+      none_wait c.flush.new.self c.set_out-in-All.new.self.left (c.in_ok-flush.ensures.all.0 c.in-All.is) (ap (λ (s : LineStateValue). s.left) c.set_out-in-All.ensures ∙ made),
+      c.in_ok-flush.ensures.handed_on c.in-All.is,
+    )

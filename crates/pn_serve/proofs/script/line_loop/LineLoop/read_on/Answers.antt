@@ -23,7 +23,7 @@ returns-then-not-is_out-clause-steps g c =
     let before = g.W.Sink.contents c.args.output.now in
     let after = g.W.Sink.contents c.put_out.new.output in
     λ start rest steady stands.
-        Steps-put_out (by M.moves M.makes M.ends M.goes M.goes_last) steady.preorder start (with_rest left rest) before after c.args.machine.now c.args.self.now c.put_out.new.self stands c.put_out.result c.requires.reading c.put_out.ensures.sends
+    Steps-put_out (by M.moves M.makes M.ends M.goes M.goes_last) steady.preorder start (with_rest left rest) before after c.args.machine.now c.args.self.now c.put_out.new.self stands c.put_out.result c.requires.reading c.put_out.ensures.sends
 
 pub returns-then-not-is_out-clause-reads : goal.returns-then-not-is_out-clause-reads
 returns-then-not-is_out-clause-reads g c =
@@ -41,10 +41,10 @@ returns-then-len-ge-ENDLESS-clause-steps g c =
     let written = g.W.Sink.contents c.args.output.now in
     let old = c.args.self.now in
     λ start rest steady stands.
-        subst (λ (s : Step). StepsTo (by M.moves M.makes M.ends M.goes M.goes_last) start (with_rest leaves rest) written c.args.machine.now c.end_reading.new.self s) (sym c.end_reading.ensures.step)
-        (subst (λ (r : LineLoopValue). Stands (by M.moves M.makes M.ends M.goes M.goes_last) start (with_rest leaves rest) written c.args.machine.now r) (sym c.end_reading.ensures.ends)
-        (Steps-endless (by M.moves M.makes M.ends M.goes M.goes_last) steady.preorder start (with_rest left rest) (with_rest leaves rest) written c.args.machine.now old c.requires.reading stands
-        (omega (arith, c.len.ensures.count, c.if-len-ge-ENDLESS.true, ap (λ (r : LineLoopValue). r.line.count) c.self.view_is)) (omega (arith, c.len.ensures.count, c.len.ensures.bounded, ap (λ (r : LineLoopValue). r.line.count) c.self.view_is))))
+    subst (λ (s : Step). StepsTo (by M.moves M.makes M.ends M.goes M.goes_last) start (with_rest leaves rest) written c.args.machine.now c.end_reading.new.self s) (sym c.end_reading.ensures.step)
+    (subst (λ (r : LineLoopValue). Stands (by M.moves M.makes M.ends M.goes M.goes_last) start (with_rest leaves rest) written c.args.machine.now r) (sym c.end_reading.ensures.ends)
+    (Steps-endless (by M.moves M.makes M.ends M.goes M.goes_last) steady.preorder start (with_rest left rest) (with_rest leaves rest) written c.args.machine.now old c.requires.reading stands
+    (omega (arith, c.len.ensures.count, c.if-len-ge-ENDLESS.true, ap (λ (r : LineLoopValue). r.line.count) c.self.view_is)) (omega (arith, c.len.ensures.count, c.len.ensures.bounded, ap (λ (r : LineLoopValue). r.line.count) c.self.view_is))))
 
 pub returns-then-len-ge-ENDLESS-clause-reads : goal.returns-then-len-ge-ENDLESS-clause-reads
 returns-then-len-ge-ENDLESS-clause-reads g c =
@@ -62,10 +62,10 @@ returns-in-Ok-true-clause-steps g c =
     let written = g.W.Sink.contents c.args.output.now in
     let old = c.args.self.now in
     λ start rest steady stands.
-        subst (λ (s : Step). StepsTo (by M.moves M.makes M.ends M.goes M.goes_last) start (with_rest leaves rest) written c.args.machine.now c.end_reading-in-Ok-true.new.self s) (sym c.end_reading-in-Ok-true.ensures.step)
-        (subst (λ (r : LineLoopValue). Stands (by M.moves M.makes M.ends M.goes M.goes_last) start (with_rest leaves rest) written c.args.machine.now r) (sym c.end_reading-in-Ok-true.ensures.ends)
-        (Steps-many (by M.moves M.makes M.ends M.goes M.goes_last) steady.preorder start (with_rest left rest) (with_rest leaves rest) written c.args.machine.now old c.requires.reading stands
-        (omega (arith, ap (λ (n : Counts). n.lines) c.counts.ensures, c.if-counts-ge-MAX_LINES.true, ap (λ (r : LineLoopValue). r.state.counts.lines) c.self.view_is)) (some_rest left rest (c.in-Ok-true.ensures.more (ap Ok c.in-Ok-true.field-0-test))) (Keeps-rest left leaves rest c.in-Ok-true.ensures.kept)))
+    subst (λ (s : Step). StepsTo (by M.moves M.makes M.ends M.goes M.goes_last) start (with_rest leaves rest) written c.args.machine.now c.end_reading-in-Ok-true.new.self s) (sym c.end_reading-in-Ok-true.ensures.step)
+    (subst (λ (r : LineLoopValue). Stands (by M.moves M.makes M.ends M.goes M.goes_last) start (with_rest leaves rest) written c.args.machine.now r) (sym c.end_reading-in-Ok-true.ensures.ends)
+    (Steps-many (by M.moves M.makes M.ends M.goes M.goes_last) steady.preorder start (with_rest left rest) (with_rest leaves rest) written c.args.machine.now old c.requires.reading stands
+    (omega (arith, ap (λ (n : Counts). n.lines) c.counts.ensures, c.if-counts-ge-MAX_LINES.true, ap (λ (r : LineLoopValue). r.state.counts.lines) c.self.view_is)) (some_rest left rest (c.in-Ok-true.ensures.more (ap Ok c.in-Ok-true.field-0-test))) (Keeps-rest left leaves rest c.in-Ok-true.ensures.kept)))
 
 pub returns-in-Ok-true-clause-reads : goal.returns-in-Ok-true-clause-reads
 returns-in-Ok-true-clause-reads g c =
@@ -83,10 +83,10 @@ returns-in-Err-clause-steps g c =
     let written = g.W.Sink.contents c.args.output.now in
     let old = c.args.self.now in
     λ start rest steady stands.
-        subst (λ (s : Step). StepsTo (by M.moves M.makes M.ends M.goes M.goes_last) start (with_rest leaves rest) written c.args.machine.now c.end_reading-in-Err.new.self s) (sym c.end_reading-in-Err.ensures.step)
-        (subst (λ (r : LineLoopValue). Stands (by M.moves M.makes M.ends M.goes M.goes_last) start (with_rest leaves rest) written c.args.machine.now r) (sym c.end_reading-in-Err.ensures.ends)
-        (Steps-read_fault (by M.moves M.makes M.ends M.goes M.goes_last) steady.preorder start (with_rest left rest) (with_rest leaves rest) written c.args.machine.now old c.requires.reading stands
-        (Keeps-rest left leaves rest c.in-Err.ensures.kept)))
+    subst (λ (s : Step). StepsTo (by M.moves M.makes M.ends M.goes M.goes_last) start (with_rest leaves rest) written c.args.machine.now c.end_reading-in-Err.new.self s) (sym c.end_reading-in-Err.ensures.step)
+    (subst (λ (r : LineLoopValue). Stands (by M.moves M.makes M.ends M.goes M.goes_last) start (with_rest leaves rest) written c.args.machine.now r) (sym c.end_reading-in-Err.ensures.ends)
+    (Steps-read_fault (by M.moves M.makes M.ends M.goes M.goes_last) steady.preorder start (with_rest left rest) (with_rest leaves rest) written c.args.machine.now old c.requires.reading stands
+    (Keeps-rest left leaves rest c.in-Err.ensures.kept)))
 
 pub returns-in-Err-clause-reads : goal.returns-in-Err-clause-reads
 returns-in-Err-clause-reads g c =
@@ -105,9 +105,9 @@ returns-in-Ok-false-clause-steps g c =
     let after = g.W.Sink.contents c.wait_for_input.new.output in
     let old = c.args.self.now in
     λ start rest steady stands.
-        let at : Stands (by M.moves M.makes M.ends M.goes M.goes_last) start (with_rest leaves rest) before c.args.machine.now old =
-        Steps-kept (by M.moves M.makes M.ends M.goes M.goes_last) steady.preorder start (with_rest left rest) (with_rest leaves rest) before c.args.machine.now old c.requires.reading stands (Keeps-rest left leaves rest c.in-Ok-false.ensures.kept) in
-        Steps-waited (by M.moves M.makes M.ends M.goes M.goes_last) steady.preorder start (with_rest leaves rest) before after c.args.machine.now old c.wait_for_input.new.self at c.wait_for_input.result c.requires.reading c.wait_for_input.ensures.waits
+    let at : Stands (by M.moves M.makes M.ends M.goes M.goes_last) start (with_rest leaves rest) before c.args.machine.now old =
+    Steps-kept (by M.moves M.makes M.ends M.goes M.goes_last) steady.preorder start (with_rest left rest) (with_rest leaves rest) before c.args.machine.now old c.requires.reading stands (Keeps-rest left leaves rest c.in-Ok-false.ensures.kept) in
+    Steps-waited (by M.moves M.makes M.ends M.goes M.goes_last) steady.preorder start (with_rest leaves rest) before after c.args.machine.now old c.wait_for_input.new.self at c.wait_for_input.result c.requires.reading c.wait_for_input.ensures.waits
 
 pub returns-in-Ok-false-clause-reads : goal.returns-in-Ok-false-clause-reads
 returns-in-Ok-false-clause-reads g c =

@@ -10,5 +10,5 @@ returns g c =
     let M = g.M.LineHandler in
     let same : c.self.inside.state.stage ≡ c.args.self.now.state.stage = ap (λ (r : LineLoopValue). r.state.stage) c.self.view_is in
     λ start left before after steady stands prefix.
-        cut_standing (by M.moves M.makes M.ends M.goes M.goes_last) steady.preorder start left before after c.args.machine.now c.args.self.now prefix c.args.self.now.state.stage stands
-        (λ was between text going is. c.recall_refused.ensures.line was between text going (same ∙ is)) (λ was between text going is. c.recall_refused.ensures.last was between text going (same ∙ is))
+    cut_standing (by M.moves M.makes M.ends M.goes M.goes_last) steady.preorder start left before after c.args.machine.now c.args.self.now prefix c.args.self.now.state.stage stands
+    (λ was between text going is. c.recall_refused.ensures.line was between text going (same ∙ is)) (λ was between text going is. c.recall_refused.ensures.last was between text going (same ∙ is))

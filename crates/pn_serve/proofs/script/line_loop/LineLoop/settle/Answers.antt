@@ -22,9 +22,9 @@ pub returns-in-Err-clause-runs : goal.returns-in-Err-clause-runs
 returns-in-Err-clause-runs g c =
     let M = g.M.LineHandler in
     λ start left steady stands.
-        subst (λ (f : RunFault). HasEnded (by M.moves M.makes M.ends M.goes M.goes_last) start left (g.W.Sink.contents c.write_out.new.output) c.looks.machine (Err f)) (sym c.in-Err.ensures.fault.0)
-        (cut_at (by M.moves M.makes M.ends M.goes M.goes_last) steady.preorder start left (g.W.Sink.contents c.looks.output) (g.W.Sink.contents c.write_out.new.output) c.looks.machine c.looks.self c.in-Err.ensures.err c.looks.self.state.stage c.in-Err.ensures.some
-        (c.looks.invariant.runs start left steady stands))
+    subst (λ (f : RunFault). HasEnded (by M.moves M.makes M.ends M.goes M.goes_last) start left (g.W.Sink.contents c.write_out.new.output) c.looks.machine (Err f)) (sym c.in-Err.ensures.fault.0)
+    (cut_at (by M.moves M.makes M.ends M.goes M.goes_last) steady.preorder start left (g.W.Sink.contents c.looks.output) (g.W.Sink.contents c.write_out.new.output) c.looks.machine c.looks.self c.in-Err.ensures.err c.looks.self.state.stage c.in-Err.ensures.some
+    (c.looks.invariant.runs start left steady stands))
 
 pub returns-in-Err-clause-fault : goal.returns-in-Err-clause-fault
 returns-in-Err-clause-fault g c =
@@ -40,8 +40,8 @@ returns-in_default-clause-runs g c =
     ap (λ (s : LineStateValue). let r : LineLoopValue = record { line = c.self.inside.line; replies = c.self.inside.replies; state = s } in r)
     (put_back c.self.inside.state c.take_stage.new.self c.set_stage.new.self c.take_stage.result c.take_stage.ensures.reads c.take_stage.ensures.stage c.set_stage.ensures) ∙ c.self.view_is in
     λ start left steady stands.
-        subst (λ (r : LineLoopValue). Stands (by M.moves M.makes M.ends M.goes M.goes_last) start left (g.W.Sink.contents c.write_out.new.output) c.looks.machine r) (sym back)
-        (Stands-sent (by M.moves M.makes M.ends M.goes M.goes_last) steady.preorder start left (g.W.Sink.contents c.looks.output) (g.W.Sink.contents c.write_out.new.output) c.looks.machine c.looks.self whole sent (c.looks.invariant.runs start left steady stands))
+    subst (λ (r : LineLoopValue). Stands (by M.moves M.makes M.ends M.goes M.goes_last) start left (g.W.Sink.contents c.write_out.new.output) c.looks.machine r) (sym back)
+    (Stands-sent (by M.moves M.makes M.ends M.goes M.goes_last) steady.preorder start left (g.W.Sink.contents c.looks.output) (g.W.Sink.contents c.write_out.new.output) c.looks.machine c.looks.self whole sent (c.looks.invariant.runs start left steady stands))
 
 pub returns-in_default-clause-settled : goal.returns-in_default-clause-settled
 returns-in_default-clause-settled g c =
@@ -52,8 +52,8 @@ returns-in_default-clause-settled g c =
     ap (λ (s : LineStateValue). let r : LineLoopValue = record { line = c.self.inside.line; replies = c.self.inside.replies; state = s } in r)
     (put_back c.self.inside.state c.take_stage.new.self c.set_stage.new.self c.take_stage.result c.take_stage.ensures.reads c.take_stage.ensures.stage c.set_stage.ensures) ∙ c.self.view_is in
     λ none.
-        subst (λ (r : LineLoopValue). IsSettled r) (sym back)
-        (not_looking whole.state.stage (λ going is. c.in_default.not-Looking going (c.take_stage.ensures.stage ∙ ap (λ (r : LineLoopValue). r.state.stage) c.self.view_is ∙ is)), c.in-Ok.ensures.made)
+    subst (λ (r : LineLoopValue). IsSettled r) (sym back)
+    (not_looking whole.state.stage (λ going is. c.in_default.not-Looking going (c.take_stage.ensures.stage ∙ ap (λ (r : LineLoopValue). r.state.stage) c.self.view_is ∙ is)), c.in-Ok.ensures.made)
 
 pub returns-in_default-clause-farther : goal.returns-in_default-clause-farther
 returns-in_default-clause-farther g c =
@@ -64,8 +64,8 @@ returns-in_default-clause-farther g c =
     ap (λ (s : LineStateValue). let r : LineLoopValue = record { line = c.self.inside.line; replies = c.self.inside.replies; state = s } in r)
     (put_back c.self.inside.state c.take_stage.new.self c.set_stage.new.self c.take_stage.result c.take_stage.ensures.reads c.take_stage.ensures.stage c.set_stage.ensures) ∙ c.self.view_is in
     λ none fresh.
-        let f = c.looks.invariant.farther fresh in
-        subst (λ (r : LineLoopValue). IsNoFarther c.args.self.now r) (sym back) (record { reads = omega (arith, f.0.reads, kept.0.reads); looks = omega (arith, f.0.looks, kept.0.looks) })
+    let f = c.looks.invariant.farther fresh in
+    subst (λ (r : LineLoopValue). IsNoFarther c.args.self.now r) (sym back) (record { reads = omega (arith, f.0.reads, kept.0.reads); looks = omega (arith, f.0.looks, kept.0.looks) })
 
 pub returns-in_default-clause-out : goal.returns-in_default-clause-out
 returns-in_default-clause-out g c =
@@ -86,8 +86,8 @@ returns-in_default-clause-foresees g c =
     ap (λ (s : LineStateValue). let r : LineLoopValue = record { line = c.self.inside.line; replies = c.self.inside.replies; state = s } in r)
     (put_back c.self.inside.state c.take_stage.new.self c.set_stage.new.self c.take_stage.result c.take_stage.ensures.reads c.take_stage.ensures.stage c.set_stage.ensures) ∙ c.self.view_is in
     λ none was.
-        subst (λ (r : LineLoopValue). Foresees g.S.Source.may_fail g.W.Sink.may_fail g.S.Source.may_end r) (sym back)
-        (kept_foresees c.looks.self whole (g.W.Sink.contents c.looks.output) (g.W.Sink.contents c.write_out.new.output) g.S.Source.may_fail g.W.Sink.may_fail g.S.Source.may_end sent.kept (c.looks.invariant.foresees was))
+    subst (λ (r : LineLoopValue). Foresees g.S.Source.may_fail g.W.Sink.may_fail g.S.Source.may_end r) (sym back)
+    (kept_foresees c.looks.self whole (g.W.Sink.contents c.looks.output) (g.W.Sink.contents c.write_out.new.output) g.S.Source.may_fail g.W.Sink.may_fail g.S.Source.may_end sent.kept (c.looks.invariant.foresees was))
 
 pub looks-preserved : goal.looks-preserved
 looks-preserved g c =
@@ -118,7 +118,7 @@ looks-preserved g c =
       out = λ is. takes_out true mid new (g.W.Sink.is_handed_on c.write_out.new.output) takes (c.in-Ok.ensures.out (c.looks.invariant.out is));
       foresees = λ was.
           let at = subst (λ (s : Stage). ForeseesAt s g.S.Source.may_fail g.W.Sink.may_fail g.S.Source.may_end whole) looking
-              (kept_foresees c.looks.self whole (g.W.Sink.contents c.looks.output) (g.W.Sink.contents c.write_out.new.output) g.S.Source.may_fail g.W.Sink.may_fail g.S.Source.may_end sent.kept (c.looks.invariant.foresees was)) in
+          (kept_foresees c.looks.self whole (g.W.Sink.contents c.looks.output) (g.W.Sink.contents c.write_out.new.output) g.S.Source.may_fail g.W.Sink.may_fail g.S.Source.may_end sent.kept (c.looks.invariant.foresees was)) in
           takes_foresees true mid new g.S.Source.may_fail g.W.Sink.may_fail g.S.Source.may_end takes at.0 at.1 at.2;
       knows = knows_on (M.reader c.args.machine.now) (M.reader c.looks.machine) (M.reader c.look_on.new.machine) c.looks.invariant.knows c.look_on.ensures.knows;
     }

@@ -121,10 +121,10 @@ returns-in-Looking-clause-steps g c =
     let looking : old.state.stage ≡ Looking going = sym (ap (λ (r : LineLoopValue). r.state.stage) c.self.view_is) ∙ sym c.take_stage.ensures.stage ∙ c.in-Looking.is in
     let takes : Takes true mid new = subst (λ (r : LineLoopValue). Takes true r new) mid_is c.look_on.ensures.takes in
     λ start rest steady stands.
-        Steps-look (by M.moves M.makes M.ends M.goes M.goes_last) steady.preorder start (with_rest left rest) before c.args.machine.now c.look_on.new.machine old new going
-        (subst (λ (s : Stage). StandsAt (by M.moves M.makes M.ends M.goes M.goes_last) s start (with_rest left rest) before c.args.machine.now old) looking stands) takes
-        (λ begun between text goes moved. subst (λ (r : LineLoopValue). TakesLine (AnswersWith M.makes M.goes) true begun text c.look_on.new.machine r new) mid_is (c.look_on.ensures.line begun between text goes moved))
-        (λ begun between text goes moved. subst (λ (r : LineLoopValue). TakesLine (AnswersLast M.ends M.goes_last) true begun text c.look_on.new.machine r new) mid_is (c.look_on.ensures.last begun between text goes moved))
+    Steps-look (by M.moves M.makes M.ends M.goes M.goes_last) steady.preorder start (with_rest left rest) before c.args.machine.now c.look_on.new.machine old new going
+    (subst (λ (s : Stage). StandsAt (by M.moves M.makes M.ends M.goes M.goes_last) s start (with_rest left rest) before c.args.machine.now old) looking stands) takes
+    (λ begun between text goes moved. subst (λ (r : LineLoopValue). TakesLine (AnswersWith M.makes M.goes) true begun text c.look_on.new.machine r new) mid_is (c.look_on.ensures.line begun between text goes moved))
+    (λ begun between text goes moved. subst (λ (r : LineLoopValue). TakesLine (AnswersLast M.ends M.goes_last) true begun text c.look_on.new.machine r new) mid_is (c.look_on.ensures.last begun between text goes moved))
 
 pub returns-in-Looking-clause-out : goal.returns-in-Looking-clause-out
 returns-in-Looking-clause-out g c =
@@ -190,8 +190,8 @@ returns-in-Looking-clause-foresees g c =
     let looking : old.state.stage ≡ Looking going = sym (ap (λ (r : LineLoopValue). r.state.stage) c.self.view_is) ∙ sym c.take_stage.ensures.stage ∙ c.in-Looking.is in
     let takes : Takes true mid new = subst (λ (r : LineLoopValue). Takes true r new) mid_is c.look_on.ensures.takes in
     λ was.
-        let at = subst (λ (s : Stage). ForeseesAt s g.S.Source.may_fail g.W.Sink.may_fail g.S.Source.may_end old) looking was in
-        takes_foresees true mid new g.S.Source.may_fail g.W.Sink.may_fail g.S.Source.may_end takes at.0 at.1 at.2
+    let at = subst (λ (s : Stage). ForeseesAt s g.S.Source.may_fail g.W.Sink.may_fail g.S.Source.may_end old) looking was in
+    takes_foresees true mid new g.S.Source.may_fail g.W.Sink.may_fail g.S.Source.may_end takes at.0 at.1 at.2
 
 pub returns-in-Ending-clause-steps : goal.returns-in-Ending-clause-steps
 returns-in-Ending-clause-steps g c =
@@ -209,8 +209,8 @@ returns-in-Ending-clause-steps g c =
     let ending : old.state.stage ≡ Ending ended = sym (ap (λ (r : LineLoopValue). r.state.stage) c.self.view_is) ∙ sym c.take_stage.ensures.stage ∙ c.in-Ending.is in
     let ends : EndsTo ended mid before new after c.end_once_out.result = subst (λ (r : LineLoopValue). EndsTo ended r before new after c.end_once_out.result) mid_is c.end_once_out.ensures.ends in
     λ start rest steady stands.
-        Steps-ended (by M.moves M.makes M.ends M.goes M.goes_last) steady.preorder start (with_rest left rest) before after c.args.machine.now mid new ended
-        (subst (λ (s : Stage). StandsAt (by M.moves M.makes M.ends M.goes M.goes_last) s start (with_rest left rest) before c.args.machine.now old) ending stands) c.end_once_out.result ends
+    Steps-ended (by M.moves M.makes M.ends M.goes M.goes_last) steady.preorder start (with_rest left rest) before after c.args.machine.now mid new ended
+    (subst (λ (s : Stage). StandsAt (by M.moves M.makes M.ends M.goes M.goes_last) s start (with_rest left rest) before c.args.machine.now old) ending stands) c.end_once_out.result ends
 
 pub returns-in-Ending-clause-idle : goal.returns-in-Ending-clause-idle
 returns-in-Ending-clause-idle g c =

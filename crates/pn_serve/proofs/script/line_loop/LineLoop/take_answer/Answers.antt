@@ -13,18 +13,18 @@ pub returns-then-self-clause-line : goal.returns-then-self-clause-line
 returns-then-self-clause-line g c =
     let M = g.M.LineHandler in
     λ was now text answered. record {
-        answer = Done c.shorten-reply.result;
-        answered = c.shorten-reply.ensures.makes was now text (subst (λ (a : Answer). AnswersWith M.makes M.goes was text now a) c.in-Done.is answered);
-        takes = c.reply.ensures.takes;
+      answer = Done c.shorten-reply.result;
+      answered = c.shorten-reply.ensures.makes was now text (subst (λ (a : Answer). AnswersWith M.makes M.goes was text now a) c.in-Done.is answered);
+      takes = c.reply.ensures.takes;
     }
 
 pub returns-then-self-clause-last : goal.returns-then-self-clause-last
 returns-then-self-clause-last g c =
     let M = g.M.LineHandler in
     λ was now text answered. record {
-        answer = Done c.shorten-reply.result;
-        answered = c.shorten-reply.ensures.ends was now text (subst (λ (a : Answer). AnswersLast M.ends M.goes_last was text now a) c.in-Done.is answered);
-        takes = c.reply.ensures.takes;
+      answer = Done c.shorten-reply.result;
+      answered = c.shorten-reply.ensures.ends was now text (subst (λ (a : Answer). AnswersLast M.ends M.goes_last was text now a) c.in-Done.is answered);
+      takes = c.reply.ensures.takes;
     }
 
 pub returns-then-self-clause-takes : goal.returns-then-self-clause-takes
@@ -39,7 +39,7 @@ pub returns-in-Going-clause-takes : goal.returns-in-Going-clause-takes
 returns-in-Going-clause-takes g c = (
   Begun c.in-Going.going,
   ap (λ (s : LineStateValue). let r : LineLoopValue = record { line = c.self-in-Going.inside.line; replies = c.self-in-Going.inside.replies; state = s } in r) c.set_stage.ensures
-  ∙ ap (λ (r : LineLoopValue). record r { state = record r.state { stage = Looking c.in-Going.going } }) c.self-in-Going.view_is,
+      ∙ ap (λ (r : LineLoopValue). record r { state = record r.state { stage = Looking c.in-Going.going } }) c.self-in-Going.view_is,
 )
 
 pub returns-then-self-clause-left : goal.returns-then-self-clause-left

@@ -33,9 +33,9 @@ returns-in-Ok-Part-clause-steps g c =
     subst (λ (p : Piece). ReadTakes old.line line left leaves (newline_after p)) c.in-Ok-Part.field-0-is
     (subst (λ (r : LineLoopValue). ReadTakes r.line line left leaves (newline_after c.in-Ok-Part.field-0)) c.self.view_is c.in-Ok-Part.ensures.takes) in
     λ start rest steady stands.
-        subst (λ (r : LineLoopValue). Stands (by M.moves M.makes M.ends M.goes M.goes_last) start (with_rest leaves rest) written c.args.machine.now (let new : LineLoopValue = record r { line = line } in new)) (sym c.self.view_is)
-        (Steps-part (by M.moves M.makes M.ends M.goes M.goes_last) steady.preorder start (with_rest left rest) (with_rest leaves rest) written c.args.machine.now old c.requires.reading stands line
-        (Takes-rest left leaves rest old.line line [] takes) c.requires.more)
+    subst (λ (r : LineLoopValue). Stands (by M.moves M.makes M.ends M.goes M.goes_last) start (with_rest leaves rest) written c.args.machine.now (let new : LineLoopValue = record r { line = line } in new)) (sym c.self.view_is)
+    (Steps-part (by M.moves M.makes M.ends M.goes M.goes_last) steady.preorder start (with_rest left rest) (with_rest leaves rest) written c.args.machine.now old c.requires.reading stands line
+    (Takes-rest left leaves rest old.line line [] takes) c.requires.more)
 
 pub returns-in-Ok-Part-clause-reads : goal.returns-in-Ok-Part-clause-reads
 returns-in-Ok-Part-clause-reads g c =
@@ -67,9 +67,9 @@ returns-in-Ok-Ended-clause-steps g c =
     ap (λ (s : LineStateValue). let r : LineLoopValue = record { line = so_far []; replies = c.self.inside.replies; state = s } in r) c.set_more.ensures
     ∙ ap (λ (r : LineLoopValue). let m : LineLoopValue = record r { line = so_far []; state = record r.state { more = more } } in m) c.self.view_is in
     λ start rest steady stands.
-        Steps-line (by M.moves M.makes M.ends M.goes M.goes_last) steady.preorder start (with_rest left rest) (with_rest leaves rest) written c.args.machine.now old c.requires.reading stands c.answer.new.machine new line more
-        (Takes-rest left leaves rest old.line line (10 ∷ []) takes) below c.requires.more c.requires.made (shown_rest more left leaves rest shown) (subst (λ (r : LineLoopValue). Takes true r new) mid_is c.answer.ensures.takes)
-        (λ text is. subst (λ (r : LineLoopValue). TakesLine (AnswersWith M.makes M.goes) true c.args.machine.now text c.answer.new.machine r new) mid_is (c.answer.ensures.line text is))
+    Steps-line (by M.moves M.makes M.ends M.goes M.goes_last) steady.preorder start (with_rest left rest) (with_rest leaves rest) written c.args.machine.now old c.requires.reading stands c.answer.new.machine new line more
+    (Takes-rest left leaves rest old.line line (10 ∷ []) takes) below c.requires.more c.requires.made (shown_rest more left leaves rest shown) (subst (λ (r : LineLoopValue). Takes true r new) mid_is c.answer.ensures.takes)
+    (λ text is. subst (λ (r : LineLoopValue). TakesLine (AnswersWith M.makes M.goes) true c.args.machine.now text c.answer.new.machine r new) mid_is (c.answer.ensures.line text is))
 
 pub returns-in-Ok-Ended-clause-reads : goal.returns-in-Ok-Ended-clause-reads
 returns-in-Ok-Ended-clause-reads g c =
@@ -100,10 +100,10 @@ returns-in-Ok-NoMore-clause-steps g c =
     let waits : WaitsTo mid before new after c.wait_for_input.result =
     subst (λ (r : LineLoopValue). WaitsTo (let m : LineLoopValue = record r { line = line } in m) before new after c.wait_for_input.result) c.self.view_is c.wait_for_input.ensures.waits in
     λ start rest steady stands.
-        let at : Stands (by M.moves M.makes M.ends M.goes M.goes_last) start (with_rest leaves rest) before c.args.machine.now mid =
-        Steps-part (by M.moves M.makes M.ends M.goes M.goes_last) steady.preorder start (with_rest left rest) (with_rest leaves rest) before c.args.machine.now old c.requires.reading stands line
-        (Takes-rest left leaves rest old.line line [] takes) c.requires.more in
-        Steps-waited (by M.moves M.makes M.ends M.goes M.goes_last) steady.preorder start (with_rest leaves rest) before after c.args.machine.now mid new at c.wait_for_input.result c.requires.reading waits
+    let at : Stands (by M.moves M.makes M.ends M.goes M.goes_last) start (with_rest leaves rest) before c.args.machine.now mid =
+    Steps-part (by M.moves M.makes M.ends M.goes M.goes_last) steady.preorder start (with_rest left rest) (with_rest leaves rest) before c.args.machine.now old c.requires.reading stands line
+    (Takes-rest left leaves rest old.line line [] takes) c.requires.more in
+    Steps-waited (by M.moves M.makes M.ends M.goes M.goes_last) steady.preorder start (with_rest leaves rest) before after c.args.machine.now mid new at c.wait_for_input.result c.requires.reading waits
 
 pub returns-in-Ok-NoMore-clause-reads : goal.returns-in-Ok-NoMore-clause-reads
 returns-in-Ok-NoMore-clause-reads g c =
@@ -127,10 +127,10 @@ returns-in-Err-clause-steps g c =
     ∙ ap (λ (l : LineBufferValue). let r : LineLoopValue = record { line = l; replies = c.self.inside.replies; state = record c.self.inside.state { stage = Ending (Err Read) } } in r) c.in-Err.ensures.line_kept
     ∙ ap (λ (r : LineLoopValue). let m : LineLoopValue = record r { state = record r.state { stage = Ending (Err Read) } } in m) c.self.view_is in
     λ start rest steady stands.
-        subst (λ (s : Step). StepsTo (by M.moves M.makes M.ends M.goes M.goes_last) start (with_rest leaves rest) written c.args.machine.now c.end_reading.new.self s) (sym c.end_reading.ensures.step)
-        (subst (λ (r : LineLoopValue). Stands (by M.moves M.makes M.ends M.goes M.goes_last) start (with_rest leaves rest) written c.args.machine.now r) (sym ends)
-        (Steps-read_fault (by M.moves M.makes M.ends M.goes M.goes_last) steady.preorder start (with_rest left rest) (with_rest leaves rest) written c.args.machine.now old c.requires.reading stands
-        (Keeps-rest left leaves rest c.in-Err.ensures.kept)))
+    subst (λ (s : Step). StepsTo (by M.moves M.makes M.ends M.goes M.goes_last) start (with_rest leaves rest) written c.args.machine.now c.end_reading.new.self s) (sym c.end_reading.ensures.step)
+    (subst (λ (r : LineLoopValue). Stands (by M.moves M.makes M.ends M.goes M.goes_last) start (with_rest leaves rest) written c.args.machine.now r) (sym ends)
+    (Steps-read_fault (by M.moves M.makes M.ends M.goes M.goes_last) steady.preorder start (with_rest left rest) (with_rest leaves rest) written c.args.machine.now old c.requires.reading stands
+    (Keeps-rest left leaves rest c.in-Err.ensures.kept)))
 
 pub returns-in-Err-clause-reads : goal.returns-in-Err-clause-reads
 returns-in-Err-clause-reads g c =

@@ -30,5 +30,5 @@ pub returns-in_default-clause-fault : goal.returns-in_default-clause-fault
 returns-in_default-clause-fault g c = (
   refl,
   may_stop g.W.Sink.may_fail c.pieces.self c.write_on.new.self (g.W.Sink.contents c.pieces.output) (g.W.Sink.contents c.write_on.new.output) c.write_on.result c.write_on.ensures.sends c.in_default.not-Next c.write_on.ensures.room
-  c.write_on.ensures.fault,
+      c.write_on.ensures.fault,
 )

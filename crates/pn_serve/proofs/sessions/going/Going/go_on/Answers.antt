@@ -15,14 +15,14 @@ use Rattle.pn_serve.proofs.sessions.going.Going.go_on.Goals as goal
 pub returns-in-Page-clause-alone : goal.returns-in-Page-clause-alone
 returns-in-Page-clause-alone c =
     λ was between command on moved.
-        page_on Stays stays_preorder stays_knows was between c.args.reader.now c.go_on-step.new.view moved command c.in-Page.query c.in-Page.walk c.go_on-step.result c.page_answer.result
-        (subst (λ (going : Going). LooksOn Stays was command between going) c.in-Page.is on) c.go_on-step.ensures.goes c.page_answer.ensures
+    page_on Stays stays_preorder stays_knows was between c.args.reader.now c.go_on-step.new.view moved command c.in-Page.query c.in-Page.walk c.go_on-step.result c.page_answer.result
+    (subst (λ (going : Going). LooksOn Stays was command between going) c.in-Page.is on) c.go_on-step.ensures.goes c.page_answer.ensures
 
 pub returns-in-Page-clause-shared : goal.returns-in-Page-clause-shared
 returns-in-Page-clause-shared c =
     λ was between command on moved.
-        page_on KnowsNoLess knows_preorder moves_knows was between c.args.reader.now c.go_on-step.new.view moved command c.in-Page.query c.in-Page.walk c.go_on-step.result c.page_answer.result
-        (subst (λ (going : Going). LooksOn KnowsNoLess was command between going) c.in-Page.is on) c.go_on-step.ensures.goes c.page_answer.ensures
+    page_on KnowsNoLess knows_preorder moves_knows was between c.args.reader.now c.go_on-step.new.view moved command c.in-Page.query c.in-Page.walk c.go_on-step.result c.page_answer.result
+    (subst (λ (going : Going). LooksOn KnowsNoLess was command between going) c.in-Page.is on) c.go_on-step.ensures.goes c.page_answer.ensures
 
 pub returns-in-Page-clause-nearer : goal.returns-in-Page-clause-nearer
 returns-in-Page-clause-nearer c = λ some.
@@ -35,14 +35,14 @@ returns-in-Page-clause-knows c = only_looks_know c.args.reader.now c.go_on-step.
 pub returns-in-Keys-clause-alone : goal.returns-in-Keys-clause-alone
 returns-in-Keys-clause-alone c =
     λ was between command on moved.
-        keys_on Stays stays_preorder stays_knows was between c.args.reader.now c.go_on-walk.new.reader moved command c.in-Keys.walk c.go_on-walk.result c.keys_answer.result
-        (subst (λ (going : Going). LooksOn Stays was command between going) c.in-Keys.is on) c.go_on-walk.ensures.goes c.keys_answer.ensures.answers
+    keys_on Stays stays_preorder stays_knows was between c.args.reader.now c.go_on-walk.new.reader moved command c.in-Keys.walk c.go_on-walk.result c.keys_answer.result
+    (subst (λ (going : Going). LooksOn Stays was command between going) c.in-Keys.is on) c.go_on-walk.ensures.goes c.keys_answer.ensures.answers
 
 pub returns-in-Keys-clause-shared : goal.returns-in-Keys-clause-shared
 returns-in-Keys-clause-shared c =
     λ was between command on moved.
-        keys_on KnowsNoLess knows_preorder moves_knows was between c.args.reader.now c.go_on-walk.new.reader moved command c.in-Keys.walk c.go_on-walk.result c.keys_answer.result
-        (subst (λ (going : Going). LooksOn KnowsNoLess was command between going) c.in-Keys.is on) c.go_on-walk.ensures.goes c.keys_answer.ensures.answers
+    keys_on KnowsNoLess knows_preorder moves_knows was between c.args.reader.now c.go_on-walk.new.reader moved command c.in-Keys.walk c.go_on-walk.result c.keys_answer.result
+    (subst (λ (going : Going). LooksOn KnowsNoLess was command between going) c.in-Keys.is on) c.go_on-walk.ensures.goes c.keys_answer.ensures.answers
 
 pub returns-in-Keys-clause-nearer : goal.returns-in-Keys-clause-nearer
 returns-in-Keys-clause-nearer c = λ some.
@@ -55,14 +55,14 @@ returns-in-Keys-clause-knows c = only_looks_know c.args.reader.now c.go_on-walk.
 pub returns-in-Copy-clause-alone : goal.returns-in-Copy-clause-alone
 returns-in-Copy-clause-alone c =
     λ was between command on moved.
-        copy_on Stays stays_preorder stays_knows was between c.args.reader.now c.args.reader.now moved command c.in-Copy.count c.args.records c.go_on.result c.copy_answer.result
-        (subst (λ (going : Going). LooksOn Stays was command between going) c.in-Copy.is on) c.go_on.ensures (c.copy_answer.ensures c.args.records c.in-Copy.count c.go_on.ensures)
+    copy_on Stays stays_preorder stays_knows was between c.args.reader.now c.args.reader.now moved command c.in-Copy.count c.args.records c.go_on.result c.copy_answer.result
+    (subst (λ (going : Going). LooksOn Stays was command between going) c.in-Copy.is on) c.go_on.ensures (c.copy_answer.ensures c.args.records c.in-Copy.count c.go_on.ensures)
 
 pub returns-in-Copy-clause-shared : goal.returns-in-Copy-clause-shared
 returns-in-Copy-clause-shared c =
     λ was between command on moved.
-        copy_on KnowsNoLess knows_preorder moves_knows was between c.args.reader.now c.args.reader.now moved command c.in-Copy.count c.args.records c.go_on.result c.copy_answer.result
-        (subst (λ (going : Going). LooksOn KnowsNoLess was command between going) c.in-Copy.is on) c.go_on.ensures (c.copy_answer.ensures c.args.records c.in-Copy.count c.go_on.ensures)
+    copy_on KnowsNoLess knows_preorder moves_knows was between c.args.reader.now c.args.reader.now moved command c.in-Copy.count c.args.records c.go_on.result c.copy_answer.result
+    (subst (λ (going : Going). LooksOn KnowsNoLess was command between going) c.in-Copy.is on) c.go_on.ensures (c.copy_answer.ensures c.args.records c.in-Copy.count c.go_on.ensures)
 
 pub returns-in-Copy-clause-nearer : goal.returns-in-Copy-clause-nearer
 returns-in-Copy-clause-nearer c = λ some.
