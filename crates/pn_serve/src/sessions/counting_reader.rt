@@ -2,6 +2,7 @@
 
 ghost use Rattle.std.specs.Prelude.{◌≡◌};
 ghost use Rattle.pn_serve.specs.Lines.Going.{AnswersWith};
+ghost use Rattle.pn_serve.specs.Session.Knowing.{KnowsNoLess};
 ghost use Rattle.pn_serve.specs.Session.Lines.{AnswersLine};
 ghost use Rattle.pn_serve.specs.Session.Looking.{LooksFor};
 

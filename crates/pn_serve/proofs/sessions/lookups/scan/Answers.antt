@@ -9,7 +9,7 @@ returns-clause-looks_up c = record {
   seen = c.scan.ensures.scan.0;
   answer = seen_as (λ page. (page.rows.items, page.next)) c.scan.result;
   scanned = scanned_as _ _ _ _ _ c.scan.result _ c.scan.ensures.scan.1;
-  reached = c.scan.new.reader;
+  reached = c.scan.new.self;
   moved = refl;
   shows = shows_as (λ page. (page.rows.items, page.next)) scan_data c.scan.result c.answer_scan.result c.answer_scan.ensures;
 }

@@ -13,5 +13,6 @@ use Rattle.pn_serve.proofs.sessions.counting_reader.CountingReader.answer_line.G
 pub returns : goal.returns
 returns c =
     subst (λ (a : Answer). AnswersWith (AnswersLine KnowsNoLess) (LooksFor KnowsNoLess) c.args.self.now c.args.line.now c.count.new.self a) (sym c.count.ensures.same)
-    (subst (λ (r : LiveReaderValue). AnswersWith (AnswersLine KnowsNoLess) (LooksFor KnowsNoLess) c.args.self.now c.args.line.now r _) (sym c.count.ensures.kept)
-    (answers_too KnowsNoLess knows_preorder _ _ c.args.line.now _ c.answer_with_kind.ensures.answers))
+    (subst (λ (r : LiveReaderValue). AnswersWith (AnswersLine KnowsNoLess) (LooksFor KnowsNoLess) c.args.self.now c.args.line.now r c.answer_with_kind-kind.result.1) (sym c.count.ensures.kept)
+    (subst (λ (r : LiveReaderValue). AnswersWith (AnswersLine KnowsNoLess) (LooksFor KnowsNoLess) r c.args.line.now c.answer_with_kind-kind.new.reader c.answer_with_kind-kind.result.1) c.self.view_is
+    (answers_too KnowsNoLess knows_preorder c.self.inside.reader c.answer_with_kind-kind.new.reader c.args.line.now c.answer_with_kind-kind.result.1 c.answer_with_kind-kind.ensures.answers)))
