@@ -56,3 +56,17 @@ returns-then-is_between_lines-clause-ends g c =
     let between = c.is_between_lines.ensures.0 c.if-is_between_lines.true in
     closed_ends (λ _ _ _ _. ⊥) (λ _ _ _ _. ⊥) start (g.S.Source.left c.advance.new.input) (g.W.Sink.contents c.advance.new.output) (g.W.Sink.contents c.close.new.output) c.advance.new.machine c.advance.new.self between.0 c.close.result stands between.1
     (sym c.is_closed.ensures ∙ c.if-is_closed.true) c.close.ensures.ok c.close.ensures.err g.W.Sink.may_fail c.close.ensures.fault
+
+pub returns-then-is_between_lines-clause-knows : goal.returns-then-is_between_lines-clause-knows
+returns-then-is_between_lines-clause-knows g c = knows_on c.args.handler.now.reader c.reads.handler.reader c.advance.new.machine.reader c.reads.invariant.knows c.in-None.ensures.knows
+
+pub reads-preserved : goal.reads-preserved
+reads-preserved g c =
+    let start = start_at c.args.handler.now (g.S.Source.left c.args.input.now) (g.W.Sink.contents c.args.output.now) in record {
+      stands = c.in-None.ensures.runs start (record { preorder = stays_preorder; same = λ old new is. ap (λ (s : ControlState). tablets_of s.reader) is }) c.reads.invariant.stands;
+      settled = c.in-None.ensures.settled refl;
+      looks = omega (arith, c.in-None.ensures.looks, c.reads.invariant.looks);
+      out = c.in-None.ensures.out refl c.reads.invariant.out;
+      foresees = c.in-None.ensures.foresees c.reads.invariant.foresees;
+      knows = knows_on c.args.handler.now.reader c.reads.handler.reader c.advance.new.machine.reader c.reads.invariant.knows c.in-None.ensures.knows;
+    }

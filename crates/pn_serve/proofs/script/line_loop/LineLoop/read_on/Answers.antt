@@ -10,6 +10,7 @@ use Rattle.pn_serve.specs.declared.script.line_loop.steps.Step.TheVariants.{Next
 use Rattle.pn_serve.specs.Lines.Bounds.{ReadsOn}
 use Rattle.pn_serve.specs.Lines.States.{LineLoopValue}
 use Rattle.pn_serve.specs.Lines.Stepping.{Stands, StepsTo, by, with_rest}
+use Rattle.pn_serve.proofs.Knowing.{knows_itself}
 use Rattle.pn_serve.proofs.Bounded.{some_rest}
 use Rattle.pn_serve.proofs.Measured.{fault_nearer, out_nearer, waits_nearer}
 use Rattle.pn_serve.proofs.Standing.{Keeps-rest, Steps-put_out, Steps-waited}
@@ -115,3 +116,18 @@ returns-in-Ok-false-clause-reads g c =
     let after = g.W.Sink.contents c.wait_for_input.new.output in
     waits_nearer c.args.self.now c.args.self.now c.wait_for_input.new.self before after (g.S.Source.looks c.args.input.now) (g.S.Source.looks c.has_more-then-counts-ge-MAX_LINES.new.self) c.wait_for_input.result c.requires.reading
     c.in-Ok-false.ensures.looks c.wait_for_input.ensures.waits
+
+pub returns-then-not-is_out-clause-knows : goal.returns-then-not-is_out-clause-knows
+returns-then-not-is_out-clause-knows g c = knows_itself _
+
+pub returns-then-len-ge-ENDLESS-clause-knows : goal.returns-then-len-ge-ENDLESS-clause-knows
+returns-then-len-ge-ENDLESS-clause-knows g c = knows_itself _
+
+pub returns-in-Ok-true-clause-knows : goal.returns-in-Ok-true-clause-knows
+returns-in-Ok-true-clause-knows g c = knows_itself _
+
+pub returns-in-Ok-false-clause-knows : goal.returns-in-Ok-false-clause-knows
+returns-in-Ok-false-clause-knows g c = knows_itself _
+
+pub returns-in-Err-clause-knows : goal.returns-in-Err-clause-knows
+returns-in-Err-clause-knows g c = knows_itself _

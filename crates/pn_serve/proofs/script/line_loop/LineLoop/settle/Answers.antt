@@ -11,7 +11,7 @@ use Rattle.pn_serve.specs.Lines.States.{LineLoopValue, LineStateValue}
 use Rattle.pn_serve.specs.Lines.Stepping.{HasEnded, Stands, StandsAt, by}
 use Rattle.pn_serve.specs.Lines.Taking.{Takes, TakesLine}
 use Rattle.pn_serve.proofs.Bounded.{kept_foresees, takes_foresees, takes_out}
-use Rattle.pn_serve.proofs.Knowing.{knows_on}
+use Rattle.pn_serve.proofs.Knowing.{knows_itself, knows_on}
 use Rattle.pn_serve.proofs.Measured.{kept_no_farther, look_no_farther}
 use Rattle.pn_serve.proofs.Running.{not_looking, put_back}
 use Rattle.pn_serve.proofs.Standing.{Stands-sent, cut_at}
@@ -88,6 +88,15 @@ returns-in_default-clause-foresees g c =
     λ none was.
     subst (λ (r : LineLoopValue). Foresees g.S.Source.may_fail g.W.Sink.may_fail g.S.Source.may_end r) (sym back)
     (kept_foresees c.looks.self whole (g.W.Sink.contents c.looks.output) (g.W.Sink.contents c.write_out.new.output) g.S.Source.may_fail g.W.Sink.may_fail g.S.Source.may_end sent.kept (c.looks.invariant.foresees was))
+
+pub looks-init : goal.looks-init
+looks-init g c = record {
+  runs = λ start left steady stands. stands;
+  farther = λ fresh. (record { reads = omega arith; looks = omega arith }, fresh);
+  out = λ out. out;
+  foresees = λ was. was;
+  knows = knows_itself _;
+}
 
 pub looks-preserved : goal.looks-preserved
 looks-preserved g c =

@@ -326,3 +326,12 @@ look_on-requires-clause-made g c = ap (λ (s : LineStateValue). s.left) c.take_s
 
 pub end_once_out-requires : goal.end_once_out-requires
 end_once_out-requires g c = record { made = ap (λ (s : LineStateValue). s.left) c.take_stage.ensures.reads ∙ (no_text c.has_text.result c.self.inside.state.left c.has_text.ensures).0 c.if-has_text.false }
+
+pub returns-then-has_text-clause-knows : goal.returns-then-has_text-clause-knows
+returns-then-has_text-clause-knows g c = knows_itself _
+
+pub returns-in-Ending-clause-knows : goal.returns-in-Ending-clause-knows
+returns-in-Ending-clause-knows g c = knows_itself _
+
+pub read_on-requires-clause-made : goal.read_on-requires-clause-made
+read_on-requires-clause-made g c = ap (λ (s : LineStateValue). s.left) c.take_stage.ensures.reads ∙ (no_text c.has_text.result c.self.inside.state.left c.has_text.ensures).0 c.if-has_text.false

@@ -15,6 +15,7 @@ use Rattle.pn_serve.specs.Lines.Going.{AnswersWith}
 use Rattle.pn_serve.specs.Lines.States.{LineLoopValue, LineStateValue}
 use Rattle.pn_serve.specs.Lines.Stepping.{Stands, StepsTo, by, with_rest}
 use Rattle.pn_serve.specs.Lines.Taking.{Takes, TakesLine, WaitsTo}
+use Rattle.pn_serve.proofs.Knowing.{knows_itself}
 use Rattle.pn_serve.proofs.Bounded.{shown_rest}
 use Rattle.pn_serve.proofs.Measured.{answer_nearer, fault_nearer, part_nearer, waits_nearer}
 use Rattle.pn_serve.proofs.Standing.{Keeps-rest, Steps-waited, Takes-rest}
@@ -143,3 +144,12 @@ returns-in-Err-clause-reads g c =
     ∙ ap (λ (r : LineLoopValue). let m : LineLoopValue = record r { state = record r.state { stage = Ending (Err Read) } } in m) c.self.view_is in
     subst (λ (s : Step). ReadsOn was now old c.end_reading.new.self s) (sym c.end_reading.ensures.step)
     (subst (λ (r : LineLoopValue). ReadsOn was now old r (Next 0)) (sym ends) (fault_nearer old Read was now 0 c.requires.reading c.in-Err.ensures.looks))
+
+pub returns-in-Ok-Part-clause-knows : goal.returns-in-Ok-Part-clause-knows
+returns-in-Ok-Part-clause-knows g c = knows_itself _
+
+pub returns-in-Ok-NoMore-clause-knows : goal.returns-in-Ok-NoMore-clause-knows
+returns-in-Ok-NoMore-clause-knows g c = knows_itself _
+
+pub returns-in-Err-clause-knows : goal.returns-in-Err-clause-knows
+returns-in-Err-clause-knows g c = knows_itself _
