@@ -70,19 +70,44 @@ page_send = search (sendable, crosses, row_send) depth 40 fits 20000
 reply_send : IsSend reply.the_row
 reply_send = variants_send reply.enum (
   (search (sendable, crosses) depth 40, tt),
-  ((search (sendable, crosses) depth 40, tt),
-  ((search (sendable, crosses, copy_text_send) depth 40, tt),
-  ((search (sendable, crosses) depth 40, tt),
-  ((search (sendable, crosses) depth 40, tt),
-  ((search (sendable, crosses) depth 40, tt),
-  (tt,
-  ((search (sendable, crosses, page_send) depth 40, tt),
-  ((search (sendable, crosses, key_send) depth 40, (search (sendable, crosses, cell_send) depth 40, tt)),
-  ((search (sendable, crosses, key_send) depth 40, (search (sendable, crosses, cell_send) depth 40, tt)),
-  ((search (sendable, crosses) depth 40, tt),
-  ((search (sendable, crosses) depth 40 fits 20000, tt),
-  ((search (sendable, crosses) depth 40, tt),
-  tt)))))))))))))
+  (
+    (search (sendable, crosses) depth 40, tt),
+    (
+      (search (sendable, crosses, copy_text_send) depth 40, tt),
+      (
+        (search (sendable, crosses) depth 40, tt),
+        (
+          (search (sendable, crosses) depth 40, tt),
+          (
+            (search (sendable, crosses) depth 40, tt),
+            (
+              tt,
+              (
+                (search (sendable, crosses, page_send) depth 40, tt),
+                (
+                  (search (sendable, crosses, key_send) depth 40, (search (sendable, crosses, cell_send) depth 40, tt)),
+                  (
+                    (search (sendable, crosses, key_send) depth 40, (search (sendable, crosses, cell_send) depth 40, tt)),
+                    (
+                      (search (sendable, crosses) depth 40, tt),
+                      (
+                        (search (sendable, crosses) depth 40 fits 20000, tt),
+                        (
+                          (search (sendable, crosses) depth 40, tt),
+                          tt,
+                        ),
+                      ),
+                    ),
+                  ),
+                ),
+              ),
+            ),
+          ),
+        ),
+      ),
+    ),
+  ),
+)
 
 given_send : IsSend given.the_row
 given_send = search (sendable, crosses, reply_send) depth 60 fits 20000
