@@ -17,9 +17,8 @@ IDLE_KB, LEAK_KB = 4, 1_024
 # How many versions of each key are shown to connections, or more.
 VERSIONS = 20
 NEVER_READING, HALF_LINES, FLOODING = 200, 200, 2
-# What a client that reads nothing may cost: an outbox of 64 KB, a page of 11 KB that did not fit into it, and what one read brings. A
-# half line may have 64 KB.
-WAITING_KB, HALF_LINE_KB, BUFFER_BYTES = 64 + 11 + 16, 64, 1 << 14
+# What a client that reads nothing may cost: 128 KB of replies, and one read's input. A half line may have 64 KB.
+WAITING_KB, HALF_LINE_KB, BUFFER_BYTES = 128 + 16, 64, 1 << 14
 SLOWER = 5
 RESET = struct.pack("ii", 1, 0)
 

@@ -1,3 +1,4 @@
+pub mod AppendedTexts
 pub mod Inverses
 pub mod LookUps
 pub mod MembersByName

@@ -1,4 +1,5 @@
 pub mod Answers
+pub mod AppendedText
 pub mod Lines
 pub mod Members
 pub mod Prelude

@@ -3,9 +3,13 @@
 //! What returns no `NoMemory` allocates nothing.
 #![tactic(auto)]
 
+mod appending;
 mod line;
 mod members;
 
+pub use appending::{
+    append_bytes, append_comma, append_number, append_signed_number, append_string, append_text,
+};
 pub use line::{
     begin_line, finish_line, write_null_member, write_number_member, write_text_member,
 };

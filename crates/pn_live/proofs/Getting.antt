@@ -16,10 +16,10 @@ use Rattle.pn_scan.proofs.Gets.{IsGetting, getting_none, getting_more, get_fails
 use Rattle.pn_scan.proofs.Scans.{none_refused_front}
 use Rattle.pn_live.specs.Readers.{LiveReaderValue, LooksLive}
 
-abbrev Cells : Type 0
+abbrev pub Cells : Type 0
 Cells = Vec (Option Cell) Global
 
-abbrev Read : Type 0
+abbrev pub Read : Type 0
 Read = Result (Option CellValue) ScanFault
 
 abbrev items_of : Cells → List (Option CellValue)
@@ -48,11 +48,11 @@ none_else : {A : Type 0} (right : Result A ScanFault) (why : ScanFault) → is_m
 none_else right why memory refuses = subst (λ b. IsRight b why right) memory refuses
 
 -- the right cell, which is the one that was read, if one was
-found_cell : (read right : Read) → Answers (λ cell. cell) read right → IfErr read (λ why. is_memory why ≡ true) → (cell : Option CellValue) × (right ≡ Ok cell) × IfOk read (λ was. was ≡ cell)
+pub found_cell : (read right : Read) → Answers (λ cell. cell) read right → IfErr read (λ why. is_memory why ≡ true) → (cell : Option CellValue) × (right ≡ Ok cell) × IfOk read (λ was. was ≡ cell)
 found_cell (Ok cell) right answers memory = (cell, answers, refl)
 found_cell (Err why) right answers memory = let found = value_of right (none_else right why memory answers) in (found.0, found.1, tt)
 
-one_more : (was now : Option Cells) (read : Read) (cells : List (Option CellValue)) (cell : Option CellValue) → AreAtHand was cells → IfOk read (λ was. was ≡ cell)
+pub one_more : (was now : Option Cells) (read : Read) (cells : List (Option CellValue)) (cell : Option CellValue) → AreAtHand was cells → IfOk read (λ was. was ≡ cell)
     → IfSome now (λ now. IsSomeAnd was (λ was. IsOkAnd read (λ cell. now.items ≡ was.items ++ cell ∷ []))) → AreAtHand now (cells ++ cell ∷ [])
 one_more was None read cells cell had same made = tt
 one_more None (Some now) read cells cell had same made = absurd made

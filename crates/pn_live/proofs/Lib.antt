@@ -10,6 +10,8 @@ pub mod Knowing
 pub mod ManyLooks
 pub mod Learning
 pub mod Entering
+pub mod GetEnds
+pub mod GetWalks
 pub mod Getting
 pub mod Opening
 pub mod Closing

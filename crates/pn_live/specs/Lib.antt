@@ -5,6 +5,7 @@ pub mod Copying
 pub mod Counting
 pub mod Drafts
 pub mod Events
+pub mod Getting
 pub mod Honest
 pub mod Laws
 pub mod LiveRegions

@@ -7,6 +7,7 @@ mod attempt;
 pub mod event_laws;
 mod fault;
 mod front;
+mod get_walk;
 pub mod honest_laws;
 pub mod laws;
 mod live_tablet;
@@ -24,5 +25,6 @@ mod tablet_reader;
 
 pub use fault::{OpenFault, StartFault};
 pub use front::Front;
-pub use reader::LiveReader;
+pub use get_walk::GetWalk;
+pub use reader::{ENTRY_RECORDS, LiveReader};
 pub use region::{LiveRegion, MAX_READERS};

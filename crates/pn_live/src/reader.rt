@@ -18,6 +18,10 @@ use pn_tablet::{CopyFault, Layout, RecordCounts, TabletCopy};
 use std::alloc::Global;
 use std::marker::Model;
 
+/// How many records one entry into a tablet looks at where there are as many; it takes the others with it, by a slice. While a
+/// reader is inside, the writer spins. A page without conditions takes no more records, and a slice costs more than these.
+pub const ENTRY_RECORDS: usize = 1_024;
+
 /// A reader of a live region, for one thread at a time. None of its calls waits.
 #[derive(Drop)]
 pub struct LiveReader {
@@ -170,7 +174,7 @@ fn get_cells(
 }
 
 // The cells with one more, or none once memory ran out.
-fn with_cell(
+pub(crate) fn with_cell(
     cells: Option<Vec<Option<Cell>>>,
     read: Result<Option<Cell>, ScanFault>,
 ) -> Result<Option<Vec<Option<Cell>>>, ScanFault>
@@ -202,8 +206,16 @@ impl View for LiveReader {
         &self.layout
     }
 
-    fn part(&mut self, alloc: Global, tablet: usize, query: &Query, room: usize) -> PartResult {
-        self.tablet_readers[tablet].part(alloc, tablet, query, room)
+    fn part(
+        &mut self,
+        alloc: Global,
+        tablet: usize,
+        query: &Query,
+        room: usize,
+        records: usize,
+    ) -> PartResult {
+        let records = records.max(ENTRY_RECORDS);
+        self.tablet_readers[tablet].part(alloc, tablet, query, room, records)
     }
 
     fn cell(&mut self, key: &Key) -> Result<Option<Cell>, ScanFault> {

@@ -20,10 +20,6 @@ use pn_tablet::{CopyFault, RecordCounts, TabletCopy};
 use std::alloc::Global;
 use std::marker::Model;
 
-/// How many records one entry into a tablet looks at, if there are as many; it takes the others with it, by a slice. While a
-/// reader is inside, the writer spins. A page without conditions takes no more records, and a slice costs more than these.
-const ENTRY_RECORDS: usize = 1_024;
-
 /// A reader of one tablet.
 #[derive(Drop)]
 pub struct TabletReader {
@@ -112,14 +108,21 @@ impl TabletReader {
     }
 
     /// The first `room` rows that a query shows in the state that one entry finds, as `part_of`; `NoEntry` where
-    /// the entry is refused. The entry looks at `ENTRY_RECORDS` records at most.
-    pub fn part(&mut self, alloc: Global, tablet: usize, query: &Query, room: usize) -> PartResult
+    /// the entry is refused. The entry looks at `records` records at most.
+    pub fn part(
+        &mut self,
+        alloc: Global,
+        tablet: usize,
+        query: &Query,
+        room: usize,
+        records: usize,
+    ) -> PartResult
         ensures { (found : Option TabletStateValue) × IsOneLook self.old self.new (part_at query.now) result (rows_at query.now room) tablet found }
     {
         replace_with(
             self,
             query,
-            |reader, query| reader.look_up_part(alloc, tablet, query, room),
+            |reader, query| reader.look_up_part(alloc, tablet, query, room, records),
         )
     }
 
@@ -129,12 +132,13 @@ impl TabletReader {
         tablet: usize,
         query: &Query,
         room: usize,
+        records: usize,
     ) -> (TabletReader, PartResult)
         ensures { (found : Option TabletStateValue) × IsOneLook self result.0 (part_at query.now) result.1 (rows_at query.now room) tablet found }
     {
         match self.enter() {
             Ok(guard) => {
-                let answer = part_of(alloc, guard.state(), tablet, query, room, ENTRY_RECORDS);
+                let answer = part_of(alloc, guard.state(), tablet, query, room, records);
                 (TabletReader::leave(guard), answer)
             }
             Err(reader) => (reader, Err(ScanFault::NoEntry)),

@@ -1,5 +1,4 @@
 pub mod BatchParts
-pub mod Capacity
 pub mod CommandJson
 pub mod CommandLimits
 pub mod CommandLines
@@ -7,9 +6,10 @@ pub mod CommandNeeds
 pub mod CommandParts
 pub mod ControlJson
 pub mod ControlLines
-pub mod CopyLines
 pub mod EachFits
-pub mod FoundRows
+pub mod MadeReplies
+pub mod MadeRows
 pub mod ReadLines
 pub mod Refusals
+pub mod ShownRecords
 pub mod Walks

@@ -1,10 +1,11 @@
 -- Replies.
 pub mod Answers
-pub mod Capacity
 pub mod Errors
 pub mod Faults
 pub mod LineStats
+pub mod Making
 pub mod Notices
+pub mod Pieces
 pub mod Record
 pub mod Refusals
 pub mod Rows

@@ -10,8 +10,8 @@ use Rattle.serde_json.specs.Find.{of_integer}
 use Rattle.serde_json.specs.Written.{number_text, has_float, members_have_float, compact_text, members_text, comma_if}
 use Rattle.pn_join.specs.Naming.{is_name, is_name_byte}
 use Rattle.pn_record.specs.Bodies.{value_size, field_size, is_body, is_content, fields_fit, names_rise}
-use Rattle.pn_record.specs.Limits.{FieldValue, number_value, text_value, Field, is_number, is_value, is_field, is_key, is_version}
-use Rattle.pn_record.specs.Writing.{value_data, version_data, fields_data, body_data, image_data}
+use Rattle.pn_record.specs.Limits.{ContentValue, FieldValue, number_value, text_value, Field, is_number, is_value, is_field, is_key, is_version}
+use Rattle.pn_record.specs.Writing.{value_data, version_data, fields_data, body_data, content_data, image_data}
 use Rattle.pn_record.specs.Canonical.{is_image}
 use Rattle.pn_record.specs.declared.image.Image.{Image}
 use Rattle.pn_record.proofs.Values.{field_value}
@@ -140,3 +140,20 @@ length-image_data image is =
     let one = and_parts (is_key image.key) (is_version image.version) parts.0 in
     let two = and_parts (is_body image.content.0) (is_name image.content.1) parts.1 in
     length_body image.content.0 (rest_of image) two.0 (length_rest image one.0 two.1 one.1)
+
+-- the text of a version is short
+pub length-version_data : (v : ℕ × ℕ) → is_version v ≡ true → length (compact_text (version_data v)) ≤ 64
+length-version_data v is =
+    let parts = and_parts _ (leb v.1 (10 ^ 15)) is in
+    let first = and_parts (leb 1 v.0) (leb v.0 (10 ^ 15)) parts.0 in
+    omega (arith, length-append (decimal v.0) (44 ∷ (decimal v.1 ++ 93 ∷ [])), length-append (decimal v.1) (93 ∷ []), length_number v.0 (leb-true _ _ first.1), length_number v.1 (leb-true _ _ parts.1))
+
+-- so is that of a content
+pub length-content_data : (content : ContentValue) → is_content content ≡ true → length (compact_text (content_data content)) ≤ 52000
+length-content_data content is =
+    let two = and_parts (is_body content.0) (is_name content.1) is in
+    let long_name = and_parts (leb 1 (length content.1) && leb (length content.1) 32) (list_all is_name_byte content.1) two.1 in
+    let long_master = and_parts (leb 1 (length content.1)) (leb (length content.1) 32) long_name.0 in
+    let rest = member (codes "master") (string content.1) no_members in
+    let short : length (members_text true rest) ≤ 1900 = omega (arith, length_member true (codes "master") (quoted content.1) (125 ∷ []), length-quoted content.1, leb-true _ _ long_master.1) in
+    omega (arith, length_body content.0 rest two.0 short)

@@ -1,3 +1,4 @@
+pub mod AppendedImages
 pub mod CellLists
 pub mod CellMaps
 pub mod Differing

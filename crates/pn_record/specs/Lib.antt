@@ -22,6 +22,7 @@ pub mod Seen
 pub mod Sets
 pub mod Showing
 pub mod States
+pub mod Texts
 pub mod Tokens
 pub mod Words
 pub mod Writing

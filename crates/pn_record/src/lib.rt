@@ -20,9 +20,10 @@ mod value_ref;
 mod version;
 
 pub use as_json::{
-    UncheckedImage, content_value, image_from, image_of, image_value, marks_of, marks_value,
-    numbers_of, read_image, read_value, try_image_from, unchecked_image, version_of, version_value,
-    write_body, write_contents, write_field_value, write_image, write_marks, write_version,
+    UncheckedImage, append_content, append_image, append_version, content_value, image_from,
+    image_of, image_value, marks_of, marks_value, numbers_of, read_image, read_value,
+    try_image_from, unchecked_image, version_of, version_value, write_body, write_field_value,
+    write_image, write_marks, write_version,
 };
 pub use cell::{Cell, CellState};
 pub use content::{Body, Content, Value, is_field};

@@ -26,7 +26,14 @@ impl View for &Region {
     }
 
     // The tablets stay, so no look is cut short.
-    fn part(&mut self, alloc: Global, tablet: usize, query: &Query, room: usize) -> PartResult {
+    fn part(
+        &mut self,
+        alloc: Global,
+        tablet: usize,
+        query: &Query,
+        room: usize,
+        _records: usize,
+    ) -> PartResult {
         part_of(alloc, self.state(tablet), tablet, query, room, usize::MAX)
     }
 

@@ -10,7 +10,9 @@ pub mod Gets
 pub mod InOrder
 pub mod Looking
 pub mod Numbers
+pub mod PageBegins
 pub mod PageEnds
+pub mod Paging
 pub mod QueryFaults
 pub mod RisingPages
 pub mod SameConditions

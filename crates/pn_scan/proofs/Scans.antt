@@ -69,12 +69,12 @@ few_front query n seen =
 goes_on_before : (query : QueryValue) (n : ℕ) (seen : List Look) → GoesOn query seen → GoesOn query (take n seen)
 goes_on_before query n seen on = record { none_refused = none_refused_front n seen on.none_refused; few = omega (arith, few_front query n seen, on.few) }
 
-goes_on_more : (query : QueryValue) (seen : List Look) (look : Look) (n : ℕ) → GoesOn query seen → n < length (seen ++ look ∷ []) → GoesOn query (take n (seen ++ look ∷ []))
+pub goes_on_more : (query : QueryValue) (seen : List Look) (look : Look) (n : ℕ) → GoesOn query seen → n < length (seen ++ look ∷ []) → GoesOn query (take n (seen ++ look ∷ []))
 goes_on_more query seen look n on inside =
     let short : n ≤ length seen = omega (arith, length-append seen (look ∷ []), inside) in
     subst (GoesOn query) (sym (take-append-le n seen (look ∷ []) short)) (goes_on_before query n seen on)
 
-few_more : (query : QueryValue) (seen : List Look) (look : Look) → GoesOn query seen → AllFew query (seen ++ look ∷ [])
+pub few_more : (query : QueryValue) (seen : List Look) (look : Look) → GoesOn query seen → AllFew query (seen ++ look ∷ [])
 few_more query seen look on k inside = (goes_on_more query seen look k on inside).few
 
 all_few : (query : QueryValue) (seen : List Look) → GoesOn query seen → AllFew query seen
@@ -111,15 +111,15 @@ ok_value None a b is = (refl, cc)
 ok_value (Some w) a b is = cc
 
 -- the rows with those of one tablet more are the first of all
-after_front : (limit : ℕ) (rows shown all : Entries) → length rows ≤ limit → all ≡ rows ++ shown → rows ++ take (limit + 1 - length rows) shown ≡ take (limit + 1) all
+pub after_front : (limit : ℕ) (rows shown all : Entries) → length rows ≤ limit → all ≡ rows ++ shown → rows ++ take (limit + 1 - length rows) shown ≡ take (limit + 1) all
 after_front limit rows shown all few is =
     let room : length rows + (limit + 1 - length rows) ≡ limit + 1 = omega arith in
     sym (take-append-add rows shown (limit + 1 - length rows)) ∙ ap (λ n. take n (rows ++ shown)) room ∙ ap (λ (es : Entries). take (limit + 1) es) (sym is)
 
-all_taken : (limit : ℕ) (all : Entries) → length (take (limit + 1) all) ≤ limit → take (limit + 1) all ≡ all
+pub all_taken : (limit : ℕ) (all : Entries) → length (take (limit + 1) all) ≤ limit → take (limit + 1) all ≡ all
 all_taken limit all few = take_all (limit + 1) all (omega (arith, length-take (limit + 1) all, few))
 
-more_left : (limit : ℕ) (all : Entries) → limit < length (take (limit + 1) all) → limit < length all
+pub more_left : (limit : ℕ) (all : Entries) → limit < length (take (limit + 1) all) → limit < length all
 more_left limit all more = omega (arith, length-take (limit + 1) all, more)
 
 module _ {V : Type 0} {looks : V → Look → V → Type 0} {bounds : Bounds} {query : QueryValue} {first tablet : ℕ} {old now : V} {rows : Entries} {seen : List Look} (count : ℕ) (range : candidates bounds query ≡ range_with_len first count) (walked : IsWalked looks bounds query first tablet old now rows seen) where
@@ -214,7 +214,7 @@ module _ {V : Type 0} {looks : V → Look → V → Type 0} {bounds : Bounds} {q
         begun = tt;
       }
 
-some_seen : (query : QueryValue) (n : ℕ) (seen : List Look) → n < length (take (query.limit + 1) (rows_in query seen)) → 0 < length seen
+pub some_seen : (query : QueryValue) (n : ℕ) (seen : List Look) → n < length (take (query.limit + 1) (rows_in query seen)) → 0 < length seen
 some_seen query n [] some = absurd (omega (arith, length-take (query.limit + 1) (rows_in query []), some))
 some_seen query n (look ∷ seen) some = omega arith
 

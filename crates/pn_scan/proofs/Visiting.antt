@@ -57,7 +57,7 @@ pub range_of : (bounds : Bounds) (query : QueryValue) → IsLayout bounds → Ar
 range_of bounds query lawful = range_to bounds query lawful query.to refl
 
 -- looks whose numbers are the first of a range count up
-numbered_from : (k n len : ℕ) (looks : List Look) → map (λ look. look.0) looks ≡ take k (range_with_len n len) → Numbered n looks
+pub numbered_from : (k n len : ℕ) (looks : List Look) → map (λ look. look.0) looks ≡ take k (range_with_len n len) → Numbered n looks
 numbered_from k n len [] is = tt
 numbered_from zero n len (look ∷ looks) is = cc
 numbered_from (suc k) n zero (look ∷ looks) is = cc

@@ -49,7 +49,7 @@ pub hidden_first : (q : QueryValue) (e : List ℕ × CellValue) (es : Entries) �
 hidden_first q e es hidden = ap (λ b. cond b (e ∷ shown_rows q es) (shown_rows q es)) hidden
 
 -- a key above one that is not below the end is not below it either
-past_end : (to : Option (List ℕ)) (key other : List ℕ) → bytes_cmp key other ≡ Less → is_before to key ≡ false → is_before to other ≡ false
+pub past_end : (to : Option (List ℕ)) (key other : List ℕ) → bytes_cmp key other ≡ Less → is_before to key ≡ false → is_before to other ≡ false
 past_end None key other rises past = past
 past_end (Some to) key other rises past =
     elim (is_below other to) as (λ b. is_below other to ≡ b → b ≡ false) [
@@ -127,7 +127,7 @@ begin_there q es a b rising is_a is_b =
 abbrev pub NoneBelow : Option (List ℕ) → Entries → Type 0
 NoneBelow end es = AllByRecursion (λ e. is_from end e.0 ≡ true) es
 
-open_below : (es : Entries) → NoneBelow None es
+pub open_below : (es : Entries) → NoneBelow None es
 open_below [] = tt
 open_below (e ∷ es) = (refl, open_below es)
 

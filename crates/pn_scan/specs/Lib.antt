@@ -4,6 +4,7 @@ pub mod ConditionReading
 pub mod ConditionWords
 pub mod Conditions
 pub mod Pages
+pub mod Paging
 pub mod Parts
 pub mod Prelude
 pub mod Queries

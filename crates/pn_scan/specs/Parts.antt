@@ -1,5 +1,5 @@
--- Looks into one tablet: each is shown by the answer that it comes to.
-use Rattle.std.specs.Prelude.{Bool, nat_lt, ◌++◌, length, take}
+-- Looks into one tablet that are gone on with: each is shown by the answer that it comes to.
+use Rattle.std.specs.Prelude.{◌≤◌, ℕ, ◌+◌, Bool, nat_lt, ◌++◌, length, take}
 use Rattle.pn_record.specs.CellMap.{Entries}
 use Rattle.pn_scan.specs.Queries.{QueryValue}
 use Rattle.pn_scan.specs.Shown.{shown_rows}
@@ -17,5 +17,20 @@ walk_answer query walk = (take walk.room (walk.rows ++ shown_rows query walk.res
 
 -- the answer that it has, or comes to
 abbrev pub part_at : QueryValue → Part → PartValue
-part_at query (Done rows more) = (rows.items, more)
+part_at query (Done rows more looked) = (rows.items, more)
 part_at query (Rest walk) = walk_answer query walk
+
+-- how many records are still to be looked at
+abbrev pub left_in : Part → ℕ
+left_in (Done rows more looked) = 0
+left_in (Rest walk) = length walk.rest
+
+-- nothing is left to look at
+abbrev pub IsDone : Part → Type 0
+IsDone (Done rows more looked) = Unit {0}
+IsDone (Rest walk) = ⊥
+
+-- of so many records that were left, at most so many were looked at
+abbrev pub LooksAtMost : ℕ → ℕ → Part → Type 0
+LooksAtMost records left (Done rows more looked) = looked ≤ records
+LooksAtMost records left (Rest walk) = left ≤ length walk.rest + records

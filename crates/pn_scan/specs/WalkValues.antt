@@ -1,5 +1,5 @@
--- A look into a tablet that is not at its end.
-use Rattle.std.specs.Prelude.{ℕ}
+-- A look into a tablet, and a page, that are gone on with.
+use Rattle.std.specs.Prelude.{ℕ, Option}
 use Rattle.pn_record.specs.CellMap.{Entries}
 
 -- the rows that were found, the records that are still to be looked at, and for how many rows there is room
@@ -7,3 +7,10 @@ pub record PartWalkValue : Type 0 where
   pub rows : Entries
   pub rest : Entries
   pub room : ℕ
+
+-- the rows of the tablets that were read, the look into the one that is, and the numbers that are still to be looked into
+pub record PageWalkValue : Type 0 where
+  pub rows : Entries
+  pub part : Option PartWalkValue
+  pub next : ℕ
+  pub end : ℕ

@@ -5,6 +5,7 @@ mod condition;
 mod fault;
 mod filter;
 pub mod laws;
+mod page_walk;
 mod pages;
 mod part;
 mod query;
@@ -19,6 +20,7 @@ mod walk;
 
 pub use condition::Condition;
 pub use fault::ScanFault;
+pub use page_walk::{PageStep, PageWalk};
 pub use pages::page;
 pub use part::{cell_of, part_of};
 pub use query::{MAX_CONDITIONS, MAX_PAGE_ROWS, Query};

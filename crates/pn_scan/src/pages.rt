@@ -17,6 +17,9 @@ use pn_record::Key;
 use pn_tablet::Layout;
 use std::alloc::Global;
 
+/// How many records a look of a page takes, where the tablets may change meanwhile, before it is gone on with.
+const LOOK_RECORDS: usize = 1_024;
+
 /// The first rows of a query, at most its limit, and the query for the next page exactly where there is more.
 ///
 /// Tablets are read in rising number until a row comes after the page. `Recovering` names the first that recovers,
@@ -64,11 +67,11 @@ fn read_on<V: View>(
     ensures layout { V.bounds view.new ≡ V.bounds view.old }
 {
     let room = query.limit() + 1 - rows.len();
-    let part = view.part(alloc, tablet, query, room)?;
+    let part = view.part(alloc, tablet, query, room, LOOK_RECORDS)?;
     Ok(put_after(rows, part.into_rows(query)?)?)
 }
 
-fn put_after(mut rows: Vec<Row>, mut more: Vec<Row>) -> Result<Vec<Row>, NoMemory>
+pub(crate) fn put_after(mut rows: Vec<Row>, mut more: Vec<Row>) -> Result<Vec<Row>, NoMemory>
     ensures { IfOk result (λ all. all.items ≡ rows.items ++ more.items) }
 {
     if rows.is_empty() {
@@ -79,7 +82,7 @@ fn put_after(mut rows: Vec<Row>, mut more: Vec<Row>) -> Result<Vec<Row>, NoMemor
 }
 
 // The candidates of a query, from the first number up to the second.
-fn candidates(layout: &Layout, query: &Query) -> (usize, usize)
+pub(crate) fn candidates(layout: &Layout, query: &Query) -> (usize, usize)
     ensures all { all_candidates layout.now query.now ≡ range_with_len result.0 (result.1 - result.0) }
     ensures within { result.1 ≤ length layout.now + 1 }
 {
@@ -124,7 +127,7 @@ fn begins_before(from: Option<&Key>, to: &Key) -> bool
 }
 
 // The page of rows, of which there may be one more than the limit.
-fn page_of(alloc: Global, query: &Query, mut rows: Vec<Row>) -> Result<Page, NoMemory>
+pub(crate) fn page_of(alloc: Global, query: &Query, mut rows: Vec<Row>) -> Result<Page, NoMemory>
     ensures full { OnErr result (query.now.limit < length rows.items) }
     ensures page { IfOk result (λ page. (all : Entries) → rows.items ≡ take (query.now.limit + 1) all → (page.rows.items, page.next) ≡ first_page query.now all) }
 {

@@ -20,7 +20,7 @@ use pn_tablet::{Status, TabletState, is_before};
 use std::alloc::Global;
 
 /// The first `room` rows that a query shows of a tablet, and whether it shows more. It copies keys and shares contents. It looks
-/// at `records` records at most; where that is not enough it takes the others with it, by sharing them.
+/// at `records` records at most; where that is not enough it takes the others by sharing them, and is to be gone on with.
 ///
 /// `Recovering`, with the number given, exactly where the tablet recovers.
 pub fn part_of(
@@ -52,7 +52,7 @@ fn begin_walk(
     let index = first_index(cells, query);
     prefetch_cells(cells, index, query, room.min(records));
     match walk_some(cells, index, query, room, records, &mut rows)? {
-        Walked::All(more) => Ok(Part::Done(rows, more)),
+        Walked::All(more, looked) => Ok(Part::Done(rows, more, looked)),
         Walked::To(next) => take_rest(cells, next, query, rows, room),
     }
 }
@@ -75,7 +75,7 @@ fn take_rest(
         Ok(rest) => Ok(Part::Rest(PartWalk::new(rest, rows, room))),
         Err(_) => {
             let more = walk_all(cells, index, query, room, &mut rows)?;
-            Ok(Part::Done(rows, more))
+            Ok(Part::Done(rows, more, cells.len() - index))
         }
     }
 }

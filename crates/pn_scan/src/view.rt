@@ -57,11 +57,18 @@ pub trait View {
         ensures { result.now ≡ bounds self.now };
 
     /// The first `room` rows that a query shows of a tablet, whose number is below the layout's count, and whether it
-    /// shows more.
+    /// shows more. A view of tablets that may change looks at `records` records, or at some more, and then takes the others with it.
     ///
     /// `Recovering` exactly where the tablet recovers, `NoEntry` exactly where the entry was refused. After an error
     /// the view stays usable.
-    fn part(&mut self, alloc: Global, tablet: usize, query: &Query, room: usize) -> PartResult
+    fn part(
+        &mut self,
+        alloc: Global,
+        tablet: usize,
+        query: &Query,
+        room: usize,
+        records: usize,
+    ) -> PartResult
         requires { tablet ≤ length (bounds self.old) }
         ensures look { (found : Option TabletStateValue) × LooksOnce looks (bounds self.old) self.old self.new (part_at query.now) result
             (rows_at query.now room) (tablet, found) }

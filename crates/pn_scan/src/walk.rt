@@ -1,25 +1,26 @@
-//! Looks into one tablet that take what they have not looked at with them.
+//! Looks into one tablet that are gone on with.
 
-ghost use Rattle.std.specs.Prelude.{◌≡◌, ◌<◌, ◌≤◌, ◌^◌, true, drop, length, IfOk};
+ghost use Rattle.std.specs.Prelude.{◌≡◌, ◌+◌, ◌<◌, ◌≤◌, ◌^◌, ◌⊎◌, true, false, drop, length, IfOk};
 ghost use Rattle.std.specs.List.{AllByRecursion};
+ghost use Rattle.std.specs.Option.{option_copied};
 ghost use Rattle.pn_tablet.specs.Prelude.{is_from};
-ghost use Rattle.pn_scan.specs.Walking.{WalksTo};
-ghost use Rattle.pn_scan.specs.Parts.{part_at, walk_answer};
+ghost use Rattle.pn_scan.specs.Walking.{BeginsBelow, WalksTo};
+ghost use Rattle.pn_scan.specs.Parts.{part_at, walk_answer, left_in, IsDone, LooksAtMost};
 
 use crate::filter::is_shown;
 use crate::part::{index_of, row_of};
 use crate::{Query, Row};
 use pn_join::NoMemory;
-use pn_record::Records;
+use pn_record::{Key, Records};
 use pn_tablet::is_before;
 use std::marker::Model;
 
 /// What a look into a tablet has of its answer.
 #[derive(Drop)]
 pub enum Part {
-    /// The first rows that a query shows of the tablet, and whether it shows more.
-    Done(Vec<Row>, bool),
-    /// Others may come, of what the look took of the tablet.
+    /// The first rows that a query shows of the tablet, whether it shows more, and how many records were looked at.
+    Done(Vec<Row>, bool, usize),
+    /// The look is to be gone on with, over what it took of the tablet.
     Rest(PartWalk),
 }
 
@@ -29,7 +30,7 @@ impl Part {
         ensures { IfOk result (λ rows. rows.items ≡ (part_at query.now self).0) }
     {
         match self {
-            Part::Done(rows, _) => Ok(rows),
+            Part::Done(rows, _, _) => Ok(rows),
             Part::Rest(walk) => walk.into_rows(query),
         }
     }
@@ -40,12 +41,14 @@ impl Part {
 #[derive(Drop)]
 pub struct PartWalk {
     rest: Records,
+    // How many of these were looked at.
+    index: usize,
     rows: Vec<Row>,
     room: usize,
 }
 
 impl Model for PartWalk {
-    ghost use Rattle.std.specs.Prelude.{◌≤◌, length};
+    ghost use Rattle.std.specs.Prelude.{◌≤◌, drop, length};
     ghost use Rattle.pn_scan.specs.WalkValues.{PartWalkValue};
 
     ghost Value = { PartWalkValue };
@@ -54,7 +57,7 @@ impl Model for PartWalk {
 
     ghost coded = { part_walk_code };
 
-    ghost view = { λ walk. record { rows = walk.rows.items; rest = walk.rest; room = walk.room } };
+    ghost view = { λ walk. record { rows = walk.rows.items; rest = drop walk.index walk.rest; room = walk.room } };
 
     ghost invariant = { λ walk. length walk.rows.items ≤ walk.room };
 }
@@ -65,7 +68,51 @@ impl PartWalk {
         requires { length rows.items ≤ room }
         ensures { result ≡ record { rows = rows.items; rest = rest; room = room } }
     {
-        PartWalk { rest, rows, room }
+        PartWalk {
+            rest,
+            index: 0,
+            rows,
+            room,
+        }
+    }
+
+    /// Looks at so many more records at most. The answer that it comes to stays.
+    pub fn go_on(self, query: &Query, records: usize) -> Result<Part, NoMemory>
+        ensures same { IfOk result (λ part. part_at query.now part ≡ walk_answer query.now self) }
+        ensures few { IfOk result (LooksAtMost records (length self.rest)) }
+        ensures less { 0 < records → IfOk result (λ part. (left_in part < length self.rest) ⊎ IsDone part) }
+    {
+        let PartWalk {
+            rest,
+            index,
+            mut rows,
+            room,
+        } = self;
+        recall_len(&rest);
+        if begins_below(&rest, index, query.from()) {
+            return Ok(Part::Rest(PartWalk {
+                rest,
+                index: index + records.min(1),
+                rows,
+                room,
+            }));
+        }
+        match walk_some(&rest, index, query, room, records, &mut rows)? {
+            Walked::All(more, looked) => Ok(Part::Done(rows, more, looked)),
+            Walked::To(index) => Ok(Part::Rest(PartWalk {
+                rest,
+                index,
+                rows,
+                room,
+            })),
+        }
+    }
+
+    /// How many records are still to be looked at.
+    pub(crate) fn left(&self) -> usize
+        ensures { result ≡ length self.now.rest }
+    {
+        self.rest.len().saturating_sub(self.index)
     }
 
     // The first rows, once all is looked at.
@@ -74,21 +121,42 @@ impl PartWalk {
     {
         let PartWalk {
             rest,
+            index,
             mut rows,
             room,
         } = self;
         rest.recall_order();
-        let index = index_of(&rest, query.from());
+        let index = index.max(index_of(&rest, query.from()));
         let _more = walk_all(&rest, index, query, room, &mut rows)?;
         Ok(rows)
     }
 }
 
+// Whether the record at an index, if there is one, is below `from`. None is in what a look took of its tablet for the query.
+fn begins_below(cells: &Records, index: usize, from: Option<&Key>) -> bool
+    ensures { BeginsBelow (option_copied from.entry) (drop index cells.now) result }
+{
+    let Some(from) = from else {
+        return false;
+    };
+    match cells.iter_from(index).next() {
+        Some((key, _)) => key < from,
+        None => false,
+    }
+}
+
+// Recalls for the prover that records can be counted.
+fn recall_len(cells: &Records)
+    ensures { length cells.now < 2 ^ 64 }
+{
+    let _ = cells.len();
+}
+
 /// How far a walk over records came.
 #[derive(Clone, Copy, Debug, PartialEq, Eq)]
 pub(crate) enum Walked {
-    /// The rows that there is room for were found, or all. Whether there are more.
-    All(bool),
+    /// The rows that there is room for were found, or all. Whether there are more, and how many records were looked at.
+    All(bool, usize),
     /// The records before this index were looked at.
     To(usize),
 }
@@ -114,16 +182,16 @@ pub(crate) fn walk_some(
         }
         looked += 1;
         if !is_before(query.to(), key) {
-            return Ok(Walked::All(false));
+            return Ok(Walked::All(false, looked));
         }
         if is_shown(query, key, cell) {
             if rows.len() == room {
-                return Ok(Walked::All(true));
+                return Ok(Walked::All(true, looked));
             }
             rows.push(row_of(key, cell)?)?;
         }
     }
-    Ok(Walked::All(false))
+    Ok(Walked::All(false, looked))
 }
 
 /// Adds the rows that a query shows of all records from an index on, as far as there is room. Whether there are more.
@@ -140,7 +208,7 @@ pub(crate) fn walk_all(
 {
     let records = cells.len().saturating_sub(index);
     match walk_some(cells, index, query, room, records, rows)? {
-        Walked::All(more) => Ok(more),
+        Walked::All(more, _) => Ok(more),
         Walked::To(_) => unreachable!(),
     }
 }

@@ -27,15 +27,16 @@ use Rattle.pn_protocol.specs.declared.command.Command.TheVariants as words
 use Rattle.pn_protocol.specs.declared.refusal.Refusal.{Refusal}
 use Rattle.pn_protocol.specs.declared.refusal.Refusal.TheVariants.{TooLong, NotJson, BadShape, ReadOnly, OutOfRange, Memory}
 use Rattle.pn_protocol.specs.declared.reply.Reply.{Reply}
-use Rattle.pn_protocol.specs.declared.reply.Reply.TheVariants.{Adopted, Changed, Copied, Lost, Relaid, Stopping, Silent, Text, Refused, NotTaken}
+use Rattle.pn_protocol.specs.declared.reply.Reply.TheVariants.{Adopted, Changed, Copy, Lost, Page, Record, Records, Relaid, Stopping, Silent, Text, Refused, NotTaken}
 use Rattle.pn_protocol.specs.declared.reply.refusals.CommandFault.TheVariants.{CopyText}
+use Rattle.pn_scan.specs.Paging.{Stays}
 use Rattle.pn_serve.specs.Control.Commands.{said_by}
 use Rattle.pn_serve.specs.Control.Steps.{AdoptsRead, ObeysControl, ObeysScript, RepliesWith, Says, ShowsCounts, StepsAs, StepsBy, StepsLast, Lasts}
 use Rattle.pn_serve.specs.Session.Knowing.{KnowsNoLess}
 use Rattle.pn_serve.specs.Session.Lines.{LooksUp}
 use Rattle.pn_serve.specs.declared.control.steps.Step.{Step}
 use Rattle.pn_serve.specs.declared.control.steps.Step.TheVariants.{Replies, Announces, Stops, Ends}
-use Rattle.pn_serve.proofs.Knowing.{command_knows, knows_same}
+use Rattle.pn_serve.proofs.Knowing.{command_knows, knows_same, stays_knows}
 use Rattle.pn_serve.proofs.TabletCounts.{tablets_know}
 
 -- a line that was written says so, or memory ran out
@@ -60,7 +61,10 @@ pub read_fault : (text : List ℕ) (why : CopyTextFault) (shown : Reply) → (wh
 read_fault text why (NotTaken said) is refuses = inl (subst (λ (r : Result TabletCopyValue CopyTextFault). AdoptsRead r (Replies (NotTaken said))) (sym (is refuses.0)) refuses)
 read_fault text why (Adopted tablet) is refuses = inr (ap Replies refuses)
 read_fault text why (Changed count) is refuses = inr (ap Replies refuses)
-read_fault text why (Copied lines copied) is refuses = inr (ap Replies refuses)
+read_fault text why (Copy copy) is refuses = inr (ap Replies refuses)
+read_fault text why (Page page) is refuses = inr (ap Replies refuses)
+read_fault text why (Record key cell) is refuses = inr (ap Replies refuses)
+read_fault text why (Records keys cells) is refuses = inr (ap Replies refuses)
 read_fault text why (Lost tablet) is refuses = inr (ap Replies refuses)
 read_fault text why (Relaid count) is refuses = inr (ap Replies refuses)
 read_fault text why (Stopping seconds) is refuses = inr (ap Replies refuses)
@@ -70,7 +74,7 @@ read_fault text why (Refused refusal) is refuses = inr (ap Replies refuses)
 
 -- a command that the reader does
 pub looked_up : (old new : LiveReaderValue) (asked : Command) (shown : Reply) → ((lines : ℕ) → asked ≢ words.Adopt lines) → ((tablet : ℕ) → asked ≢ words.Lose tablet) → asked ≢ words.Marks → asked ≢ words.Tablets
-    → LooksUp old (command_value asked) new shown → ObeysScript old (command_value asked) new (Replies shown)
+    → LooksUp Stays old (command_value asked) new shown → ObeysScript old (command_value asked) new (Replies shown)
 looked_up old new (words.Adopt lines) shown adopts loses marks tablets looks = absurd (adopts lines refl)
 looked_up old new (words.Copy need tablet) shown adopts loses marks tablets looks = looks
 looked_up old new (words.Deliver deliveries) shown adopts loses marks tablets looks = looks
@@ -133,8 +137,8 @@ pub lasts_so_far : (old new : LiveReaderValue) (line : LineBufferValue) (text : 
 lasts_so_far old new line text step is last = record { first = last.first; steps = steps_so_far old new line text last.first is last.steps; lasts = last.lasts }
 
 -- the reader never knows less
-replied_knows : (old new : LiveReaderValue) (asked : command.CommandValue) (step : Step) → RepliesWith (λ shown. LooksUp old asked new shown) step → KnowsNoLess old new
-replied_knows old new asked (Replies shown) looks = command_knows old new asked shown looks
+replied_knows : (old new : LiveReaderValue) (asked : command.CommandValue) (step : Step) → RepliesWith (λ shown. LooksUp Stays old asked new shown) step → KnowsNoLess old new
+replied_knows old new asked (Replies shown) looks = command_knows Stays stays_knows old new asked shown looks
 replied_knows old new asked (Announces lines) looks = absurd looks
 replied_knows old new asked (Stops seconds) looks = absurd looks
 replied_knows old new asked Ends looks = absurd looks

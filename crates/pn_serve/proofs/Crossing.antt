@@ -9,6 +9,10 @@ use Rattle.pn_record.specs.contracts.held_contents.HeldContents as held
 use Rattle.pn_record.specs.contracts.cell.Cell as cell
 use Rattle.pn_record.specs.contracts.key.Key as key
 use Rattle.pn_tablet.specs.contracts.copy.TabletCopy as copy
+use Rattle.pn_tablet.specs.contracts.copy_text.CopyText as copy_text
+use Rattle.pn_scan.specs.contracts.view.Row as row
+use Rattle.pn_protocol.specs.contracts.reply.PageReply as page
+use Rattle.pn_protocol.specs.contracts.reply.Reply as reply
 use Rattle.pn_serve.specs.contracts.control.commands.WriterCommand as command
 use Rattle.pn_serve.specs.contracts.control.answers.GivenAnswer as given
 use Rattle.pn_serve.specs.contracts.control.mailboxes.HeldCommand as held_command
@@ -54,8 +58,59 @@ copy_send = search (sendable, crosses, key_send, key_sync, cell_send, cell_sync,
 command_send : IsSend command.the_row
 command_send = search (sendable, crosses, copy_send) depth 60 fits 20000
 
+copy_text_send : IsSend copy_text.the_row
+copy_text_send = search (sendable, crosses, copy_send) depth 60 fits 20000
+
+row_send : IsSend row.the_row
+row_send = search (sendable, crosses, key_send, cell_send) depth 40 fits 20000
+
+page_send : IsSend page.the_row
+page_send = search (sendable, crosses, row_send) depth 40 fits 20000
+
+reply_send : IsSend reply.the_row
+reply_send = variants_send reply.enum (
+  (search (sendable, crosses) depth 40, tt),
+  (
+    (search (sendable, crosses) depth 40, tt),
+    (
+      (search (sendable, crosses, copy_text_send) depth 40, tt),
+      (
+        (search (sendable, crosses) depth 40, tt),
+        (
+          (search (sendable, crosses) depth 40, tt),
+          (
+            (search (sendable, crosses) depth 40, tt),
+            (
+              tt,
+              (
+                (search (sendable, crosses, page_send) depth 40, tt),
+                (
+                  (search (sendable, crosses, key_send) depth 40, (search (sendable, crosses, cell_send) depth 40, tt)),
+                  (
+                    (search (sendable, crosses, key_send) depth 40, (search (sendable, crosses, cell_send) depth 40, tt)),
+                    (
+                      (search (sendable, crosses) depth 40, tt),
+                      (
+                        (search (sendable, crosses) depth 40 fits 20000, tt),
+                        (
+                          (search (sendable, crosses) depth 40, tt),
+                          tt,
+                        ),
+                      ),
+                    ),
+                  ),
+                ),
+              ),
+            ),
+          ),
+        ),
+      ),
+    ),
+  ),
+)
+
 given_send : IsSend given.the_row
-given_send = search (sendable, crosses) depth 60 fits 20000
+given_send = search (sendable, crosses, reply_send) depth 60 fits 20000
 
 held_command_send : IsSend held_command.the_row
 held_command_send = variants_send held_command.enum (tt, ((command_send, tt), (tt, ((given_send, tt), (tt, tt)))))

@@ -12,17 +12,25 @@ use Rattle.pn_scan.specs.Candidates.{Look}
 use Rattle.pn_scan.specs.Pages.{PageValue, first_page}
 use Rattle.pn_scan.specs.Queries.{QueryValue}
 use Rattle.pn_scan.specs.Reads.{IsGet}
+use Rattle.pn_scan.specs.Paging.{Gaps, IsPreorder, LookMade, LooksAfter, Moving, Stays}
+use Rattle.pn_scan.specs.Views.{Looks}
 use Rattle.pn_scan.specs.Visits.{IsScan}
 use Rattle.pn_scan.specs.declared.fault.ScanFault.{ScanFault}
 use Rattle.pn_live.specs.Readers.{LiveReaderValue, LooksLive}
 use Rattle.pn_protocol.specs.declared.refusal.Refusal.{Refusal}
 use Rattle.pn_protocol.specs.declared.refusal.Refusal.TheVariants.{TooLong, NotJson, BadShape, ReadOnly, OutOfRange, Memory}
 use Rattle.pn_protocol.specs.declared.reply.Reply.{Reply}
-use Rattle.pn_protocol.specs.declared.reply.Reply.TheVariants.{Adopted, Changed, Copied, Lost, Relaid, Silent, Stopping, Text, Refused, NotTaken}
+use Rattle.pn_protocol.specs.declared.reply.Reply.TheVariants.{Silent, Refused}
 use Rattle.pn_protocol.proofs.CommandLines.{too_long}
 use Rattle.pn_protocol.specs.Command.Lines.{is_too_long, lookup_at}
-use Rattle.pn_protocol.specs.Command.Meaning.{CommandValue}
+use Rattle.pn_protocol.specs.Command.Meaning.{CommandValue, adopt, copy, deliver, get, lose, marks, notices, read, relayout, scan, tablets}
 use Rattle.pn_protocol.specs.Reply.Answers.{ShowsFound}
+use Rattle.pn_serve.specs.declared.machine.line_handler.Answer.{Answer}
+use Rattle.pn_serve.specs.declared.machine.line_handler.Answer.TheVariants.{Done, Going as Begun}
+use Rattle.pn_serve.specs.declared.sessions.going.Going.{Going}
+use Rattle.pn_serve.specs.declared.sessions.going.Going.TheVariants.{Page, Keys, Copy}
+use Rattle.pn_serve.specs.Lines.Going.{AnswersLast, AnswersWith}
+use Rattle.pn_serve.specs.Session.Looking.{LooksFor, LooksForLast, LooksOn, LooksTo}
 use Rattle.pn_serve.specs.Session.Lines.{Tells, LooksUp, AnswersLine, EndsLines, RefusesLine}
 
 -- what was found, as it is shown
@@ -31,45 +39,121 @@ seen_as see (Ok found) = Ok (see found)
 seen_as see (Err fault) = Err fault
 
 pub shows_as : {A B : Type 0} (see : A → B) (show : B → Data) (found : Result A ScanFault) (reply : Reply) → ShowsFound (λ a. show (see a)) found reply → ShowsFound show (seen_as see found) reply
-shows_as see show (Ok found) (Text text) is = is
-shows_as see show (Ok found) (Adopted tablet) is = is
-shows_as see show (Ok found) (Changed count) is = is
-shows_as see show (Ok found) (Copied lines text) is = is
-shows_as see show (Ok found) (Lost tablet) is = is
-shows_as see show (Ok found) (Relaid count) is = is
-shows_as see show (Ok found) Silent is = is
-shows_as see show (Ok found) (Stopping seconds) is = is
-shows_as see show (Ok found) (Refused refusal) is = is
-shows_as see show (Ok found) (NotTaken text) is = is
+shows_as see show (Ok found) reply is = is
 shows_as see show (Err fault) reply is = is
+
+-- looks with nothing between them
+looks_stay : (old new : LiveReaderValue) (seen : List Look) → Looks LooksLive old seen new → Looks (LooksAfter Stays LooksLive) old seen new
+looks_stay old new [] looked = looked
+looks_stay old new (look ∷ seen) looked = (looked.0, record { between = old; moved = refl; looked = looked.1 }, looks_stay looked.0 new seen looked.2)
 
 -- a get, by what its answer shows
 pub got_as : {A : Type 0} (bounds : Bounds) (keys : List (List ℕ)) (old new : LiveReaderValue) (show : A → List (Option CellValue)) (found : Result A ScanFault) (seen : List Look)
-    → IsGet LooksLive bounds keys old new show found seen → IsGet LooksLive bounds keys old new (λ cells. cells) (seen_as show found) seen
-got_as bounds keys old new show (Ok cells) seen is = record { looked = is.looked; found = is.found; order = is.order; only = is.only; answers = is.answers; whole = is.whole }
-got_as bounds keys old new show (Err fault) seen is = record { looked = is.looked; found = is.found; order = is.order; only = is.only; answers = is.answers; whole = is.whole }
+    → IsGet LooksLive bounds keys old new show found seen → IsGet (LooksAfter Stays LooksLive) bounds keys old new (λ cells. cells) (seen_as show found) seen
+got_as bounds keys old new show (Ok cells) seen is = record { looked = looks_stay old new seen is.looked; found = is.found; order = is.order; only = is.only; answers = is.answers; whole = is.whole }
+got_as bounds keys old new show (Err fault) seen is = record { looked = looks_stay old new seen is.looked; found = is.found; order = is.order; only = is.only; answers = is.answers; whole = is.whole }
 
 -- a scan, by what its answer shows
 pub scanned_as : {A : Type 0} (bounds : Bounds) (query : QueryValue) (old new : LiveReaderValue) (show : A → PageValue) (found : Result A ScanFault) (seen : List Look)
-    → IsScan LooksLive bounds query old new show found (first_page query) seen → IsScan LooksLive bounds query old new (λ page. page) (seen_as show found) (first_page query) seen
-scanned_as bounds query old new show (Ok page) seen is = record { looked = is.looked; visit = is.visit; answers = is.answers; whole = is.whole; begun = is.begun }
-scanned_as bounds query old new show (Err fault) seen is = record { looked = is.looked; visit = is.visit; answers = is.answers; whole = is.whole; begun = is.begun }
+    → IsScan LooksLive bounds query old new show found (first_page query) seen → IsScan (LooksAfter Stays LooksLive) bounds query old new (λ page. page) (seen_as show found) (first_page query) seen
+scanned_as bounds query old new show (Ok page) seen is = record { looked = looks_stay old new seen is.looked; visit = is.visit; answers = is.answers; whole = is.whole; begun = is.begun }
+scanned_as bounds query old new show (Err fault) seen is = record { looked = looks_stay old new seen is.looked; visit = is.visit; answers = is.answers; whole = is.whole; begun = is.begun }
 
--- the line says this command
-pub answers_said : (old new : LiveReaderValue) (line : List ℕ) (command : CommandValue) (reply : Reply) → lookup_at line ≡ Ok command → LooksUp old command new reply → AnswersLine old line new reply
-answers_said old new line command reply said answered = inl (subst (λ (r : Result CommandValue Refusal). Tells old r new reply) (sym said) answered)
+-- ---- what may become of a reader that is alone may become of any
 
-answers_fault : (old : LiveReaderValue) (line : List ℕ) (refusal : Refusal) → lookup_at line ≡ Err refusal → AnswersLine old line old (Refused refusal)
-answers_fault old line refusal said = inl (subst (λ (r : Result CommandValue Refusal). Tells old r old (Refused refusal)) (sym said) (refl, refl))
+module _ (moves : Moving LiveReaderValue) (pre : IsPreorder moves) where
+  moves_too : (old new : LiveReaderValue) → Stays old new → moves old new
+  moves_too old new same = subst (moves old) (sym same) (pre.stays old)
 
--- the line was refused, or memory ran out before it was read
-pub answers_err : (old : LiveReaderValue) (line : List ℕ) (refusal : Refusal) → (refusal ≢ Memory → lookup_at line ≡ Err refusal) → (refusal ≡ Memory → is_too_long line ≡ false) → AnswersLine old line old (Refused refusal)
-answers_err old line Memory is short = inr (short refl, (refl, refl))
-answers_err old line TooLong is short = answers_fault old line TooLong (is (λ same. cc))
-answers_err old line NotJson is short = answers_fault old line NotJson (is (λ same. cc))
-answers_err old line (BadShape part) is short = answers_fault old line (BadShape part) (is (λ same. cc))
-answers_err old line ReadOnly is short = answers_fault old line ReadOnly (is (λ same. cc))
-answers_err old line (OutOfRange part) is short = answers_fault old line (OutOfRange part) (is (λ same. cc))
+  looks_too : (old new : LiveReaderValue) (seen : List Look) → Looks (LooksAfter Stays LooksLive) old seen new → Looks (LooksAfter moves LooksLive) old seen new
+  looks_too old new [] looked = looked
+  looks_too old new (look ∷ seen) looked =
+      let first = looked.1 in
+      (looked.0, record { between = first.between; moved = moves_too old first.between first.moved; looked = first.looked }, looks_too looked.0 new seen looked.2)
+
+  gaps_too : (old new : LiveReaderValue) (trace : List (LookMade LiveReaderValue)) → Gaps Stays old trace new → Gaps moves old trace new
+  gaps_too old new [] gaps = moves_too old new gaps
+  gaps_too old new (one ∷ trace) gaps = (moves_too old one.old gaps.0, gaps_too one.new new trace gaps.1)
+
+  up_too : (old new : LiveReaderValue) (command : CommandValue) (reply : Reply) → LooksUp Stays old command new reply → LooksUp moves old command new reply
+  up_too old new (copy need tablet) reply (inl is) =
+      inl record { within = is.within; found = is.found; answer = is.answer; reached = is.reached; copied = is.copied; moved = moves_too is.reached new is.moved; shows = is.shows }
+  up_too old new (copy need tablet) reply (inr none) = inr none
+  up_too old new (get keys) reply is =
+      let got = is.got in record {
+        seen = is.seen;
+        answer = is.answer;
+        reached = is.reached;
+        got = record { looked = looks_too old is.reached is.seen got.looked; found = got.found; order = got.order; only = got.only; answers = got.answers; whole = got.whole };
+        moved = moves_too is.reached new is.moved;
+        shows = is.shows;
+      }
+  up_too old new (read key wanted) reply is = is
+  up_too old new (scan query) reply is =
+      let scanned = is.scanned in record {
+        seen = is.seen;
+        answer = is.answer;
+        reached = is.reached;
+        scanned = record { looked = looks_too old is.reached is.seen scanned.looked; visit = scanned.visit; answers = scanned.answers; whole = scanned.whole; begun = scanned.begun };
+        moved = moves_too is.reached new is.moved;
+        shows = is.shows;
+      }
+  up_too old new (adopt lines) reply is = is
+  up_too old new (deliver deliveries) reply is = is
+  up_too old new (lose tablet) reply is = is
+  up_too old new marks reply is = is
+  up_too old new (notices since) reply is = is
+  up_too old new (relayout bounds) reply is = is
+  up_too old new tablets reply is = is
+
+  said_too : (old new : LiveReaderValue) (said : Result CommandValue Refusal) (reply : Reply) → Tells Stays old said new reply → Tells moves old said new reply
+  said_too old new (Ok command) reply tells = up_too old new command reply tells
+  said_too old new (Err refusal) reply tells = tells
+
+  on_too : (old new : LiveReaderValue) (command : CommandValue) (going : Going) → LooksOn Stays old command new going → LooksOn moves old command new going
+  on_too old new (scan query) (Page asked walk) on = (on.0, (on.1.0, on.1.1, gaps_too old new on.1.0 on.1.2))
+  on_too old new (scan query) (Keys walk) on = absurd on
+  on_too old new (scan query) (Copy count) on = absurd on
+  on_too old new (get keys) (Page asked walk) on = absurd on
+  on_too old new (get keys) (Keys walk) on = (on.0, (on.1.0, on.1.1, gaps_too old new on.1.0 on.1.2))
+  on_too old new (get keys) (Copy count) on = absurd on
+  on_too old new (copy need tablet) (Page asked walk) on = absurd on
+  on_too old new (copy need tablet) (Keys walk) on = absurd on
+  on_too old new (copy need tablet) (Copy count) on = record { within = on.within; found = on.found; reached = on.reached; copied = on.copied; moved = moves_too on.reached new on.moved }
+  on_too old new (read key wanted) going on = absurd on
+  on_too old new (adopt lines) going on = absurd on
+  on_too old new (deliver deliveries) going on = absurd on
+  on_too old new (lose tablet) going on = absurd on
+  on_too old new marks going on = absurd on
+  on_too old new (notices since) going on = absurd on
+  on_too old new (relayout bounds) going on = absurd on
+  on_too old new tablets going on = absurd on
+
+  -- a line that was answered, or begun, by a reader that is alone
+  pub answers_too : (old new : LiveReaderValue) (line : List ℕ) (answer : Answer) → AnswersWith (AnswersLine Stays) (LooksFor Stays) old line new answer → AnswersWith (AnswersLine moves) (LooksFor moves) old line new answer
+  answers_too old new line (Done reply) (inl tells) = inl (said_too old new (lookup_at line) reply tells)
+  answers_too old new line (Done reply) (inr short) = inr short
+  answers_too old new line (Begun going) begun = record { command = begun.command; reads = begun.reads; so_far = on_too old new begun.command going begun.so_far }
+
+-- ---- lines
+
+module _ (moves : Moving LiveReaderValue) where
+  -- the line says this command
+  pub answers_said : (old new : LiveReaderValue) (line : List ℕ) (command : CommandValue) (answer : Answer) → lookup_at line ≡ Ok command → LooksTo moves old command new answer → AnswersWith (AnswersLine moves) (LooksFor moves) old line new answer
+  answers_said old new line command (Done reply) said answered = inl (subst (λ (r : Result CommandValue Refusal). Tells moves old r new reply) (sym said) answered)
+  answers_said old new line command (Begun going) said begun = record { command = command; reads = said; so_far = begun }
+
+  answers_fault : (old : LiveReaderValue) (line : List ℕ) (refusal : Refusal) → lookup_at line ≡ Err refusal → AnswersLine moves old line old (Refused refusal)
+  answers_fault old line refusal said = inl (subst (λ (r : Result CommandValue Refusal). Tells moves old r old (Refused refusal)) (sym said) (refl, refl))
+
+  -- the line was refused, or memory ran out before it was read
+  pub answers_err : (old : LiveReaderValue) (line : List ℕ) (refusal : Refusal) → (refusal ≢ Memory → lookup_at line ≡ Err refusal) → (refusal ≡ Memory → is_too_long line ≡ false) → AnswersLine moves old line old (Refused refusal)
+  answers_err old line Memory is short = inr (short refl, (refl, refl))
+  answers_err old line TooLong is short = answers_fault old line TooLong (is (λ same. cc))
+  answers_err old line NotJson is short = answers_fault old line NotJson (is (λ same. cc))
+  answers_err old line (BadShape part) is short = answers_fault old line (BadShape part) (is (λ same. cc))
+  answers_err old line ReadOnly is short = answers_fault old line ReadOnly (is (λ same. cc))
+  answers_err old line (OutOfRange part) is short = answers_fault old line (OutOfRange part) (is (λ same. cc))
 
 -- a line says what its kept bytes say
 said_kept : (line : List ℕ) → (lookup_at (kept_bytes line) ≡ lookup_at line) × (is_too_long (kept_bytes line) ≡ is_too_long line)
@@ -84,26 +168,37 @@ said_kept line = elim (cases_lt 65536 (length line)) [
   | inr short ↦ (ap lookup_at (kept_bytes-short line short), ap is_too_long (kept_bytes-short line short))
 ]
 
-answers_kept : (old new : LiveReaderValue) (line : List ℕ) (reply : Reply) → AnswersLine old (kept_bytes line) new reply → AnswersLine old line new reply
-answers_kept old new line reply answered =
+answers_kept : (moves : Moving LiveReaderValue) (old new : LiveReaderValue) (line : List ℕ) (answer : Answer) → AnswersWith (AnswersLine moves) (LooksFor moves) old (kept_bytes line) new answer → AnswersWith (AnswersLine moves) (LooksFor moves) old line new answer
+answers_kept moves old new line (Done reply) answered =
     let same = said_kept line in
-    subst (λ (r : Result CommandValue Refusal). Tells old r new reply ⊎ ((is_too_long line ≡ false) × RefusesLine old Memory new reply)) same.0
-    (subst (λ (b : Bool). Tells old (lookup_at (kept_bytes line)) new reply ⊎ ((b ≡ false) × RefusesLine old Memory new reply)) same.1 answered)
+    subst (λ (r : Result CommandValue Refusal). Tells moves old r new reply ⊎ ((is_too_long line ≡ false) × RefusesLine old Memory new reply)) same.0
+    (subst (λ (b : Bool). Tells moves old (lookup_at (kept_bytes line)) new reply ⊎ ((b ≡ false) × RefusesLine old Memory new reply)) same.1 answered)
+answers_kept moves old new line (Begun going) begun = record { command = begun.command; reads = sym (said_kept line).0 ∙ begun.reads; so_far = begun.so_far }
 
-pub answers_so_far : (old new : LiveReaderValue) (line : LineBufferValue) (text : List ℕ) (reply : Reply) → line ≡ so_far text → AnswersLine old line.bytes new reply → AnswersLine old text new reply
-answers_so_far old new line text reply is answered =
-    answers_kept old new text reply (subst (λ (bytes : List ℕ). AnswersLine old bytes new reply) (ap (λ (l : LineBufferValue). l.bytes) is) answered)
+pub answers_so_far : (moves : Moving LiveReaderValue) (old new : LiveReaderValue) (line : LineBufferValue) (text : List ℕ) (answer : Answer) → line ≡ so_far text → AnswersWith (AnswersLine moves) (LooksFor moves) old line.bytes new answer
+    → AnswersWith (AnswersLine moves) (LooksFor moves) old text new answer
+answers_so_far moves old new line text answer is answered =
+    answers_kept moves old new text answer (subst (λ (bytes : List ℕ). AnswersWith (AnswersLine moves) (LooksFor moves) old bytes new answer) (ap (λ (l : LineBufferValue). l.bytes) is) answered)
 
 -- the input is at its end after a newline
-pub ends_none : (old : LiveReaderValue) (line : LineBufferValue) (part : List ℕ) → line ≡ so_far part → line.count ≡ 0 → EndsLines old part old Silent
-ends_none old line [] is none = (refl, refl)
-ends_none old line (b ∷ part) is none = absurd (omega (arith, none, ap (λ (l : LineBufferValue). l.count) is))
+pub ends_none : (moves : Moving LiveReaderValue) (old : LiveReaderValue) (line : LineBufferValue) (part : List ℕ) → line ≡ so_far part → line.count ≡ 0 → EndsLines moves old part old Silent
+ends_none moves old line [] is none = (refl, refl)
+ends_none moves old line (b ∷ part) is none = absurd (omega (arith, none, ap (λ (l : LineBufferValue). l.count) is))
 
 pub not_none : (b : Bool) (n : ℕ) → IsTrue b ↔ (n ≡ 0) → b ≡ false → 0 < n
 not_none b zero both is = let no = both.1 refl in absurd (cc (no, is))
 not_none b (suc n) both is = omega arith
 
 -- or after a part of a line
-pub ends_some : (old new : LiveReaderValue) (line : LineBufferValue) (part : List ℕ) (reply : Reply) → line ≡ so_far part → 0 < line.count → AnswersLine old line.bytes new reply → EndsLines old part new reply
-ends_some old new line [] reply is some answered = absurd (omega (arith, some, ap (λ (l : LineBufferValue). l.count) is))
-ends_some old new line (b ∷ part) reply is some answered = answers_so_far old new line (b ∷ part) reply is answered
+pub ends_some : (moves : Moving LiveReaderValue) (old new : LiveReaderValue) (line : LineBufferValue) (part : List ℕ) (answer : Answer) → line ≡ so_far part → 0 < line.count → AnswersWith (AnswersLine moves) (LooksFor moves) old line.bytes new answer
+    → AnswersLast (EndsLines moves) (LooksForLast moves) old part new answer
+ends_some moves old new line [] answer is some answered = absurd (omega (arith, some, ap (λ (l : LineBufferValue). l.count) is))
+ends_some moves old new line (b ∷ part) (Done reply) is some answered = answers_so_far moves old new line (b ∷ part) (Done reply) is answered
+ends_some moves old new line (b ∷ part) (Begun going) is some answered = answers_so_far moves old new line (b ∷ part) (Begun going) is answered
+
+-- a last part that is looked up so far
+pub last_on : (moves : Moving LiveReaderValue) (was between now : LiveReaderValue) (text : List ℕ) (going : Going) (answer : Answer) → LooksForLast moves was text between going
+    → ((command : CommandValue) → LooksOn moves was command between going → LooksTo moves was command now answer) → AnswersLast (EndsLines moves) (LooksForLast moves) was text now answer
+last_on moves was between now [] going answer looks on = absurd looks
+last_on moves was between now (b ∷ text) going (Done reply) looks on = answers_said moves was now (b ∷ text) looks.command (Done reply) looks.reads (on looks.command looks.so_far)
+last_on moves was between now (b ∷ text) going (Begun next) looks on = answers_said moves was now (b ∷ text) looks.command (Begun next) looks.reads (on looks.command looks.so_far)

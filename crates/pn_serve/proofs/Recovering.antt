@@ -24,7 +24,7 @@ use Rattle.pn_tablet.specs.declared.fault.OpFault.{OpFault as AdoptFault}
 use Rattle.pn_tablet.specs.declared.fault.OpFault.TheVariants as adoption
 use Rattle.pn_region.proofs.NewRegion.{tablet_count}
 use Rattle.pn_protocol.specs.declared.reply.Reply.{Reply}
-use Rattle.pn_protocol.specs.declared.reply.Reply.TheVariants.{Adopted, Changed, Copied, Lost, Relaid, Silent, Stopping, Text, Refused, NotTaken}
+use Rattle.pn_protocol.specs.declared.reply.Reply.TheVariants.{Adopted, Lost, Refused}
 use Rattle.pn_protocol.specs.declared.refusal.Part.TheVariants.{Tablet}
 use Rattle.pn_protocol.specs.declared.refusal.Refusal.TheVariants.{OutOfRange, Memory}
 use Rattle.pn_protocol.specs.Command.Meaning.{CommandValue, copy, lose}
@@ -126,18 +126,10 @@ module _ (region : LoggedRegion) (need : Positions) (tablet : ℕ) (state : Tabl
   out reply is = subst (λ (r : Reply). Obeys (machine_over region) (copy need tablet) (machine_over region) r) (sym is) (turned_call region region (copy need tablet) refl refl)
 
   copied_there : (copied : TabletCopyValue) (reply : Reply) → copy_of state need ≡ Ok copied → ShowsCopy copied reply → Obeys (machine_over region) (copy need tablet) (machine_over region) reply
-  copied_there copied (Copied lines text) is shows =
+  copied_there copied reply is (inl shows) =
       let all = looked (Ok copied) is in
-      record { outcome = done; machine_is = ap (λ (t : Turn). t.machine) all; replied = ap (λ (t : Turn). t.reply) all ∙ sym shows; refused = ap (λ (t : Turn). t.refused) all }
-  copied_there copied (Adopted tablet) is shows = out _ shows
-  copied_there copied (Changed count) is shows = out _ shows
-  copied_there copied (Lost tablet) is shows = out _ shows
-  copied_there copied (Relaid count) is shows = out _ shows
-  copied_there copied Silent is shows = out _ shows
-  copied_there copied (Stopping seconds) is shows = out _ shows
-  copied_there copied (Text text) is shows = out _ shows
-  copied_there copied (Refused refusal) is shows = out _ shows
-  copied_there copied (NotTaken text) is shows = out _ shows
+      record { outcome = done; machine_is = ap (λ (t : Turn). t.machine) all; replied = ap (λ (t : Turn). t.reply) all ∙ sym shows.1; refused = ap (λ (t : Turn). t.refused) all ∙ sym shows.0 }
+  copied_there copied reply is (inr none) = out reply none
 
   right_fault : (fault : CopyFault) (right : Result TabletCopyValue CopyFault) → Refuses is_memory fault right → fault ≢ copying.Memory → right ≡ Err fault
   right_fault copying.Recovering right is other = is

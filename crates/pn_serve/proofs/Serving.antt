@@ -1,24 +1,23 @@
 -- The replies to the lines so far wait or were written.
-use Rattle.std.proofs.Common.{◌≡◌, ℕ, ◌+◌, ◌<◌, ◌≤◌, ◌≢◌, true, Option, None, Some, List, [], ◌∷◌, ◌++◌, length, All, IfSome, OnSome, refl, sym, ap, ◌∙◌, subst, arith, append-nil, append_assoc, length-append, nat_lt}
+use Rattle.std.proofs.Common.{◌≡◌, ℕ, ◌+◌, ◌<◌, ◌≤◌, ◌≢◌, Bool, true, false, Option, None, Some, List, [], ◌∷◌, ◌++◌, length, All, IfSome, OnSome, refl, sym, ap, ◌∙◌, subst, arith, append-nil, append_assoc, length-append, nat_lt}
 use Rattle.std.specs.Io.KnownBytes.{Appends, Consumes, Keeps, IsAtEnd}
+use Rattle.std.proofs.KnownBytes.{Appends-nil}
 use Rattle.std.proofs.lemmas.List.{length_push}
 use Rattle.std.proofs.lemmas.Bool.Decides.{nat_tests}
 use Rattle.std.proofs.lemmas.List.Elements.{All-nil, All-cons, All-append}
 use Rattle.pn_line.specs.Line.{LineBufferValue, so_far}
 use Rattle.pn_line.specs.LinesRead.{LinesRead, PartRead}
-use Rattle.pn_line.specs.Reads.{Takes, IsUnbroken}
+use Rattle.pn_line.specs.Reads.{IsUnbroken}
 use Rattle.pn_line.specs.Text.{lines_of, text_of, last_line}
 use Rattle.pn_line.specs.Sent.{Sends}
-use Rattle.pn_line.proofs.LinesReadLaws.{LinesRead-none, LinesRead-line, LinesRead-part}
-use Rattle.pn_line.proofs.SentLaws.{Sends-none, Sends-trans, Sends-all, Sends-flushed}
+use Rattle.pn_line.proofs.SentLaws.{Sends-none, Sends-trans, Sends-flushed}
 use Rattle.pn_line.proofs.TextLaws.{lines_of-text, lines_of-nil, lines_of-last}
 use Rattle.pn_serve.specs.declared.script.Counts.{Counts}
 use Rattle.pn_protocol.specs.declared.reply.Reply.{Reply}
 use Rattle.pn_serve.specs.Lines.Ends.{Ended}
-use Rattle.pn_serve.specs.Lines.States.{LineLoopValue, new_loop, Start}
+use Rattle.pn_serve.specs.Lines.States.{Start, Waiting}
 use Rattle.pn_serve.specs.Lines.Replies.{texts_of, refusals_of}
-use Rattle.pn_serve.specs.Lines.Served.{IsShort, AllAnswer, AllAnswered, Between, Served}
-use Rattle.pn_serve.specs.Lines.Answered.{Answered, Closed}
+use Rattle.pn_serve.specs.Lines.Served.{IsShort, AllAnswer, AllAnswered}
 use Rattle.pn_protocol.specs.Reply.Texts.{reply_text, is_refusal}
 use Rattle.pn_serve.specs.Script.Parts.{parts_of}
 use Rattle.pn_serve.specs.Script.Written.{one_if}
@@ -42,7 +41,7 @@ are_short lines line taken short is ends =
     All-append IsShort lines (taken ∷ []) short (All-cons IsShort taken [] below (All-nil IsShort))
 
 -- and perhaps a part after them
-with_part : (lines : List (List ℕ)) (line : LineBufferValue) (part : List ℕ) → All IsShort lines → line ≡ so_far part → line.count < 1000000000 → All IsShort (lines ++ last_line part)
+pub with_part : (lines : List (List ℕ)) (line : LineBufferValue) (part : List ℕ) → All IsShort lines → line ≡ so_far part → line.count < 1000000000 → All IsShort (lines ++ last_line part)
 with_part lines line [] short is ends = subst (λ (l : List (List ℕ)). All IsShort l) (sym (append-nil lines)) short
 with_part lines line (b ∷ part) short is ends = are_short lines line (b ∷ part) short is ends
 
@@ -104,13 +103,26 @@ part_count : (part : List ℕ) → length (last_line part) ≡ one_if (nat_lt 0 
 part_count [] = refl
 part_count (b ∷ part) = let test : nat_lt 0 (length (b ∷ part)) ≡ true = grind (arith, nat_tests) in ap one_if (sym test)
 
-few_lines : (lines : List (List ℕ)) (part : List ℕ) → length lines < 1000000 → length (lines ++ last_line part) ≤ 1000000
+pub few_lines : (lines : List (List ℕ)) (part : List ℕ) → length lines < 1000000 → length (lines ++ last_line part) ≤ 1000000
 few_lines lines [] few = omega (arith, few, length-append lines [])
 few_lines lines (b ∷ part) few = omega (arith, few, length-append lines ((b ∷ part) ∷ []))
 
 -- ---- answered lines
 
-module _ {V : Type 0} (makes ends : V → List ℕ → V → Reply → Type 0) where
+-- a reply waits after those that waited
+pub Sends-queue : (written : Option (List ℕ)) (waited bs : List ℕ) → Sends written written waited (waited ++ bs) bs
+Sends-queue written waited bs = record { sent = []; appends = Appends-nil written; whole = refl }
+
+-- no more replies are refusals than there are
+pub few_refusals : (replies : List Reply) → refusals_of replies ≤ length replies
+few_refusals [] = omega arith
+few_refusals (reply ∷ replies) = let rest = few_refusals replies in let one = at_most_one (is_refusal reply) in omega (arith, rest, one)
+  where
+    at_most_one : (b : Bool) → one_if b ≤ 1
+    at_most_one true = omega arith
+    at_most_one false = omega arith
+
+module _ {V : Type 0} (makes : V → List ℕ → V → Reply → Type 0) where
   pub answer_push : (was : V) (lines : List (List ℕ)) (replies : List Reply) (between : V) (line : List ℕ) (reply : Reply) (now : V) → AllAnswer makes was lines replies between → makes between line now reply
       → AllAnswer makes was (lines ++ line ∷ []) (replies ++ reply ∷ []) now
   answer_push was [] [] between line reply now all made = (now, subst (λ (v : V). makes v line now reply) all made, refl)
@@ -118,128 +130,78 @@ module _ {V : Type 0} (makes ends : V → List ℕ → V → Reply → Type 0) w
   answer_push was (l ∷ lines) [] between line reply now all made = absurd all
   answer_push was (l ∷ lines) (r ∷ replies) between line reply now all made = (all.0, all.1, answer_push all.0 lines replies between line reply now all.2 made)
 
-  pub Begins : (machine : V) (left written : Option (List ℕ)) → Served makes (record { machine = machine; left = left; written = written }) left written machine new_loop
-  Begins machine None written = tt
-  Begins machine (Some text) written = record {
-    lines = [];
-    read = LinesRead-none text;
-    short = All-nil IsShort;
-    answered = record { replies = []; made = refl; sends = Sends-none written; lines_are = refl; refused_are = refl };
-  }
+  -- each line has one reply
+  pub as_many_replies : (was : V) (lines : List (List ℕ)) (replies : List Reply) (now : V) → AllAnswer makes was lines replies now → length replies ≡ length lines
+  as_many_replies was [] [] now all = refl
+  as_many_replies was [] (r ∷ replies) now all = absurd all
+  as_many_replies was (l ∷ lines) [] now all = absurd all
+  as_many_replies was (l ∷ lines) (r ∷ replies) now all = let rest = as_many_replies all.0 lines replies now all.2 in omega (arith, rest)
 
-  -- a line loop begins
-  pub Begins_new : (machine : V) (run : LineLoopValue) (left written : Option (List ℕ)) → run ≡ new_loop → Served makes (record { machine = machine; left = left; written = written }) left written machine run
-  Begins_new machine run left written is =
-      subst (λ (r : LineLoopValue). Served makes (record { machine = machine; left = left; written = written }) left written machine r) (sym is) (Begins machine left written)
+  -- before the first line
+  pub AllAnswered-none : (start : Start V) (run : Waiting) → run.waits ≡ [] → run.counts.lines ≡ 0 → run.counts.refused ≡ 0 → AllAnswered makes start [] start.written start.machine run
+  AllAnswered-none start run waits lines refused = record {
+    replies = [];
+    made = refl;
+    sends = subst (λ (w : List ℕ). Sends start.written start.written [] w []) (sym waits) (Sends-none start.written);
+    lines_are = lines;
+    refused_are = refused;
+  }
 
   module _ (start : Start V) where
     -- one more line was answered
-    pub AllAnswered-line : (lines : List (List ℕ)) (b c : Option (List ℕ)) (was now : V) (run new : LineLoopValue) (line : LineBufferValue) (text : List ℕ) → AllAnswered makes start lines b was run → line ≡ so_far text
-        → Answered makes was now (record run { line = line }) new b c → AllAnswered makes start (lines ++ text ∷ []) c now new
-    AllAnswered-line lines b c was now run new line text is here answered =
-        let counts = refusals_push is.replies answered.reply in record {
-          replies = is.replies ++ answered.reply ∷ [];
-          made = answer_push start.machine lines is.replies was text answered.reply now is.made (answered.made text here);
-          sends = subst (λ (r : List ℕ). Sends start.written c [] new.waits r) (sym (texts_push is.replies answered.reply)) (Sends-trans is.sends answered.sends);
-          lines_are = omega (arith, is.lines_are, answered.lines, length_push lines text);
-          refused_are = omega (arith, counts, is.refused_are, answered.refused);
+    pub AllAnswered-line : (lines : List (List ℕ)) (written : Option (List ℕ)) (was now : V) (run new : Waiting) (text : List ℕ) (reply : Reply) → AllAnswered makes start lines written was run
+        → makes was text now reply → new.waits ≡ run.waits ++ reply_text reply → new.counts.lines ≡ run.counts.lines + 1 → new.counts.refused ≡ run.counts.refused + one_if (is_refusal reply)
+        → AllAnswered makes start (lines ++ text ∷ []) written now new
+    AllAnswered-line lines written was now run new text reply is made waits count refused =
+        let counts = refusals_push is.replies reply in
+        let queued : Sends written written run.waits new.waits (reply_text reply) = subst (λ (w : List ℕ). Sends written written run.waits w (reply_text reply)) (sym waits) (Sends-queue written run.waits (reply_text reply)) in record {
+          replies = is.replies ++ reply ∷ [];
+          made = answer_push start.machine lines is.replies was text reply now is.made made;
+          sends = subst (λ (r : List ℕ). Sends start.written written [] new.waits r) (sym (texts_push is.replies reply)) (Sends-trans is.sends queued);
+          lines_are = omega (arith, is.lines_are, count, length_push lines text);
+          refused_are = omega (arith, counts, is.refused_are, refused);
         }
 
-    -- what waited was written
-    pub Flushes : (script : List ℕ) (left b c : Option (List ℕ)) (machine : V) (run new : LineLoopValue) → Between makes start script left b machine run → Appends b c run.waits
-        → new.counts ≡ run.counts → new.waits ≡ [] → Between makes start script left c machine new
-    Flushes script left b c machine run new between sent counts none =
-        let is = between.answered in
-        let texts = texts_of is.replies in
-        let all : Sends start.written c [] [] texts = subst (λ (r : List ℕ). Sends start.written c [] [] r) (append-nil texts) (Sends-trans is.sends (Sends-all b c run.waits sent)) in
-        record {
-          lines = between.lines;
-          read = between.read;
-          short = between.short;
-          answered = record {
-            replies = is.replies;
-            made = is.made;
-            sends = subst (λ (waits : List ℕ). Sends start.written c [] waits texts) (sym none) all;
-            lines_are = ap (λ (n : Counts). n.lines) counts ∙ is.lines_are;
-            refused_are = ap (λ (n : Counts). n.refused) counts ∙ is.refused_are;
-          };
+    -- some of what waits was written
+    pub AllAnswered-sent : (lines : List (List ℕ)) (before after : Option (List ℕ)) (machine : V) (run new : Waiting) → AllAnswered makes start lines before machine run
+        → Sends before after run.waits new.waits [] → new.counts ≡ run.counts → AllAnswered makes start lines after machine new
+    AllAnswered-sent lines before after machine run new is sent counts =
+        let texts = texts_of is.replies in record {
+          replies = is.replies;
+          made = is.made;
+          sends = subst (λ (r : List ℕ). Sends start.written after [] new.waits r) (append-nil texts) (Sends-trans is.sends sent);
+          lines_are = ap (λ (n : Counts). n.lines) counts ∙ is.lines_are;
+          refused_are = ap (λ (n : Counts). n.refused) counts ∙ is.refused_are;
         }
 
-    -- what is kept is the same
-    pub Stays : (script : List ℕ) (left b : Option (List ℕ)) (machine : V) (run new : LineLoopValue) → Between makes start script left b machine run
-        → new.counts ≡ run.counts → new.waits ≡ run.waits → Between makes start script left b machine new
-    Stays script left b machine run new between counts waits =
-        let is = between.answered in record {
-          lines = between.lines;
-          read = between.read;
-          short = between.short;
-          answered = record {
-            replies = is.replies;
-            made = is.made;
-            sends = subst (λ (w : List ℕ). Sends start.written b [] w (texts_of is.replies)) (sym waits) is.sends;
-            lines_are = ap (λ (n : Counts). n.lines) counts ∙ is.lines_are;
-            refused_are = ap (λ (n : Counts). n.refused) counts ∙ is.refused_are;
-          };
-        }
+    -- fewer replies are refusals than a counter holds
+    pub refusals_fit : (lines : List (List ℕ)) (written : Option (List ℕ)) (machine : V) (run : Waiting) → AllAnswered makes start lines written machine run → run.counts.refused ≤ run.counts.lines
+    refusals_fit lines written machine run is =
+        omega (arith, is.lines_are, is.refused_are, few_refusals is.replies, as_many_replies start.machine lines is.replies machine is.made)
 
-    -- a line was read and answered
-    pub Goes_on : (script : List ℕ) (left leaves b c : Option (List ℕ)) (was now : V) (run new : LineLoopValue) (line : LineBufferValue) → Between makes start script left b was run
-        → Takes (so_far []) line left leaves (10 ∷ []) → line.count < 1000000000 → Answered makes was now (record run { line = line }) new b c → Between makes start script leaves c now new
-    Goes_on script left leaves b c was now run new line between takes below answered =
-        let (taken, is, read) = LinesRead-line between.read takes in record {
-          lines = between.lines ++ taken ∷ [];
-          read = read;
-          short = are_short between.lines line taken between.short is below;
-          answered = AllAnswered-line between.lines b c was now run new line taken between.answered is answered;
-        }
+-- the input is at its end after a part of a line, whose reply waits
+module _ {V : Type 0} (makes ends : V → List ℕ → V → Reply → Type 0) (start : Start V) (script : List ℕ) (written : Option (List ℕ)) (was now : V) (run new : Waiting) (lines : List (List ℕ)) (part : List ℕ) (reply : Reply)
+    (is : AllAnswered makes start lines written was run) (made : ends was part now reply) (waits : new.waits ≡ run.waits ++ reply_text reply) where
+  pub all_sent : Sends start.written written [] new.waits (texts_of is.replies ++ reply_text reply)
+  all_sent =
+      Sends-trans is.sends (subst (λ (w : List ℕ). Sends written written run.waits w (reply_text reply)) (sym waits) (Sends-queue written run.waits (reply_text reply)))
 
-    -- the input is at its end after a part of a line, whose reply waits or was written
-    module _ (script : List ℕ) (b c : Option (List ℕ)) (was now : V) (run new : LineLoopValue) (lines : List (List ℕ)) (line : LineBufferValue) (part : List ℕ) (counts : Counts)
-        (parts : parts_of script ≡ (lines, part)) (is : AllAnswered makes start lines b was run) (here : line ≡ so_far part) where
-      pub all_sent : (closed : Closed ends was now (record run { line = line }) new b c counts) → Sends start.written c [] new.waits (texts_of is.replies ++ reply_text closed.reply)
-      all_sent closed = Sends-trans is.sends closed.sends
-
-      -- all was written
-      pub all_ended : (leaves d : Option (List ℕ)) → lines_of script ≡ lines ++ last_line part → All IsShort (lines ++ last_line part) → length (lines ++ last_line part) ≤ 1000000
-          → leaves ≡ Some [] → Closed ends was now (record run { line = line }) new b c counts → Appends c d new.waits → Ended makes ends start script leaves d now counts
-      all_ended leaves d all short few end closed sent =
-          let one : length (last_line part) ≡ one_if (nat_lt 0 line.count) = part_count part ∙ ap (λ (l : LineBufferValue). one_if (nat_lt 0 l.count)) (sym here) in
-          let count : counts.lines ≡ length (lines ++ last_line part) = omega (arith, closed.lines, is.lines_are, one, length-append lines (last_line part)) in record {
-            replies = is.replies;
-            reached = was;
-            made = subst (λ (p : List (List ℕ) × List ℕ). AllAnswer makes start.machine p.0 is.replies was) (sym parts) is.made;
-            last = closed.reply;
-            ended = subst (λ (p : List (List ℕ) × List ℕ). ends was p.1 now closed.reply) (sym parts) (closed.made part here);
-            wrote = Sends-flushed d (all_sent closed) sent;
-            lines_are = count ∙ ap length (sym all);
-            refused_are = omega (arith, is.refused_are, closed.refused);
-            within = within-all script (lines ++ last_line part) all short few;
-            at_end = end;
-          }
-
-    -- the input ended in a part of a line, or after a newline
-    pub Ends_closed : (script : List ℕ) (left leaves b c d : Option (List ℕ)) (was now : V) (run new : LineLoopValue) (line : LineBufferValue) (counts : Counts) → Between makes start script left b was run
-        → Takes (so_far []) line left leaves [] → OnSome left (IsAtEnd leaves) → line.count < 1000000000 → run.counts.lines < 1000000
-        → Closed ends was now (record run { line = line }) new b c counts → Appends c d new.waits → Ended makes ends start script leaves d now counts
-    Ends_closed script left leaves b c d was now run new line counts between takes end below few closed sent =
-        let (part, is, read) = LinesRead-part between.read takes in
-        let gone = nothing_left left leaves _ _ between.read.left_is takes.source end in
-        let all : lines_of script ≡ between.lines ++ last_line part = lines_in leaves read gone in
-        let parts = parts_read leaves read gone in
-        all_ended script b c was now run new between.lines line part counts parts between.answered is leaves d all
-        (with_part between.lines line part between.short is below) (few_lines between.lines part (omega (arith, few, between.answered.lines_are))) gone closed sent
-
-    -- nothing is left after the last line that may be answered
-    pub Ends_within : (script : List ℕ) (left leaves b c d : Option (List ℕ)) (was now : V) (run new : LineLoopValue) (line : LineBufferValue) (counts : Counts) → Between makes start script left b was run
-        → IfSome left (λ rest. rest ≡ []) → Keeps left leaves → run.counts.lines ≡ 1000000 → line ≡ so_far []
-        → Closed ends was now (record run { line = line }) new b c counts → Appends c d new.waits → Ended makes ends start script leaves d now counts
-    Ends_within script left leaves b c d was now run new line counts between none kept many is closed sent =
-        let rest = between.read.rest in
-        let empty : rest ≡ [] = of_known left rest (λ (r : List ℕ). r ≡ []) between.read.left_is none in
-        let whole : lines_of script ≡ between.lines = lines_left between.read ∙ ap (λ (r : List ℕ). between.lines ++ lines_of r) empty ∙ ap (λ (l : List (List ℕ)). between.lines ++ l) lines_of-nil ∙ append-nil between.lines in
-        let parts = parts_end between.read empty in
-        let same = append-nil between.lines in
-        all_ended script b c was now run new between.lines line [] counts parts between.answered is leaves d (whole ∙ sym same)
-        (subst (λ (l : List (List ℕ)). All IsShort l) (sym same) between.short)
-        (omega (arith, many, between.answered.lines_are, ap length same))
-        (stays left leaves rest between.read.left_is kept ∙ ap Some empty) closed sent
+  -- all was written
+  pub all_ended : (leaves after : Option (List ℕ)) → PartRead script leaves lines part → leaves ≡ Some [] → All IsShort (lines ++ last_line part) → length (lines ++ last_line part) ≤ 1000000
+      → new.counts.lines ≡ run.counts.lines + length (last_line part) → new.counts.refused ≡ run.counts.refused + one_if (is_refusal reply) → Appends written after new.waits
+      → Ended makes ends start script leaves after now new.counts
+  all_ended leaves after read end short few count refused sent =
+      let parts : parts_of script ≡ (lines, part) = parts_read leaves read end in
+      let all : lines_of script ≡ lines ++ last_line part = lines_in leaves read end in
+      let many : new.counts.lines ≡ length (lines ++ last_line part) = omega (arith, count, is.lines_are, length-append lines (last_line part)) in record {
+        replies = is.replies;
+        reached = was;
+        made = subst (λ (p : List (List ℕ) × List ℕ). AllAnswer makes start.machine p.0 is.replies was) (sym parts) is.made;
+        last = reply;
+        ended = subst (λ (p : List (List ℕ) × List ℕ). ends was p.1 now reply) (sym parts) made;
+        wrote = Sends-flushed after all_sent sent;
+        lines_are = many ∙ ap length (sym all);
+        refused_are = omega (arith, is.refused_are, refused);
+        within = within-all script (lines ++ last_line part) all short few;
+        at_end = end;
+      }

@@ -21,7 +21,7 @@ use Rattle.pn_region.specs.declared.fault.RoundFault.{RoundFault}
 use Rattle.pn_region.specs.declared.fault.RoundFault.TheVariants as round_fault
 use Rattle.pn_tablet.specs.Refusals.{Refuses}
 use Rattle.pn_protocol.specs.declared.reply.Reply.{Reply}
-use Rattle.pn_protocol.specs.declared.reply.Reply.TheVariants.{Adopted, Changed, Copied, Lost, Relaid, Silent, Stopping, Text, Refused, NotTaken}
+use Rattle.pn_protocol.specs.declared.reply.Reply.TheVariants.{Adopted, Changed, Copy, Lost, Page, Record, Records, Relaid, Silent, Stopping, Text, Refused, NotTaken}
 use Rattle.pn_protocol.specs.declared.refusal.Refusal.{Refusal}
 use Rattle.pn_protocol.specs.declared.refusal.Refusal.TheVariants.{TooLong, NotJson, BadShape, ReadOnly, OutOfRange, Memory}
 use Rattle.pn_protocol.specs.Command.Meaning.{CommandValue, deliver}
@@ -45,7 +45,10 @@ pub told_or_out : (P : Reply → Type 0) (right : Type 0) (said : Data) (reply :
 told_or_out P right said (NotTaken text) tells out (knows, says) = tells text knows says
 told_or_out P right said (Adopted tablet) tells out is = subst P (sym is) out
 told_or_out P right said (Changed count) tells out is = subst P (sym is) out
-told_or_out P right said (Copied lines text) tells out is = subst P (sym is) out
+told_or_out P right said (Copy copy) tells out is = subst P (sym is) out
+told_or_out P right said (Page page) tells out is = subst P (sym is) out
+told_or_out P right said (Record key cell) tells out is = subst P (sym is) out
+told_or_out P right said (Records keys cells) tells out is = subst P (sym is) out
 told_or_out P right said (Lost tablet) tells out is = subst P (sym is) out
 told_or_out P right said (Relaid count) tells out is = subst P (sym is) out
 told_or_out P right said (Stopping seconds) tells out is = subst P (sym is) out
@@ -193,16 +196,14 @@ module _ {A : Type 0} (region : LoggedRegion) (command : CommandValue) (show : A
   -- what it found was shown, or there was no memory for the text
   pub turned_shown : {B : Type 0} (seen : B → A) (found : Result B ScanFault) (reply : Reply) → ShowsUnless scan.Memory seen found right → ShowsFound (λ b. show (seen b)) found reply
       → Obeys (machine_over region) command (machine_over region) reply
-  turned_shown seen (Ok found) (Text text) is shows = turned_text region region command (line_of (show (seen found))) text (does ∙ ap (lookup_turn (machine_over region) show) is) refl shows
-  turned_shown seen (Ok found) (Adopted tablet) is shows = no_memory (Adopted tablet) shows
-  turned_shown seen (Ok found) (Changed count) is shows = no_memory (Changed count) shows
-  turned_shown seen (Ok found) (Copied lines text) is shows = no_memory (Copied lines text) shows
-  turned_shown seen (Ok found) (Lost tablet) is shows = no_memory (Lost tablet) shows
-  turned_shown seen (Ok found) (Relaid count) is shows = no_memory (Relaid count) shows
-  turned_shown seen (Ok found) Silent is shows = no_memory Silent shows
-  turned_shown seen (Ok found) (Stopping seconds) is shows = no_memory (Stopping seconds) shows
-  turned_shown seen (Ok found) (Refused refusal) is shows = no_memory (Refused refusal) shows
-  turned_shown seen (Ok found) (NotTaken text) is shows = no_memory (NotTaken text) shows
+  turned_shown seen (Ok found) reply is (inl shows) =
+      let all : command_turn (machine_over region) done command ≡ reply_turn (machine_over region) (line_of (show (seen found))) = does ∙ ap (lookup_turn (machine_over region) show) is in record {
+        outcome = done;
+        machine_is = ap (λ (t : Turn). t.machine) all;
+        replied = ap (λ (t : Turn). t.reply) all ∙ sym shows.1;
+        refused = ap (λ (t : Turn). t.refused) all ∙ sym shows.0;
+      }
+  turned_shown seen (Ok found) reply is (inr none) = no_memory reply none
   turned_shown seen (Err fault) reply is refuses = turned_why fault reply is refuses
 
 -- what was read is right, or memory ran out

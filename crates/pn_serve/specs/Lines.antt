@@ -1,10 +1,14 @@
 -- The states of a line loop: it reads lines, and writes the replies of a handler.
-pub mod Answered
+pub mod After
+pub mod Bounds
 pub mod Coding
 pub mod Ends
+pub mod Going
 pub mod Replies
+pub mod Sending
 pub mod Served
 pub mod States
+pub mod Stepping
 pub mod Stopped
-pub mod Turning
+pub mod Taking
 pub mod Waiting

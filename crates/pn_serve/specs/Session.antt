@@ -2,4 +2,5 @@
 pub mod Counting
 pub mod Knowing
 pub mod Lines
+pub mod Looking
 pub mod Lookups

@@ -24,7 +24,7 @@ pub use control::mailboxes::{ControlMailboxes, MAX_CONTROLS};
 pub use control::session::{ControlSession, StatsSource};
 pub use copies::{CopiesFault, CopiesReader, open_copies};
 pub use laws::regions_converge;
-pub use machine::line_handler::LineHandler;
+pub use machine::line_handler::{Answer, LineHandler};
 pub use page_laws::{
     a_scan_line_shows_the_page_of_its_region, keys_rise_from_page_to_page_of_a_script,
     pages_of_a_script_are_together_its_rows,
@@ -33,12 +33,13 @@ pub use pn_protocol::{
     Command, CommandFault, ConnectionStats, ControlCommand, LineCounts, LineKinds, LineStats,
     NumberName, Part, Refusal, Reply, ShortReply, Stats, StreamFaultStats, StreamState,
     StreamStats, TabletStats, a_control_line_is_one_command, a_line_is_one_command, command_of,
-    control_of, number_reply, refusal_reply, refuse, scan_reply,
+    control_of, number_reply, refusal_reply, refuse,
 };
 pub use repeat_laws::{
     a_repeated_deliver_leaves_no_trace_of_a_refused_one, repeated_delivers_leave_the_same_region,
 };
-pub use script::line_loop::LineLoop;
+pub use script::line_loop::{LineLoop, LineState, Step, TURN_UNITS};
+pub use script::replies::{BLOCK, REPLY_CAPACITY, ReplyBuffer, SendOutcome};
 pub use script::{Counts, MAX_LINES, RunFault, run, run_to_exit};
 pub use server::{
     Acceptor, ComesBack, Counter, FaultLog, OpenedRegion, Origin, ServeFault, SessionThread,
@@ -46,6 +47,7 @@ pub use server::{
     read_streams, serve, serve_from, take_commands,
 };
 pub use sessions::counting_reader::CountingReader;
+pub use sessions::going::Going;
 pub use sessions::session;
 pub use settings::Settings;
 pub use start_laws::a_start_from_copies_leaves_what_was_taken;

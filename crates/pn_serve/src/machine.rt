@@ -27,7 +27,7 @@ use std::alloc::Global;
 use std::thread::Threads;
 
 /// The reply to a line, and the lines that it announces.
-pub(crate) type Answer = (Reply, Option<Announced>);
+pub(crate) type ScriptAnswer = (Reply, Option<Announced>);
 
 /// Answers a line with its newline: a command, or an announced line. Only a round out of memory leaves some
 /// tablets changed.
@@ -40,7 +40,7 @@ pub(crate) fn answer_line<R: Threads + Sync, C: CommandReader>(
     workers: usize,
     announced: Option<Announced>,
     line: &[u8],
-) -> Answer
+) -> ScriptAnswer
     requires workers { (1 ≤ workers) × (workers ≤ MAX_WORKERS) }
     ensures { AnswersBy C.may_run_out (with_mode announced region.old) line.now (with_mode result.1 region.new) result.0 }
 {
@@ -56,7 +56,7 @@ fn run_command<R: Threads + Sync, C: CommandReader>(
     region: &mut Region,
     workers: usize,
     line: &[u8],
-) -> Answer
+) -> ScriptAnswer
     requires workers { (1 ≤ workers) × (workers ≤ MAX_WORKERS) }
     ensures { AnswersBy C.may_run_out (machine_over region.old) line.now (with_mode result.1 region.new) result.0 }
 {
@@ -67,7 +67,7 @@ fn run_command<R: Threads + Sync, C: CommandReader>(
 }
 
 // Waits for the lines that a command announces.
-fn announce(alloc: Global, handled: Handled) -> Answer
+fn announce(alloc: Global, handled: Handled) -> ScriptAnswer
     ensures { IsAnswer handled result.0 result.1 }
 {
     match handled {
@@ -142,11 +142,11 @@ fn obey<R: Threads + Sync>(
         Command::Deliver(deliveries) => Handled::Obeyed(deliver(
             rt, alloc, region, workers, deliveries,
         )),
-        Command::Get(keys) => Handled::Obeyed(get(alloc, region, &keys)),
+        Command::Get(keys) => Handled::Obeyed(get(alloc, region, keys)),
         Command::Lose { tablet } => Handled::Obeyed(lose_tablet(region, tablet)),
         Command::Marks => Handled::Obeyed(answer_text(marks_reply(alloc, region.marks()))),
         Command::Notices { since } => Handled::Obeyed(look_up_notices(alloc, region, since)),
-        Command::Read { key, version } => Handled::Obeyed(read(alloc, region, &key, version)),
+        Command::Read { key, version } => Handled::Obeyed(read(alloc, region, key, version)),
         Command::Relayout(bounds) => Handled::Obeyed(relayout(alloc, region, bounds)),
         Command::Scan(query) => Handled::Obeyed(scan(alloc, region, &query)),
         Command::Tablets => Handled::Obeyed(answer_text(tablets_reply(alloc, region))),

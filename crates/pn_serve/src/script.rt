@@ -1,23 +1,22 @@
 //! Scripts: each line is read and answered, and its reply is written.
 
-ghost use Rattle.std.specs.Prelude.{◌≡◌, ◌≢◌, ◌+◌, ◌≤◌, [], IfOk, IfErr, OnOk, IsErrOf};
+ghost use Rattle.std.specs.Prelude.{◌≡◌, ◌≢◌, ◌+◌, ◌≤◌, IfOk, IfErr, OnOk, IsErrOf};
 ghost use Rattle.pn_serve.specs.declared.script.RunFault.TheVariants.{Write, Memory};
-ghost use Rattle.pn_serve.specs.Lines.Ends.{EndsBy};
+ghost use Rattle.pn_serve.specs.Lines.Stepping.{HasEnded, by};
 ghost use Rattle.pn_serve.specs.Lines.Waiting.{HandsOn, looks_of_input};
 ghost use Rattle.pn_region.specs.Prelude.{new_region};
-ghost use Rattle.pn_serve.specs.Lines.States.{Start, new_loop};
-ghost use Rattle.pn_serve.specs.Lines.Served.{Served};
+ghost use Rattle.pn_serve.specs.Lines.States.{new_loop, start_at};
 ghost use Rattle.pn_serve.specs.Machine.Outcomes.{new_machine};
 ghost use Rattle.pn_serve.specs.Runs.Ends.{Ends, run_start};
 ghost use Rattle.pn_serve.specs.Session.Knowing.{KnowsNoLess};
 
-mod blocks;
 pub(crate) mod line_loop;
+pub(crate) mod replies;
 
 use crate::Settings;
 use crate::machine::line_handler::LineHandler;
 use crate::machine::script_handler::ScriptHandler;
-use crate::script::line_loop::{LineLoop, Next};
+use crate::script::line_loop::LineLoop;
 use pn_line::{Sink, Source, WriteFault};
 use std::alloc::Global;
 use std::mem;
@@ -133,10 +132,8 @@ pub(crate) fn answer_lines<M: LineHandler, S: Source, W: Sink>(
     output: &mut W,
 ) -> Result<Counts, RunFault>
     requires ready { M.ready }
-    requires none { lines.old.counts.lines ≡ 0 }
-    requires waits { lines.old.waits ≡ [] }
-    ensures ends { (start : Start M) → Served M.makes start (S.left input.old) (W.contents output.old) machine.old lines.old
-        → EndsBy M.makes M.ends start (S.left input.new) (W.contents output.new) machine.new result }
+    requires new { lines.old ≡ new_loop }
+    ensures ends { HasEnded (by M.moves M.makes M.ends M.goes M.goes_last) (start_at machine.old (S.left input.old) (W.contents output.old)) (S.left input.new) (W.contents output.new) machine.new result }
     ensures read { IsErrOf result RunFault.Read → S.may_fail }
     ensures write { IsErrOf result RunFault.Write → W.may_fail }
     ensures knows { KnowsNoLess (M.reader machine.old) (M.reader machine.new) }
@@ -146,11 +143,11 @@ pub(crate) fn answer_lines<M: LineHandler, S: Source, W: Sink>(
     ensures end { OnOk result S.may_end }
     ensures begun { IfErr result (λ fault. fault ≢ RunFault.Memory) }
 {
-    'turns: for _turn in 0..MAX_LINES {
-        match lines.turn(machine, input, output)? {
-            Next::Line => {}
-            Next::End(counts) => return Ok(counts),
+    machine.recall_moves();
+    'reads: loop {
+        match lines.advance(machine, input, output) {
+            None => {}
+            Some(ended) => return ended,
         }
     }
-    lines.finish(machine, input, output)
 }

@@ -1,9 +1,6 @@
 pub mod Ahead
-pub mod Alone
 pub mod Buffers
+pub mod Coming
 pub mod Crossing
-pub mod Ending
-pub mod Following
-pub mod Passing
 pub mod Quarters
-pub mod Stepping
+pub mod Storing

@@ -1,12 +1,10 @@
 -- Connections that are answered in turns.
 pub mod Connections
 pub mod IdleTimeouts
-pub mod Interleaving
 pub mod Loops
 pub mod Messages
 pub mod Reasons
 pub mod Scripted
 pub mod Servers
-pub mod Sessions
 pub mod Sockets
 pub mod Turns

@@ -1,83 +1,81 @@
--- What a step and a turn of a connection come to.
-use Rattle.std.specs.Prelude.{◌≡◌, ◌≢◌, ℕ, Bool, false, List, [], ◌++◌, Option, Some, None, Result, Err}
+-- What a step and a turn of a connection come to: it is its line loop, between waits.
+use Rattle.std.specs.Prelude.{◌≡◌, ◌≢◌, ◌⊎◌, ℕ, Bool, true, false, List, [], Option, Result, Ok, Err}
+use Rattle.std.specs.IoError.{error_kind}
 use Rattle.std.specs.Io.KnownBytes.{prepend_known}
-use Rattle.pn_protocol.specs.declared.reply.Reply.{Reply}
-use Rattle.pn_serve.specs.declared.script.Counts.{Counts}
-use Rattle.pn_serve.specs.declared.script.RunFault.{RunFault}
+use Rattle.std.specs.declared.io.Error.{Error}
+use Rattle.std.specs.declared.io.ErrorKind.TheVariants.{WouldBlock}
+use Rattle.pn_serve.specs.declared.script.line_loop.state.Stage.TheVariants.{Reading}
 use Rattle.pn_serve.specs.declared.script.RunFault.TheVariants.{Write}
-use Rattle.pn_serve.specs.Lines.States.{LineLoopValue, Start}
-use Rattle.pn_stay.specs.Connections.{ConnectionValue}
-use Rattle.pn_stay.specs.Sessions.{FollowsSession, HasEnded, EndsOnceSent}
+use Rattle.pn_serve.specs.declared.script.line_loop.steps.Step.{Step}
+use Rattle.pn_serve.specs.declared.script.line_loop.steps.Step.TheVariants.{Next, NoInput, NoRoom, Ends}
+use Rattle.pn_serve.specs.Lines.States.{Start, waits_in}
+use Rattle.pn_serve.specs.Lines.Stepping.{Handling, HasEnded, Stands, StepsTo as LoopStepsTo}
+use Rattle.pn_stay.specs.Connections.{ConnectionValue, IsKept, loop_of}
 use Rattle.pn_stay.specs.declared.connection_state.ThreadBuffers.{ThreadBuffers}
-use Rattle.pn_stay.specs.declared.steps.Step.{Step}
-use Rattle.pn_stay.specs.declared.steps.Step.TheVariants.{Next, Waits, Ends, OutOfMemory}
-use Rattle.pn_stay.specs.declared.connection_state.ConnectionState.{ConnectionState}
-use Rattle.pn_stay.specs.declared.connection_state.ConnectionState.TheVariants.{Answering, Closing}
 use Rattle.pn_stay.specs.declared.connection_state.Pause.{Pause}
 use Rattle.pn_stay.specs.declared.connection_state.Pause.TheVariants.{Turn, Input, Output}
 use Rattle.pn_stay.specs.declared.connection_state.TurnOutcome.{TurnOutcome}
 use Rattle.pn_stay.specs.declared.connection_state.TurnOutcome.TheVariants.{Goes, Ended}
+use Rattle.pn_stay.specs.declared.steps.Came.{Came}
+use Rattle.pn_stay.specs.declared.steps.Came.TheVariants as came
 
--- what the connection whose buffers these are keeps: its replies wait, and those in the outbox of the buffers
-abbrev pub in_buffers : ThreadBuffers → List ℕ → ConnectionValue
-in_buffers buffers replies = record { line = buffers.lines.line; held = buffers.input; waits = replies ++ buffers.lines.waits; counts = buffers.lines.counts }
+-- what the connection at some buffers keeps
+abbrev pub in_buffers : ThreadBuffers → ConnectionValue
+in_buffers buffers = record { line = buffers.lines.line; held = buffers.input; replies = buffers.lines.replies; state = buffers.lines.state }
 
--- the line loop of the buffers, with these replies
-abbrev pub loop_in : ThreadBuffers → List ℕ → LineLoopValue
-loop_in buffers replies = record { line = buffers.lines.line; waits = replies ++ buffers.lines.waits; more = false; counts = buffers.lines.counts }
+-- what a read brought: input, nothing for now, the end, or a fault
+abbrev pub IsRead : Result Bool Error → Came → Type 0
+IsRead (Ok true) found = found ≡ came.Input
+IsRead (Ok false) found = found ≡ came.End
+IsRead (Err error) found = ((error_kind error ≡ WouldBlock) × (found ≡ came.Nothing)) ⊎ ((error_kind error ≢ WouldBlock) × (found ≡ came.Fault))
 
--- the connection goes on after the step
-abbrev pub GoesOn : Step → Type 0
-GoesOn Next = Unit {0}
-GoesOn Waits = Unit {0}
-GoesOn (Ends ended) = ⊥
-GoesOn OutOfMemory = ⊥
+-- it waits for its socket exactly where bytes wait, and for input only where it reads and holds none
+abbrev pub Pauses : ConnectionValue → Pause → Type 0
+Pauses kept Turn = kept.replies ≡ []
+Pauses kept Input = (waits_in (loop_of kept) ≡ []) × (kept.state.stage ≡ Reading)
+Pauses kept Output = kept.replies ≢ []
 
--- a connection waits for its socket where replies wait, and for input where none does; one whose end is decided waits for no input
-abbrev pub Pauses : ConnectionState → Pause → Type 0
-Pauses (Answering kept) Turn = kept.waits ≡ []
-Pauses (Answering kept) Input = kept.waits ≡ []
-Pauses (Answering kept) Output = kept.waits ≢ []
-Pauses (Closing closing) Turn = Unit {0}
-Pauses (Closing closing) Input = ⊥
-Pauses (Closing closing) Output = closing.replies ≢ []
+-- where it goes on it pauses so
+abbrev pub PausesWell : ConnectionValue → TurnOutcome → Type 0
+PausesWell kept (Goes pause) = Pauses kept pause
+PausesWell kept (Ended ended) = Unit {0}
 
--- where a connection goes on, it pauses as it should
-abbrev pub PausesWell : TurnOutcome → Type 0
-PausesWell (Goes connection pause) = Pauses connection pause
-PausesWell (Ended ended) = Unit {0}
+-- where a step waits it pauses so
+abbrev pub WaitsWell : ConnectionValue → Step → Type 0
+WaitsWell kept (Next units) = Unit {0}
+WaitsWell kept NoInput = Pauses kept Input
+WaitsWell kept NoRoom = Pauses kept Output
+WaitsWell kept (Ends ended) = Unit {0}
 
--- these replies may wait in this pause
-abbrev pub IsPause : Pause → List ℕ → Type 0
-IsPause Turn waits = waits ≡ []
-IsPause Input waits = waits ≡ []
-IsPause Output waits = waits ≢ []
+-- the same at the end of a turn, where no bytes wait for others' turns
+abbrev pub StopsWell : ConnectionValue → Step → Type 0
+StopsWell kept (Next units) = Pauses kept Turn
+StopsWell kept NoInput = Pauses kept Input
+StopsWell kept NoRoom = Pauses kept Output
+StopsWell kept (Ends ended) = Unit {0}
 
--- a turn whose steps were over goes on at once, or once the socket takes replies
-abbrev pub GoesOnSoon : Step → TurnOutcome → Type 0
-GoesOnSoon Next (Goes connection pause) = pause ≢ Input
-GoesOnSoon other turned = Unit {0}
+-- the connection is kept in a pause, or there was no memory for that
+abbrev pub KeepsOr : ConnectionValue → Pause → ConnectionValue → TurnOutcome → Type 0
+KeepsOr old pause new (Goes other) = (other ≡ pause) × IsKept old new
+KeepsOr old pause new (Ended ended) = ended ≡ Err Write
 
--- by the relations of a handler to lines, and to the end of an input
-module _ {V : Type 0} (makes ends : V → List ℕ → V → Reply → Type 0) (shared : Bool) where
-  -- the connection goes on, or ends once its replies are sent; out of memory, what waits is not sent
-  abbrev pub StepsTo : Start V → Option (List ℕ) → Option (List ℕ) → V → ConnectionValue → Step → Type 0
-  StepsTo start left written machine kept Next = FollowsSession makes ends shared start left written machine kept
-  StepsTo start left written machine kept Waits = FollowsSession makes ends shared start left written machine kept
-  StepsTo start left written machine kept (Ends ended) = EndsOnceSent makes ends shared start (prepend_known kept.held left) written kept.waits machine ended
-  StepsTo start left written machine kept OutOfMemory = HasEnded makes ends shared start (prepend_known kept.held left) written machine (Err Write)
+-- the connection is kept after a step, unless it has ended
+abbrev pub Stores : ConnectionValue → Step → ConnectionValue → TurnOutcome → Type 0
+Stores old (Next units) new outcome = KeepsOr old Turn new outcome
+Stores old NoInput new outcome = KeepsOr old Input new outcome
+Stores old NoRoom new outcome = KeepsOr old Output new outcome
+Stores old (Ends ended) new outcome = outcome ≡ Ended ended
 
-  -- where a connection is: its lines are answered, or its end is decided
-  abbrev pub Continues : Start V → Option (List ℕ) → Option (List ℕ) → V → ConnectionState → Type 0
-  Continues start left written machine (Answering kept) = FollowsSession makes ends shared start left written machine kept
-  Continues start left written machine (Closing closing) = (held : List ℕ) × EndsOnceSent makes ends shared start (prepend_known held left) written closing.replies machine closing.ended
+module _ {V : Type 0} (handling : Handling V) where
+  -- its loop stands over the input that is held and what is left of its source
+  abbrev pub Continues : Start V → Option (List ℕ) → Option (List ℕ) → V → ConnectionValue → Type 0
+  Continues start left written machine kept = Stands handling start (prepend_known kept.held left) written machine (loop_of kept)
+
+  -- so at some buffers after a step
+  abbrev pub StepsIn : Start V → Option (List ℕ) → Option (List ℕ) → V → ThreadBuffers → Step → Type 0
+  StepsIn start left written machine buffers step = LoopStepsTo handling start (prepend_known buffers.input left) written machine (loop_of (in_buffers buffers)) step
 
   -- the connection goes on, or has ended as its session ends
-  abbrev pub TurnsTo : Start V → Option (List ℕ) → Option (List ℕ) → V → TurnOutcome → Type 0
-  TurnsTo start left written machine (Goes connection pause) = Continues start left written machine connection
-  TurnsTo start left written machine (Ended ended) = (held : List ℕ) × HasEnded makes ends shared start (prepend_known held left) written machine ended
-
-  -- a connection goes on in its place and pauses well, or has ended as its session ends
-  abbrev pub TurnsOn : Start V → Option (List ℕ) → Option (List ℕ) → V → ConnectionState → Option Pause → Type 0
-  TurnsOn start left written machine connection (Some pause) = Continues start left written machine connection
-  TurnsOn start left written machine connection None = (ended : Result Counts RunFault) × (held : List ℕ) × HasEnded makes ends shared start (prepend_known held left) written machine ended
+  abbrev pub TurnsTo : Start V → Option (List ℕ) → Option (List ℕ) → V → ConnectionValue → TurnOutcome → Type 0
+  TurnsTo start left written machine kept (Goes pause) = Continues start left written machine kept
+  TurnsTo start left written machine kept (Ended ended) = (held : List ℕ) × HasEnded handling start (prepend_known held left) written machine ended

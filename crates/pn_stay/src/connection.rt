@@ -4,7 +4,7 @@ ghost use Rattle.std.specs.Prelude.{◌≡◌, ◌||◌, ◌≤◌, ◌↔◌, t
 ghost use Rattle.pn_serve.specs.Session.Knowing.{KnowsNoLess};
 ghost use Rattle.pn_stay.specs.IdleTimeouts.{new_idle_timeout, after_quarter};
 
-use crate::connection_state::{ConnectionState, Pause, ThreadBuffers};
+use crate::connection_state::{ConnectionState, Pause, ThreadBuffers, TurnOutcome};
 use crate::socket::{Socket, TrackedSocket, has_moved};
 use pn_serve::LineHandler;
 use std::alloc::Global;
@@ -13,7 +13,6 @@ use std::marker::Model;
 /// A connection with its socket.
 #[derive(Drop)]
 pub(crate) struct Connection {
-    alloc: Global,
     socket: Socket,
     state: ConnectionState,
     pub(crate) idle: IdleTimeout,
@@ -29,7 +28,6 @@ impl Connection {
     /// A connection of which nothing was read.
     pub(crate) fn new(alloc: Global, socket: Socket) -> Connection {
         Connection {
-            alloc,
             socket,
             state: ConnectionState::new(alloc),
             idle: IdleTimeout::new(),
@@ -63,12 +61,15 @@ impl Connection {
         let mut input = TrackedSocket::new(&self.socket);
         input.end_input_if(self.is_ending);
         let mut output = TrackedSocket::new(&self.socket);
-        let pause = self
-            .state
-            .turn_in_place(self.alloc, buffers, machine, &mut input, &mut output);
-        self.idle.note_activity(has_moved(&input, &output));
-        self.is_held_up = pause == Some(Pause::Output);
-        pause
+        let turned = self.state.turn(buffers, machine, &mut input, &mut output);
+        let is_busy = turned == TurnOutcome::Goes(Pause::Turn);
+        self.idle
+            .note_activity(is_busy || has_moved(&input, &output));
+        self.is_held_up = turned == TurnOutcome::Goes(Pause::Output);
+        match turned {
+            TurnOutcome::Goes(pause) => Some(pause),
+            TurnOutcome::Ended(_) => None,
+        }
     }
 }
 

@@ -1,25 +1,21 @@
 //! The state of a connection: it is answered as a session is, in turns, between which it keeps as little as it can.
 
-ghost use Rattle.std.specs.Prelude.{◌≡◌, ◌↔◌, ◌+◌, ◌-◌, ◌^◌, Bool, [], min, IfOk, IfSome, OnErr};
+ghost use Rattle.std.specs.Prelude.{◌≡◌, ◌+◌, ◌-◌, ◌^◌, ◌≤◌, ℕ, List, Option, min};
+ghost use Rattle.pn_serve.specs.Lines.Stepping.{by, Stands, StepsTo};
 ghost use Rattle.pn_serve.specs.Lines.States.{Start};
-ghost use Rattle.pn_line.specs.Sent.{AppendsPrefix, Sends};
 ghost use Rattle.pn_stay.specs.Connections.{new_connection};
-ghost use Rattle.pn_stay.specs.Interleaving.{Passes};
-ghost use Rattle.pn_stay.specs.Sessions.{FollowsSession};
-ghost use Rattle.pn_stay.specs.declared.connection_state.ConnectionState.TheVariants as states;
-ghost use Rattle.pn_stay.specs.Turns.{Continues, Pauses, PausesWell, TurnsOn, TurnsTo};
-ghost use Rattle.pn_serve.specs.Session.Knowing.{KnowsNoLess};
+ghost use Rattle.pn_stay.specs.Turns.{in_buffers, Continues, PausesWell, StepsIn, StopsWell, TurnsTo};
+ghost use Rattle.pn_serve.specs.Session.Knowing.{IsSteady, KnowsNoLess};
 
-mod sending;
 mod storage;
 
-use crate::connection_state::sending::{finish, send_rest};
 use crate::input_buffer::InputBuffer;
-use crate::output_buffer::{OutputBuffer, SendOutcome};
-use crate::steps::{Step, take_steps};
+use crate::steps::take_steps;
 use pn_join::NoMemory;
-use pn_line::{LineBuffer, Sink, WriteFault};
-use pn_serve::{Counts, LineCounts, LineHandler, LineLoop, RunFault};
+use pn_line::{LineBuffer, Sink};
+use pn_serve::{
+    Counts, LineCounts, LineHandler, LineLoop, LineState, ReplyBuffer, RunFault, SendOutcome, Step,
+};
 use std::alloc::Global;
 use std::io::Read;
 use std::marker::Model;
@@ -36,6 +32,8 @@ const NO_LINES: LineCounts = LineCounts {
 pub struct ThreadBuffers {
     pub(crate) lines: LineLoop,
     pub(crate) input: InputBuffer,
+    // What the thread goes on with once a connection keeps the replies that its socket did not take.
+    pub(crate) spare: Option<ReplyBuffer>,
     pub(crate) answered: LineCounts,
 }
 
@@ -45,6 +43,7 @@ impl ThreadBuffers {
         Ok(ThreadBuffers {
             lines: LineLoop::new(alloc)?,
             input: InputBuffer::new(alloc)?,
+            spare: Some(ReplyBuffer::new(alloc)?),
             answered: NO_LINES,
         })
     }
@@ -57,45 +56,32 @@ impl ThreadBuffers {
 
 /// A connection between two turns.
 #[derive(Drop)]
-pub enum ConnectionState {
-    /// Its lines are answered.
-    Answering(Answering),
-    /// It ends once its replies are sent.
-    Closing(Closing),
-}
-
-/// What an answering connection keeps.
-#[derive(Drop)]
-pub struct Answering {
+pub struct ConnectionState {
     alloc: Global,
+    // The line that is read, where it is too long for the input that is held.
     line: Option<LineBuffer>,
+    // Input that was read and is not answered.
     held: Vec<u8>,
-    replies: OutputBuffer,
-    counts: Counts,
+    // The replies that the socket has not taken, if there are any.
+    replies: Option<ReplyBuffer>,
+    state: LineState,
 }
 
-impl Model for Answering {
+impl Model for ConnectionState {
     ghost use Rattle.std.specs.Prelude.{◌≤◌, vec_len};
-    ghost use Rattle.pn_serve.specs.declared.script.TheConstants.{MAX_LINES};
     ghost use Rattle.pn_stay.specs.declared.input_buffer.TheConstants.{INPUT_CAPACITY};
-    ghost use Rattle.pn_stay.specs.Connections.{ConnectionValue, IsLine, line_in};
+    ghost use Rattle.pn_stay.specs.Connections.{ConnectionValue, line_in, replies_in};
 
     ghost Value = { ConnectionValue };
 
-    ghost use Rattle.pn_stay.specs.Connections.{connection_code};
+    ghost use Rattle.pn_serve.specs.contracts.script.line_loop.state.Stage as stages;
+    ghost use Rattle.std.specs.Coded.{codes};
 
-    ghost coded = { connection_code };
+    ghost coded = { Prim.hlevel (codes, stages.the_row.coded) };
 
-    ghost view = { λ kept. record { line = line_in kept.line; held = kept.held.items; waits = kept.replies; counts = kept.counts } };
+    ghost view = { λ kept. record { line = line_in kept.line; held = kept.held.items; replies = replies_in kept.replies; state = kept.state } };
 
-    ghost invariant = { λ kept. IsLine (line_in kept.line) × (vec_len kept.held ≤ INPUT_CAPACITY) × (kept.counts.refused ≤ kept.counts.lines) × (kept.counts.lines ≤ MAX_LINES) };
-}
-
-/// Replies that are still to be sent, and how the session ended.
-#[derive(Drop)]
-pub struct Closing {
-    pub replies: OutputBuffer,
-    pub ended: Result<Counts, RunFault>,
+    ghost invariant = { λ kept. vec_len kept.held ≤ INPUT_CAPACITY };
 }
 
 /// Why a turn ended.
@@ -110,10 +96,10 @@ pub enum Pause {
 }
 
 /// What a turn came to.
-#[derive(Drop)]
+#[derive(Clone, Copy, Debug, PartialEq, Eq)]
 pub enum TurnOutcome {
     /// The connection goes on.
-    Goes(ConnectionState, Pause),
+    Goes(Pause),
     /// The connection has ended, as a session ends.
     Ended(Result<Counts, RunFault>),
 }
@@ -121,137 +107,100 @@ pub enum TurnOutcome {
 impl ConnectionState {
     /// A connection of which nothing was read.
     pub fn new(alloc: Global) -> ConnectionState
-        ensures { result ≡ states.Answering new_connection }
+        ensures { result ≡ new_connection }
     {
-        ConnectionState::Answering(Answering {
+        ConnectionState {
             alloc,
             line: None,
             held: Vec::new(alloc),
-            replies: OutputBuffer::new(alloc),
-            counts: Counts {
-                lines: 0,
-                refused: 0,
-            },
-        })
+            replies: None,
+            state: LineState::new(),
+        }
     }
 
-    /// Sends what waits, answers at most 64 lines that are at hand, and sends their replies.
+    /// One turn: goes on where the last one stopped, with a bounded number of lines, of records that are looked at, and of bytes.
     ///
-    /// Where the socket leaves replies, nothing is read: what waits is an outbox and a reply at most, and the input of one read.
+    /// Where the socket leaves replies nothing is read: at most 128 KB of them wait.
     pub fn turn<M: LineHandler, R: Read, W: Sink>(
-        self,
+        &mut self,
         buffers: &mut ThreadBuffers,
         machine: &mut M,
         input: &mut R,
         output: &mut W,
     ) -> TurnOutcome
         requires ready { M.ready }
-        ensures turns { (shared : Bool) (start : Start M) → Continues M.makes M.ends shared start (R.remaining input.old) (W.contents output.old) machine.old self
-            → TurnsTo M.makes M.ends shared start (R.remaining input.new) (W.contents output.new) machine.new result }
-        ensures pauses { PausesWell result }
-        ensures passes { Passes M.makes M.ends machine.old machine.new }
+        ensures turns { (start : Start M) → IsSteady M.reader M.moves → Continues (by M.moves M.makes M.ends M.goes M.goes_last) start (R.remaining input.old) (W.contents output.old) machine.old self.old
+            → TurnsTo (by M.moves M.makes M.ends M.goes M.goes_last) start (R.remaining input.new) (W.contents output.new) machine.new self.new result }
+        ensures pauses { PausesWell self.new result }
         ensures knows { KnowsNoLess (M.reader machine.old) (M.reader machine.new) }
     {
-        match self {
-            ConnectionState::Answering(kept) => send_first(kept, buffers, machine, input, output),
-            ConnectionState::Closing(closing) => send_rest::<M, W>(closing, output),
-        }
-    }
-
-    /// One turn of a connection, which stays where it is. None where it has ended.
-    pub fn turn_in_place<M: LineHandler, R: Read, W: Sink>(
-        &mut self,
-        alloc: Global,
-        buffers: &mut ThreadBuffers,
-        machine: &mut M,
-        input: &mut R,
-        output: &mut W,
-    ) -> Option<Pause>
-        requires ready { M.ready }
-        ensures turns { (shared : Bool) (start : Start M) → Continues M.makes M.ends shared start (R.remaining input.old) (W.contents output.old) machine.old self.old
-            → TurnsOn M.makes M.ends shared start (R.remaining input.new) (W.contents output.new) machine.new self.new result }
-        ensures pauses { IfSome result (Pauses self.new) }
-        ensures passes { Passes M.makes M.ends machine.old machine.new }
-        ensures knows { KnowsNoLess (M.reader machine.old) (M.reader machine.new) }
-    {
-        let state = mem::replace(self, ConnectionState::new(alloc));
-        match state.turn(buffers, machine, input, output) {
-            TurnOutcome::Goes(state, pause) => {
-                *self = state;
-                Some(pause)
-            }
-            TurnOutcome::Ended(_) => None,
-        }
+        self.load(buffers);
+        let before = buffers.lines.counts();
+        let step = send_and_step(buffers, machine, input, output);
+        let after = buffers.lines.counts();
+        add_lines(&mut buffers.answered, before, after);
+        buffers.lines.recall_cut(&*machine);
+        self.store(buffers, step)
     }
 }
 
-// Sends what waits, and answers lines where nothing is left of it.
-fn send_first<M: LineHandler, R: Read, W: Sink>(
-    kept: Answering,
+// Sends what waits, and takes the steps of a turn where nothing is left of it.
+fn send_and_step<M: LineHandler, R: Read, W: Sink>(
     buffers: &mut ThreadBuffers,
     machine: &mut M,
     input: &mut R,
     output: &mut W,
-) -> TurnOutcome
+) -> Step
     requires ready { M.ready }
-    ensures turns { (shared : Bool) (start : Start M) → FollowsSession M.makes M.ends shared start (R.remaining input.old) (W.contents output.old) machine.old kept
-        → TurnsTo M.makes M.ends shared start (R.remaining input.new) (W.contents output.new) machine.new result }
-    ensures pauses { PausesWell result }
-    ensures passes { Passes M.makes M.ends machine.old machine.new }
+    ensures steps { (start : Start M) → IsSteady M.reader M.moves → Continues (by M.moves M.makes M.ends M.goes M.goes_last) start (R.remaining input.old) (W.contents output.old) machine.old (in_buffers buffers.old)
+        → StepsIn (by M.moves M.makes M.ends M.goes M.goes_last) start (R.remaining input.new) (W.contents output.new) machine.new buffers.new result }
+    ensures stops { StopsWell (in_buffers buffers.new) result }
     ensures knows { KnowsNoLess (M.reader machine.old) (M.reader machine.new) }
 {
-    let mut kept = kept;
-    match kept.send(output) {
-        Ok(SendOutcome::All) => answer_some(kept, buffers, machine, input, output),
-        Ok(SendOutcome::Waits) => TurnOutcome::Goes(
-            ConnectionState::Answering(kept),
-            Pause::Output,
-        ),
-        Err(_) => TurnOutcome::Ended(Err(RunFault::Write)),
+    match send_waiting(buffers, &*machine, output) {
+        Step::Next(_) => step_and_send(buffers, machine, input, output),
+        step => step,
     }
 }
 
-impl Answering {
-    // Sends what waits, as far as it is taken.
-    fn send<W: Sink>(&mut self, output: &mut W) -> Result<SendOutcome, WriteFault>
-        ensures ok { IfOk result (λ _. Sends (W.contents output.old) (W.contents output.new) self.old.waits self.new.waits []) }
-        ensures err { OnErr result (AppendsPrefix (W.contents output.old) (W.contents output.new) self.old.waits) }
-        ensures all { IfOk result (λ sent. (sent ≡ SendOutcome.All) ↔ (self.new.waits ≡ [])) }
-        ensures same { self.new ≡ record self.old { waits = self.new.waits } }
-    {
-        self.replies.send(output)
-    }
-}
-
-// Answers lines, and sends their replies.
-fn answer_some<M: LineHandler, R: Read, W: Sink>(
-    kept: Answering,
+// Takes the steps of a turn, and sends what they left.
+fn step_and_send<M: LineHandler, R: Read, W: Sink>(
     buffers: &mut ThreadBuffers,
     machine: &mut M,
     input: &mut R,
     output: &mut W,
-) -> TurnOutcome
+) -> Step
     requires ready { M.ready }
-    ensures turns { (shared : Bool) (start : Start M) → FollowsSession M.makes M.ends shared start (R.remaining input.old) (W.contents output.old) machine.old kept
-        → TurnsTo M.makes M.ends shared start (R.remaining input.new) (W.contents output.new) machine.new result }
-    ensures pauses { PausesWell result }
-    ensures passes { Passes M.makes M.ends machine.old machine.new }
+    ensures steps { (start : Start M) → IsSteady M.reader M.moves → Continues (by M.moves M.makes M.ends M.goes M.goes_last) start (R.remaining input.old) (W.contents output.old) machine.old (in_buffers buffers.old)
+        → StepsIn (by M.moves M.makes M.ends M.goes M.goes_last) start (R.remaining input.new) (W.contents output.new) machine.new buffers.new result }
+    ensures stops { StopsWell (in_buffers buffers.new) result }
     ensures knows { KnowsNoLess (M.reader machine.old) (M.reader machine.new) }
 {
-    let alloc = kept.alloc;
-    let mut replies = kept.load(buffers);
-    let before = buffers.lines.counts();
-    let step = take_steps(buffers, machine, &mut replies, input);
-    let after = counts_after(&step, buffers.lines.counts());
-    add_lines(&mut buffers.answered, before, after);
-    finish::<M, W>(alloc, buffers, replies, step, output)
+    match take_steps(buffers, machine, input, output) {
+        Step::Next(_) => send_waiting(buffers, &*machine, output),
+        step => step,
+    }
 }
 
-// The counts after a step. At the end of the input they count a last part of a line.
-fn counts_after(step: &Step, counts: Counts) -> Counts {
-    match step {
-        Step::Ends(Ok(counts)) => *counts,
-        _ => counts,
+// Sends what waits. `Next` where nothing is left of it.
+fn send_waiting<M: LineHandler, W: Sink>(
+    buffers: &mut ThreadBuffers,
+    machine: &M,
+    output: &mut W,
+) -> Step
+    ensures steps { (start : Start M) (left : Option (List ℕ)) → IsSteady M.reader M.moves → Stands (by M.moves M.makes M.ends M.goes M.goes_last) start left (W.contents output.old) machine.now buffers.old.lines
+        → StepsTo (by M.moves M.makes M.ends M.goes M.goes_last) start left (W.contents output.new) machine.now buffers.new.lines result }
+    ensures input { buffers.new.input ≡ buffers.old.input }
+    ensures stops { StopsWell (in_buffers buffers.new) result }
+{
+    if buffers.lines.is_sent() {
+        return Step::Next(0);
+    }
+    buffers.lines.recall_cut(machine);
+    match buffers.lines.flush(output) {
+        Ok(SendOutcome::All) => Step::Next(0),
+        Ok(SendOutcome::Waits) => Step::NoRoom,
+        Err(_) => Step::Ends(Err(RunFault::Write)),
     }
 }
 

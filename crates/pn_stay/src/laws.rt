@@ -2,7 +2,7 @@
 
 ghost use Rattle.std.specs.Prelude.{ℕ, List, [], Some, IfOk, IfSome, map};
 ghost use Rattle.std.specs.Io.KnownBytes.{prepend_known};
-ghost use Rattle.pn_serve.specs.Lines.Ends.{EndsBy};
+ghost use Rattle.pn_serve.specs.Lines.Stepping.{HasEnded, by};
 ghost use Rattle.pn_stay.specs.Scripted.{bytes_of, begin_with};
 
 use crate::connection_state::{ConnectionState, ThreadBuffers, TurnOutcome};
@@ -23,14 +23,15 @@ pub fn answer_in_turns<M: LineHandler, R: Read, W: Sink>(
     turns: u32,
 ) -> Result<Option<Result<Counts, RunFault>>, NoMemory>
     requires ready { M.ready }
-    ensures ends { IfOk result (λ answered. IfSome answered (λ ended. (held : List ℕ) × EndsBy M.makes M.ends
+    ensures ends { IfOk result (λ answered. IfSome answered (λ ended. (held : List ℕ) × HasEnded (by M.moves M.makes M.ends M.goes M.goes_last)
         (begin_with machine.old (R.remaining input.old) (W.contents output.old)) (prepend_known held (R.remaining input.new)) (W.contents output.new) machine.new ended)) }
 {
     let mut buffers = ThreadBuffers::new(alloc)?;
     let mut state = ConnectionState::new(alloc);
+    machine.recall_moves();
     'turns: for _turn in 0..turns {
         match state.turn(&mut buffers, machine, input, output) {
-            TurnOutcome::Goes(next, _) => state = next,
+            TurnOutcome::Goes(_) => {}
             TurnOutcome::Ended(ended) => return Ok(Some(ended)),
         }
     }
@@ -47,7 +48,7 @@ pub fn every_way_of_coming_and_going<M: LineHandler>(
     turns: u32,
 ) -> Result<(Option<Result<Counts, RunFault>>, Vec<u8>), NoMemory>
     requires ready { M.ready }
-    ensures ends { IfOk result (λ answered. IfSome answered.0 (λ ended. (rest : List ℕ) × EndsBy M.makes M.ends
+    ensures ends { IfOk result (λ answered. IfSome answered.0 (λ ended. (rest : List ℕ) × HasEnded (by M.moves M.makes M.ends M.goes M.goes_last)
         (begin_with machine.old (Some (bytes_of (map (λ piece. piece.items) pieces.now))) (Some [])) (Some rest) (Some answered.1.items) machine.new ended)) }
 {
     let mut input = ScriptedSource::new(pieces);

@@ -15,7 +15,6 @@ mod lingering;
 mod listener;
 mod memory;
 mod messages;
-mod output_buffer;
 mod progress;
 mod reasons;
 mod scripted;
@@ -29,16 +28,13 @@ mod streams;
 
 pub use acceptor::SocketAcceptor;
 pub use connection::IdleTimeout;
-pub use connection_state::{
-    Answering, Closing, ConnectionState, Pause, ThreadBuffers, TurnOutcome,
-};
+pub use connection_state::{ConnectionState, Pause, ThreadBuffers, TurnOutcome};
 pub use counters::{ConnectionCounters, Counters, CountingSource, InputCounters, StreamCounters};
 pub use input_buffer::{INPUT_CAPACITY, InputBuffer, READ_SIZE};
 pub use laws::{answer_in_turns, every_way_of_coming_and_going};
 pub use listener::{Listener, OWNER_ALONE};
 pub use memory::MemoryMeter;
 pub use messages::{MAX_WAITING, MessagePrinter, Messages, WaitingLines};
-pub use output_buffer::{OutputBuffer, SendOutcome};
 pub use progress::{message_prefix, tell_progress};
 pub use reasons::{describe_error, format_after, format_failure, format_refusal, format_taken};
 pub use scripted::{ScriptedSink, ScriptedSource};

@@ -12,7 +12,8 @@ use Rattle.pn_tablet.specs.declared.form.Form.{Form}
 use Rattle.pn_tablet.specs.declared.copy_line.CopyLine.{CopyLine}
 use Rattle.pn_tablet.proofs.SameSpelling.{spelled_again}
 
-lines_again : (lines : List (List ℕ)) → All IsUnbroken lines → lines_of (text_of lines) ≡ lines
+-- the lines of lines
+pub lines_again : (lines : List (List ℕ)) → All IsUnbroken lines → lines_of (text_of lines) ≡ lines
 lines_again lines unbroken = ap lines_of (sym (append-nil (text_of lines))) ∙ lines_of-text lines [] unbroken ∙ ap (λ rest. lines ++ rest) lines_of-nil ∙ append-nil lines
 
 pub as_many : (form : Form) (lines : List (List ℕ)) (says : List CopyLine) → AreLines form lines says → length lines ≡ length says

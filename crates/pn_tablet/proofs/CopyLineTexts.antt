@@ -1,9 +1,9 @@
 -- The text of a value has no newline, and that of a line of a copy is short.
-use Rattle.std.proofs.Common.{◌≡◌, ◌≢◌, ℕ, suc, pos, negsuc, ◌+◌, ◌/◌, ◌%◌, ◌^◌, ◌<◌, ◌≤◌, ◌==◌, ◌||◌, List, [], ◌∷◌, ◌++◌, length, codes, Bool, true, false, not, cond, ◌&&◌, Option, Some, None, decimal, ltb, leb, refl, sym, ap, ◌∙◌, arith, length-append}
-use Rattle.std.proofs.lemmas.Bool.{and_parts, false≢true, ltb-false, ltb-true, leb-true}
-use Rattle.std.proofs.lemmas.Fmt.{decimal_is_IsNumeral, length-decimal-le}
-use Rattle.std.proofs.lemmas.List.Elements.{All-nil, All-cons, All-append, All-from_get_or}
-use Rattle.std.proofs.lemmas.Str.Parse.{digit_at}
+use Rattle.std.proofs.Common.{◌≡◌, ◌≢◌, ℕ, zero, suc, pos, negsuc, ◌+◌, ◌/◌, ◌%◌, ◌^◌, ◌<◌, ◌≤◌, ◌==◌, ◌||◌, List, [], ◌∷◌, ◌++◌, length, codes, Bool, true, false, not, cond, ◌&&◌, Option, Some, None, decimal, ltb, leb, refl, sym, ap, ◌∙◌, arith, length-append}
+use Rattle.std.proofs.lemmas.Bool.{and_parts, false≢true, ltb-false, leb-true}
+use Rattle.std.proofs.lemmas.Fmt.{length-decimal-le}
+use Rattle.std.specs.Fmt.{digits, digits_onto, digit_glyph}
+use Rattle.std.proofs.lemmas.List.Elements.{All-nil, All-cons, All-append}
 use Rattle.std.specs.Char.{digit_char}
 use Rattle.std.specs.List.{list_all, sum_by}
 use Rattle.json.specs.Print.{escape_byte, escape_letter, escape, quoted}
@@ -13,10 +13,8 @@ use Rattle.pn_join.specs.Marks.{is_position}
 use Rattle.pn_join.specs.declared.marks.TheConstants.{LAST_POSITION}
 use Rattle.pn_join.specs.Naming.{is_name, is_name_byte}
 use Rattle.pn_line.specs.Reads.{IsUnbroken}
-use Rattle.pn_record.specs.declared.image.Image.{Image}
-use Rattle.pn_record.specs.Canonical.{is_image}
-use Rattle.pn_record.specs.Bodies.{field_size, fields_fit, names_rise, is_body, is_content}
-use Rattle.pn_record.specs.Limits.{FieldValue, number_value, text_value, Field, is_value, is_field, is_key, is_version}
+use Rattle.pn_record.specs.Bodies.{field_size, fields_fit, names_rise, is_body}
+use Rattle.pn_record.specs.Limits.{Field, is_field, is_version}
 use Rattle.pn_record.specs.declared.limits.TheConstants.{MAX_VERSION_NUMBER}
 use Rattle.pn_record.specs.Marks.{is_mark}
 use Rattle.pn_record.specs.Writing.{value_data, fields_data, body_data, image_data}
@@ -84,76 +82,51 @@ escape-unbroken (x ∷ s) = both (escape_byte x) (escape s) (escape_byte-unbroke
 quoted-unbroken : (s : List ℕ) → IsUnbroken (quoted s)
 quoted-unbroken s = also 34 (escape s ++ 34 ∷ []) (λ e. omega (arith, e)) (both (escape s) (34 ∷ []) (escape-unbroken s) (literal (34 ∷ []) refl))
 
-decimal-unbroken : (n : ℕ) → n < 2 ^ 64 → IsUnbroken (decimal n)
-decimal-unbroken n small =
-    All-from_get_or (λ b. b ≢ 10) (decimal n) 0 (λ k below is.
-    let digit = digit_at (decimal n) k (decimal_is_IsNumeral n small).0.1 below in
-    omega (arith, is, digit.0))
+glyph-not : (d : ℕ) → digit_glyph false d ≢ 10
+glyph-not d = letter_not (ltb d 10) (48 + d) (87 + d) (λ _ e. omega (arith, e)) (λ e. omega (arith, e))
+
+digits-unbroken : (k n : ℕ) (after : List ℕ) → IsUnbroken after → IsUnbroken (digits_onto k 10 false n after)
+digits-unbroken zero n after unbroken = unbroken
+digits-unbroken (suc k) n after unbroken =
+    let more = also (digit_glyph false (n % 10)) after (glyph-not (n % 10)) unbroken in
+    either (n / 10 == 0) (digit_glyph false (n % 10) ∷ after) (digits_onto k 10 false (n / 10) (digit_glyph false (n % 10) ∷ after)) more (λ _. digits-unbroken k (n / 10) (digit_glyph false (n % 10) ∷ after) more)
+
+decimal-unbroken : (n : ℕ) → IsUnbroken (decimal n)
+unfolding digits
+decimal-unbroken n = digits-unbroken 64 n [] none
 
 -- ---- values
-
--- all numbers are whole, and fit 64 bits
-abbrev mutual
-  pub Small : Data → Type 0
-  Small null = Unit {0}
-  Small (boolean b) = Unit {0}
-  Small (number (unsigned n)) = n < 2 ^ 64
-  Small (number (negative (pos n))) = ⊥
-  Small (number (negative (negsuc n))) = n < 2 ^ 63
-  Small (number (float x)) = ⊥
-  Small (string s) = Unit {0}
-  Small (array ds) = SmallItems ds
-  Small (object ms) = SmallMembers ms
-
-  pub SmallItems : Items → Type 0
-  SmallItems no_items = Unit {0}
-  SmallItems (item d ds) = Small d × SmallItems ds
-
-  pub SmallMembers : Members → Type 0
-  SmallMembers no_members = Unit {0}
-  SmallMembers (member name d ms) = Small d × SmallMembers ms
 
 comma_if-unbroken : (later : Bool) → IsUnbroken (comma_if later)
 comma_if-unbroken true = literal (44 ∷ []) refl
 comma_if-unbroken false = none
 
 mutual
-  pub text-unbroken : (d : Data) → Small d → IsUnbroken (compact_text d)
-  text-unbroken null small = literal (110 ∷ 117 ∷ 108 ∷ 108 ∷ []) refl
-  text-unbroken (boolean true) small = literal (116 ∷ 114 ∷ 117 ∷ 101 ∷ []) refl
-  text-unbroken (boolean false) small = literal (102 ∷ 97 ∷ 108 ∷ 115 ∷ 101 ∷ []) refl
-  text-unbroken (number (unsigned n)) small = decimal-unbroken n small
-  text-unbroken (number (negative (pos n))) small = absurd small
-  text-unbroken (number (negative (negsuc n))) small = also 45 (decimal (suc n)) (λ e. omega (arith, e)) (decimal-unbroken (suc n) (omega (arith, small)))
-  text-unbroken (number (float x)) small = absurd small
-  text-unbroken (string s) small = quoted-unbroken s
-  text-unbroken (array ds) small = also 91 (items_text false ds) (λ e. omega (arith, e)) (items-unbroken false ds small)
-  text-unbroken (object ms) small = also 123 (members_text false ms) (λ e. omega (arith, e)) (members-unbroken false ms small)
+  pub text-unbroken : (d : Data) → IsUnbroken (compact_text d)
+  text-unbroken null = literal (110 ∷ 117 ∷ 108 ∷ 108 ∷ []) refl
+  text-unbroken (boolean true) = literal (116 ∷ 114 ∷ 117 ∷ 101 ∷ []) refl
+  text-unbroken (boolean false) = literal (102 ∷ 97 ∷ 108 ∷ 115 ∷ 101 ∷ []) refl
+  text-unbroken (number (unsigned n)) = decimal-unbroken n
+  text-unbroken (number (negative (pos n))) = decimal-unbroken n
+  text-unbroken (number (negative (negsuc n))) = also 45 (decimal (suc n)) (λ e. omega (arith, e)) (decimal-unbroken (suc n))
+  text-unbroken (number (float x)) = none
+  text-unbroken (string s) = quoted-unbroken s
+  text-unbroken (array ds) = also 91 (items_text false ds) (λ e. omega (arith, e)) (items-unbroken false ds)
+  text-unbroken (object ms) = also 123 (members_text false ms) (λ e. omega (arith, e)) (members-unbroken false ms)
 
-  items-unbroken : (later : Bool) (ds : Items) → SmallItems ds → IsUnbroken (items_text later ds)
-  items-unbroken later no_items small = literal (93 ∷ []) refl
-  items-unbroken later (item d ds) small =
+  items-unbroken : (later : Bool) (ds : Items) → IsUnbroken (items_text later ds)
+  items-unbroken later no_items = literal (93 ∷ []) refl
+  items-unbroken later (item d ds) =
       both (comma_if later) (compact_text d ++ items_text true ds) (comma_if-unbroken later)
-      (both (compact_text d) (items_text true ds) (text-unbroken d small.0) (items-unbroken true ds small.1))
+      (both (compact_text d) (items_text true ds) (text-unbroken d) (items-unbroken true ds))
 
-  members-unbroken : (later : Bool) (ms : Members) → SmallMembers ms → IsUnbroken (members_text later ms)
-  members-unbroken later no_members small = literal (125 ∷ []) refl
-  members-unbroken later (member name d ms) small =
+  members-unbroken : (later : Bool) (ms : Members) → IsUnbroken (members_text later ms)
+  members-unbroken later no_members = literal (125 ∷ []) refl
+  members-unbroken later (member name d ms) =
       both (comma_if later) (quoted name ++ 58 ∷ (compact_text d ++ members_text true ms)) (comma_if-unbroken later)
       (both (quoted name) (58 ∷ (compact_text d ++ members_text true ms)) (quoted-unbroken name)
       (also 58 (compact_text d ++ members_text true ms) (λ e. omega (arith, e))
-      (both (compact_text d) (members_text true ms) (text-unbroken d small.0) (members-unbroken true ms small.1))))
-
-small_value : (value : FieldValue) → is_value value ≡ true → Small (value_data value)
-small_value (number_value (pos n)) is = omega (arith, ltb-true n (2 ^ 63) is)
-small_value (number_value (negsuc n)) is = ltb-true n (2 ^ 63) is
-small_value (text_value text) is = tt
-
-small_fields : (fields : List Field) → list_all is_field fields ≡ true → SmallMembers (fields_data fields)
-small_fields [] fit = tt
-small_fields (field ∷ fields) fit =
-    let parts = and_parts (is_field field) (list_all is_field fields) fit in
-    (small_value field.1 (field_value field parts.0), small_fields fields parts.1)
+      (both (compact_text d) (members_text true ms) (text-unbroken d) (members-unbroken true ms))))
 
 -- each field of a body that fits is a field
 pub fields_are : (fields : List Field) → is_body (Some fields) ≡ true → list_all is_field fields ≡ true
@@ -161,10 +134,6 @@ fields_are fields is =
     let fits = and_parts (fields_fit fields) (names_rise fields) is in
     let together = and_parts (leb (length fields) 64 && list_all is_field fields) (leb (sum_by field_size fields) 8192) fits.0 in
     (and_parts (leb (length fields) 64) (list_all is_field fields) together.0).1
-
-small_body : (f : Option (List Field)) (rest : Members) → is_body f ≡ true → SmallMembers rest → SmallMembers (body_data f rest)
-small_body None rest is small = (tt, small)
-small_body (Some fields) rest is small = (small_fields fields (fields_are fields is), small)
 
 below_word : (n : ℕ) → leb n MAX_VERSION_NUMBER ≡ true → n < 2 ^ 64
 below_word n is = omega (arith, leb-true n MAX_VERSION_NUMBER is)
@@ -175,43 +144,26 @@ below_version version is =
     let first = and_parts (leb 1 version.0) (leb version.0 MAX_VERSION_NUMBER) second.0 in
     (below_word version.0 first.1, below_word version.1 second.1)
 
-pub small_image : (image : Image) → is_image image ≡ true → Small (image_data image)
-small_image image is =
-    let parts = and_parts (is_key image.key && is_version image.version) (is_content image.content) is in
-    let version = below_version image.version (and_parts (is_key image.key) (is_version image.version) parts.0).1 in
-    let body = (and_parts (is_body image.content.0) (is_name image.content.1) parts.1).0 in
-    small_body image.content.0 _ body (tt, (tt, ((version.0, (version.1, tt)), tt)))
-
-pub small_mark : (name : List ℕ) (position : ℕ) → is_mark (name, position) ≡ true → Small (mark_data (name, position))
-small_mark name position is =
+pub below_mark : (name : List ℕ) (position : ℕ) → is_mark (name, position) ≡ true → position < 2 ^ 64
+below_mark name position is =
     let parts = and_parts (is_name name) (is_position position) is in
-    let range = and_parts (leb 1 position) (leb position LAST_POSITION) parts.1 in
-    (below_word position range.1, (tt, tt))
-
-small_key : (key : Option (List ℕ)) → Small (key_data key)
-small_key None = tt
-small_key (Some key) = tt
+    below_word position (and_parts (leb 1 position) (leb position LAST_POSITION) parts.1).1
 
 pub small_form : (form : Form) → form_number form < 2 ^ 64
 small_form Texts = omega arith
 small_form Numbers = omega arith
-
-pub small_head : (form : Form) (from to : Option (List ℕ)) → Small (head_data (form, (from, to)))
-small_head form from to = (small_form form, (small_key from, (small_key to, tt)))
 
 -- ---- lengths
 
 short_number : (n : ℕ) → n < 2 ^ 64 → length (decimal n) ≤ 20
 short_number n small = length-decimal-le 20 n (omega arith) (omega arith) small
 
-pub short_end : (count : ℕ) → count < 2 ^ 64 → length (compact_text (end_data count)) ≤ 65536
+pub short_end : (count : ℕ) → count < 2 ^ 64 → length (compact_text (end_data count)) ≤ 4000
 short_end count small = omega (arith, length-append (quoted (codes "end")) (58 ∷ (decimal count ++ 125 ∷ [])), length-append (decimal count) (125 ∷ []), length-quoted (codes "end"), short_number count small)
 
-pub short_mark : (name : List ℕ) (position : ℕ) → is_mark (name, position) ≡ true → length (compact_text (mark_data (name, position))) ≤ 65536
-short_mark name position is =
-    let parts = and_parts (is_name name) (is_position position) is in
-    let range = and_parts (leb 1 position) (leb position LAST_POSITION) parts.1 in
-    let named = and_parts (leb 1 (length name) && leb (length name) 32) (list_all is_name_byte name) parts.0 in
+pub short_mark : (name : List ℕ) (position : ℕ) → is_name name ≡ true → position < 2 ^ 64 → length (compact_text (mark_data (name, position))) ≤ 4000
+short_mark name position is small =
+    let named = and_parts (leb 1 (length name) && leb (length name) 32) (list_all is_name_byte name) is in
     let size = and_parts (leb 1 (length name)) (leb (length name) 32) named.0 in
     let last = quoted name ++ 125 ∷ [] in
     let stream = quoted (codes "stream") ++ 58 ∷ last in
@@ -224,7 +176,7 @@ short_mark name position is =
       length-quoted (codes "at"),
       length-quoted (codes "stream"),
       length-quoted name,
-      short_number position (below_word position range.1),
+      short_number position small,
       leb-true (length name) 32 size.1,
     )
 
@@ -232,7 +184,7 @@ short_key : (key : Option (List ℕ)) → is_end key ≡ true → length (compac
 short_key None is = omega arith
 short_key (Some key) is = let size = and_parts (leb 1 (length key)) (leb (length key) 256) is in omega (arith, length-quoted key, leb-true (length key) 256 size.1)
 
-pub short_head : (form : Form) (from to : Option (List ℕ)) → is_end from ≡ true → is_end to ≡ true → length (compact_text (head_data (form, (from, to)))) ≤ 65536
+pub short_head : (form : Form) (from to : Option (List ℕ)) → is_end from ≡ true → is_end to ≡ true → length (compact_text (head_data (form, (from, to)))) ≤ 4000
 short_head form from to from_is to_is =
     let last = compact_text (key_data to) ++ 125 ∷ [] in
     let to_part = quoted (codes "to") ++ 58 ∷ last in

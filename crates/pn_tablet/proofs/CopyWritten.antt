@@ -44,10 +44,10 @@ use Rattle.pn_tablet.specs.Tablets.{lie_in}
 use Rattle.pn_tablet.proofs.FormLines.{lines_in, held_written}
 use Rattle.pn_tablet.proofs.SpelledImages.{spelled_own, spell_inside, spell_rises}
 use Rattle.pn_tablet.proofs.CopyValueTexts.{image_again, mark_again, end_again, head_again}
-use Rattle.pn_tablet.proofs.CopyLineTexts.{Small, text-unbroken, small_image, small_mark, small_head, short_end, short_mark, short_head}
+use Rattle.pn_tablet.proofs.CopyLineTexts.{text-unbroken, below_mark, short_end, short_mark, short_head}
 
-written : {A : Type 0} (IsSpelled : Data → A → Type 0) (d : Data) (meant : A) → reading (compact_text d) ≡ Some d → length (compact_text d) ≤ 65536 → Small d → IsSpelled d meant → IsWritten IsSpelled d meant
-written IsSpelled d meant read short small is = record { line = record { short = short; value = d; read = read; spelled = is }; unbroken = text-unbroken d small }
+written : {A : Type 0} (IsSpelled : Data → A → Type 0) (d : Data) (meant : A) → reading (compact_text d) ≡ Some d → length (compact_text d) ≤ 65536 → IsSpelled d meant → IsWritten IsSpelled d meant
+written IsSpelled d meant read short is = record { line = record { short = short; value = d; read = read; spelled = is }; unbroken = text-unbroken d }
 
 utf8_from : (b : Bool) (text : List ℕ) (d : Data) → cond b (read text) None ≡ Some d → b ≡ true
 utf8_from true text d is = refl
@@ -68,17 +68,17 @@ one_line old new says again shallow good wrote =
 pub mark_written : (old new name : List ℕ) (position : ℕ) → is_name name ≡ true → is_position position ≡ true → WritesValue old new (mark_data (name, position)) → WritesLines old new (Mark name position ∷ [])
 mark_written old new name position named within =
     let fits : is_mark (name, position) ≡ true = and_from (is_name name) (is_position position) named within in
-    let small = small_mark name position fits in
-    one_line old new (Mark name position) (mark_again name position small.0) (omega arith) (λ read. written (IsValue Numbers) (mark_data (name, position)) (Mark name position) read (short_mark name position fits) small (refl, fits))
+    let small = below_mark name position fits in
+    one_line old new (Mark name position) (mark_again name position small) (omega arith) (λ read. written (IsValue Numbers) (mark_data (name, position)) (Mark name position) read (omega (arith, short_mark name position named small)) (refl, fits))
 
 pub image_written : (old new : List ℕ) (image : Image) → is_image image ≡ true → WritesValue old new (image_data image) → WritesLines old new (Record image ∷ [])
 image_written old new image fits =
     one_line old new (Record image) (image_again image fits) (depth-image_data image) (λ read.
-    written (IsValue Numbers) (image_data image) (Record image) read (omega (arith, length-image_data image fits)) (small_image image fits) (record { value = refl; limits = fits }, refl))
+    written (IsValue Numbers) (image_data image) (Record image) read (omega (arith, length-image_data image fits)) (record { value = refl; limits = fits }, refl))
 
 pub end_written : (old new : List ℕ) (count : ℕ) → count < 2 ^ 64 → WritesValue old new (end_data count) → WritesLines old new (End count ∷ [])
 end_written old new count small =
-    one_line old new (End count) (end_again count small) (omega arith) (λ read. written (IsValue Numbers) (end_data count) (End count) read (short_end count small) (small, tt) refl)
+    one_line old new (End count) (end_again count small) (omega arith) (λ read. written (IsValue Numbers) (end_data count) (End count) read (omega (arith, short_end count small)) refl)
 
 shallow_head : (form : Form) (from to : Option (List ℕ)) → depth (head_data (form, (from, to))) ≤ 127
 shallow_head form None None = omega arith
@@ -89,7 +89,7 @@ shallow_head form (Some from) (Some to) = omega arith
 pub head_written : (old new : List ℕ) (form : Form) (range : Ends) → is_end range.0 ≡ true → is_end range.1 ≡ true → are_ends range ≡ true → WritesValue old new (head_data (form, range)) → IsWritten IsHead (head_data (form, range)) (form, range)
 head_written old new form range from to order wrote =
     let fits : is_range range ≡ true = and_from (is_end range.0 && is_end range.1) (are_ends range) (and_from (is_end range.0) (is_end range.1) from to) order in
-    written IsHead (head_data (form, range)) (form, range) (wrote.1 (head_again form range.0 range.1) (shallow_head form range.0 range.1)) (short_head form range.0 range.1 from to) (small_head form range.0 range.1) (record { value = refl; limits = fits })
+    written IsHead (head_data (form, range)) (form, range) (wrote.1 (head_again form range.0 range.1) (shallow_head form range.0 range.1)) (omega (arith, short_head form range.0 range.1 from to)) (record { value = refl; limits = fits })
 
 -- the value that a writer wrote after a text, and its newline, are its line
 pub line_from : {old new : Written} (text out : List ℕ) (d : Data) → old.before ≡ text → old.tokens ≡ [] → Appends old new (value_tokens d)
@@ -124,10 +124,10 @@ lines_room (line ∷ says) = omega (arith, length-append (line_text (line_data l
 
 -- ---- the whole text
 
-abbrev texts : List CopyLine → List (List ℕ)
+abbrev pub texts : List CopyLine → List (List ℕ)
 texts says = map (λ line. compact_text (line_data line)) says
 
-text_of-texts : (says : List CopyLine) → lines_text says ≡ text_of (texts says)
+pub text_of-texts : (says : List CopyLine) → lines_text says ≡ text_of (texts says)
 unfolding text_of
 text_of-texts [] = refl
 text_of-texts (line ∷ says) = append_assoc (compact_text (line_data line)) (10 ∷ []) (lines_text says) ∙ ap (λ t. compact_text (line_data line) ++ 10 ∷ t) (text_of-texts says)
@@ -140,7 +140,7 @@ are_lines-texts : (says : List CopyLine) → AllByRecursion IsWrittenLine says �
 are_lines-texts [] all = tt
 are_lines-texts (line ∷ says) all = (all.0.line, are_lines-texts says all.1)
 
-head_first : (d : Data) (lines : List (List ℕ)) (rest : List ℕ) → rest ≡ text_of lines → line_text d ++ rest ≡ text_of (compact_text d ∷ lines)
+pub head_first : (d : Data) (lines : List (List ℕ)) (rest : List ℕ) → rest ≡ text_of lines → line_text d ++ rest ≡ text_of (compact_text d ∷ lines)
 unfolding text_of
 head_first d lines rest is = append_assoc (compact_text d) (10 ∷ []) rest ∙ ap (λ t. compact_text d ++ 10 ∷ t) is
 

@@ -1,9 +1,11 @@
 pub mod BoundSteps
 pub mod Changed
+pub mod CopyCounted
 pub mod CopyExchanges
 pub mod CopyGrammar
 pub mod CopyLineCounts
 pub mod CopyLineTexts
+pub mod CopyMade
 pub mod CopyPieces
 pub mod CopyPrefixes
 pub mod CopyStarts
@@ -14,6 +16,7 @@ pub mod CopyValues
 pub mod CopyWritten
 pub mod Counting
 pub mod Counts
+pub mod Coverages
 pub mod CutFaults
 pub mod CutGaps
 pub mod CutOrders
@@ -28,7 +31,6 @@ pub mod Joined
 pub mod Keeping
 pub mod LayoutFacts
 pub mod LineFaults
-pub mod Coverages
 pub mod Recovery
 pub mod SameSpelling
 pub mod SpelledImages

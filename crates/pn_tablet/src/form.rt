@@ -62,7 +62,8 @@ pub(crate) fn form_of(cells: &Records) -> Form
     Form::Texts
 }
 
-fn holds_number(cell: &Cell) -> bool
+/// Whether a content of a cell holds a number.
+pub(crate) fn holds_number(cell: &Cell) -> bool
     ensures { result ≡ list_any content_holds_number (keys cell.now.1) }
 {
     cell.contents().iter().any(|content| content.holds_number())

@@ -4,11 +4,14 @@
 
 mod change;
 mod copy;
+mod copy_count;
 mod copy_draft;
 pub mod copy_laws;
 mod copy_line;
+mod copy_line_appending;
 mod copy_line_writing;
 mod copy_reading;
+mod copy_text;
 mod copy_writing;
 mod counted_cells;
 mod coverage;
@@ -24,7 +27,9 @@ mod state;
 
 pub use change::Change;
 pub use copy::TabletCopy;
+pub use copy_count::{CopyCount, CopyStep};
 pub use copy_reading::read_copy;
+pub use copy_text::CopyText;
 pub use copy_writing::write_copy;
 pub use counted_cells::RecordCounts;
 pub use cuts::{CutFault, layout_of_copies};

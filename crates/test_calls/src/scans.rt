@@ -1,4 +1,4 @@
-//! Cases of `pn_scan`: `query` is read and written again; `page`, `get` and `read` look into a view.
+//! Cases of `pn_scan`: `query` is read and written again; `page`, `walk`, `get` and `read` look into a view.
 //!
 //! The view is `lost`, whose second tablet recovers, or `changing`, which finds other records at each read. In a query `~3~ab~` is
 //! `ababab`.
@@ -7,7 +7,7 @@ mod looks;
 mod tablets;
 mod view;
 
-use looks::{get_reply, page_reply, read_reply};
+use looks::{get_reply, page_reply, read_reply, walk_reply};
 use pn_scan::{Query, QueryFault, ScanFault, query_value, read_query};
 use serde_json::Value;
 use std::alloc::Global;
@@ -45,6 +45,7 @@ fn look(alloc: Global, what: &str, line: &str) -> Result<String, Fail> {
     match what {
         "page" => page_reply(alloc, &mut view, text),
         "get" => get_reply(alloc, &mut view, text),
+        "walk" => walk_reply(alloc, &mut view, text),
         _ => read_reply(alloc, &mut view, text),
     }
 }

@@ -1,7 +1,8 @@
 //! Cases of `pn_live`: steps on a live region, also on one that starts from copies, workers that meet, readers beside a held round and beside
-//! a writer, and calls that run out of memory.
+//! a writer, looks that rounds come into, and calls that run out of memory.
 
 mod holding;
+mod looking;
 mod meeting;
 mod memory;
 mod race;
@@ -10,6 +11,7 @@ mod starting;
 mod steps;
 
 use holding::hold_round;
+use looking::{get_over_round, page_over_round};
 use meeting::{meet, meet_live};
 use memory::live_twice;
 use pn_join::NoMemory;
@@ -33,6 +35,8 @@ pub(crate) fn answer_live<R: Threads + Wait + Sync>(
         "steps" => take_steps(rt, alloc, rest),
         "start" => start(rt, alloc, rest),
         "held" => hold_round(rt, alloc),
+        "page" => page_over_round(rt, alloc),
+        "get" => get_over_round(rt, alloc),
         "meet" => meet(rt, alloc, rest),
         "meet-live" => meet_live(rt, alloc, rest),
         "memory" => live_twice(rt, alloc),

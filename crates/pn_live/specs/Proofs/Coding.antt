@@ -1,14 +1,19 @@
 -- How proofs store live tablets, and what readers know of them.
-use Rattle.std.specs.Prelude.{List, refl}
-use Rattle.std.specs.Coded.{Coded, code_by, coded×, coded_ℕ, coded_list}
+use Rattle.std.specs.Prelude.{ℕ, List, Option, refl}
+use Rattle.std.specs.Coded.{Coded, code_by, coded×, coded_ℕ, coded_list, coded_option}
+use Rattle.std.specs.FinMap as map
+use base.Stored.{coded_unit}
 use Rattle.logbook.specs.Pages.{Book, book_coded}
 use Rattle.pn_join.specs.Marks.{Positions}
+use Rattle.pn_record.specs.Coding.{shown_code}
+use Rattle.pn_record.specs.Sets.{CellValue}
 use Rattle.pn_tablet.specs.Layouts.{Bounds}
 use Rattle.pn_tablet.specs.Proofs.Coding.{ends_code, positions_code}
 use Rattle.pn_tablet.specs.Ranges.{Ends}
 use Rattle.pn_tablet.specs.declared.state.TabletOp.{TabletOp}
 use Rattle.pn_region.specs.Proofs.Coding.{entry_code}
 use Rattle.pn_region.specs.declared.notices.Entry.{Entry}
+use Rattle.pn_live.specs.Getting.{GetWalkValue}
 use Rattle.pn_live.specs.LiveRegions.{LiveRegionValue}
 use Rattle.pn_live.specs.PublishedTablets.{PublishedTabletValue, TabletNoteValue}
 use Rattle.pn_live.specs.Proofs.OpCoding.{list_code}
@@ -41,6 +46,18 @@ reader_code =
     code_by (Bounds × List TabletReaderValue) (coded× (coded_list (coded_list coded_ℕ)) (coded_list tablet_reader_code))
     (λ r. (r.layout, r.tablet_readers))
     (λ t. record { layout = t.0; tablet_readers = t.1 })
+    (λ _. refl)
+
+-- cells as pairs
+abbrev pub cell_code : Coded CellValue
+cell_code = coded× (coded× coded_ℕ coded_ℕ) (map.code shown_code coded_unit)
+
+-- gets as pairs
+abbrev pub get_walk_code : Coded GetWalkValue
+get_walk_code =
+    code_by (List (List ℕ) × (Option (List (Option CellValue)) × ℕ)) (coded× (coded_list (coded_list coded_ℕ)) (coded× (coded_option (coded_list (coded_option cell_code))) coded_ℕ))
+    (λ w. (w.keys, (w.cells, w.read)))
+    (λ t. record { keys = t.0; cells = t.1.0; read = t.1.1 })
     (λ _. refl)
 
 -- live regions as pairs

@@ -1,5 +1,6 @@
 -- The reply to a scan.
-use Rattle.std.specs.Prelude.{map, codes, Option, Some, None}
+use Rattle.std.specs.Prelude.{ℕ, List, ◌++◌, map, codes, Option, Some, None}
+use Rattle.serde_json.specs.Written.{compact_text}
 use Rattle.serde_json.specs.Data.{Data, null, array, object, no_members, member}
 use Rattle.serde_json.specs.View.{items_of}
 use Rattle.pn_scan.specs.Pages.{PageValue}
@@ -17,3 +18,7 @@ unfoldable pub scan_data : PageValue → Data
 scan_data page =
     object (member (codes "next") (next_data page.1)
     (member (codes "rows") (array (items_of (map row_data page.0))) no_members))
+
+-- what the reply is before its rows
+abbrev pub head_text : Option QueryValue → List ℕ
+head_text next = codes "{\"next\":" ++ compact_text (next_data next) ++ codes ",\"rows\":["

@@ -1,38 +1,40 @@
 //! Replies to lookups and copies. Out of memory, the reply is that refusal.
 
-ghost use Rattle.std.specs.Prelude.{◌≡◌, MatchResult, IfOk};
-ghost use Rattle.std.specs.List.{count_by};
-ghost use Rattle.pn_json.specs.Prelude.{line_of};
+ghost use Rattle.std.specs.Prelude.{◌≡◌, MatchResult};
 ghost use Rattle.pn_protocol.specs.declared.reply.Reply.TheVariants.{Text, Refused};
 ghost use Rattle.pn_protocol.specs.declared.refusal.Refusal.TheVariants.{Memory as no_memory};
-ghost use Rattle.pn_protocol.specs.Reply.Answers.{ShowsFound, ShowsCopy, ShowsCopyOf, is_newline};
+ghost use Rattle.pn_protocol.specs.Reply.Answers.{ShowsCopy, ShowsCopyOf, ShowsFound, ShowsPage};
 ghost use Rattle.pn_protocol.specs.Reply.Record.{get_data, read_data};
 ghost use Rattle.pn_protocol.specs.Reply.Scan.{scan_data};
 
-use crate::reply::record::{get_reply, read_reply};
-use crate::{CommandFault, Refusal, Reply, refuse, scan_reply};
+use crate::reply::scan::page_head;
+use crate::{CommandFault, PageReply, Refusal, Reply, refuse};
 use pn_join::NoMemory;
 use pn_record::{Cell, Key};
 use pn_scan::{Page, ScanFault};
-use pn_tablet::{CopyFault, TabletCopy, write_copy};
+use pn_tablet::{CopyCount, CopyFault, CopyStep, TabletCopy};
 use std::alloc::Global;
 
 /// Answers a read of a key with the cell found there, if any.
-pub fn answer_read(alloc: Global, key: &Key, found: Result<Option<Cell>, ScanFault>) -> Reply
-    ensures { ShowsFound (read_data key.now) found result }
+pub fn answer_read(alloc: Global, key: Key, found: Result<Option<Cell>, ScanFault>) -> Reply
+    ensures { ShowsFound (read_data key) found result }
 {
     match found {
-        Ok(cell) => answer_text(read_reply(alloc, key, cell.as_ref())),
+        Ok(cell) => Reply::Record { key, cell },
         Err(fault) => refuse(alloc, CommandFault::Lookup(fault)),
     }
 }
 
 /// Answers a get of keys with the cells found there, in the order of the keys.
-pub fn answer_get(alloc: Global, keys: &[Key], found: Result<Vec<Option<Cell>>, ScanFault>) -> Reply
-    ensures { ShowsFound (λ cells. get_data keys.now cells.items) found result }
+pub fn answer_get(
+    alloc: Global,
+    keys: Vec<Key>,
+    found: Result<Vec<Option<Cell>>, ScanFault>,
+) -> Reply
+    ensures { ShowsFound (λ cells. get_data keys.items cells.items) found result }
 {
     match found {
-        Ok(cells) => answer_text(get_reply(alloc, keys, &cells)),
+        Ok(cells) => Reply::Records { keys, cells },
         Err(fault) => refuse(alloc, CommandFault::Lookup(fault)),
     }
 }
@@ -42,51 +44,38 @@ pub fn answer_scan(alloc: Global, found: Result<Page, ScanFault>) -> Reply
     ensures { ShowsFound (λ page. scan_data (page.rows.items, page.next)) found result }
 {
     match found {
-        Ok(page) => answer_text(page_reply(alloc, page)),
+        Ok(page) => page_reply(alloc, page),
         Err(fault) => refuse(alloc, CommandFault::Lookup(fault)),
     }
 }
 
-// Writes a page, and frees it.
-fn page_reply(alloc: Global, page: Page) -> Result<Vec<u8>, NoMemory>
-    ensures { IfOk result (λ text. text.items ≡ line_of (scan_data (page.rows.items, page.next))) }
+fn page_reply(alloc: Global, page: Page) -> Reply
+    ensures { ShowsPage (page.rows.items, page.next) result }
 {
-    scan_reply(alloc, &page)
-}
-
-/// Answers a `copy` of the tablet of this number.
-pub fn answer_copy(alloc: Global, tablet: usize, copied: Result<TabletCopy, CopyFault>) -> Reply
-    ensures { ShowsCopyOf tablet copied result }
-{
-    match copied {
-        Ok(copy) => copy_reply(alloc, &copy),
-        Err(fault) => refuse(alloc, CommandFault::Copy { tablet, fault }),
-    }
-}
-
-fn copy_reply(alloc: Global, copy: &TabletCopy) -> Reply
-    ensures { ShowsCopy copy.now result }
-{
-    match write_copy(alloc, copy) {
-        Ok(text) => Reply::Copied {
-            lines: line_count(text.as_bytes()) as u64,
-            text,
-        },
+    let Page { rows, next } = page;
+    match page_head(alloc, next.as_ref()) {
+        Ok(head) => Reply::Page(PageReply { head, rows }),
         Err(_) => Reply::Refused(Refusal::Memory),
     }
 }
 
-// The number of lines in a text whose lines all end in a newline.
-fn line_count(text: &[u8]) -> usize
-    ensures { result ≡ count_by is_newline text.now }
+/// Answers a `copy` of the tablet of this number, of which all lines are counted at once.
+pub fn answer_copy(alloc: Global, tablet: usize, copied: Result<TabletCopy, CopyFault>) -> Reply
+    ensures { ShowsCopyOf tablet copied result }
 {
-    let mut count = 0;
-    for byte in text {
-        if *byte == b'\n' {
-            count += 1;
-        }
+    match copied {
+        Ok(copy) => copy_reply(copy),
+        Err(fault) => refuse(alloc, CommandFault::Copy { tablet, fault }),
     }
-    count
+}
+
+fn copy_reply(copy: TabletCopy) -> Reply
+    ensures { ShowsCopy copy result }
+{
+    match CopyCount::new(copy).go_on(usize::MAX) {
+        Ok(CopyStep::Done(text)) => Reply::Copy(text),
+        _ => Reply::Refused(Refusal::Memory),
+    }
 }
 
 /// Answers a command with this text.

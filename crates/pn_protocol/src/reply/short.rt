@@ -36,7 +36,8 @@ impl ShortReply {
         &self.bytes[..self.len]
     }
 
-    fn new() -> ShortReply
+    /// No byte.
+    pub(crate) fn new() -> ShortReply
         ensures { result ≡ [] }
     {
         ShortReply {
@@ -53,6 +54,16 @@ impl ShortReply {
         self.bytes[self.len..end].copy_from_slice(text.as_bytes());
         self.len = end;
     }
+}
+
+/// A text that fits.
+pub(crate) fn text_reply(text: &str) -> ShortReply
+    requires { length text.now ≤ CAPACITY }
+    ensures { result ≡ text.now }
+{
+    let mut reply = ShortReply::new();
+    reply.push(text);
+    reply
 }
 
 /// The reply to a line that was refused, as `{"error":"bad-shape","member":"key"}`.

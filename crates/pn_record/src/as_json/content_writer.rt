@@ -1,14 +1,13 @@
-//! Writes versions and contents into a line of JSON.
+//! Writes versions and bodies into a line of JSON.
 
 ghost use Rattle.std.specs.Prelude.{◌≡◌, map, OnOk};
-ghost use Rattle.serde_json.specs.Data.{array, object};
-ghost use Rattle.serde_json.specs.View.{items_of};
+ghost use Rattle.serde_json.specs.Data.{object};
 ghost use Rattle.pn_json.specs.Prelude.{Appends, value_tokens};
 ghost use Rattle.pn_record.specs.Showing.{shown_ref, shown_field, shown_body};
 ghost use Rattle.pn_record.specs.Tokens.{body_tokens, field_tokens};
-ghost use Rattle.pn_record.specs.Writing.{value_data, version_data, content_data, fields_data};
+ghost use Rattle.pn_record.specs.Writing.{value_data, version_data, fields_data};
 
-use crate::{Body, Content, Value, ValueRef, Version};
+use crate::{Body, Value, ValueRef, Version};
 use json::Writer;
 use pn_join::NoMemory;
 use pn_json::write_text_member;
@@ -21,30 +20,6 @@ pub fn write_version(writer: &mut Writer, version: Version) -> Result<(), NoMemo
     writer.u64(version.generation)?;
     writer.u64(version.number)?;
     writer.end_array()?;
-    Ok(())
-}
-
-/// Writes contents as an array.
-pub fn write_contents(writer: &mut Writer, contents: &[Content]) -> Result<(), NoMemory>
-    ensures { OnOk result (Appends writer.old writer.new
-        (value_tokens (array (items_of (map content_data contents.now))))) }
-{
-    writer.begin_array()?;
-    for content in contents {
-        write_content(writer, content)?;
-    }
-    writer.end_array()?;
-    Ok(())
-}
-
-// Writes a content: `{"fields":{..},"master":N}` or `{"deleted":true,"master":N}`.
-fn write_content(writer: &mut Writer, content: &Content) -> Result<(), NoMemory>
-    ensures { OnOk result (Appends writer.old writer.new (value_tokens (content_data content.now))) }
-{
-    writer.begin_object()?;
-    write_body(writer, &content.body)?;
-    write_text_member(writer, "master", content.master.as_str())?;
-    writer.end_object()?;
     Ok(())
 }
 

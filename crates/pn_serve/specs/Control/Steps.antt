@@ -22,6 +22,7 @@ use Rattle.pn_protocol.specs.declared.reply.stats.TabletStats.{TabletStats}
 use Rattle.pn_serve.specs.Control.Answers.{IsGiven, question_of}
 use Rattle.pn_serve.specs.Control.Commands.{Said, said_by}
 use Rattle.pn_serve.specs.Control.TabletCounts.{CountsTablets}
+use Rattle.pn_scan.specs.Paging.{Stays}
 use Rattle.pn_serve.specs.Session.Lines.{LooksUp}
 use Rattle.pn_serve.specs.declared.control.commands.WriterCommand.{WriterCommand}
 use Rattle.pn_serve.specs.declared.control.commands.WriterCommand.TheVariants as commands
@@ -65,7 +66,7 @@ ObeysScript old (command.adopt lines) new step = (new ≡ old) × (step ≡ Anno
 ObeysScript old (command.lose tablet) new step = (new ≡ old) × Asks (commands.Lose tablet) step
 ObeysScript old command.marks new step = (new ≡ old) × Asks commands.Marks step
 ObeysScript old command.tablets new step = (new ≡ old) × Asks commands.Tablets step
-ObeysScript old asked new step = RepliesWith (λ shown. LooksUp old asked new shown) step
+ObeysScript old asked new step = RepliesWith (λ shown. LooksUp Stays old asked new shown) step
 
 -- the reply shows what some server with these counts of its tablets has done so far, or that memory ran out
 abbrev pub ShowsStats : Vec TabletStats Global → Reply → Type 0

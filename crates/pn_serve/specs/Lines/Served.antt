@@ -1,10 +1,9 @@
 -- What a line loop has done between two lines.
-use Rattle.std.specs.Prelude.{◌≡◌, ◌<◌, ℕ, List, [], ◌∷◌, length, All, Option, IfSome}
-use Rattle.pn_line.specs.LinesRead.{LinesRead}
+use Rattle.std.specs.Prelude.{◌≡◌, ◌<◌, ℕ, List, [], ◌∷◌, length, Option}
 use Rattle.pn_line.specs.Sent.{Sends}
 use Rattle.pn_line.specs.declared.line_buffer.TheConstants.{ENDLESS}
 use Rattle.pn_protocol.specs.declared.reply.Reply.{Reply}
-use Rattle.pn_serve.specs.Lines.States.{LineLoopValue, Start}
+use Rattle.pn_serve.specs.Lines.States.{Start, Waiting}
 use Rattle.pn_serve.specs.Lines.Replies.{texts_of, refusals_of}
 
 -- a line with fewer than a billion bytes
@@ -20,20 +19,9 @@ module _ {V : Type 0} (makes : V → List ℕ → V → Reply → Type 0) where
   AllAnswer was _ _ now = ⊥
 
   -- these lines were answered and counted, and their replies wait or were written
-  pub record AllAnswered (start : Start V) (lines : List (List ℕ)) (written : Option (List ℕ)) (machine : V) (run : LineLoopValue) : Type 0 where
+  pub record AllAnswered (start : Start V) (lines : List (List ℕ)) (written : Option (List ℕ)) (machine : V) (run : Waiting) : Type 0 where
     pub replies : List Reply
     pub made : AllAnswer start.machine lines replies machine
     pub sends : Sends start.written written [] run.waits (texts_of replies)
     pub lines_are : run.counts.lines ≡ length lines
     pub refused_are : run.counts.refused ≡ refusals_of replies
-
-  -- these lines of the script were read and answered
-  pub record Between (start : Start V) (script : List ℕ) (left written : Option (List ℕ)) (machine : V) (run : LineLoopValue) : Type 0 where
-    pub lines : List (List ℕ)
-    pub read : LinesRead script left lines
-    pub short : All IsShort lines
-    pub answered : AllAnswered start lines written machine run
-
-  -- if the bytes of the script are known, some of its lines were read and answered
-  abbrev pub Served : Start V → Option (List ℕ) → Option (List ℕ) → V → LineLoopValue → Type 0
-  Served start left written machine run = IfSome start.left (λ script. Between start script left written machine run)

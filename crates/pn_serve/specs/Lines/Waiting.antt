@@ -1,14 +1,9 @@
 -- What waits while a line is read, and how often its source is looked at.
-use Rattle.std.specs.Prelude.{◌≡◌, ◌⊎◌, ◌+◌, ◌*◌, ℕ, [], IsFalse, Result, Ok, Err}
+use Rattle.std.specs.Prelude.{◌+◌, ◌*◌, ℕ, Result, Ok, Err}
 use Rattle.pn_line.specs.declared.line_buffer.TheConstants.{ENDLESS}
 use Rattle.pn_serve.specs.declared.script.TheConstants.{MAX_LINES}
 use Rattle.pn_serve.specs.declared.script.RunFault.{RunFault}
 use Rattle.pn_serve.specs.declared.script.RunFault.TheVariants.{Read, Write, TooManyTurns, Memory}
-use Rattle.pn_serve.specs.Lines.States.{LineLoopValue}
-
--- unless a further line was seen, no reply waits, and those that were written were handed on
-abbrev pub IsAllOut : LineLoopValue → Type 0 → Type 0
-IsAllOut run handed_on = IsFalse run.more → (run.waits ≡ []) × ((run.counts.lines ≡ 0) ⊎ handed_on)
 
 -- all that was written was handed on, unless the writer failed or nothing was read
 abbrev pub HandsOn : {T : Type 0} → Result T RunFault → Type 0 → Type 0

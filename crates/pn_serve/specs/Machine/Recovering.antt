@@ -15,7 +15,7 @@ use Rattle.pn_json.specs.Lines.{line_of}
 use Rattle.pn_protocol.specs.declared.refusal.Part.TheVariants.{Tablet}
 use Rattle.pn_protocol.specs.declared.refusal.Refusal.TheVariants.{OutOfRange, Memory}
 use Rattle.pn_serve.specs.Machine.Outcomes.{Machine, Turn, machine_over, refusal_turn, reply_turn}
-use Rattle.pn_protocol.specs.Reply.Answers.{copy_reply}
+use Rattle.pn_protocol.specs.Reply.Texts.{copy_reply}
 use Rattle.pn_protocol.specs.Reply.Faults.{copy_fault_data, copy_text_fault_data, adopt_fault_data}
 use Rattle.pn_protocol.specs.Reply.Short.{lost_data, adopted_data}
 

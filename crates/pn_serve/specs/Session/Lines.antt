@@ -7,6 +7,7 @@ use Rattle.pn_protocol.specs.declared.reply.Reply.{Reply}
 use Rattle.pn_protocol.specs.declared.reply.Reply.TheVariants.{Refused, Silent}
 use Rattle.pn_protocol.specs.Command.Lines.{is_too_long, lookup_at}
 use Rattle.pn_protocol.specs.Command.Meaning.{CommandValue, copy, get, read, scan}
+use Rattle.pn_scan.specs.Paging.{Moving}
 use Rattle.pn_serve.specs.Lines.States.{Start}
 use Rattle.pn_serve.specs.Session.Lookups.{LooksUpKey, LooksUpKeys, LooksUpPage, LooksUpCopy}
 
@@ -15,26 +16,26 @@ abbrev pub RefusesLine : LiveReaderValue → Refusal → LiveReaderValue → Rep
 RefusesLine old refusal new reply = (new ≡ old) × (reply ≡ Refused refusal)
 
 -- a command was answered: a lookup, or a command that a session refuses
-abbrev pub LooksUp : LiveReaderValue → CommandValue → LiveReaderValue → Reply → Type 0
-LooksUp old (copy need tablet) new reply = LooksUpCopy old need tablet new reply
-LooksUp old (get keys) new reply = LooksUpKeys old keys new reply
-LooksUp old (read key wanted) new reply = LooksUpKey old key wanted new reply
-LooksUp old (scan query) new reply = LooksUpPage old query new reply
-LooksUp old command new reply = RefusesLine old ReadOnly new reply
+abbrev pub LooksUp : Moving LiveReaderValue → LiveReaderValue → CommandValue → LiveReaderValue → Reply → Type 0
+LooksUp moves old (copy need tablet) new reply = LooksUpCopy moves old need tablet new reply
+LooksUp moves old (get keys) new reply = LooksUpKeys moves old keys new reply
+LooksUp moves old (read key wanted) new reply = LooksUpKey old key wanted new reply
+LooksUp moves old (scan query) new reply = LooksUpPage moves old query new reply
+LooksUp moves old command new reply = RefusesLine old ReadOnly new reply
 
 -- a line that reads as this was answered
-abbrev pub Tells : LiveReaderValue → Result CommandValue Refusal → LiveReaderValue → Reply → Type 0
-Tells old (Ok command) new reply = LooksUp old command new reply
-Tells old (Err refusal) new reply = RefusesLine old refusal new reply
+abbrev pub Tells : Moving LiveReaderValue → LiveReaderValue → Result CommandValue Refusal → LiveReaderValue → Reply → Type 0
+Tells moves old (Ok command) new reply = LooksUp moves old command new reply
+Tells moves old (Err refusal) new reply = RefusesLine old refusal new reply
 
 -- a line was answered as it reads; or memory ran out before it was read, unless it is too long
-abbrev pub AnswersLine : LiveReaderValue → List ℕ → LiveReaderValue → Reply → Type 0
-AnswersLine old line new reply = Tells old (lookup_at line) new reply ⊎ ((is_too_long line ≡ false) × RefusesLine old Memory new reply)
+abbrev pub AnswersLine : Moving LiveReaderValue → LiveReaderValue → List ℕ → LiveReaderValue → Reply → Type 0
+AnswersLine moves old line new reply = Tells moves old (lookup_at line) new reply ⊎ ((is_too_long line ≡ false) × RefusesLine old Memory new reply)
 
 -- the input ended after this part of a line; if it is not empty, it was answered as a line
-abbrev pub EndsLines : LiveReaderValue → List ℕ → LiveReaderValue → Reply → Type 0
-EndsLines old [] new reply = (new ≡ old) × (reply ≡ Silent)
-EndsLines old (b ∷ part) new reply = AnswersLine old (b ∷ part) new reply
+abbrev pub EndsLines : Moving LiveReaderValue → LiveReaderValue → List ℕ → LiveReaderValue → Reply → Type 0
+EndsLines moves old [] new reply = (new ≡ old) × (reply ≡ Silent)
+EndsLines moves old (b ∷ part) new reply = AnswersLine moves old (b ∷ part) new reply
 
 -- what a session begins with
 abbrev pub session_start : LiveReaderValue → Option (List ℕ) → Option (List ℕ) → Start LiveReaderValue

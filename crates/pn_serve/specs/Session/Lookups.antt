@@ -7,6 +7,7 @@ use Rattle.pn_tablet.specs.Layouts.{tablet_of}
 use Rattle.pn_tablet.specs.Tablets.{TabletStateValue}
 use Rattle.pn_tablet.specs.declared.fault.CopyFault.{CopyFault}
 use Rattle.pn_scan.specs.Candidates.{Look}
+use Rattle.pn_scan.specs.Paging.{LooksAfter, Moving}
 use Rattle.pn_scan.specs.Pages.{PageValue, first_page}
 use Rattle.pn_scan.specs.Queries.{QueryValue}
 use Rattle.pn_scan.specs.Reads.{IsRead, IsGet}
@@ -29,28 +30,34 @@ pub record LooksUpKey (old : LiveReaderValue) (key : List ℕ) (wanted : Option 
   pub read : IsRead LooksLive old.layout key wanted old new answer (tablet_of old.layout key, found)
   pub shows : ShowsFound (read_data key) answer reply
 
--- the records of keys were looked up, key by key
-pub record LooksUpKeys (old : LiveReaderValue) (keys : List (List ℕ)) (new : LiveReaderValue) (reply : Reply) : Type 0 where
+-- the records of keys were looked up, key by key; in between the reader may move
+pub record LooksUpKeys (moves : Moving LiveReaderValue) (old : LiveReaderValue) (keys : List (List ℕ)) (new : LiveReaderValue) (reply : Reply) : Type 0 where
   pub seen : List Look
   pub answer : Result (List (Option CellValue)) ScanFault
-  pub got : IsGet LooksLive old.layout keys old new (λ cells. cells) answer seen
+  pub reached : LiveReaderValue
+  pub got : IsGet (LooksAfter moves LooksLive) old.layout keys old reached (λ cells. cells) answer seen
+  pub moved : moves reached new
   pub shows : ShowsFound (get_data keys) answer reply
 
--- the page of a query was looked up, tablet by tablet
-pub record LooksUpPage (old : LiveReaderValue) (query : QueryValue) (new : LiveReaderValue) (reply : Reply) : Type 0 where
+-- the page of a query was looked up, tablet by tablet; in between the reader may move
+pub record LooksUpPage (moves : Moving LiveReaderValue) (old : LiveReaderValue) (query : QueryValue) (new : LiveReaderValue) (reply : Reply) : Type 0 where
   pub seen : List Look
   pub answer : Result PageValue ScanFault
-  pub scanned : IsScan LooksLive old.layout query old new (λ page. page) answer (first_page query) seen
+  pub reached : LiveReaderValue
+  pub scanned : IsScan (LooksAfter moves LooksLive) old.layout query old reached (λ page. page) answer (first_page query) seen
+  pub moved : moves reached new
   pub shows : ShowsFound scan_data answer reply
 
--- a tablet was copied, by one look
-pub record CopiesTablet (old : LiveReaderValue) (need : Positions) (tablet : ℕ) (new : LiveReaderValue) (reply : Reply) : Type 0 where
+-- a tablet was copied, by one look; after it the reader may move
+pub record CopiesTablet (moves : Moving LiveReaderValue) (old : LiveReaderValue) (need : Positions) (tablet : ℕ) (new : LiveReaderValue) (reply : Reply) : Type 0 where
   pub within : tablet ≤ length old.layout
   pub found : Option TabletStateValue
   pub answer : Result TabletCopyValue CopyFault
-  pub copied : IsCopied old need new answer (tablet, found)
+  pub reached : LiveReaderValue
+  pub copied : IsCopied old need reached answer (tablet, found)
+  pub moved : moves reached new
   pub shows : ShowsCopyOf tablet answer reply
 
 -- a tablet was copied, or there is none of this number
-abbrev pub LooksUpCopy : LiveReaderValue → Positions → ℕ → LiveReaderValue → Reply → Type 0
-LooksUpCopy old need tablet new reply = CopiesTablet old need tablet new reply ⊎ ((length old.layout < tablet) × (new ≡ old) × (reply ≡ Refused (OutOfRange Tablet)))
+abbrev pub LooksUpCopy : Moving LiveReaderValue → LiveReaderValue → Positions → ℕ → LiveReaderValue → Reply → Type 0
+LooksUpCopy moves old need tablet new reply = CopiesTablet moves old need tablet new reply ⊎ ((length old.layout < tablet) × (new ≡ old) × (reply ≡ Refused (OutOfRange Tablet)))

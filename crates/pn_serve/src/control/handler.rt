@@ -6,7 +6,8 @@ ghost use Rattle.pn_serve.specs.Control.Lines.{after_step, at_rest, is_closed, r
 use crate::control::session::{ControlSession, StatsSource};
 use crate::control::steps::Step;
 use crate::machine::adoption::{Announced, Gathered};
-use crate::machine::line_handler::LineHandler;
+use crate::machine::line_handler::{Answer, LineHandler};
+use crate::sessions::going::Going;
 use pn_line::LineBuffer;
 use pn_live::LiveReader;
 use pn_protocol::Reply;
@@ -109,56 +110,73 @@ impl<'a, R, C: Drop> ControlHandler<'a, R, C> {
 }
 
 impl<'a, R: Wait + Clock, C: StatsSource + Drop> LineHandler for ControlHandler<'a, R, C> {
+    ghost use Rattle.pn_scan.specs.Prelude.{Stays};
     ghost use Rattle.pn_serve.specs.Control.Lines.{AnswersControl, EndsControl};
+    ghost use Rattle.pn_serve.specs.Session.Knowing.{IsSteady};
     ghost use Rattle.std.specs.Prelude.{⊤};
 
     ghost ready = { ⊤ };
+
+    ghost moves = { Stays };
 
     ghost makes = { AnswersControl };
 
     ghost ends = { EndsControl };
 
+    ghost goes = { λ _ _ _ _. ⊥ };
+
+    ghost goes_last = { λ _ _ _ _. ⊥ };
+
     ghost reader = { λ session. session.reader };
 
-    fn answer(&mut self, alloc: Global, line: &LineBuffer) -> Reply {
+    fn answer(&mut self, alloc: Global, line: &LineBuffer) -> Answer {
         if self.is_closed() {
-            return Reply::Silent;
+            return Answer::Done(Reply::Silent);
         }
         match self.announced.take() {
             None => {
                 let reader = &mut self.reader;
                 let step = self.session.step(self.rt, alloc, reader, line.bytes());
-                self.note(alloc, step)
+                Answer::Done(self.note(alloc, step))
             }
             Some(announced) => match announced.gather(line.bytes()) {
                 Gathered::More(announced) => {
                     self.announced = Some(announced);
-                    Reply::Silent
+                    Answer::Done(Reply::Silent)
                 }
                 Gathered::Text(text) => {
                     let step = self.session.adopt(self.rt, alloc, text);
-                    self.note(alloc, step)
+                    Answer::Done(self.note(alloc, step))
                 }
             },
         }
     }
 
-    fn answer_end(&mut self, alloc: Global, part: &LineBuffer) -> Reply {
+    fn answer_end(&mut self, alloc: Global, part: &LineBuffer) -> Answer {
         if self.is_closed() {
-            return Reply::Silent;
+            return Answer::Done(Reply::Silent);
         }
         match self.announced.take() {
             Some(announced) => {
                 let text = announced.end(part.bytes());
                 let step = self.session.adopt(self.rt, alloc, text);
-                self.note(alloc, step)
+                Answer::Done(self.note(alloc, step))
             }
-            None if part.is_empty() => Reply::Silent,
+            None if part.is_empty() => Answer::Done(Reply::Silent),
             None => {
                 let reader = &mut self.reader;
                 let step = self.session.last_step(self.rt, alloc, reader, part.bytes());
-                self.note(alloc, step)
+                Answer::Done(self.note(alloc, step))
             }
         }
     }
+
+    // No line is gone on with.
+    fn go_on(&mut self, _alloc: Global, _going: Going, _records: usize) -> (Answer, usize) {
+        (Answer::Done(Reply::Silent), 0)
+    }
+
+    fn recall_moves(&self) {}
+
+    fn recall_refused(&self, _going: &Going) {}
 }

@@ -1,17 +1,15 @@
 //! A control session: its lines are answered by its own reader, or by the writer between two rounds.
 
-ghost use Rattle.std.specs.Prelude.{◌≡◌, ◌≢◌, ◌+◌, ◌≤◌, [], IfOk, IfErr, IsErrOf};
+ghost use Rattle.std.specs.Prelude.{◌≡◌, ◌≢◌, ◌+◌, ◌≤◌, IfOk, IfErr, IsErrOf};
 ghost use Rattle.pn_serve.specs.Control.Ends.{AnswersClient, ControlEnds, control_start};
-ghost use Rattle.pn_serve.specs.Control.Lines.{AnswersControl, ControlState};
-ghost use Rattle.pn_serve.specs.Lines.Served.{Served};
-ghost use Rattle.pn_serve.specs.Lines.States.{Start};
+ghost use Rattle.pn_serve.specs.Lines.States.{new_loop, start_at};
 ghost use Rattle.pn_serve.specs.Lines.Waiting.{HandsOn, looks_of_input};
 ghost use Rattle.pn_serve.specs.Session.Knowing.{KnowsNoLess};
 
 use crate::control::handler::ControlHandler;
 use crate::control::mailboxes::ControlMailboxes;
 use crate::script::MAX_LINES;
-use crate::script::line_loop::{LineLoop, Next};
+use crate::script::line_loop::LineLoop;
 use crate::{Counts, RunFault};
 use pn_join::NoMemory;
 use pn_line::{Sink, Source};
@@ -98,10 +96,8 @@ fn answer_lines<R: Wait + Clock, C: StatsSource + Drop, S: Source, W: Sink>(
     input: &mut S,
     output: &mut W,
 ) -> Result<Counts, RunFault>
-    requires none { lines.old.counts.lines ≡ 0 }
-    requires waits { lines.old.waits ≡ [] }
-    ensures ends { (start : Start ControlState) → Served AnswersControl start (S.left input.old) (W.contents output.old) handler.old lines.old
-        → ControlEnds start (S.left input.new) (W.contents output.new) handler.new result }
+    requires new { lines.old ≡ new_loop }
+    ensures ends { ControlEnds (start_at handler.old (S.left input.old) (W.contents output.old)) (S.left input.new) (W.contents output.new) handler.new result }
     ensures read { IsErrOf result RunFault.Read → S.may_fail }
     ensures write { IsErrOf result RunFault.Write → W.may_fail }
     ensures knows { KnowsNoLess handler.old.reader handler.new.reader }
@@ -110,15 +106,13 @@ fn answer_lines<R: Wait + Clock, C: StatsSource + Drop, S: Source, W: Sink>(
     ensures looks { S.looks input.new ≤ S.looks input.old + looks_of_input }
     ensures begun { IfErr result (λ fault. fault ≢ RunFault.Memory) }
 {
-    'turns: for _turn in 0..MAX_LINES {
-        match lines.turn(handler, input, output)? {
-            Next::Line => {}
-            Next::End(counts) => return Ok(counts),
+    'reads: loop {
+        match lines.advance(handler, input, output) {
+            None => {}
+            Some(ended) => return ended,
         }
-        if handler.is_closed() {
-            lines.flush(output)?;
-            return Ok(lines.counts());
+        if handler.is_closed() && lines.is_between_lines() {
+            return lines.close(output);
         }
     }
-    lines.finish(handler, input, output)
 }

@@ -11,7 +11,7 @@ ghost use Rattle.pn_serve.specs.Machine.Recovering.{adoption_turn, text_adoption
 ghost use Rattle.pn_serve.specs.Machine.Answers.{AnswersBy, ConcludesBy};
 ghost use Rattle.pn_serve.specs.Machine.Ways.{ComesTo, Gathers, IsJoined};
 
-use crate::machine::Answer;
+use crate::machine::ScriptAnswer;
 use pn_join::NoMemory;
 use pn_line::MAX_KEPT_BYTES;
 use pn_protocol::{CommandFault, Refusal, Reply, refuse};
@@ -77,7 +77,7 @@ pub(crate) fn take_line(
     region: &mut Region,
     announced: Announced,
     line: &[u8],
-) -> Answer
+) -> ScriptAnswer
     ensures { AnswersBy ⊥ (with_mode (Some announced) region.old) line.now (with_mode result.1 region.new) result.0 }
 {
     match announced.gather(line) {

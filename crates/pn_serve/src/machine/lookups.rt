@@ -15,16 +15,18 @@ use pn_region::{Region, Since};
 use pn_scan::Query;
 use std::alloc::Global;
 
-pub(crate) fn get(alloc: Global, region: &Region, keys: &[Key]) -> Reply
-    ensures { Obeys (machine_over region.now) (get_asked keys.now) (machine_over region.now) result }
+pub(crate) fn get(alloc: Global, region: &Region, keys: Vec<Key>) -> Reply
+    ensures { Obeys (machine_over region.now) (get_asked keys.items) (machine_over region.now) result }
 {
-    answer_get(alloc, keys, region.get(keys))
+    let found = region.get(&keys);
+    answer_get(alloc, keys, found)
 }
 
-pub(crate) fn read(alloc: Global, region: &Region, key: &Key, version: Option<Version>) -> Reply
-    ensures { Obeys (machine_over region.now) (read_asked key.now version) (machine_over region.now) result }
+pub(crate) fn read(alloc: Global, region: &Region, key: Key, version: Option<Version>) -> Reply
+    ensures { Obeys (machine_over region.now) (read_asked key version) (machine_over region.now) result }
 {
-    answer_read(alloc, key, region.read(key, version))
+    let found = region.read(&key, version);
+    answer_read(alloc, key, found)
 }
 
 pub(crate) fn scan(alloc: Global, region: &Region, query: &Query) -> Reply

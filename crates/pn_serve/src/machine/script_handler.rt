@@ -7,8 +7,9 @@ ghost use Rattle.pn_serve.specs.Machine.Outcomes.{new_machine};
 use crate::Settings;
 use crate::machine::adoption::Announced;
 use crate::machine::command_reader::Json;
-use crate::machine::line_handler::LineHandler;
+use crate::machine::line_handler::{Answer, LineHandler};
 use crate::machine::{answer_end, answer_line};
+use crate::sessions::going::Going;
 use pn_join::NoMemory;
 use pn_line::LineBuffer;
 use pn_protocol::Reply;
@@ -64,6 +65,7 @@ impl<'a, R: Threads + Sync> ScriptHandler<'a, R> {
 }
 
 impl<'a, R: Threads + Sync> LineHandler for ScriptHandler<'a, R> {
+    ghost use Rattle.pn_scan.specs.Prelude.{Stays};
     ghost use Rattle.pn_serve.specs.Machine.Answers.{Answers, Concludes};
     ghost use Rattle.pn_serve.specs.Session.Knowing.{no_reader};
     ghost use Rattle.std.specs.Thread.{IsSync};
@@ -71,13 +73,19 @@ impl<'a, R: Threads + Sync> LineHandler for ScriptHandler<'a, R> {
     // Threads can share the runtime.
     ghost ready = { IsSync R.row };
 
+    ghost moves = { Stays };
+
     ghost makes = { Answers };
 
     ghost ends = { Concludes };
 
+    ghost goes = { λ _ _ _ _. ⊥ };
+
+    ghost goes_last = { λ _ _ _ _. ⊥ };
+
     ghost reader = { λ _. no_reader };
 
-    fn answer(&mut self, alloc: Global, line: &LineBuffer) -> Reply {
+    fn answer(&mut self, alloc: Global, line: &LineBuffer) -> Answer {
         let waiting = self.announced.take();
         let bytes = line.bytes();
         let region = &mut self.region;
@@ -90,13 +98,23 @@ impl<'a, R: Threads + Sync> LineHandler for ScriptHandler<'a, R> {
             bytes,
         );
         self.announced = announced;
-        reply
+        Answer::Done(reply)
     }
 
-    fn answer_end(&mut self, alloc: Global, part: &LineBuffer) -> Reply {
+    fn answer_end(&mut self, alloc: Global, part: &LineBuffer) -> Answer {
         let announced = self.announced.take();
         let bytes = part.bytes();
         let region = &mut self.region;
-        answer_end::<R, Json>(self.rt, alloc, region, self.workers, announced, bytes)
+        let reply = answer_end::<R, Json>(self.rt, alloc, region, self.workers, announced, bytes);
+        Answer::Done(reply)
     }
+
+    // No line is gone on with.
+    fn go_on(&mut self, _alloc: Global, _going: Going, _records: usize) -> (Answer, usize) {
+        (Answer::Done(Reply::Silent), 0)
+    }
+
+    fn recall_moves(&self) {}
+
+    fn recall_refused(&self, _going: &Going) {}
 }

@@ -1,15 +1,18 @@
 //! A session's reader that counts the lines which it answers.
 
 ghost use Rattle.std.specs.Prelude.{◌≡◌};
-ghost use Rattle.pn_protocol.specs.Prelude.{is_refusal as refuses};
+ghost use Rattle.pn_serve.specs.Lines.Going.{AnswersWith};
+ghost use Rattle.pn_serve.specs.Session.Knowing.{KnowsNoLess};
 ghost use Rattle.pn_serve.specs.Session.Lines.{AnswersLine};
+ghost use Rattle.pn_serve.specs.Session.Looking.{LooksFor};
 
-use crate::machine::line_handler::LineHandler;
+use crate::machine::line_handler::{Answer, LineHandler, is_refusal};
+use crate::sessions::going::Going;
 use crate::sessions::kinds::{NO_LINES, count_line};
 use crate::sessions::lookups::answer_with_kind;
 use pn_line::LineBuffer;
 use pn_live::LiveReader;
-use pn_protocol::{LineKinds, Reply};
+use pn_protocol::{LineKind, LineKinds, Reply};
 use std::alloc::Global;
 use std::marker::Model;
 use std::mem;
@@ -55,48 +58,71 @@ impl CountingReader {
         reader
     }
 
-    // Answers a line, and counts it.
-    fn answer_line(&mut self, alloc: Global, line: &[u8]) -> Reply
-        ensures { AnswersLine self.old line.now self.new result }
+    // Answers a line, or begins to look for the reply.
+    fn answer_line(&mut self, alloc: Global, line: &[u8]) -> Answer
+        ensures { AnswersWith (AnswersLine KnowsNoLess) (LooksFor KnowsNoLess) self.old line.now self.new result }
     {
-        let (kind, reply) = answer_with_kind(alloc, &mut self.reader, line);
-        count_line(&mut self.kinds, kind, is_refusal(&reply));
-        reply
+        let (kind, answer) = answer_with_kind(alloc, &mut self.reader, line);
+        self.count(kind, answer)
     }
-}
 
-fn is_refusal(reply: &Reply) -> bool
-    ensures { result ≡ refuses reply.now }
-{
-    match reply {
-        Reply::Refused(_) => true,
-        Reply::NotTaken(_) => true,
-        _ => false,
+    // Counts a line of a kind, once it has its reply.
+    fn count(&mut self, kind: LineKind, answer: Answer) -> Answer
+        ensures same { result ≡ answer }
+        ensures kept { self.new ≡ self.old }
+    {
+        if let Answer::Done(reply) = &answer {
+            count_line(&mut self.kinds, kind, is_refusal(reply));
+        }
+        answer
     }
 }
 
 impl LineHandler for CountingReader {
-    ghost use Rattle.pn_serve.specs.Session.Knowing.{KnowsNoLess};
+    ghost use Rattle.pn_serve.specs.Session.Knowing.{IsSteady, KnowsNoLess};
     ghost use Rattle.pn_serve.specs.Session.Lines.{AnswersLine, EndsLines};
+    ghost use Rattle.pn_serve.specs.Session.Looking.{LooksFor, LooksForLast};
     ghost use Rattle.std.specs.Prelude.{⊤};
 
     ghost ready = { ⊤ };
 
-    ghost makes = { AnswersLine };
+    // Several connections share it: between two looks of one the others look.
+    ghost moves = { KnowsNoLess };
 
-    ghost ends = { EndsLines };
+    ghost makes = { AnswersLine KnowsNoLess };
+
+    ghost ends = { EndsLines KnowsNoLess };
+
+    ghost goes = { LooksFor KnowsNoLess };
+
+    ghost goes_last = { LooksForLast KnowsNoLess };
 
     ghost reader = { λ reader. reader };
 
-    fn answer(&mut self, alloc: Global, line: &LineBuffer) -> Reply {
+    fn answer(&mut self, alloc: Global, line: &LineBuffer) -> Answer {
         self.answer_line(alloc, line.bytes())
     }
 
-    fn answer_end(&mut self, alloc: Global, part: &LineBuffer) -> Reply {
+    fn answer_end(&mut self, alloc: Global, part: &LineBuffer) -> Answer {
         if part.is_empty() {
-            return Reply::Silent;
+            return Answer::Done(Reply::Silent);
         }
         self.answer_line(alloc, part.bytes())
+    }
+
+    fn go_on(&mut self, alloc: Global, going: Going, records: usize) -> (Answer, usize) {
+        let kind = going.kind();
+        let (answer, looked) = going.go_on(alloc, &mut self.reader, records);
+        (self.count(kind, answer), looked)
+    }
+
+    #[tactic(auto, using(crate::proofs::Knowing::knows_itself, crate::proofs::Knowing::knows_on))]
+    fn recall_moves(&self) {}
+
+    fn recall_refused(&self, _going: &Going) {}
+
+    fn shorten(&self, reply: Reply) -> Reply {
+        reply.or_memory()
     }
 
     fn take_kinds(&mut self) -> LineKinds {

@@ -2,12 +2,18 @@
 
 ghost use Rattle.std.specs.Prelude.{◌≡◌, ◌⊎◌};
 ghost use Rattle.pn_live.specs.Prelude.{tablets_of};
-ghost use Rattle.pn_protocol.specs.Prelude.{command_value, kind_at};
+ghost use Rattle.pn_protocol.specs.Prelude.{command_value, copy as copy_asked, kind_at};
 ghost use Rattle.pn_protocol.specs.declared.refusal.Refusal.TheVariants.{Memory as no_memory};
 ghost use Rattle.pn_protocol.specs.declared.reply.Reply.TheVariants.{Refused};
+ghost use Rattle.pn_scan.specs.Prelude.{Stays};
+ghost use Rattle.pn_serve.specs.Lines.Going.{AnswersWith};
+ghost use Rattle.pn_serve.specs.declared.machine.line_handler.Answer.TheVariants.{Done};
 ghost use Rattle.pn_serve.specs.Session.Lines.{AnswersLine, LooksUp};
+ghost use Rattle.pn_serve.specs.Session.Looking.{LooksFor, LooksTo};
 ghost use Rattle.pn_serve.specs.Session.Lookups.{LooksUpKey, LooksUpKeys, LooksUpPage, LooksUpCopy};
 
+use crate::machine::line_handler::Answer;
+use crate::sessions::going::Going;
 use pn_join::Marks;
 use pn_live::LiveReader;
 use pn_protocol::{
@@ -18,14 +24,14 @@ use pn_record::{Key, Version};
 use pn_scan::{Query, View};
 use std::alloc::Global;
 
-/// Answers a line by what the reader finds.
-pub(super) fn answer_line(alloc: Global, reader: &mut LiveReader, line: &[u8]) -> Reply
-    ensures answers { AnswersLine reader.old line.now reader.new result }
+/// Answers a line by what the reader finds, or begins to look for it.
+pub(super) fn answer_line(alloc: Global, reader: &mut LiveReader, line: &[u8]) -> Answer
+    ensures answers { AnswersWith (AnswersLine Stays) (LooksFor Stays) reader.old line.now reader.new result }
     ensures same { tablets_of reader.new ≡ tablets_of reader.old }
 {
     match lookup_of(alloc, line) {
-        Ok(command) => look_up(alloc, reader, command),
-        Err(refusal) => Reply::Refused(refusal),
+        Ok(command) => begin(alloc, reader, command),
+        Err(refusal) => Answer::Done(Reply::Refused(refusal)),
     }
 }
 
@@ -34,54 +40,84 @@ pub(super) fn answer_with_kind(
     alloc: Global,
     reader: &mut LiveReader,
     line: &[u8],
-) -> (LineKind, Reply)
-    ensures kind { (result.0 ≡ kind_at line.now) ⊎ (result.1 ≡ Refused no_memory) }
-    ensures answers { AnswersLine reader.old line.now reader.new result.1 }
+) -> (LineKind, Answer)
+    ensures kind { (result.0 ≡ kind_at line.now) ⊎ (result.1 ≡ Done (Refused no_memory)) }
+    ensures answers { AnswersWith (AnswersLine Stays) (LooksFor Stays) reader.old line.now reader.new result.1 }
     ensures same { tablets_of reader.new ≡ tablets_of reader.old }
 {
     let (kind, command) = kind_and_lookup_of(alloc, line);
     match command {
-        Ok(command) => (kind, look_up(alloc, reader, command)),
-        Err(refusal) => (kind, Reply::Refused(refusal)),
+        Ok(command) => (kind, begin(alloc, reader, command)),
+        Err(refusal) => (kind, Answer::Done(Reply::Refused(refusal))),
     }
 }
 
+// Answers a command, or begins to look for the answer.
+fn begin(alloc: Global, reader: &mut LiveReader, command: Command) -> Answer
+    ensures begins { LooksTo Stays reader.old (command_value command) reader.new result }
+    ensures same { tablets_of reader.new ≡ tablets_of reader.old }
+{
+    match command {
+        Command::Copy { need, tablet } => begin_copy(alloc, reader, &need, tablet),
+        Command::Get(keys) => Answer::Going(Going::keys(alloc, keys)),
+        Command::Scan(query) => Answer::Going(Going::page(alloc, reader, query)),
+        command => Answer::Done(look_up(alloc, reader, command)),
+    }
+}
+
+// Takes a copy, of which the lines are then counted.
+fn begin_copy(alloc: Global, reader: &mut LiveReader, need: &Marks, tablet: u64) -> Answer
+    ensures begins { LooksTo Stays reader.old (copy_asked need.now tablet) reader.new result }
+    ensures same { tablets_of reader.new ≡ tablets_of reader.old }
+{
+    if tablet >= reader.layout().count() as u64 {
+        return Answer::Done(Reply::Refused(Refusal::OutOfRange(Part::Tablet)));
+    }
+    match reader.copy(tablet as usize, need) {
+        Ok(copy) => Answer::Going(Going::copy(copy)),
+        fault => Answer::Done(answer_copy(alloc, tablet as usize, fault)),
+    }
+}
+
+/// Answers a command by what the reader finds.
 pub(crate) fn look_up(alloc: Global, reader: &mut LiveReader, command: Command) -> Reply
-    ensures looks_up { LooksUp reader.old (command_value command) reader.new result }
+    ensures looks_up { LooksUp Stays reader.old (command_value command) reader.new result }
     ensures same { tablets_of reader.new ≡ tablets_of reader.old }
 {
     match command {
         Command::Copy { need, tablet } => copy_tablet(alloc, reader, &need, tablet),
-        Command::Get(keys) => get(alloc, reader, &keys),
-        Command::Read { key, version } => read(alloc, reader, &key, version),
+        Command::Get(keys) => get(alloc, reader, keys),
+        Command::Read { key, version } => read(alloc, reader, key, version),
         Command::Scan(query) => scan(alloc, reader, &query),
         _ => Reply::Refused(Refusal::ReadOnly),
     }
 }
 
-fn read(alloc: Global, reader: &mut LiveReader, key: &Key, version: Option<Version>) -> Reply
-    ensures looks_up { LooksUpKey reader.old key.now version reader.new result }
+fn read(alloc: Global, reader: &mut LiveReader, key: Key, version: Option<Version>) -> Reply
+    ensures looks_up { LooksUpKey reader.old key version reader.new result }
     ensures same { tablets_of reader.new ≡ tablets_of reader.old }
 {
-    answer_read(alloc, key, reader.read(key, version))
+    let found = reader.read(&key, version);
+    answer_read(alloc, key, found)
 }
 
-fn get(alloc: Global, reader: &mut LiveReader, keys: &[Key]) -> Reply
-    ensures looks_up { LooksUpKeys reader.old keys.now reader.new result }
+fn get(alloc: Global, reader: &mut LiveReader, keys: Vec<Key>) -> Reply
+    ensures looks_up { LooksUpKeys Stays reader.old keys.items reader.new result }
     ensures same { tablets_of reader.new ≡ tablets_of reader.old }
 {
-    answer_get(alloc, keys, reader.get(keys))
+    let found = reader.get(&keys);
+    answer_get(alloc, keys, found)
 }
 
 fn scan(alloc: Global, reader: &mut LiveReader, query: &Query) -> Reply
-    ensures looks_up { LooksUpPage reader.old query.now reader.new result }
+    ensures looks_up { LooksUpPage Stays reader.old query.now reader.new result }
     ensures same { tablets_of reader.new ≡ tablets_of reader.old }
 {
     answer_scan(alloc, reader.scan(query))
 }
 
 fn copy_tablet(alloc: Global, reader: &mut LiveReader, need: &Marks, tablet: u64) -> Reply
-    ensures looks_up { LooksUpCopy reader.old need.now tablet reader.new result }
+    ensures looks_up { LooksUpCopy Stays reader.old need.now tablet reader.new result }
     ensures same { tablets_of reader.new ≡ tablets_of reader.old }
 {
     if tablet >= reader.layout().count() as u64 {

@@ -1,94 +1,127 @@
 //! What a connection keeps is loaded into the buffers of its thread, and stored again after a turn.
 
-ghost use Rattle.std.specs.Prelude.{◌≡◌, ◌≢◌, ◌+◌, ◌≤◌, ℕ, Bool, List, [], ◌++◌, Option, length, vec_len, IfOk};
-ghost use Rattle.pn_line.specs.Line.{so_far};
-ghost use Rattle.pn_serve.specs.Lines.States.{Start};
-ghost use Rattle.pn_stay.specs.Connections.{line_in, IsLine, SameInput};
-ghost use Rattle.pn_stay.specs.Sessions.{FollowsSession};
-ghost use Rattle.pn_stay.specs.Turns.{in_buffers, GoesOnSoon, IsPause, PausesWell, TurnsTo};
-ghost use Rattle.pn_stay.specs.declared.connection_state.Pause.TheVariants as pauses;
-ghost use Rattle.pn_stay.specs.declared.steps.Step.TheVariants as steps;
+ghost use Rattle.std.specs.Prelude.{◌≡◌, ◌+◌, ◌≤◌, [], ◌++◌, Option, length, vec_len, IfOk, IfSome, IsTrue};
+ghost use Rattle.pn_stay.specs.Connections.{SameInput, line_in, replies_in};
+ghost use Rattle.pn_stay.specs.Turns.{in_buffers, KeepsOr, PausesWell, StopsWell, Stores};
 
-use crate::connection_state::{
-    Answering, Closing, ConnectionState, Pause, ThreadBuffers, TurnOutcome,
-};
+use crate::connection_state::{ConnectionState, Pause, ThreadBuffers, TurnOutcome};
 use crate::input_buffer::INPUT_CAPACITY;
-use crate::output_buffer::OutputBuffer;
 use pn_line::{Discard, LineBuffer, MAX_LINE_BYTES};
-use pn_serve::{LineHandler, LineLoop, MAX_LINES, RunFault};
+use pn_serve::{LineLoop, ReplyBuffer, RunFault, Step};
 use std::alloc::{AllocError, Global};
+use std::mem;
 
-impl Answering {
-    // Loads its line and its input into the buffers, and answers its replies.
-    pub(super) fn load(self, buffers: &mut ThreadBuffers) -> OutputBuffer
-        ensures loaded { in_buffers buffers.new result ≡ self }
-        ensures line { IsLine buffers.new.lines.line }
-        ensures few { buffers.new.lines.counts.lines ≤ MAX_LINES }
+impl ConnectionState {
+    // Loads what it keeps into the buffers. Where there is no memory for replies that it may have to keep, long ones are refused.
+    pub(super) fn load(&mut self, buffers: &mut ThreadBuffers)
+        ensures { in_buffers buffers.new ≡ self.old }
     {
-        let Answering {
-            line,
-            held,
-            replies,
-            counts,
-            ..
-        } = self;
-        let _ = buffers.lines.flush(&mut Discard);
-        buffers.lines.resume(counts);
-        restore_line(&mut buffers.lines, line);
-        buffers.input.fill(&held);
-        replies
+        drop_replies(&mut buffers.lines);
+        load_line(&mut buffers.lines, self.line.take());
+        buffers.lines.swap_state(&mut self.state);
+        buffers.input.fill(&self.held);
+        self.held = Vec::new(self.alloc);
+        let can_keep = load_replies(self.alloc, buffers, &mut self.replies);
+        buffers.lines.set_scarce(!can_keep);
+    }
+
+    // Stores it until its next turn, unless it has ended. Out of memory, it ends as by a fault of the writer.
+    pub(super) fn store(&mut self, buffers: &mut ThreadBuffers, step: Step) -> TurnOutcome
+        ensures stores { Stores (in_buffers buffers.old) step self.new result }
+        ensures pauses { StopsWell (in_buffers buffers.old) step → PausesWell self.new result }
+    {
+        match step {
+            Step::Next(_) => self.keep(buffers, Pause::Turn),
+            Step::NoInput => self.keep(buffers, Pause::Input),
+            Step::NoRoom => self.keep(buffers, Pause::Output),
+            Step::Ends(ended) => TurnOutcome::Ended(ended),
+        }
+    }
+
+    // Keeps it in a pause, if there is memory for that.
+    fn keep(&mut self, buffers: &mut ThreadBuffers, pause: Pause) -> TurnOutcome
+        ensures { KeepsOr (in_buffers buffers.old) pause self.new result }
+    {
+        buffers.lines.begin_unless_reading();
+        let Ok(stored) = unload_input(self.alloc, buffers) else {
+            return TurnOutcome::Ended(Err(RunFault::Write));
+        };
+        self.line = stored.line;
+        self.held = stored.held;
+        if !keep_replies(buffers, &mut self.replies) {
+            return TurnOutcome::Ended(Err(RunFault::Write));
+        }
+        buffers.lines.swap_state(&mut self.state);
+        TurnOutcome::Goes(pause)
     }
 }
 
-// Goes on with a line that was begun, if there is one.
-fn restore_line(lines: &mut LineLoop, line: Option<LineBuffer>)
-    requires { lines.old.line ≡ so_far [] }
-    ensures line { lines.new.line ≡ line_in line }
-    ensures counts { lines.new.counts ≡ lines.old.counts }
-    ensures waits { lines.new.waits ≡ lines.old.waits }
+// Drops the replies that wait.
+fn drop_replies(lines: &mut LineLoop)
+    ensures { lines.new.replies ≡ [] }
 {
-    if let Some(line) = line {
-        let mut line = line;
-        lines.swap_line(&mut line);
+    let _ = lines.flush(&mut Discard);
+}
+
+// Goes on with a line that was begun, or with none.
+fn load_line(lines: &mut LineLoop, line: Option<LineBuffer>)
+    ensures { lines.new ≡ record lines.old { line = line_in line } }
+{
+    match line {
+        Some(line) => {
+            let mut line = line;
+            lines.swap_line(&mut line);
+        }
+        None => lines.begin_line(),
     }
 }
 
-/// Stores a connection until its next turn. Out of memory, its input is lost as by a fault of the reader.
-pub(super) fn store<M: LineHandler>(
-    alloc: Global,
-    buffers: &mut ThreadBuffers,
-    replies: OutputBuffer,
-    pause: Pause,
-) -> TurnOutcome
-    requires few { buffers.old.lines.counts.lines ≤ MAX_LINES }
-    requires line { IsLine buffers.old.lines.line }
-    requires none { buffers.old.lines.waits ≡ [] }
-    requires pause { IsPause pause replies }
-    ensures pauses { PausesWell result }
-    ensures soon { pause ≢ pauses.Input → GoesOnSoon steps.Next result }
-    ensures turns { (shared : Bool) (start : Start M) (left written : Option (List ℕ)) (machine : M) → FollowsSession M.makes M.ends shared start left written machine (in_buffers buffers.old replies)
-        → TurnsTo M.makes M.ends shared start left written machine result }
+// Goes on with the replies that are kept, in whose place there are the thread's meanwhile. Where there are none, whether the thread
+// has another buffer, since they may have to be kept.
+fn load_replies(alloc: Global, buffers: &mut ThreadBuffers, kept: &mut Option<ReplyBuffer>) -> bool
+    requires none { buffers.old.lines.replies ≡ [] }
+    ensures lines { buffers.new.lines ≡ record buffers.old.lines { replies = replies_in kept.old } }
+    ensures input { buffers.new.input ≡ buffers.old.input }
 {
-    let counts = buffers.lines.counts();
-    match unload_input(alloc, buffers) {
-        Ok(stored) => TurnOutcome::Goes(
-            ConnectionState::Answering(Answering {
-                alloc,
-                line: stored.line,
-                held: stored.held,
-                replies,
-                counts,
-            }),
-            pause,
-        ),
-        Err(_) => TurnOutcome::Goes(
-            ConnectionState::Closing(Closing {
-                replies,
-                ended: Err(RunFault::Read),
-            }),
-            Pause::Turn,
-        ),
+    match kept {
+        Some(replies) => {
+            buffers.lines.swap_replies(replies);
+            true
+        }
+        None => {
+            if buffers.spare.is_none() {
+                buffers.spare = ReplyBuffer::new(alloc).ok();
+            }
+            buffers.spare.is_some()
+        }
     }
+}
+
+// Keeps the buffer of replies where some wait or are still to be made. False where the thread has no other.
+fn keep_replies(buffers: &mut ThreadBuffers, kept: &mut Option<ReplyBuffer>) -> bool
+    ensures kept { IsTrue result → replies_in kept.new ≡ buffers.old.lines.replies }
+    ensures state { buffers.new.lines.state ≡ buffers.old.lines.state }
+{
+    let others = match kept.take() {
+        Some(threads) => Some(threads),
+        None => buffers.spare.take(),
+    };
+    if !buffers.lines.has_replies() {
+        buffers.spare = others;
+        return true;
+    }
+    *kept = swap_replies(&mut buffers.lines, others);
+    kept.is_some()
+}
+
+// Gives the replies that wait, where there is another buffer to go on with.
+fn swap_replies(lines: &mut LineLoop, others: Option<ReplyBuffer>) -> Option<ReplyBuffer>
+    ensures given { IfSome result (λ replies. replies ≡ lines.old.replies) }
+    ensures state { lines.new.state ≡ lines.old.state }
+{
+    let mut replies = others?;
+    lines.swap_replies(&mut replies);
+    Some(replies)
 }
 
 // The input of a connection between two turns.
@@ -100,10 +133,10 @@ struct StoredInput {
 
 // Takes the input out of the buffers: as bytes, and the line in its own buffer where it is too long for them.
 fn unload_input(alloc: Global, buffers: &mut ThreadBuffers) -> Result<StoredInput, AllocError>
-    requires line { IsLine buffers.old.lines.line }
     ensures same { IfOk result (λ stored. SameInput buffers.old.lines.line buffers.old.input (line_in stored.line) stored.held.items) }
-    ensures line { IfOk result (λ stored. IsLine (line_in stored.line)) }
     ensures fits { IfOk result (λ stored. vec_len stored.held ≤ INPUT_CAPACITY) }
+    ensures kept { buffers.new.lines.state ≡ buffers.old.lines.state }
+    ensures replies { buffers.new.lines.replies ≡ buffers.old.lines.replies }
 {
     let unread = buffers.input.bytes();
     let part = buffers.lines.line();

@@ -3,11 +3,14 @@
 use crate::scans::view::TakesTurns;
 use pn_join::NoMemory;
 use pn_record::{Key, Version};
-use pn_scan::{Page, Query, get, page, read_at_least, read_query};
+use pn_scan::{Page, PageStep, PageWalk, Query, View, get, page, read_at_least, read_query};
 use serde_json::Value;
 use std::alloc::Global;
 use std::test::Fail;
 use test_kit::keys;
+
+/// In how many steps a page is found at most.
+const STEPS: u32 = 100;
 
 /// The keys of a page, the one after which there is more, and for how many rows both tablets were asked; or why there is no page.
 pub(crate) fn page_reply(
@@ -23,6 +26,27 @@ pub(crate) fn page_reply(
     let (first, second) = (view.rooms[0], view.rooms[1]);
     write!(text, ", rooms {first} {second}")?;
     Ok(text)
+}
+
+/// The keys of a page that is looked for record by record, and in how many steps it was found; or why there is no page.
+pub(crate) fn walk_reply(
+    alloc: Global,
+    view: &mut TakesTurns,
+    asked: &str,
+) -> Result<String, Fail> {
+    let query = read_query(alloc, &Value::from_str(alloc, asked)?)?;
+    let mut walk = PageWalk::new(alloc, view.layout(), &query);
+    for step in 1..STEPS {
+        match walk.go_on(alloc, view, &query, 1) {
+            Ok(PageStep::Done(page)) => {
+                let text = keys_text(alloc, &page)?;
+                return Ok(format!(in alloc; "{text} in {step} steps")?);
+            }
+            Ok(PageStep::Next(next)) => walk = next,
+            Err(fault) => return Ok(format!(in alloc; "{fault} after {step} steps")?),
+        }
+    }
+    Ok(String::new(alloc))
 }
 
 fn keys_text(alloc: Global, page: &Page) -> Result<String, Fail> {

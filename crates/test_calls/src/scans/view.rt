@@ -13,9 +13,6 @@ use pn_tablet::{Layout, TabletState};
 use std::alloc::Global;
 use std::mem;
 
-/// How many records are looked at while a tablet is read: the others are looked at afterwards.
-const RECORDS: usize = 1;
-
 /// Each read finds the tablets that the read before did not find.
 #[derive(Drop)]
 pub(crate) struct TakesTurns {
@@ -52,13 +49,20 @@ impl TakesTurns {
         }
     }
 
-    fn part_now(&self, alloc: Global, tablet: usize, query: &Query, room: usize) -> PartResult
+    fn part_now(
+        &self,
+        alloc: Global,
+        tablet: usize,
+        query: &Query,
+        room: usize,
+        records: usize,
+    ) -> PartResult
         ensures { (found : Option TabletStateValue)
             × IsFoundIn self.now.layout (tablet, found)
             × Answers (part_at query.now) result (rows_at query.now room (tablet, found)) }
     {
         match self.state(tablet) {
-            Some(state) => part_of(alloc, state, tablet, query, room, RECORDS),
+            Some(state) => part_of(alloc, state, tablet, query, room, records),
             None => Err(ScanFault::NoEntry),
         }
     }
@@ -106,9 +110,16 @@ impl View for TakesTurns {
         &self.layout
     }
 
-    fn part(&mut self, alloc: Global, tablet: usize, query: &Query, room: usize) -> PartResult {
+    fn part(
+        &mut self,
+        alloc: Global,
+        tablet: usize,
+        query: &Query,
+        room: usize,
+        records: usize,
+    ) -> PartResult {
         self.rooms = [self.rooms[1], room];
-        let part = self.part_now(alloc, tablet, query, room);
+        let part = self.part_now(alloc, tablet, query, room, records);
         mem::swap(&mut self.tablets, &mut self.others);
         part
     }

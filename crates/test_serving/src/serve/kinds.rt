@@ -4,7 +4,7 @@ use crate::regions::{end, open_one};
 use pn_join::NoMemory;
 use pn_line::{InMemory, LineBuffer, LineEnd, read_line};
 use pn_live::LiveReader;
-use pn_serve::{CountingReader, LineCounts, LineHandler, LineKinds};
+use pn_serve::{Answer, CountingReader, LineCounts, LineHandler, LineKinds};
 use std::alloc::{AllocError, Global};
 use std::sync::Wait;
 use std::test::Fail;
@@ -62,13 +62,26 @@ fn answer_all(alloc: Global, counting: &mut CountingReader, input: InMemory<'_>)
     for _ in 0..100 {
         line.start();
         if let Ok(LineEnd::Newline { .. }) = read_line(&mut line, &mut input) {
-            drop(counting.answer(alloc, &line));
+            let begun = counting.answer(alloc, &line);
+            end_answer(alloc, counting, begun);
         } else {
-            drop(counting.answer_end(alloc, &line));
+            let begun = counting.answer_end(alloc, &line);
+            end_answer(alloc, counting, begun);
             break;
         }
     }
     Some(())
+}
+
+// Goes on with an answer until the line has its reply.
+fn end_answer(alloc: Global, counting: &mut CountingReader, begun: Answer) {
+    let mut answer = begun;
+    for _ in 0..100 {
+        match answer {
+            Answer::Done(_) => return,
+            Answer::Going(going) => answer = counting.go_on(alloc, going, 100).0,
+        }
+    }
 }
 
 fn push_counts(text: &mut String, name: &str, counts: LineCounts) -> Result<(), AllocError> {

@@ -5,8 +5,8 @@ use crate::stay::{TURNS, read_pieces, read_takes, show};
 use pn_join::{Name, NoMemory};
 use pn_line::{InMemory, LineBuffer, LineEnd, Sink, Source, read_line};
 use pn_stay::{
-    ConnectionState, Counters, CountingSource, InputBuffer, InputCounters, OutputBuffer, Pause,
-    ScriptedSink, ScriptedSource, SendOutcome, StreamCounters, ThreadBuffers,
+    ConnectionState, Counters, CountingSource, InputBuffer, InputCounters, Pause, ScriptedSink,
+    ScriptedSource, StreamCounters, ThreadBuffers, TurnOutcome,
 };
 use std::alloc::Global;
 use std::sync::Arc;
@@ -24,9 +24,9 @@ pub(crate) fn take_turns(alloc: Global, line: &str) -> Result<String, Fail> {
     let mut state = ConnectionState::new(alloc);
     let mut pauses = String::new(alloc);
     for _ in 0..TURNS {
-        match state.turn_in_place(alloc, &mut buffers, &mut Echo, &mut input, &mut output) {
-            Some(pause) => pauses.push(sign(pause))?,
-            None => break,
+        match state.turn(&mut buffers, &mut Echo, &mut input, &mut output) {
+            TurnOutcome::Goes(pause) => pauses.push(sign(pause))?,
+            TurnOutcome::Ended(_) => break,
         }
     }
     let taken = show(alloc, output.bytes())?;
@@ -40,22 +40,6 @@ fn sign(pause: Pause) -> char {
         Pause::Input => 'i',
         Pause::Output => 'o',
     }
-}
-
-/// What a sink took of an output buffer, and what waits on.
-pub(crate) fn send_output(alloc: Global, line: &str) -> Result<String, Fail> {
-    let (takes, text) = line.split_once(' ').unwrap_or(("", ""));
-    let takes = read_takes(alloc, takes)?;
-    let mut output = ScriptedSink::new(alloc, &takes);
-    let mut replies = OutputBuffer::new(alloc);
-    let kept = replies.write_some(text.as_bytes()).ok().unwrap_or(0);
-    let sent = match replies.send(&mut output) {
-        Ok(SendOutcome::All) => "all",
-        Ok(SendOutcome::Waits) => "waits",
-        Err(_) => "a fault",
-    };
-    let taken = show(alloc, output.bytes())?;
-    Ok(format!(in alloc; "{taken} of {kept}, {sent}, {}", replies.is_empty())?)
 }
 
 /// What an input buffer holds after each of two reads.

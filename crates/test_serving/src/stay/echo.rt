@@ -2,7 +2,7 @@
 
 use pn_line::LineBuffer;
 use pn_protocol::Reply;
-use pn_serve::LineHandler;
+use pn_serve::{Answer, Going, LineHandler};
 use std::alloc::Global;
 
 /// Answers each line with as much of it as is kept.
@@ -15,24 +15,39 @@ impl LineHandler for Echo {
 
     ghost ready = { ⊤ };
 
+    ghost moves = { λ _ _. ⊤ };
+
     ghost makes = { λ _ _ _ _. ⊤ };
 
     ghost ends = { λ _ _ _ _. ⊤ };
 
+    ghost goes = { λ _ _ _ _. ⊥ };
+
+    ghost goes_last = { λ _ _ _ _. ⊥ };
+
     ghost reader = { λ _. no_reader };
 
-    fn answer(&mut self, alloc: Global, line: &LineBuffer) -> Reply {
+    fn answer(&mut self, alloc: Global, line: &LineBuffer) -> Answer {
         let Ok(mut text) = Vec::from_slice(alloc, line.bytes()) else {
-            return Reply::Silent;
+            return Answer::Done(Reply::Silent);
         };
         let _ = text.push(b'\n');
-        Reply::Text(text)
+        Answer::Done(Reply::Text(text))
     }
 
-    fn answer_end(&mut self, alloc: Global, part: &LineBuffer) -> Reply {
+    fn answer_end(&mut self, alloc: Global, part: &LineBuffer) -> Answer {
         if part.is_empty() {
-            return Reply::Silent;
+            return Answer::Done(Reply::Silent);
         }
         self.answer(alloc, part)
     }
+
+    // No line is gone on with.
+    fn go_on(&mut self, _alloc: Global, _going: Going, _records: usize) -> (Answer, usize) {
+        (Answer::Done(Reply::Silent), 0)
+    }
+
+    fn recall_moves(&self) {}
+
+    fn recall_refused(&self, _going: &Going) {}
 }

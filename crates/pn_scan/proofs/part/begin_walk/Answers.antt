@@ -11,7 +11,7 @@ returns-in-All c =
     let cells : Entries = c.args.cells.now in
     let index = c.first_index-index.result in
     let walked = rw c.in-All.is at c.in_ok-more.ensures in
-    all_answer query (drop index cells) index c.args.records c.args.room _ _ _ walked ∙ begun_answer query cells index c.args.room _ c.in_ok-rows.ensures.items c.first_index-index.ensures.shown
+    all_answer query (drop index cells) index c.args.records c.args.room _ _ _ _ walked ∙ begun_answer query cells index c.args.room _ c.in_ok-rows.ensures.items c.first_index-index.ensures.shown
 
 pub take_rest-requires-clause-index : goal.take_rest-requires-clause-index
 take_rest-requires-clause-index c =

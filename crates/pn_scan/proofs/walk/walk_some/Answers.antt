@@ -53,7 +53,8 @@ returns-then-not-is_before c =
     let past : is_before query.to e.0 ≡ false = ap (λ end. is_before end e.0) (sym c.to.ensures) ∙ sym c.is_before.ensures ∙ c.if-not-is_before.true in
     let none = ap (shown_rows query) steps ∙ none_past query e c.next.new.self past (subst (λ (es : Entries). Rising bytes_cmp es) steps c.loop-key.invariant.rising) in
     let all : Entries = c.args.rows.now.items ++ shown_rows query (drop c.args.index c.args.cells.now) in
-    all_found c.loop-key.rows.items all c.args.room (ap (λ (rows : Entries). c.loop-key.rows.items ++ rows) (sym none) ∙ c.loop-key.invariant.rows) c.loop-key.invariant.few
+    let found = all_found c.loop-key.rows.items all c.args.room (ap (λ (rows : Entries). c.loop-key.rows.items ++ rows) (sym none) ∙ c.loop-key.invariant.rows) c.loop-key.invariant.few in
+    (found.0, found.1, omega (arith, c.loop-key.invariant.most, c.if-looked-records.false))
 
 pub loop-key-preserved-in_ok-push : goal.loop-key-preserved-in_ok-push
 loop-key-preserved-in_ok-push c =

@@ -1,45 +1,61 @@
--- What was answered before a line stays answered after it.
-use Rattle.std.proofs.Common.{◌+◌, Ok, inl, ap, ◌∙◌, arith}
-use Rattle.pn_serve.specs.declared.script.line_loop.Next.{Next}
-use Rattle.pn_serve.proofs.HandedOn.{hands_on_still}
+-- The loop begins, goes on, and ends.
+use Rattle.std.proofs.Common.{◌≡◌, ◌+◌, ◌<◌, ◌≤◌, ℕ, List, [], inl, refl, sym, ap, subst, arith}
+use Rattle.std.specs.Prelude.{Result}
+use Rattle.pn_serve.specs.declared.script.Counts.{Counts}
+use Rattle.pn_serve.specs.declared.script.RunFault.{RunFault}
+use Rattle.pn_serve.specs.Lines.Bounds.{CanEndBy, Foresees, IsOutAs, IsSettled, looks_left}
+use Rattle.pn_serve.specs.Lines.States.{LineLoopValue, start_at}
+use Rattle.pn_serve.specs.Lines.Stepping.{by}
 use Rattle.pn_serve.proofs.Knowing.{knows_itself, knows_on}
-use Rattle.pn_serve.proofs.Stopping.{Handed_on}
+use Rattle.pn_serve.proofs.Running.{Stands-new, can_end, can_fault, can_few}
 use Rattle.pn_serve.proofs.script.answer_lines.Goals as goal
 
-pub turns-init : goal.turns-init
-turns-init g c = record { turns = c.requires.none; served = λ start served. served; knows = knows_itself _; out = λ more. (c.requires.waits, inl c.requires.none); looks = omega arith }
+pub reads-init : goal.reads-init
+reads-init g c =
+    let M = g.M.LineHandler in
+    let is = c.requires.new in record {
+      stands = Stands-new (by M.moves M.makes M.ends M.goes M.goes_last) c.recall_moves.ensures.preorder c.args.machine.now (g.S.Source.left c.args.input.now) (g.W.Sink.contents c.args.output.now) c.args.lines.now is;
+      settled = subst (λ (r : LineLoopValue). IsSettled r) (sym is) (λ looking. looking, refl);
+      looks = omega (arith, ap looks_left is);
+      out = subst (λ (r : LineLoopValue). IsOutAs r (g.W.Sink.is_handed_on c.args.output.now)) (sym is) (λ out. (refl, inl refl));
+      foresees = subst (λ (r : LineLoopValue). Foresees g.S.Source.may_fail g.W.Sink.may_fail g.S.Source.may_end r) (sym is) (inl (omega arith), refl);
+      knows = knows_itself (M.reader c.args.machine.now);
+    }
 
-pub returns-in_err-turn-clause-ends : goal.returns-in_err-turn-clause-ends
-returns-in_err-turn-clause-ends g c = λ start served.
-    Handed_on g.M.LineHandler.makes g.M.LineHandler.ends _ _ _ _ _ _ c.from_residual.ensures.1 (c.in_err-turn.ensures.turns start (c.turns.invariant.served start served))
+pub reads-preserved : goal.reads-preserved
+reads-preserved g c =
+    let M = g.M.LineHandler in
+    let was = c.reads.invariant in record {
+      stands = c.in-None.ensures.runs (start_at c.args.machine.now (g.S.Source.left c.args.input.now) (g.W.Sink.contents c.args.output.now)) c.recall_moves.ensures was.stands;
+      settled = c.in-None.ensures.settled refl;
+      looks = omega (arith, c.in-None.ensures.looks, was.looks);
+      out = c.in-None.ensures.out refl was.out;
+      foresees = c.in-None.ensures.foresees was.foresees;
+      knows = knows_on (M.reader c.args.machine.now) (M.reader c.reads.machine) (M.reader c.advance.new.machine) was.knows c.in-None.ensures.knows;
+    }
 
-pub returns-in-End-clause-ends : goal.returns-in-End-clause-ends
-returns-in-End-clause-ends g c = λ start served.
-    let turned = c.in_ok-turn.ensures.turns start (c.turns.invariant.served start served) in
-    rw c.in-End.is at turned
+pub returns-in-Some-clause-ends : goal.returns-in-Some-clause-ends
+returns-in-Some-clause-ends g c = c.in-Some.ensures.runs (start_at c.args.machine.now (g.S.Source.left c.args.input.now) (g.W.Sink.contents c.args.output.now)) c.recall_moves.ensures c.reads.invariant.stands
 
-pub turns-preserved : goal.turns-preserved
-turns-preserved g c = record {
-  turns = c.in_ok-turn.ensures.counted (ap (λ (next : Next). Ok next) c.in-Line.is) ∙ ap (λ n. n + 1) c.turns.invariant.turns;
-  served = λ start served.
-      let turned = c.in_ok-turn.ensures.turns start (c.turns.invariant.served start served) in
-      rw c.in-Line.is at turned;
-  knows = knows_on _ _ _ c.turns.invariant.knows c.in_ok-turn.ensures.knows;
-  out = c.in_ok-turn.ensures.out (ap (λ (next : Next). Ok next) c.in-Line.is);
-  looks = omega (arith, c.turns.invariant.looks, c.in_ok-turn.ensures.looks);
-}
+pub returns-in-Some-clause-read : goal.returns-in-Some-clause-read
+returns-in-Some-clause-read g c = λ is. subst (λ (e : Result Counts RunFault). CanEndBy g.S.Source.may_fail g.W.Sink.may_fail g.S.Source.may_end e) is (c.in-Some.ensures.foresees c.reads.invariant.foresees)
 
-pub returns-clause-ends : goal.returns-clause-ends
-returns-clause-ends g c = λ start served. c.finish.ensures.ends start (c.turns.invariant.served start served)
+pub returns-in-Some-clause-write : goal.returns-in-Some-clause-write
+returns-in-Some-clause-write g c = λ is. subst (λ (e : Result Counts RunFault). CanEndBy g.S.Source.may_fail g.W.Sink.may_fail g.S.Source.may_end e) is (c.in-Some.ensures.foresees c.reads.invariant.foresees)
 
-pub returns-in_err-turn-clause-knows : goal.returns-in_err-turn-clause-knows
-returns-in_err-turn-clause-knows g c = knows_on _ _ _ c.turns.invariant.knows c.in_err-turn.ensures.knows
+pub returns-in-Some-clause-knows : goal.returns-in-Some-clause-knows
+returns-in-Some-clause-knows g c =
+    let M = g.M.LineHandler in
+    knows_on (M.reader c.args.machine.now) (M.reader c.reads.machine) (M.reader c.advance.new.machine) c.reads.invariant.knows c.in-Some.ensures.knows
 
-pub returns-in-End-clause-knows : goal.returns-in-End-clause-knows
-returns-in-End-clause-knows g c = knows_on _ _ _ c.turns.invariant.knows c.in_ok-turn.ensures.knows
+pub returns-in-Some-clause-few : goal.returns-in-Some-clause-few
+returns-in-Some-clause-few g c = can_few g.S.Source.may_fail g.W.Sink.may_fail g.S.Source.may_end c.in-Some.ended (c.in-Some.ensures.foresees c.reads.invariant.foresees)
 
-pub returns-clause-knows : goal.returns-clause-knows
-returns-clause-knows g c = knows_on _ _ _ c.turns.invariant.knows c.finish.ensures.knows
+pub returns-in-Some-clause-looks : goal.returns-in-Some-clause-looks
+returns-in-Some-clause-looks g c = omega (arith, c.in-Some.ensures.looks, c.reads.invariant.looks)
 
-pub returns-in_err-turn-clause-out : goal.returns-in_err-turn-clause-out
-returns-in_err-turn-clause-out g c = hands_on_still Next _ _ _ c.from_residual.ensures.1 (c.in_err-turn.ensures.ends_out (λ same. cc))
+pub returns-in-Some-clause-end : goal.returns-in-Some-clause-end
+returns-in-Some-clause-end g c = can_end g.S.Source.may_fail g.W.Sink.may_fail g.S.Source.may_end c.in-Some.ended (c.in-Some.ensures.foresees c.reads.invariant.foresees)
+
+pub returns-in-Some-clause-begun : goal.returns-in-Some-clause-begun
+returns-in-Some-clause-begun g c = can_fault g.S.Source.may_fail g.W.Sink.may_fail g.S.Source.may_end c.in-Some.ended (c.in-Some.ensures.foresees c.reads.invariant.foresees)

@@ -1,23 +1,22 @@
 -- One turn after another.
-use Rattle.std.proofs.Common.{false, sym, subst}
+use Rattle.std.proofs.Common.{sym, subst}
+use Rattle.pn_serve.specs.Lines.Stepping.{by}
+use Rattle.pn_stay.specs.Connections.{ConnectionValue}
 use Rattle.pn_stay.specs.Scripted.{begin_with}
 use Rattle.pn_stay.specs.Turns.{Continues}
-use Rattle.pn_stay.specs.declared.connection_state.ConnectionState.{ConnectionState}
-use Rattle.pn_stay.proofs.Alone.{HasEnded-alone}
-use Rattle.pn_stay.proofs.Following.{FollowsScript-new}
+use Rattle.pn_stay.proofs.Coming.{Continues-new}
 use Rattle.pn_stay.proofs.laws.answer_in_turns.Goals as goal
 
 pub turns-init : goal.turns-init
 turns-init g c =
-    subst (λ (k : ConnectionState). Continues g.M.LineHandler.makes g.M.LineHandler.ends false (begin_with c.args.machine.now (g.R.Read.remaining c.args.input.now) (g.W.Sink.contents c.args.output.now)) (g.R.Read.remaining c.args.input.now) (g.W.Sink.contents c.args.output.now) c.args.machine.now k) (sym c.new-state.ensures)
-    (FollowsScript-new g.M.LineHandler.makes g.M.LineHandler.ends false c.args.machine.now (g.R.Read.remaining c.args.input.now) (g.W.Sink.contents c.args.output.now))
+    let H = by g.M.LineHandler.moves g.M.LineHandler.makes g.M.LineHandler.ends g.M.LineHandler.goes g.M.LineHandler.goes_last in
+    let left = g.R.Read.remaining c.args.input.now in
+    let written = g.W.Sink.contents c.args.output.now in
+    subst (λ (k : ConnectionValue). Continues H (begin_with c.args.machine.now left written) left written c.args.machine.now k) (sym c.new-state.ensures)
+    (Continues-new H g.M.LineHandler.reader c.recall_moves.ensures c.args.machine.now left written)
 
 pub returns-in-Ended : goal.returns-in-Ended
-returns-in-Ended g c = record {
-  ends =
-      let ended = c.in-Ended.ensures.turns false _ c.turns.invariant in
-      (ended.0, HasEnded-alone g.M.LineHandler.makes g.M.LineHandler.ends _ _ _ _ _ ended.1);
-}
+returns-in-Ended g c = record { ends = c.in-Ended.ensures.turns _ c.recall_moves.ensures c.turns.invariant }
 
 pub turns-preserved : goal.turns-preserved
-turns-preserved g c = c.in-Goes.ensures.turns false _ c.turns.invariant
+turns-preserved g c = c.in-Goes.ensures.turns _ c.recall_moves.ensures c.turns.invariant

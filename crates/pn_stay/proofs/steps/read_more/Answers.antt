@@ -1,31 +1,69 @@
--- The input is at its end, or nothing was read.
-use Rattle.std.proofs.Common.{refl}
-use Rattle.pn_stay.specs.Turns.{in_buffers}
-use Rattle.pn_stay.proofs.Stepping.{Steps-ended, Steps-not_read}
-use Rattle.pn_stay.proofs.Following.{Passes-none}
+-- What a read brought.
+use Rattle.std.proofs.Common.{◌≡◌, Bool, false, ℕ, List, [], refl, sym, subst}
+use Rattle.std.specs.Io.KnownBytes.{Consumes, IsAtEnd, Keeps, prepend_known}
+use Rattle.pn_serve.specs.Lines.States.{LineLoopValue}
+use Rattle.pn_serve.specs.Lines.Stepping.{Stands, by}
 use Rattle.pn_serve.proofs.Knowing.{knows_itself}
+use Rattle.pn_serve.proofs.Steps.{Steps-read_fault}
+use Rattle.pn_stay.proofs.Coming.{Consumes-nothing, Ends-known, Keeps-front, Stands-came, at_end, at_fault, at_input, at_nothing}
 use Rattle.pn_stay.proofs.steps.read_more.Goals as goal
 
-pub returns-else-more-clause-steps : goal.returns-else-more-clause-steps
-returns-else-more-clause-steps g c shared start written stands =
-    Steps-ended g.M.LineHandler.makes g.M.LineHandler.ends shared start _ _ written _ _ (in_buffers c.args.buffers.now c.args.replies.now) (in_buffers c.answer_end-closed.new.buffers c.answer_end-closed.new.replies)
-    stands c.requires.empty c.read_from.new.self c.in-Ok.ensures.came (c.in-Ok.ensures.end c.if-more.false) c.answer_end-closed.ensures.input c.end_step.result c.answer_end-closed.result c.end_step.ensures
-    c.requires.below c.requires.few (c.answer_end-closed.ensures.ok written) (c.answer_end-closed.ensures.err written)
+pub returns-in-Input-clause-steps : goal.returns-in-Input-clause-steps
+returns-in-Input-clause-steps g c = λ start written steady stands.
+    let H = by g.M.LineHandler.moves g.M.LineHandler.makes g.M.LineHandler.ends g.M.LineHandler.goes g.M.LineHandler.goes_last in
+    let lines = c.args.buffers.now.lines in
+    let was = subst (λ (h : List ℕ). Stands H start (prepend_known h (g.R.Read.remaining c.args.input.now)) written c.args.machine.now lines) c.requires.empty stands in
+    Stands-came H start written c.args.machine.now lines c.requires.idle.0 (g.R.Read.remaining c.args.input.now) (g.R.Read.remaining c.read_from-read.new.input) c.read_from-read.new.self
+    (at_input c.read_from-read.result _ c.in-Input.ensures c.read_from-read.ensures.came) was
 
-pub returns-in-Err-clause-steps : goal.returns-in-Err-clause-steps
-returns-in-Err-clause-steps g c shared start written stands =
-    Steps-not_read g.M.LineHandler.makes g.M.LineHandler.ends shared start _ _ written _ (in_buffers c.args.buffers.now c.args.replies.now)
-    (record { line = c.args.buffers.now.lines.line; held = c.read_from.new.self; waits = (in_buffers c.args.buffers.now c.args.replies.now).waits; counts = c.args.buffers.now.lines.counts })
-    c.fault_step.result c.fault_step.ensures.either stands c.requires.empty c.in-Err.ensures.none c.in-Err.ensures.kept refl refl refl
+pub returns-in-Nothing-clause-steps : goal.returns-in-Nothing-clause-steps
+returns-in-Nothing-clause-steps g c = λ start written steady stands.
+    let H = by g.M.LineHandler.moves g.M.LineHandler.makes g.M.LineHandler.ends g.M.LineHandler.goes g.M.LineHandler.goes_last in
+    let lines = c.args.buffers.now.lines in
+    let left = g.R.Read.remaining c.args.input.now in
+    let leaves = g.R.Read.remaining c.read_from-read.new.input in
+    let was = subst (λ (h : List ℕ). Stands H start (prepend_known h left) written c.args.machine.now lines) c.requires.empty stands in
+    let none : c.read_from-read.new.self ≡ [] = at_nothing c.read_from-read.result _ c.in-Nothing.ensures c.read_from-read.ensures.none in
+    let kept : Keeps left leaves = at_nothing c.read_from-read.result _ c.in-Nothing.ensures c.read_from-read.ensures.kept in
+    subst (λ (h : List ℕ). Stands H start (prepend_known h leaves) written c.args.machine.now lines) (sym none)
+    (Stands-came H start written c.args.machine.now lines c.requires.idle.0 left leaves [] (Consumes-nothing left leaves kept) was)
 
-pub returns-then-more-clause-passes : goal.returns-then-more-clause-passes
-returns-then-more-clause-passes g c = Passes-none g.M.LineHandler.makes g.M.LineHandler.ends _
+pub returns-in-Nothing-clause-waits : goal.returns-in-Nothing-clause-waits
+returns-in-Nothing-clause-waits g c = (c.requires.idle.1, c.requires.idle.0)
 
-pub returns-in-Err-clause-passes : goal.returns-in-Err-clause-passes
-returns-in-Err-clause-passes g c = Passes-none g.M.LineHandler.makes g.M.LineHandler.ends _
+pub returns-in-End-clause-steps : goal.returns-in-End-clause-steps
+returns-in-End-clause-steps g c = λ start written steady stands.
+    let H = by g.M.LineHandler.moves g.M.LineHandler.makes g.M.LineHandler.ends g.M.LineHandler.goes g.M.LineHandler.goes_last in
+    let lines = c.args.buffers.now.lines in
+    let left = g.R.Read.remaining c.args.input.now in
+    let leaves = g.R.Read.remaining c.read_from-read.new.input in
+    let was = subst (λ (h : List ℕ). Stands H start (prepend_known h left) written c.args.machine.now lines) c.requires.empty stands in
+    let came : Consumes left leaves c.read_from-read.new.self = at_end c.read_from-read.result (λ _. Consumes left leaves c.read_from-read.new.self) c.in-End.ensures c.read_from-read.ensures.came in
+    let end : (c.read_from-read.new.self ≡ []) × IsAtEnd leaves =
+    at_end c.read_from-read.result (λ (more : Bool). more ≡ false → (c.read_from-read.new.self ≡ []) × IsAtEnd leaves) c.in-End.ensures c.read_from-read.ensures.end refl in
+    let here = Stands-came H start written c.args.machine.now lines c.requires.idle.0 left leaves [] (subst (λ (b : List ℕ). Consumes left leaves b) end.0 came) was in
+    let known = Ends-known H start written c.args.machine.now lines c.requires.idle.0 leaves end.1 here in
+    let ended = c.end_input.ensures.stands start (prepend_known [] leaves) written steady known here in
+    subst (λ (h : List ℕ). Stands H start (prepend_known h leaves) written c.end_input.new.machine c.end_input.new.self) (sym end.0) ended
 
-pub returns-then-more-clause-knows : goal.returns-then-more-clause-knows
-returns-then-more-clause-knows g c = knows_itself _
+pub returns-in-Fault-clause-steps : goal.returns-in-Fault-clause-steps
+returns-in-Fault-clause-steps g c = λ start written steady stands.
+    let H = by g.M.LineHandler.moves g.M.LineHandler.makes g.M.LineHandler.ends g.M.LineHandler.goes g.M.LineHandler.goes_last in
+    let lines = c.args.buffers.now.lines in
+    let left = g.R.Read.remaining c.args.input.now in
+    let leaves = g.R.Read.remaining c.read_from-read.new.input in
+    let was = subst (λ (h : List ℕ). Stands H start (prepend_known h left) written c.args.machine.now lines) c.requires.empty stands in
+    let none : c.read_from-read.new.self ≡ [] = at_fault c.read_from-read.result _ c.in-Fault.ensures c.read_from-read.ensures.none in
+    let kept : Keeps left leaves = at_fault c.read_from-read.result _ c.in-Fault.ensures c.read_from-read.ensures.kept in
+    let ended = Steps-read_fault H steady.preorder start (prepend_known [] left) (prepend_known [] leaves) written c.args.machine.now lines c.requires.idle.0 was (Keeps-front left leaves kept) in
+    subst (λ (h : List ℕ). Stands H start (prepend_known h leaves) written c.args.machine.now c.end_by.new.self) (sym none)
+    (subst (λ (r : LineLoopValue). Stands H start (prepend_known [] leaves) written c.args.machine.now r) (sym c.end_by.ensures) ended)
 
-pub returns-in-Err-clause-knows : goal.returns-in-Err-clause-knows
-returns-in-Err-clause-knows g c = knows_itself _
+pub returns-in-Input-clause-knows : goal.returns-in-Input-clause-knows
+returns-in-Input-clause-knows g c = knows_itself _
+
+pub returns-in-Nothing-clause-knows : goal.returns-in-Nothing-clause-knows
+returns-in-Nothing-clause-knows g c = knows_itself _
+
+pub returns-in-Fault-clause-knows : goal.returns-in-Fault-clause-knows
+returns-in-Fault-clause-knows g c = knows_itself _

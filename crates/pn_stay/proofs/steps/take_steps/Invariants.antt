@@ -1,19 +1,17 @@
--- The connection still stands where a session stands.
-use Rattle.std.proofs.Common.{◌≤◌, ℕ, Bool, List, Option}
+-- The connection goes on as its session does.
 use Rattle.pn_serve.specs.Lines.States.{Start}
-use Rattle.pn_serve.specs.Session.Knowing.{KnowsNoLess}
-use Rattle.pn_serve.specs.declared.script.TheConstants.{MAX_LINES}
-use Rattle.pn_stay.specs.Connections.{IsLine}
-use Rattle.pn_stay.specs.Interleaving.{Passes}
-use Rattle.pn_stay.specs.Sessions.{FollowsSession}
-use Rattle.pn_stay.specs.Turns.{in_buffers}
+use Rattle.pn_serve.specs.Lines.Stepping.{by}
+use Rattle.pn_serve.specs.Session.Knowing.{IsSteady, KnowsNoLess}
+use Rattle.pn_stay.specs.Turns.{Continues, in_buffers}
 use Rattle.pn_stay.proofs.steps.take_steps.Given as goal
 
 abbrev pub invariant-steps : goal.invariant-steps
 invariant-steps g l = record {
-  stands : (shared : Bool) (start : Start _) (written : Option (List ℕ)) → FollowsSession g.M.LineHandler.makes g.M.LineHandler.ends shared start (g.R.Read.remaining l.initial.input) written l.initial.machine (in_buffers l.initial.buffers l.initial.replies) → FollowsSession g.M.LineHandler.makes g.M.LineHandler.ends shared start (g.R.Read.remaining l.input) written l.machine (in_buffers l.buffers l.replies);
-  line : IsLine l.buffers.lines.line;
-  passes : Passes g.M.LineHandler.makes g.M.LineHandler.ends l.initial.machine l.machine;
-  few : l.buffers.lines.counts.lines ≤ MAX_LINES;
+  stands : (start : Start g.row.M.Denot) → IsSteady g.M.LineHandler.reader g.M.LineHandler.moves
+      → Continues (by g.M.LineHandler.moves g.M.LineHandler.makes g.M.LineHandler.ends g.M.LineHandler.goes g.M.LineHandler.goes_last) start (g.R.Read.remaining l.initial.input) (g.W.Sink.contents l.initial.output) l.initial.machine (in_buffers l.initial.buffers)
+      → Continues (by g.M.LineHandler.moves g.M.LineHandler.makes g.M.LineHandler.ends g.M.LineHandler.goes g.M.LineHandler.goes_last) start (g.R.Read.remaining l.input) (g.W.Sink.contents l.output) l.machine (in_buffers l.buffers);
   knows : KnowsNoLess (g.M.LineHandler.reader l.initial.machine) (g.M.LineHandler.reader l.machine);
 }
+
+abbrev pub decreases-steps : goal.decreases-steps
+decreases-steps g l = l.units

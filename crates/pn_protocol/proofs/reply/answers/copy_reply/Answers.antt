@@ -1,16 +1,9 @@
--- The text is that of the copy, and its lines are counted.
-use Rattle.std.proofs.Common.{ℕ, List, ◌∷◌, ◌++◌, length, ap, ◌∙◌}
-use Rattle.pn_json.specs.Lines.{line_of}
-use Rattle.pn_line.specs.Text.{lines_of}
-use Rattle.std.specs.List.{count_by}
-use Rattle.pn_protocol.specs.Reply.Answers.{is_newline}
-use Rattle.pn_protocol.specs.Reply.Short.{lines_data}
-use Rattle.pn_protocol.proofs.CopyLines.{counted_lines}
+-- All lines are counted at once.
+use Rattle.pn_protocol.proofs.MadeReplies.{copy_made}
 use Rattle.pn_protocol.proofs.reply.answers.copy_reply.Goals as goal
 
-pub returns-in-Ok : goal.returns-in-Ok
-returns-in-Ok c =
-    let text = c.in-Ok.ensures.text in
-    let exact = c.in-Ok.ensures.exact in
-    let count = c.line_count.ensures ∙ ap (count_by is_newline) c.as_bytes.ensures.value ∙ counted_lines _ (text.head ∷ text.lines) text.text_is text.unbroken ∙ ap (λ (bytes : List ℕ). length (lines_of bytes)) exact in
-    λ i. line_of (lines_data (count i)) ++ exact i
+pub returns-in-Ok-Done : goal.returns-in-Ok-Done
+returns-in-Ok-Done c =
+    let counted = rw c.in-Ok-Done.field-0-is at c.in-Ok-Done.ensures in
+    let all = rw c.new.ensures at counted in
+    copy_made c.args.copy c.in-Ok-Done.text all.0 all.1

@@ -1,17 +1,23 @@
--- The replies to the lines so far wait or were written.
-use Rattle.std.proofs.Common.{◌≡◌, ◌+◌, ◌*◌, ◌≤◌}
-use Rattle.pn_serve.specs.Control.Lines.{ControlState, AnswersControl}
-use Rattle.pn_serve.specs.Lines.States.{Start}
-use Rattle.pn_serve.specs.Lines.Served.{Served}
-use Rattle.pn_serve.specs.Lines.Waiting.{IsAllOut, looks_of_line}
+-- The loop stands, and has less to do after each step.
+use Rattle.std.proofs.Common.{◌+◌, ◌≤◌}
+use Rattle.pn_scan.specs.Paging.{Stays}
+use Rattle.pn_serve.specs.Control.Lines.{AnswersControl, EndsControl}
+use Rattle.pn_serve.specs.Lines.Bounds.{Foresees, IsOutAs, IsSettled, looks_left, reads_left}
+use Rattle.pn_serve.specs.Lines.States.{new_loop, start_at}
+use Rattle.pn_serve.specs.Lines.Stepping.{Stands, by}
 use Rattle.pn_serve.specs.Session.Knowing.{KnowsNoLess}
 use Rattle.pn_serve.proofs.control.session.answer_lines.Given as goal
 
-abbrev pub invariant-turns : goal.invariant-turns
-invariant-turns g l = record {
-  turns : l.lines.counts.lines ≡ l._turn;
-  served : (start : Start ControlState) → Served AnswersControl start (g.S.Source.left l.initial.input) (g.W.Sink.contents l.initial.output) l.initial.handler l.initial.lines → Served AnswersControl start (g.S.Source.left l.input) (g.W.Sink.contents l.output) l.handler l.lines;
+abbrev pub invariant-reads : goal.invariant-reads
+invariant-reads g l = record {
+  stands : Stands (by Stays AnswersControl EndsControl (λ _ _ _ _. ⊥) (λ _ _ _ _. ⊥))
+      (start_at l.initial.handler (g.S.Source.left l.initial.input) (g.W.Sink.contents l.initial.output)) (g.S.Source.left l.input) (g.W.Sink.contents l.output) l.handler l.lines;
+  settled : IsSettled l.lines;
+  looks : g.S.Source.looks l.input + looks_left l.lines ≤ g.S.Source.looks l.initial.input + looks_left new_loop;
+  out : IsOutAs l.lines (g.W.Sink.is_handed_on l.output);
+  foresees : Foresees g.S.Source.may_fail g.W.Sink.may_fail g.S.Source.may_end l.lines;
   knows : KnowsNoLess l.initial.handler.reader l.handler.reader;
-  out : IsAllOut l.lines (g.W.Sink.is_handed_on l.output);
-  looks : g.S.Source.looks l.input ≤ g.S.Source.looks l.initial.input + l._turn * looks_of_line;
 }
+
+abbrev pub decreases-reads : goal.decreases-reads
+decreases-reads g l = reads_left l.lines

@@ -8,4 +8,4 @@ use Rattle.pn_serve.proofs.machine.lookups.get.Goals as goal
 
 pub returns : goal.returns
 returns c =
-    turned_shown c.args.region.now (get c.args.keys.now) (get_data c.args.keys.now) (get_in c.args.region.now.state c.args.keys.now) refl refl (λ cells. cells.items) c.get.result c.answer_get.result c.get.ensures.get c.answer_get.ensures
+    turned_shown c.args.region.now (get c.args.keys.items) (get_data c.args.keys.items) (get_in c.args.region.now.state c.args.keys.items) refl refl (λ cells. cells.items) c.get-found.result c.answer_get.result (rw c.deref.ensures.value at c.get-found.ensures.get) c.answer_get.ensures

@@ -9,4 +9,4 @@ use Rattle.pn_serve.proofs.machine.lookups.read.Goals as goal
 
 pub returns : goal.returns
 returns c =
-    turned_shown c.args.region.now (read c.args.key.now c.args.version) (read_data c.args.key.now) (read_in c.args.region.now.state c.args.key.now c.args.version) refl refl (λ cell. cell) c.read.result c.answer_read.result (read_shows (cell_at c.args.key.now (look_for c.args.region.now.state c.args.key.now)) (read_in c.args.region.now.state c.args.key.now c.args.version) c.read.result c.read.ensures.read) c.answer_read.ensures
+    turned_shown c.args.region.now (read c.args.key c.args.version) (read_data c.args.key) (read_in c.args.region.now.state c.args.key c.args.version) refl refl (λ cell. cell) c.read-found.result c.answer_read.result (read_shows (cell_at c.args.key (look_for c.args.region.now.state c.args.key)) (read_in c.args.region.now.state c.args.key c.args.version) c.read-found.result c.read-found.ensures.read) c.answer_read.ensures

@@ -2,4 +2,4 @@
 use Rattle.pn_serve.proofs.sessions.lookups.read.Goals as goal
 
 pub returns-clause-looks_up : goal.returns-clause-looks_up
-returns-clause-looks_up c = record { found = c.read.ensures.read.0; answer = c.read.result; read = c.read.ensures.read.1; shows = c.answer_read.ensures }
+returns-clause-looks_up c = record { found = c.read-found.ensures.read.0; answer = c.read-found.result; read = c.read-found.ensures.read.1; shows = c.answer_read.ensures }

@@ -1,13 +1,22 @@
--- A connection that closes goes on to.
-use Rattle.pn_stay.proofs.Following.{Passes-none}
-use Rattle.pn_serve.proofs.Knowing.{knows_itself}
+-- A turn begins with what the connection keeps, and ends with what it keeps then.
+use Rattle.std.proofs.Common.{sym, subst}
+use Rattle.std.specs.Io.KnownBytes.{prepend_known}
+use Rattle.pn_serve.specs.Lines.States.{waits_in}
+use Rattle.pn_serve.specs.Lines.Stepping.{by}
+use Rattle.pn_stay.specs.Connections.{ConnectionValue, loop_of}
+use Rattle.pn_stay.specs.Turns.{Continues, in_buffers}
+use Rattle.pn_stay.proofs.Storing.{AppendsPrefix-none, Turns-stored}
 use Rattle.pn_stay.proofs.connection_state.ConnectionState.turn.Goals as goal
 
-pub returns-in-Closing-clause-turns : goal.returns-in-Closing-clause-turns
-returns-in-Closing-clause-turns g c shared start continues = c.send_rest.ensures.turns shared start _ _ (rw c.in-Closing.is at continues)
+pub returns-clause-turns : goal.returns-clause-turns
+returns-clause-turns g c = λ start steady continues.
+    let H = by g.M.LineHandler.moves g.M.LineHandler.makes g.M.LineHandler.ends g.M.LineHandler.goes g.M.LineHandler.goes_last in
+    let kept : ConnectionValue = in_buffers c.send_and_step-step.new.buffers in
+    let left = g.R.Read.remaining c.send_and_step-step.new.input in
+    let written = g.W.Sink.contents c.send_and_step-step.new.output in
+    let loaded = subst (λ (k : ConnectionValue). Continues H start (g.R.Read.remaining c.args.input.now) (g.W.Sink.contents c.args.output.now) c.args.machine.now k) (sym c.load.ensures) continues in
+    Turns-stored H start left written c.send_and_step-step.new.machine kept c.store.new.self c.send_and_step-step.result c.store.result c.store.ensures.stores (c.send_and_step-step.ensures.steps start steady loaded)
+    (λ stands. c.recall_cut.ensures start (prepend_known kept.held left) written written steady stands (AppendsPrefix-none written (waits_in (loop_of kept))))
 
-pub returns-in-Closing-clause-passes : goal.returns-in-Closing-clause-passes
-returns-in-Closing-clause-passes g c = Passes-none g.M.LineHandler.makes g.M.LineHandler.ends _
-
-pub returns-in-Closing-clause-knows : goal.returns-in-Closing-clause-knows
-returns-in-Closing-clause-knows g c = knows_itself _
+pub returns-clause-pauses : goal.returns-clause-pauses
+returns-clause-pauses g c = c.store.ensures.pauses c.send_and_step-step.ensures.stops

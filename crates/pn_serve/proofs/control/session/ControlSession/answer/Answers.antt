@@ -1,5 +1,9 @@
 -- What a session begins with, and the reader that it gives back.
-use Rattle.pn_serve.proofs.ControlEnds.{client_unread, client_begins, client_knows}
+use Rattle.std.proofs.Common.{subst}
+use Rattle.pn_serve.specs.Control.Ends.{ControlEnds}
+use Rattle.pn_serve.specs.Control.Lines.{ControlState}
+use Rattle.pn_serve.specs.Lines.States.{start_at}
+use Rattle.pn_serve.proofs.ControlEnds.{client_unread, client_knows}
 use Rattle.pn_serve.proofs.Knowing.{knows_itself}
 use Rattle.pn_serve.proofs.control.session.ControlSession.answer.Goals as goal
 
@@ -13,7 +17,8 @@ pub returns-clause-ends : goal.returns-clause-ends
 returns-clause-ends g c = record {
   state = c.answer_lines-ended.new.handler;
   is = c.end-reader.ensures.reader;
-  ends = c.answer_lines-ended.ensures.ends _ (client_begins _ _ _ _ _ c.new-handler.ensures c.in-Ok.ensures);
+  ends = subst (λ (m : ControlState). ControlEnds (start_at m (g.S.Source.left c.args.input.now) (g.W.Sink.contents c.args.output.now)) (g.S.Source.left c.answer_lines-ended.new.input) (g.W.Sink.contents c.answer_lines-ended.new.output) c.answer_lines-ended.new.handler c.answer_lines-ended.result)
+      c.new-handler.ensures c.answer_lines-ended.ensures.ends;
 }
 
 pub returns-clause-knows : goal.returns-clause-knows

@@ -11,11 +11,11 @@ pub returns-clause-ends : goal.returns-clause-ends
 returns-clause-ends g c text is =
     let inside = c.self.inside in
     let was = ap (λ waits. with_mode waits inside.region) c.take-announced.ensures.value ∙ c.self.view_is in
-    let now = sym (ap (λ waits. with_mode waits c.answer_end.new.region) c.take-announced.ensures.after) in
-    subst (λ (m : Machine). Concludes c.args.self.now text m c.answer_end.result) now
-    (concludes_kept c.args.self.now (machine_over c.answer_end.new.region) c.args.part.now text c.answer_end.result is
-    (subst (λ (m : Machine). Concludes m c.args.part.now.bytes (machine_over c.answer_end.new.region) c.answer_end.result) was
-    (subst (λ (bytes : List ℕ). Concludes (with_mode c.take-announced.result inside.region) bytes (machine_over c.answer_end.new.region) c.answer_end.result) c.bytes-bytes.ensures c.answer_end.ensures)))
+    let now = sym (ap (λ waits. with_mode waits c.answer_end-reply.new.region) c.take-announced.ensures.after) in
+    subst (λ (m : Machine). Concludes c.args.self.now text m c.answer_end-reply.result) now
+    (concludes_kept c.args.self.now (machine_over c.answer_end-reply.new.region) c.args.part.now text c.answer_end-reply.result is
+    (subst (λ (m : Machine). Concludes m c.args.part.now.bytes (machine_over c.answer_end-reply.new.region) c.answer_end-reply.result) was
+    (subst (λ (bytes : List ℕ). Concludes (with_mode c.take-announced.result inside.region) bytes (machine_over c.answer_end-reply.new.region) c.answer_end-reply.result) c.bytes-bytes.ensures c.answer_end-reply.ensures)))
 
 pub returns-clause-knows : goal.returns-clause-knows
 returns-clause-knows g c = knows_itself _

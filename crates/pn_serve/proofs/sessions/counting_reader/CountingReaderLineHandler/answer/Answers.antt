@@ -1,13 +1,17 @@
 -- The line was answered by its kept bytes.
 use Rattle.std.proofs.Common.{List, ℕ, subst}
+use Rattle.pn_serve.specs.Lines.Going.{AnswersWith}
+use Rattle.pn_serve.specs.Session.Knowing.{KnowsNoLess}
 use Rattle.pn_serve.specs.Session.Lines.{AnswersLine}
-use Rattle.pn_serve.proofs.Knowing.{line_knows}
+use Rattle.pn_serve.specs.Session.Looking.{LooksFor}
+use Rattle.pn_serve.proofs.Knowing.{answer_knows, moves_knows}
 use Rattle.pn_serve.proofs.Lookups.{answers_so_far}
 use Rattle.pn_serve.proofs.sessions.counting_reader.CountingReaderLineHandler.answer.Goals as goal
 
 pub returns-clause-makes : goal.returns-clause-makes
 returns-clause-makes c text is =
-    answers_so_far _ _ c.args.line.now text _ is (subst (λ (bytes : List ℕ). AnswersLine c.args.self.now bytes c.answer_line.new.self c.answer_line.result) c.bytes.ensures c.answer_line.ensures)
+    answers_so_far KnowsNoLess _ _ c.args.line.now text _ is
+    (subst (λ (bytes : List ℕ). AnswersWith (AnswersLine KnowsNoLess) (LooksFor KnowsNoLess) c.args.self.now bytes c.answer_line.new.self c.answer_line.result) c.bytes.ensures c.answer_line.ensures)
 
 pub returns-clause-knows : goal.returns-clause-knows
-returns-clause-knows c = line_knows _ _ _ _ c.answer_line.ensures
+returns-clause-knows c = answer_knows KnowsNoLess moves_knows _ _ _ _ c.answer_line.ensures

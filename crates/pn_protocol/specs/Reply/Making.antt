@@ -1,0 +1,108 @@
+-- The text of rows that is still to be made.
+use Rattle.std.specs.Prelude.{◌≡◌, ◌≤◌, ◌+◌, ◌==◌, if◌then◌else◌, ◌<◌, ℕ, zero, suc, Bool, true, nat_lt, List, [], ◌∷◌, ◌++◌, length, map, drop, codes, zip, Option, None, Some, IfSome, Vec}
+use Rattle.std.specs.declared.alloc.Global.{Global}
+use Rattle.std.specs.FinMap.{keys}
+use Rattle.std.specs.List.{slice_get}
+use Rattle.json.specs.Print.{quoted}
+use Rattle.serde_json.specs.Data.{Data}
+use Rattle.serde_json.specs.View.{items_of}
+use Rattle.serde_json.specs.Written.{compact_text, comma_if, items_text}
+use Rattle.pn_json.specs.Prelude.{AppendsText}
+use Rattle.pn_record.specs.Sets.{CellValue}
+use Rattle.pn_record.specs.States.{state_of}
+use Rattle.pn_record.specs.Writing.{content_data, version_data}
+use Rattle.pn_protocol.specs.declared.reply.rows_text.Place.{Place}
+use Rattle.pn_protocol.specs.declared.reply.rows_text.Place.TheVariants.{Record, End}
+use Rattle.pn_protocol.specs.declared.reply.shown_records.Shown.{Shown}
+use Rattle.pn_protocol.specs.declared.reply.shown_records.Shown.TheVariants as shown
+use Rattle.pn_protocol.specs.Reply.Record.{row_or_null}
+use Rattle.pn_protocol.specs.Reply.Rows.{state_word}
+
+-- a key with its cell, if there is one
+abbrev pub Found : Type 0
+Found = List ℕ × Option CellValue
+
+-- the row of a record, or null
+abbrev pub record_data : Found → Data
+record_data found = row_or_null found.0 found.1
+
+-- its text
+abbrev pub record_text : Found → List ℕ
+record_text found = compact_text (record_data found)
+
+-- records as rows, with a comma before all but the first, and what comes after them
+abbrev pub rows_text : Bool → List Found → List ℕ → List ℕ
+rows_text later [] end = end
+rows_text later (found ∷ records) end = comma_if later ++ (record_text found ++ rows_text true records end)
+
+-- what comes before a content of a row
+abbrev pub before_text : ℕ → List ℕ
+before_text zero = codes "{\"contents\":["
+before_text (suc n) = codes ","
+
+-- what comes after the contents of a row
+abbrev pub row_end : List ℕ → CellValue → List ℕ
+row_end key cell =
+    codes ",\"key\":" ++ (quoted key ++ (codes ",\"state\":\"" ++ (state_word (state_of cell) ++ (codes "\",\"version\":" ++ (compact_text (version_data cell.0) ++ codes "}")))))
+
+-- the text of a record from a content on
+abbrev pub record_rest : ℕ → Found → List ℕ
+record_rest zero found = record_text found
+record_rest (suc n) (key, None) = []
+record_rest (suc n) (key, Some cell) = items_text true (items_of (map content_data (drop (suc n) (keys cell.1)))) ++ row_end key cell
+
+-- the records' text from a content of the first on, and what comes after them
+abbrev pub rest_from : ℕ → List Found → List ℕ → List ℕ
+rest_from content [] end = end
+rest_from content (found ∷ records) end = record_rest content found ++ rows_text true records end
+
+-- the records' text from a content of a record on
+abbrev pub records_rest : List Found → List ℕ → ℕ → ℕ → List ℕ
+records_rest records end index zero = rows_text (nat_lt 0 index) (drop index records) end
+records_rest records end index (suc n) = rest_from (suc n) (drop index records) end
+
+-- the records' text from a place on
+abbrev pub place_rest : List Found → List ℕ → Place → List ℕ
+place_rest records end (Record index content) = records_rest records end index content
+place_rest records end End = []
+
+-- the place after a part of a record, by the next content, or 0 after the last
+abbrev pub next_place : ℕ → ℕ → Place
+next_place index next = if next == 0 then Record (index + 1) 0 else Record index next
+
+-- the content is one of the record's, or the first
+abbrev pub HasContent : ℕ → Found → Type 0
+HasContent zero found = Unit {0}
+HasContent (suc n) (key, None) = ⊥
+HasContent (suc n) (key, Some cell) = suc n < length (keys cell.1)
+
+-- the place is that of a content of its record, if there is such a record
+abbrev pub IsPlaceOf : List Found → Place → Type 0
+IsPlaceOf records (Record index content) = IfSome (slice_get records index) (HasContent content)
+IsPlaceOf records End = Unit {0}
+
+-- the records that are shown
+abbrev pub found_in : Shown → List Found
+found_in (shown.One key cell) = (key, cell) ∷ []
+found_in (shown.Keys names cells) = zip names.items cells.items
+found_in (shown.Rows rows) = map (λ row. (row.0, Some row.1)) rows.items
+
+-- what comes after them
+abbrev pub end_of : Shown → List ℕ
+end_of (shown.One key cell) = codes "}\n"
+end_of (shown.Keys names cells) = codes "]}\n"
+end_of (shown.Rows rows) = codes "]}\n"
+
+-- the text of a record up to the next content, or to its end
+abbrev pub after_part : ℕ → Found → List ℕ
+after_part zero found = []
+after_part (suc n) found = record_rest (suc n) found
+
+-- the part of a record that begins with a content was added
+pub record MakesRecord (found : Found) (content : ℕ) (old new : Vec ℕ Global) (next : ℕ) : Type 0 where
+  pub part : List ℕ
+  pub appended : AppendsText old new part
+  pub split : record_rest content found ≡ part ++ after_part next found
+  pub short : length part ≤ 60000
+  pub some : 0 < length part
+  pub next_is : HasContent next found

@@ -1,0 +1,190 @@
+//! The rows of records as text, made a piece at a time in a buffer that has room for it.
+
+ghost use Rattle.std.specs.Prelude.{◌≡◌, ◌==◌, ◌&&◌, ◌+◌, ◌<◌, ◌≤◌, ◌↔◌, ◌^◌, [], false, length, nat_lt, IsTrue, Some};
+ghost use Rattle.std.specs.Option.{option_copied};
+ghost use Rattle.pn_json.specs.Prelude.{AppendsText, MakesPiece};
+ghost use Rattle.pn_protocol.specs.Reply.Making.{HasContent, IsPlaceOf, MakesRecord, before_text, end_of, found_in, next_place, place_rest, row_end, rows_text};
+ghost use Rattle.pn_protocol.specs.declared.reply.rows_text.Place.TheVariants.{End, Record};
+
+use crate::reply::rows::state_word;
+use crate::reply::shown_records::Shown;
+use pn_json::{append_comma, append_string, append_text};
+use pn_record::{Cell, Key, append_content, append_version};
+use std::marker::Model;
+
+/// Records whose rows are made in pieces, and the end of a reply that shows them.
+#[derive(Drop)]
+pub(crate) struct RowsText {
+    shown: Shown,
+    place: Place,
+}
+
+/// Before what of the rows the text is.
+#[derive(Clone, Copy, Debug, PartialEq, Eq)]
+enum Place {
+    /// A content of a record, or the end where there is no such record.
+    Record { index: usize, content: usize },
+    /// After the end.
+    End,
+}
+
+impl Model for RowsText {
+    ghost use Rattle.std.specs.Prelude.{ℕ, List};
+    ghost use Rattle.pn_protocol.specs.Reply.Making.{IsPlaceOf, end_of, found_in, place_rest};
+
+    ghost Value = { List ℕ };
+
+    ghost view = { λ text. place_rest (found_in text.shown) (end_of text.shown) text.place };
+
+    ghost invariant = { λ text. IsPlaceOf (found_in text.shown) text.place };
+}
+
+impl RowsText {
+    /// The rows of these records, of which nothing is made.
+    pub(crate) fn new(shown: Shown) -> RowsText
+        ensures { result ≡ rows_text false (found_in shown) (end_of shown) }
+    {
+        RowsText {
+            shown,
+            place: Place::Record {
+                index: 0,
+                content: 0,
+            },
+        }
+    }
+
+    /// Whether all is made.
+    pub(crate) fn is_made(&self) -> bool
+        ensures { IsTrue result ↔ (self.now ≡ []) }
+    {
+        is_end(self.place)
+    }
+
+    /// Makes a piece after what a buffer holds that has room for it.
+    pub(crate) fn append_piece(&mut self, out: &mut Vec<u8>)
+        ensures { MakesPiece 65536 self.old self.new out.old out.new }
+    {
+        self.place = append_at(out, &self.shown, self.place);
+    }
+}
+
+// Adds a piece from a place on. The next place.
+fn append_at(out: &mut Vec<u8>, shown: &Shown, place: Place) -> Place
+    requires { IsPlaceOf (found_in shown.now) place }
+    ensures piece { MakesPiece 65536 (place_rest (found_in shown.now) (end_of shown.now) place)
+        (place_rest (found_in shown.now) (end_of shown.now) result) out.old out.new }
+    ensures place { IsPlaceOf (found_in shown.now) result }
+{
+    match place {
+        Place::Record { index, content } => append_from(out, shown, index, content),
+        Place::End => Place::End,
+    }
+}
+
+// Adds the part of a record that begins with a content, or the end where there is no such record. The next place.
+fn append_from(out: &mut Vec<u8>, shown: &Shown, index: usize, content: usize) -> Place
+    requires { IsPlaceOf (found_in shown.now) (Record index content) }
+    ensures piece { MakesPiece 65536 (place_rest (found_in shown.now) (end_of shown.now) (Record index content))
+        (place_rest (found_in shown.now) (end_of shown.now) result) out.old out.new }
+    ensures place { IsPlaceOf (found_in shown.now) result }
+{
+    match shown.record_at(index) {
+        Some((key, cell)) => {
+            shown.prefetch_from(index);
+            shown.recall_count();
+            append_comma(out, is_later_row(index, content));
+            let next = append_record(out, key, cell, content);
+            next_place(index, next)
+        }
+        None => {
+            append_text(out, shown.end());
+            Place::End
+        }
+    }
+}
+
+// The place after a part of a record, by the next content, or 0 after the last.
+fn next_place(index: usize, next: usize) -> Place
+    requires { index + 1 < 2 ^ 64 }
+    ensures { result ≡ next_place index next }
+{
+    if next == 0 {
+        return Place::Record {
+            index: index + 1,
+            content: 0,
+        };
+    }
+    Place::Record {
+        index,
+        content: next,
+    }
+}
+
+// Whether nothing comes after a place.
+fn is_end(place: Place) -> bool
+    ensures { IsTrue result ↔ (place ≡ End) }
+{
+    match place {
+        Place::Record { .. } => false,
+        Place::End => true,
+    }
+}
+
+// Whether a row begins at a content, and is not the first.
+fn is_later_row(index: usize, content: usize) -> bool
+    ensures { result ≡ (nat_lt 0 index && content == 0) }
+{
+    index > 0 && content == 0
+}
+
+// Adds the part of a record that begins with a content. The next content, or 0 after the last.
+fn append_record(out: &mut Vec<u8>, key: &Key, cell: Option<&Cell>, content: usize) -> usize
+    requires { HasContent content (key.now, option_copied cell) }
+    ensures { MakesRecord (key.now, option_copied cell.entry) content out.old out.new result }
+{
+    match cell {
+        Some(cell) => append_row_part(out, key, cell, content),
+        None => {
+            append_text(out, "null");
+            0
+        }
+    }
+}
+
+// Adds the part of a row that begins with a content. The next content, or 0 after the last.
+fn append_row_part(out: &mut Vec<u8>, key: &Key, cell: &Cell, content: usize) -> usize
+    requires { HasContent content (key.now, Some cell.now) }
+    ensures { MakesRecord (key.now, Some cell.now) content out.old out.new result }
+{
+    let contents = cell.contents();
+    append_text(out, before_content(content));
+    append_content(out, &contents[content]);
+    let next = content + 1;
+    if next < contents.len() {
+        return next;
+    }
+    append_text(out, "]");
+    append_row_end(out, key, cell);
+    0
+}
+
+// What comes before a content of a row.
+fn before_content(content: usize) -> &'static str
+    ensures { result.now ≡ before_text content }
+{
+    if content == 0 { "{\"contents\":[" } else { "," }
+}
+
+// Adds what comes after the contents of a row.
+fn append_row_end(out: &mut Vec<u8>, key: &Key, cell: &Cell)
+    ensures added { AppendsText out.old out.new (row_end key.now cell.now) }
+    ensures short { length (row_end key.now cell.now) ≤ 2000 }
+{
+    append_text(out, ",\"key\":");
+    append_string(out, key.as_str());
+    append_text(out, ",\"state\":\"");
+    append_text(out, state_word(cell.state()));
+    append_text(out, "\",\"version\":");
+    append_version(out, cell.version());
+    append_text(out, "}");
+}

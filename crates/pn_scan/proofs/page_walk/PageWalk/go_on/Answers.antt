@@ -1,0 +1,38 @@
+-- The look that is gone on with comes to the same rows.
+use Rattle.std.proofs.Common.{◌<◌, [], ◌++◌, length, Option, Result, Err, refl, sym, ap, ◌∙◌, subst}
+use Rattle.std.specs.Prelude.{IfSome}
+use Rattle.std.proofs.lemmas.Result.{err_from_is_err_and}
+use Rattle.pn_scan.specs.Paging.{rows_to_come, IsOnPage, PagesTo}
+use Rattle.pn_scan.specs.Parts.{PartValue}
+use Rattle.pn_scan.specs.WalkValues.{PageWalkValue, PartWalkValue}
+use Rattle.pn_scan.specs.declared.fault.ScanFault.{ScanFault}
+use Rattle.pn_scan.specs.declared.page_walk.PageStep.{PageStep}
+use Rattle.pn_scan.proofs.Paging.{held, gone_on, page_without_memory}
+use Rattle.pn_scan.proofs.page_walk.PageWalk.go_on.Goals as goal
+
+pub returns-in_err-part-in-Some-clause-goes : goal.returns-in_err-part-in-Some-clause-goes
+returns-in_err-part-in-Some-clause-goes g c = λ trace on.
+    let looks = g.V.View.looks in
+    let view = c.args.view.now in
+    let gave = err_from_is_err_and c.from_residual.result c.from_residual.ensures.1 in
+    let begun : 0 < length trace = subst (λ (o : Option PartWalkValue). IfSome o (λ part. 0 < length trace)) (sym (ap (λ (w : PageWalkValue). w.part) c.self.view_is) ∙ c.in-Some.is) on.begun in
+    subst (λ (r : Result PageStep ScanFault). PagesTo looks (g.V.View.bounds view) c.args.query.now view view r trace) (sym (gave.1 ∙ ap Err gave.2)) ([], refl, page_without_memory on begun)
+
+pub returns-in_err-with_part-in-Some-clause-goes : goal.returns-in_err-with_part-in-Some-clause-goes
+returns-in_err-with_part-in-Some-clause-goes g c = λ trace on.
+    let looks = g.V.View.looks in
+    let view = c.args.view.now in
+    let gave = err_from_is_err_and c.from_residual-in_err-with_part-in-Some.result c.from_residual-in_err-with_part-in-Some.ensures.1 in
+    let begun : 0 < length trace = subst (λ (o : Option PartWalkValue). IfSome o (λ part. 0 < length trace)) (sym (ap (λ (w : PageWalkValue). w.part) c.self.view_is) ∙ c.in-Some.is) on.begun in
+    subst (λ (r : Result PageStep ScanFault). PagesTo looks (g.V.View.bounds view) c.args.query.now view view r trace) (sym (gave.1 ∙ ap Err gave.2)) ([], refl, page_without_memory on begun)
+
+pub returns-in_ok-with_part-in-Some-clause-goes : goal.returns-in_ok-with_part-in-Some-clause-goes
+returns-in_ok-with_part-in-Some-clause-goes g c = λ trace on.
+    let query = c.args.query.now in
+    let next = c.in_ok-with_part-in-Some.ensures in
+    let begun : 0 < length trace = subst (λ (o : Option PartWalkValue). IfSome o (λ part. 0 < length trace)) (sym (ap (λ (w : PageWalkValue). w.part) c.self.view_is) ∙ c.in-Some.is) on.begun in
+    let rows = next.rows query
+    ∙ ap (λ (part : PartValue). c.self.inside.rows.items ++ part.0) c.in_ok-part-in-Some.ensures.same
+    ∙ ap (λ (o : Option PartWalkValue). c.self.inside.rows.items ++ rows_to_come query o) (sym c.in-Some.is) in
+    let was = c.self.view_is in
+    ([], refl, gone_on (subst (λ (w : PageWalkValue). IsOnPage g.V.View.looks (g.V.View.bounds c.args.view.now) query w trace) (sym was) on) _ rows next.ends.0 next.ends.1 (held _ begun))

@@ -1,0 +1,117 @@
+-- Pages that are gone on with, between whose looks the view may move.
+use Rattle.std.specs.Prelude.{◌≡◌, ◌⊎◌, ◌<◌, ℕ, suc, ◌+◌, ◌-◌, List, [], ◌∷◌, ◌++◌, length, map, take, Option, None, Some, IfSome, Result, Ok, Err, OnOk, OnErr}
+use Rattle.std.specs.List.{AllByRecursion, range_with_len}
+use Rattle.pn_record.specs.CellMap.{Entries}
+use Rattle.pn_tablet.specs.Layouts.{Bounds}
+use Rattle.pn_scan.specs.Candidates.{Look, candidates, rows_in, visited}
+use Rattle.pn_scan.specs.Pages.{PageValue, first_page, first_refusal, unless}
+use Rattle.pn_scan.specs.Parts.{walk_answer}
+use Rattle.pn_scan.specs.Queries.{QueryValue}
+use Rattle.pn_scan.specs.Views.{Answers}
+use Rattle.pn_scan.specs.Visits.{IsVisit, IsWhole}
+use Rattle.pn_scan.specs.WalkValues.{PageWalkValue, PartWalkValue}
+use Rattle.pn_scan.specs.declared.fault.ScanFault.{ScanFault}
+use Rattle.pn_scan.specs.declared.page_walk.PageStep.{PageStep}
+use Rattle.pn_scan.specs.declared.page_walk.PageStep.TheVariants.{Done, Next}
+use Rattle.pn_scan.specs.declared.walk.Part.{Part}
+use Rattle.pn_scan.specs.declared.walk.Part.TheVariants.{Done as FoundAll, Rest}
+
+-- a look as it was made: the view before it, the tablet and what was found, and the view after it
+pub record LookMade (V : Type 0) : Type 0 where
+  pub old : V
+  pub look : Look
+  pub new : V
+
+-- looks that a view made
+abbrev pub AreMade : {V : Type 0} → (V → Look → V → Type 0) → List (LookMade V) → Type 0
+AreMade looks trace = AllByRecursion (λ made. looks made.old made.look made.new) trace
+
+-- what they found
+abbrev pub looks_in : {V : Type 0} → List (LookMade V) → List Look
+looks_in trace = map (λ made. made.look) trace
+
+-- they lead from one view to another, and nothing came between them
+abbrev pub Follows : {V : Type 0} → V → List (LookMade V) → V → Type 0
+Follows old [] new = new ≡ old
+Follows old (made ∷ more) new = (made.old ≡ old) × Follows made.new more new
+
+-- nothing was done but looks
+abbrev pub OnlyLooks : {V : Type 0} → (V → Look → V → Type 0) → V → V → Type 0
+OnlyLooks {V} looks old new = (made : List (LookMade V)) × Follows old made new × AreMade looks made
+
+-- what may become of a view between two looks
+abbrev pub Moving : Type 0 → Type 1
+Moving V = V → V → Type 0
+
+-- nothing may
+abbrev pub Stays : {V : Type 0} → Moving V
+Stays was now = now ≡ was
+
+-- it may stay, and what may happen twice may happen once
+pub record IsPreorder {V : Type 0} (moves : Moving V) : Type 0 where
+  pub stays : (v : V) → moves v v
+  pub goes_on : (a b c : V) → moves a b → moves b c → moves a c
+
+-- before the first look, between looks, and after the last the view only moved
+abbrev pub Gaps : {V : Type 0} → Moving V → V → List (LookMade V) → V → Type 0
+Gaps moves was [] now = moves was now
+Gaps moves was (made ∷ more) now = moves was made.old × Gaps moves made.new more now
+
+-- a look, after what came between
+pub record LooksAfter {V : Type 0} (moves : Moving V) (looks : V → Look → V → Type 0) (old : V) (look : Look) (new : V) : Type 0 where
+  pub between : V
+  pub moved : moves old between
+  pub looked : looks between look new
+
+-- the rows of a look that is gone on with, once it has its answer
+abbrev pub rows_to_come : QueryValue → Option PartWalkValue → Entries
+rows_to_come query None = []
+rows_to_come query (Some walk) = (walk_answer query walk).0
+
+-- so many records are still to be looked at before the next look
+abbrev pub records_left : Option PartWalkValue → ℕ
+records_left None = 0
+records_left (Some walk) = length walk.rest
+
+-- one more than that, where a look is gone on with
+abbrev pub steps_left : Option PartWalkValue → ℕ
+steps_left None = 0
+steps_left (Some walk) = suc (length walk.rest)
+
+-- the look that is gone on with, if one is
+abbrev pub going_in : Part → Option PartWalkValue
+going_in (FoundAll rows more looked) = None
+going_in (Rest walk) = Some walk
+
+-- by these looks, the last of which is perhaps gone on with, a page is as far as the walk
+pub record IsOnPage {V : Type 0} (looks : V → Look → V → Type 0) (bounds : Bounds) (query : QueryValue) (walk : PageWalkValue) (trace : List (LookMade V)) : Type 0 where
+  pub made : AreMade looks trace
+  pub visit : IsVisit bounds query (looks_in trace)
+  pub none_refused : first_refusal (looks_in trace) ≡ None
+  pub to_come : candidates bounds query ≡ map (λ look. look.0) (looks_in trace) ++ range_with_len walk.next (walk.end - walk.next)
+  pub rows_are : walk.rows ++ rows_to_come query walk.part ≡ take (query.limit + 1) (rows_in query (looks_in trace))
+  pub begun : IfSome walk.part (λ part. 0 < length trace)
+
+-- the page was found, or why there is none, by these looks; no fault comes before a look
+pub record EndsPage {V : Type 0} (looks : V → Look → V → Type 0) (bounds : Bounds) (query : QueryValue) (answer : Result PageValue ScanFault) (trace : List (LookMade V)) : Type 0 where
+  pub made : AreMade looks trace
+  pub visit : IsVisit bounds query (looks_in trace)
+  pub answers : Answers (λ page. page) answer (unless (first_refusal (visited bounds query (looks_in trace))) (first_page query (rows_in query (looks_in trace))))
+  pub whole : OnOk answer (IsWhole bounds query (looks_in trace))
+  pub begun : OnErr answer (0 < length trace)
+
+-- after more looks the page is found, or refused, or is to be gone on with
+abbrev pub PagesTo : {V : Type 0} → (V → Look → V → Type 0) → Bounds → QueryValue → V → V → Result PageStep ScanFault → List (LookMade V) → Type 0
+PagesTo {V} looks bounds query old new (Ok (Done page)) trace = (more : List (LookMade V)) × Follows old more new × EndsPage looks bounds query (Ok (page.rows.items, page.next)) (trace ++ more)
+PagesTo {V} looks bounds query old new (Ok (Next walk)) trace = (more : List (LookMade V)) × Follows old more new × IsOnPage looks bounds query walk (trace ++ more)
+PagesTo {V} looks bounds query old new (Err fault) trace = (more : List (LookMade V)) × Follows old more new × EndsPage looks bounds query (Err fault) (trace ++ more)
+
+-- a page of which nothing was looked for
+abbrev pub IsNewWalk : Bounds → QueryValue → PageWalkValue → Type 0
+IsNewWalk bounds query walk = (walk.rows ≡ []) × (walk.part ≡ None) × (candidates bounds query ≡ range_with_len walk.next (walk.end - walk.next))
+
+-- fewer tablets are to come, or less is left of the one that is looked into
+abbrev pub IsNearer : PageWalkValue → PageStep → Type 0
+IsNearer old (Done page) = Unit {0}
+IsNearer old (Next walk) =
+    (walk.end - walk.next < old.end - old.next) ⊎ ((walk.end ≡ old.end) × (walk.next ≡ old.next) × (steps_left walk.part < steps_left old.part))

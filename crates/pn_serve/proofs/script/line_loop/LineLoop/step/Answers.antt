@@ -1,0 +1,337 @@
+-- A step writes, reads, goes on with a look, or ends.
+use Rattle.std.proofs.Common.{◌≡◌, ◌≢◌, ◌+◌, ◌*◌, ◌<◌, ◌≤◌, ℕ, length, true, List, [], Option, inr, sym, ap, ◌∙◌, subst, arith}
+use Rattle.pn_line.specs.Line.{LineBufferValue}
+use Rattle.pn_serve.specs.declared.script.replies.TheConstants.{REPLY_CAPACITY}
+use Rattle.pn_serve.specs.declared.script.line_loop.state.Stage.{Stage}
+use Rattle.pn_serve.specs.declared.script.line_loop.state.Stage.TheVariants.{Reading, Looking, Ending}
+use Rattle.pn_serve.specs.Lines.Bounds.{CountsUnits, Foresees, ForeseesAt, HandsOnAtMost, IsLookingAt, IsOutAs, ReadsOn}
+use Rattle.pn_serve.specs.Lines.Going.{AnswersLast, AnswersWith}
+use Rattle.pn_serve.specs.Lines.States.{LineLoopValue, LineStateValue, waits_in}
+use Rattle.pn_serve.specs.Lines.Stepping.{EndsOnceSent, Stands, StandsAt, by, with_rest}
+use Rattle.pn_serve.specs.Lines.Taking.{EndsTo, Takes, TakesLine}
+use Rattle.pn_serve.proofs.Bounded.{ends_counted, ends_foresees, ends_idle, ends_no_input, sends_counted, sends_foresees, sends_hands, sends_idle, sends_no_input, takes_foresees, takes_grows, takes_line, takes_lines, takes_out}
+use Rattle.pn_serve.proofs.Knowing.{knows_itself}
+use Rattle.pn_serve.proofs.Measured.{ends_nearer}
+use Rattle.pn_serve.proofs.Standing.{Steps-ended, Steps-written}
+use Rattle.pn_serve.proofs.Steps.{Steps-look}
+use Rattle.pn_serve.proofs.Writing.{no_text, out_while_made}
+use Rattle.pn_serve.proofs.script.line_loop.LineLoop.step.Goals as goal
+
+pub returns-then-has_text-clause-steps : goal.returns-then-has_text-clause-steps
+returns-then-has_text-clause-steps g c =
+    let M = g.M.LineHandler in
+    let left = g.S.Source.left c.args.input.now in
+    let before = g.W.Sink.contents c.args.output.now in
+    let after = g.W.Sink.contents c.write_on.new.output in
+    let old = c.args.self.now in
+    let new = c.write_on.new.self in
+    let some : old.state.left ≢ [] = subst (λ (r : LineLoopValue). r.state.left ≢ []) c.self.view_is (c.has_text.ensures.0 c.if-has_text.true) in
+    λ start rest steady stands. Steps-written (by M.moves M.makes M.ends M.goes M.goes_last) steady.preorder start (with_rest left rest) before after c.args.machine.now old new stands c.write_on.result some c.write_on.ensures.sends
+
+pub returns-then-has_text-clause-out : goal.returns-then-has_text-clause-out
+returns-then-has_text-clause-out g c =
+    let old = c.args.self.now in
+    let new = c.write_on.new.self in
+    let some : old.state.left ≢ [] = subst (λ (r : LineLoopValue). r.state.left ≢ []) c.self.view_is (c.has_text.ensures.0 c.if-has_text.true) in
+    out_while_made old new (g.W.Sink.is_handed_on c.args.output.now) (g.W.Sink.is_handed_on c.write_on.new.output) some c.write_on.ensures.out
+
+pub returns-then-has_text-clause-reads : goal.returns-then-has_text-clause-reads
+returns-then-has_text-clause-reads g c =
+    let old = c.args.self.now in
+    let some : old.state.left ≢ [] = subst (λ (r : LineLoopValue). r.state.left ≢ []) c.self.view_is (c.has_text.ensures.0 c.if-has_text.true) in
+    λ settled. absurd (some settled.1)
+
+pub returns-then-has_text-clause-foresees : goal.returns-then-has_text-clause-foresees
+returns-then-has_text-clause-foresees g c =
+    let before = g.W.Sink.contents c.args.output.now in
+    let after = g.W.Sink.contents c.write_on.new.output in
+    let old = c.args.self.now in
+    let new = c.write_on.new.self in
+    λ was. sends_foresees old new before after g.S.Source.may_fail g.W.Sink.may_fail g.S.Source.may_end c.write_on.result c.write_on.ensures.fault c.write_on.ensures.sends was
+
+pub returns-in-Reading-clause-steps : goal.returns-in-Reading-clause-steps
+returns-in-Reading-clause-steps g c =
+    let M = g.M.LineHandler in
+    let left = g.S.Source.left c.args.input.now in
+    let before = g.W.Sink.contents c.args.output.now in
+    let reading : c.self.inside.state.stage ≡ Reading = sym c.take_stage.ensures.stage ∙ c.in-Reading.is in
+    let back : (let r : LineLoopValue = record { line = c.self.inside.line; replies = c.self.inside.replies; state = c.take_stage.new.self } in r) ≡ c.args.self.now =
+    ap (λ (s : LineStateValue). let r : LineLoopValue = record { line = c.self.inside.line; replies = c.self.inside.replies; state = s } in r) c.take_stage.ensures.reads
+    ∙ ap (λ (s : Stage). let r : LineLoopValue = record { line = c.self.inside.line; replies = c.self.inside.replies; state = record c.self.inside.state { stage = s } } in r) (sym reading)
+    ∙ c.self.view_is in
+    λ start rest steady stands. c.read_on.ensures.steps start rest steady (subst (λ (r : LineLoopValue). Stands (by M.moves M.makes M.ends M.goes M.goes_last) start (with_rest left rest) before c.args.machine.now r) (sym back) stands)
+
+pub returns-in-Reading-clause-out : goal.returns-in-Reading-clause-out
+returns-in-Reading-clause-out g c =
+    let reading : c.self.inside.state.stage ≡ Reading = sym c.take_stage.ensures.stage ∙ c.in-Reading.is in
+    let back : (let r : LineLoopValue = record { line = c.self.inside.line; replies = c.self.inside.replies; state = c.take_stage.new.self } in r) ≡ c.args.self.now =
+    ap (λ (s : LineStateValue). let r : LineLoopValue = record { line = c.self.inside.line; replies = c.self.inside.replies; state = s } in r) c.take_stage.ensures.reads
+    ∙ ap (λ (s : Stage). let r : LineLoopValue = record { line = c.self.inside.line; replies = c.self.inside.replies; state = record c.self.inside.state { stage = s } } in r) (sym reading)
+    ∙ c.self.view_is in
+    λ is. c.read_on.ensures.out (subst (λ (r : LineLoopValue). IsOutAs r (g.W.Sink.is_handed_on c.args.output.now)) (sym back) is)
+
+pub returns-in-Reading-clause-few : goal.returns-in-Reading-clause-few
+returns-in-Reading-clause-few g c =
+    let reading : c.self.inside.state.stage ≡ Reading = sym c.take_stage.ensures.stage ∙ c.in-Reading.is in
+    let back : (let r : LineLoopValue = record { line = c.self.inside.line; replies = c.self.inside.replies; state = c.take_stage.new.self } in r) ≡ c.args.self.now =
+    ap (λ (s : LineStateValue). let r : LineLoopValue = record { line = c.self.inside.line; replies = c.self.inside.replies; state = s } in r) c.take_stage.ensures.reads
+    ∙ ap (λ (s : Stage). let r : LineLoopValue = record { line = c.self.inside.line; replies = c.self.inside.replies; state = record c.self.inside.state { stage = s } } in r) (sym reading)
+    ∙ c.self.view_is in
+    subst (λ (r : LineLoopValue). HandsOnAtMost REPLY_CAPACITY r c.read_on.new.self) back c.read_on.ensures.few
+
+pub returns-in-Reading-clause-counted : goal.returns-in-Reading-clause-counted
+returns-in-Reading-clause-counted g c =
+    let reading : c.self.inside.state.stage ≡ Reading = sym c.take_stage.ensures.stage ∙ c.in-Reading.is in
+    let back : (let r : LineLoopValue = record { line = c.self.inside.line; replies = c.self.inside.replies; state = c.take_stage.new.self } in r) ≡ c.args.self.now =
+    ap (λ (s : LineStateValue). let r : LineLoopValue = record { line = c.self.inside.line; replies = c.self.inside.replies; state = s } in r) c.take_stage.ensures.reads
+    ∙ ap (λ (s : Stage). let r : LineLoopValue = record { line = c.self.inside.line; replies = c.self.inside.replies; state = record c.self.inside.state { stage = s } } in r) (sym reading)
+    ∙ c.self.view_is in
+    subst (λ (r : LineLoopValue). CountsUnits r c.read_on.new.self c.read_on.result) back c.read_on.ensures.counted
+
+pub returns-in-Reading-clause-reads : goal.returns-in-Reading-clause-reads
+returns-in-Reading-clause-reads g c =
+    let reading : c.self.inside.state.stage ≡ Reading = sym c.take_stage.ensures.stage ∙ c.in-Reading.is in
+    let back : (let r : LineLoopValue = record { line = c.self.inside.line; replies = c.self.inside.replies; state = c.take_stage.new.self } in r) ≡ c.args.self.now =
+    ap (λ (s : LineStateValue). let r : LineLoopValue = record { line = c.self.inside.line; replies = c.self.inside.replies; state = s } in r) c.take_stage.ensures.reads
+    ∙ ap (λ (s : Stage). let r : LineLoopValue = record { line = c.self.inside.line; replies = c.self.inside.replies; state = record c.self.inside.state { stage = s } } in r) (sym reading)
+    ∙ c.self.view_is in
+    λ settled. subst (λ (r : LineLoopValue). ReadsOn (g.S.Source.looks c.args.input.now) (g.S.Source.looks c.read_on.new.input) r c.read_on.new.self c.read_on.result) back c.read_on.ensures.reads
+
+pub returns-in-Reading-clause-foresees : goal.returns-in-Reading-clause-foresees
+returns-in-Reading-clause-foresees g c =
+    let reading : c.self.inside.state.stage ≡ Reading = sym c.take_stage.ensures.stage ∙ c.in-Reading.is in
+    let back : (let r : LineLoopValue = record { line = c.self.inside.line; replies = c.self.inside.replies; state = c.take_stage.new.self } in r) ≡ c.args.self.now =
+    ap (λ (s : LineStateValue). let r : LineLoopValue = record { line = c.self.inside.line; replies = c.self.inside.replies; state = s } in r) c.take_stage.ensures.reads
+    ∙ ap (λ (s : Stage). let r : LineLoopValue = record { line = c.self.inside.line; replies = c.self.inside.replies; state = record c.self.inside.state { stage = s } } in r) (sym reading)
+    ∙ c.self.view_is in
+    λ was. c.read_on.ensures.foresees (subst (λ (r : LineLoopValue). Foresees g.S.Source.may_fail g.W.Sink.may_fail g.S.Source.may_end r) (sym back) was)
+
+pub returns-in-Looking-clause-steps : goal.returns-in-Looking-clause-steps
+returns-in-Looking-clause-steps g c =
+    let M = g.M.LineHandler in
+    let left = g.S.Source.left c.args.input.now in
+    let before = g.W.Sink.contents c.args.output.now in
+    let old = c.args.self.now in
+    let new = c.look_on.new.self in
+    let going = c.in-Looking.going in
+    let mid : LineLoopValue = record old { state = record old.state { stage = Reading } } in
+    let mid_is =
+    ap (λ (s : LineStateValue). let r : LineLoopValue = record { line = c.self.inside.line; replies = c.self.inside.replies; state = s } in r) c.take_stage.ensures.reads
+    ∙ ap (λ (r : LineLoopValue). let m : LineLoopValue = record r { state = record r.state { stage = Reading } } in m) c.self.view_is in
+    let looking : old.state.stage ≡ Looking going = sym (ap (λ (r : LineLoopValue). r.state.stage) c.self.view_is) ∙ sym c.take_stage.ensures.stage ∙ c.in-Looking.is in
+    let takes : Takes true mid new = subst (λ (r : LineLoopValue). Takes true r new) mid_is c.look_on.ensures.takes in
+    λ start rest steady stands.
+    Steps-look (by M.moves M.makes M.ends M.goes M.goes_last) steady.preorder start (with_rest left rest) before c.args.machine.now c.look_on.new.machine old new going
+    (subst (λ (s : Stage). StandsAt (by M.moves M.makes M.ends M.goes M.goes_last) s start (with_rest left rest) before c.args.machine.now old) looking stands) takes
+    (λ begun between text goes moved. subst (λ (r : LineLoopValue). TakesLine (AnswersWith M.makes M.goes) true begun text c.look_on.new.machine r new) mid_is (c.look_on.ensures.line begun between text goes moved))
+    (λ begun between text goes moved. subst (λ (r : LineLoopValue). TakesLine (AnswersLast M.ends M.goes_last) true begun text c.look_on.new.machine r new) mid_is (c.look_on.ensures.last begun between text goes moved))
+
+pub returns-in-Looking-clause-out : goal.returns-in-Looking-clause-out
+returns-in-Looking-clause-out g c =
+    let old = c.args.self.now in
+    let new = c.look_on.new.self in
+    let going = c.in-Looking.going in
+    let mid : LineLoopValue = record old { state = record old.state { stage = Reading } } in
+    let mid_is =
+    ap (λ (s : LineStateValue). let r : LineLoopValue = record { line = c.self.inside.line; replies = c.self.inside.replies; state = s } in r) c.take_stage.ensures.reads
+    ∙ ap (λ (r : LineLoopValue). let m : LineLoopValue = record r { state = record r.state { stage = Reading } } in m) c.self.view_is in
+    let looking : old.state.stage ≡ Looking going = sym (ap (λ (r : LineLoopValue). r.state.stage) c.self.view_is) ∙ sym c.take_stage.ensures.stage ∙ c.in-Looking.is in
+    let takes : Takes true mid new = subst (λ (r : LineLoopValue). Takes true r new) mid_is c.look_on.ensures.takes in
+    λ is. takes_out true mid new (g.W.Sink.is_handed_on c.args.output.now) takes is
+
+pub returns-in-Looking-clause-few : goal.returns-in-Looking-clause-few
+returns-in-Looking-clause-few g c =
+    let old = c.args.self.now in
+    let new = c.look_on.new.self in
+    let going = c.in-Looking.going in
+    let mid : LineLoopValue = record old { state = record old.state { stage = Reading } } in
+    let mid_is =
+    ap (λ (s : LineStateValue). let r : LineLoopValue = record { line = c.self.inside.line; replies = c.self.inside.replies; state = s } in r) c.take_stage.ensures.reads
+    ∙ ap (λ (r : LineLoopValue). let m : LineLoopValue = record r { state = record r.state { stage = Reading } } in m) c.self.view_is in
+    let looking : old.state.stage ≡ Looking going = sym (ap (λ (r : LineLoopValue). r.state.stage) c.self.view_is) ∙ sym c.take_stage.ensures.stage ∙ c.in-Looking.is in
+    let takes : Takes true mid new = subst (λ (r : LineLoopValue). Takes true r new) mid_is c.look_on.ensures.takes in
+    omega (arith, takes_grows true mid new takes)
+
+pub returns-in-Looking-clause-counted : goal.returns-in-Looking-clause-counted
+returns-in-Looking-clause-counted g c =
+    let old = c.args.self.now in
+    let new = c.look_on.new.self in
+    let going = c.in-Looking.going in
+    let mid : LineLoopValue = record old { state = record old.state { stage = Reading } } in
+    let mid_is =
+    ap (λ (s : LineStateValue). let r : LineLoopValue = record { line = c.self.inside.line; replies = c.self.inside.replies; state = s } in r) c.take_stage.ensures.reads
+    ∙ ap (λ (r : LineLoopValue). let m : LineLoopValue = record r { state = record r.state { stage = Reading } } in m) c.self.view_is in
+    let looking : old.state.stage ≡ Looking going = sym (ap (λ (r : LineLoopValue). r.state.stage) c.self.view_is) ∙ sym c.take_stage.ensures.stage ∙ c.in-Looking.is in
+    let takes : Takes true mid new = subst (λ (r : LineLoopValue). Takes true r new) mid_is c.look_on.ensures.takes in
+    (takes_lines true mid new takes, omega (arith, subst (λ (r : LineLoopValue). length new.replies < length r.replies + 1024 * (c.look_on.result + 1)) mid_is c.look_on.ensures.units, ap (λ (l : LineBufferValue). l.count) (takes_line true mid new takes)))
+
+pub returns-in-Looking-clause-reads : goal.returns-in-Looking-clause-reads
+returns-in-Looking-clause-reads g c =
+    let old = c.args.self.now in
+    let new = c.look_on.new.self in
+    let going = c.in-Looking.going in
+    let mid : LineLoopValue = record old { state = record old.state { stage = Reading } } in
+    let mid_is =
+    ap (λ (s : LineStateValue). let r : LineLoopValue = record { line = c.self.inside.line; replies = c.self.inside.replies; state = s } in r) c.take_stage.ensures.reads
+    ∙ ap (λ (r : LineLoopValue). let m : LineLoopValue = record r { state = record r.state { stage = Reading } } in m) c.self.view_is in
+    let looking : old.state.stage ≡ Looking going = sym (ap (λ (r : LineLoopValue). r.state.stage) c.self.view_is) ∙ sym c.take_stage.ensures.stage ∙ c.in-Looking.is in
+    let takes : Takes true mid new = subst (λ (r : LineLoopValue). Takes true r new) mid_is c.look_on.ensures.takes in
+    λ settled. absurd (settled.0 (subst (λ (s : Stage). IsLookingAt s) (sym looking) tt))
+
+pub returns-in-Looking-clause-foresees : goal.returns-in-Looking-clause-foresees
+returns-in-Looking-clause-foresees g c =
+    let old = c.args.self.now in
+    let new = c.look_on.new.self in
+    let going = c.in-Looking.going in
+    let mid : LineLoopValue = record old { state = record old.state { stage = Reading } } in
+    let mid_is =
+    ap (λ (s : LineStateValue). let r : LineLoopValue = record { line = c.self.inside.line; replies = c.self.inside.replies; state = s } in r) c.take_stage.ensures.reads
+    ∙ ap (λ (r : LineLoopValue). let m : LineLoopValue = record r { state = record r.state { stage = Reading } } in m) c.self.view_is in
+    let looking : old.state.stage ≡ Looking going = sym (ap (λ (r : LineLoopValue). r.state.stage) c.self.view_is) ∙ sym c.take_stage.ensures.stage ∙ c.in-Looking.is in
+    let takes : Takes true mid new = subst (λ (r : LineLoopValue). Takes true r new) mid_is c.look_on.ensures.takes in
+    λ was.
+    let at = subst (λ (s : Stage). ForeseesAt s g.S.Source.may_fail g.W.Sink.may_fail g.S.Source.may_end old) looking was in
+    takes_foresees true mid new g.S.Source.may_fail g.W.Sink.may_fail g.S.Source.may_end takes at.0 at.1 at.2
+
+pub returns-in-Ending-clause-steps : goal.returns-in-Ending-clause-steps
+returns-in-Ending-clause-steps g c =
+    let M = g.M.LineHandler in
+    let left = g.S.Source.left c.args.input.now in
+    let old = c.args.self.now in
+    let new = c.end_once_out.new.self in
+    let ended = c.in-Ending.ended in
+    let before = g.W.Sink.contents c.args.output.now in
+    let after = g.W.Sink.contents c.end_once_out.new.output in
+    let mid : LineLoopValue = record old { state = record old.state { stage = Reading } } in
+    let mid_is =
+    ap (λ (s : LineStateValue). let r : LineLoopValue = record { line = c.self.inside.line; replies = c.self.inside.replies; state = s } in r) c.take_stage.ensures.reads
+    ∙ ap (λ (r : LineLoopValue). let m : LineLoopValue = record r { state = record r.state { stage = Reading } } in m) c.self.view_is in
+    let ending : old.state.stage ≡ Ending ended = sym (ap (λ (r : LineLoopValue). r.state.stage) c.self.view_is) ∙ sym c.take_stage.ensures.stage ∙ c.in-Ending.is in
+    let ends : EndsTo ended mid before new after c.end_once_out.result = subst (λ (r : LineLoopValue). EndsTo ended r before new after c.end_once_out.result) mid_is c.end_once_out.ensures.ends in
+    λ start rest steady stands.
+    Steps-ended (by M.moves M.makes M.ends M.goes M.goes_last) steady.preorder start (with_rest left rest) before after c.args.machine.now mid new ended
+    (subst (λ (s : Stage). StandsAt (by M.moves M.makes M.ends M.goes M.goes_last) s start (with_rest left rest) before c.args.machine.now old) ending stands) c.end_once_out.result ends
+
+pub returns-in-Ending-clause-idle : goal.returns-in-Ending-clause-idle
+returns-in-Ending-clause-idle g c =
+    let old = c.args.self.now in
+    let new = c.end_once_out.new.self in
+    let ended = c.in-Ending.ended in
+    let before = g.W.Sink.contents c.args.output.now in
+    let after = g.W.Sink.contents c.end_once_out.new.output in
+    let mid : LineLoopValue = record old { state = record old.state { stage = Reading } } in
+    let mid_is =
+    ap (λ (s : LineStateValue). let r : LineLoopValue = record { line = c.self.inside.line; replies = c.self.inside.replies; state = s } in r) c.take_stage.ensures.reads
+    ∙ ap (λ (r : LineLoopValue). let m : LineLoopValue = record r { state = record r.state { stage = Reading } } in m) c.self.view_is in
+    let ending : old.state.stage ≡ Ending ended = sym (ap (λ (r : LineLoopValue). r.state.stage) c.self.view_is) ∙ sym c.take_stage.ensures.stage ∙ c.in-Ending.is in
+    let ends : EndsTo ended mid before new after c.end_once_out.result = subst (λ (r : LineLoopValue). EndsTo ended r before new after c.end_once_out.result) mid_is c.end_once_out.ensures.ends in
+    ends_idle mid new before after ended c.end_once_out.result ends
+
+pub returns-in-Ending-clause-out : goal.returns-in-Ending-clause-out
+returns-in-Ending-clause-out g c =
+    λ was out. let all = c.end_once_out.ensures.out out in (all.0, inr all.1)
+
+pub returns-in-Ending-clause-few : goal.returns-in-Ending-clause-few
+returns-in-Ending-clause-few g c =
+    let old = c.args.self.now in
+    let new = c.end_once_out.new.self in
+    let ended = c.in-Ending.ended in
+    let before = g.W.Sink.contents c.args.output.now in
+    let after = g.W.Sink.contents c.end_once_out.new.output in
+    let mid : LineLoopValue = record old { state = record old.state { stage = Reading } } in
+    let mid_is =
+    ap (λ (s : LineStateValue). let r : LineLoopValue = record { line = c.self.inside.line; replies = c.self.inside.replies; state = s } in r) c.take_stage.ensures.reads
+    ∙ ap (λ (r : LineLoopValue). let m : LineLoopValue = record r { state = record r.state { stage = Reading } } in m) c.self.view_is in
+    let ending : old.state.stage ≡ Ending ended = sym (ap (λ (r : LineLoopValue). r.state.stage) c.self.view_is) ∙ sym c.take_stage.ensures.stage ∙ c.in-Ending.is in
+    let ends : EndsTo ended mid before new after c.end_once_out.result = subst (λ (r : LineLoopValue). EndsTo ended r before new after c.end_once_out.result) mid_is c.end_once_out.ensures.ends in
+    subst (λ (r : LineLoopValue). HandsOnAtMost REPLY_CAPACITY r new) mid_is c.end_once_out.ensures.few
+
+pub returns-in-Ending-clause-counted : goal.returns-in-Ending-clause-counted
+returns-in-Ending-clause-counted g c =
+    let old = c.args.self.now in
+    let new = c.end_once_out.new.self in
+    let ended = c.in-Ending.ended in
+    let before = g.W.Sink.contents c.args.output.now in
+    let after = g.W.Sink.contents c.end_once_out.new.output in
+    let mid : LineLoopValue = record old { state = record old.state { stage = Reading } } in
+    let mid_is =
+    ap (λ (s : LineStateValue). let r : LineLoopValue = record { line = c.self.inside.line; replies = c.self.inside.replies; state = s } in r) c.take_stage.ensures.reads
+    ∙ ap (λ (r : LineLoopValue). let m : LineLoopValue = record r { state = record r.state { stage = Reading } } in m) c.self.view_is in
+    let ending : old.state.stage ≡ Ending ended = sym (ap (λ (r : LineLoopValue). r.state.stage) c.self.view_is) ∙ sym c.take_stage.ensures.stage ∙ c.in-Ending.is in
+    let ends : EndsTo ended mid before new after c.end_once_out.result = subst (λ (r : LineLoopValue). EndsTo ended r before new after c.end_once_out.result) mid_is c.end_once_out.ensures.ends in
+    ends_counted mid new before after ended old c.end_once_out.result ends
+
+pub returns-in-Ending-clause-reads : goal.returns-in-Ending-clause-reads
+returns-in-Ending-clause-reads g c =
+    let old = c.args.self.now in
+    let new = c.end_once_out.new.self in
+    let ended = c.in-Ending.ended in
+    let before = g.W.Sink.contents c.args.output.now in
+    let after = g.W.Sink.contents c.end_once_out.new.output in
+    let mid : LineLoopValue = record old { state = record old.state { stage = Reading } } in
+    let mid_is =
+    ap (λ (s : LineStateValue). let r : LineLoopValue = record { line = c.self.inside.line; replies = c.self.inside.replies; state = s } in r) c.take_stage.ensures.reads
+    ∙ ap (λ (r : LineLoopValue). let m : LineLoopValue = record r { state = record r.state { stage = Reading } } in m) c.self.view_is in
+    let ending : old.state.stage ≡ Ending ended = sym (ap (λ (r : LineLoopValue). r.state.stage) c.self.view_is) ∙ sym c.take_stage.ensures.stage ∙ c.in-Ending.is in
+    let ends : EndsTo ended mid before new after c.end_once_out.result = subst (λ (r : LineLoopValue). EndsTo ended r before new after c.end_once_out.result) mid_is c.end_once_out.ensures.ends in
+    λ settled. ends_nearer old mid new before after ended (g.S.Source.looks c.args.input.now) c.end_once_out.result ends
+
+pub returns-in-Ending-clause-end : goal.returns-in-Ending-clause-end
+returns-in-Ending-clause-end g c =
+    let old = c.args.self.now in
+    let new = c.end_once_out.new.self in
+    let ended = c.in-Ending.ended in
+    let before = g.W.Sink.contents c.args.output.now in
+    let after = g.W.Sink.contents c.end_once_out.new.output in
+    let mid : LineLoopValue = record old { state = record old.state { stage = Reading } } in
+    let mid_is =
+    ap (λ (s : LineStateValue). let r : LineLoopValue = record { line = c.self.inside.line; replies = c.self.inside.replies; state = s } in r) c.take_stage.ensures.reads
+    ∙ ap (λ (r : LineLoopValue). let m : LineLoopValue = record r { state = record r.state { stage = Reading } } in m) c.self.view_is in
+    let ending : old.state.stage ≡ Ending ended = sym (ap (λ (r : LineLoopValue). r.state.stage) c.self.view_is) ∙ sym c.take_stage.ensures.stage ∙ c.in-Ending.is in
+    let ends : EndsTo ended mid before new after c.end_once_out.result = subst (λ (r : LineLoopValue). EndsTo ended r before new after c.end_once_out.result) mid_is c.end_once_out.ensures.ends in
+    λ is. absurd (ends_no_input mid new before after ended c.end_once_out.result ends is)
+
+pub returns-in-Ending-clause-at_end : goal.returns-in-Ending-clause-at_end
+returns-in-Ending-clause-at_end g c =
+    let old = c.args.self.now in
+    let new = c.end_once_out.new.self in
+    let ended = c.in-Ending.ended in
+    let before = g.W.Sink.contents c.args.output.now in
+    let after = g.W.Sink.contents c.end_once_out.new.output in
+    let mid : LineLoopValue = record old { state = record old.state { stage = Reading } } in
+    let mid_is =
+    ap (λ (s : LineStateValue). let r : LineLoopValue = record { line = c.self.inside.line; replies = c.self.inside.replies; state = s } in r) c.take_stage.ensures.reads
+    ∙ ap (λ (r : LineLoopValue). let m : LineLoopValue = record r { state = record r.state { stage = Reading } } in m) c.self.view_is in
+    let ending : old.state.stage ≡ Ending ended = sym (ap (λ (r : LineLoopValue). r.state.stage) c.self.view_is) ∙ sym c.take_stage.ensures.stage ∙ c.in-Ending.is in
+    let ends : EndsTo ended mid before new after c.end_once_out.result = subst (λ (r : LineLoopValue). EndsTo ended r before new after c.end_once_out.result) mid_is c.end_once_out.ensures.ends in
+    λ is. absurd (ends_no_input mid new before after ended c.end_once_out.result ends is)
+
+pub returns-in-Ending-clause-foresees : goal.returns-in-Ending-clause-foresees
+returns-in-Ending-clause-foresees g c =
+    let old = c.args.self.now in
+    let new = c.end_once_out.new.self in
+    let ended = c.in-Ending.ended in
+    let before = g.W.Sink.contents c.args.output.now in
+    let after = g.W.Sink.contents c.end_once_out.new.output in
+    let mid : LineLoopValue = record old { state = record old.state { stage = Reading } } in
+    let mid_is =
+    ap (λ (s : LineStateValue). let r : LineLoopValue = record { line = c.self.inside.line; replies = c.self.inside.replies; state = s } in r) c.take_stage.ensures.reads
+    ∙ ap (λ (r : LineLoopValue). let m : LineLoopValue = record r { state = record r.state { stage = Reading } } in m) c.self.view_is in
+    let ending : old.state.stage ≡ Ending ended = sym (ap (λ (r : LineLoopValue). r.state.stage) c.self.view_is) ∙ sym c.take_stage.ensures.stage ∙ c.in-Ending.is in
+    let ends : EndsTo ended mid before new after c.end_once_out.result = subst (λ (r : LineLoopValue). EndsTo ended r before new after c.end_once_out.result) mid_is c.end_once_out.ensures.ends in
+    λ was. ends_foresees mid new before after ended g.S.Source.may_fail g.W.Sink.may_fail g.S.Source.may_end c.end_once_out.result c.end_once_out.ensures.fault ends (subst (λ (s : Stage). ForeseesAt s g.S.Source.may_fail g.W.Sink.may_fail g.S.Source.may_end old) ending was)
+
+pub look_on-requires-clause-made : goal.look_on-requires-clause-made
+look_on-requires-clause-made g c = ap (λ (s : LineStateValue). s.left) c.take_stage.ensures.reads ∙ (no_text c.has_text.result c.self.inside.state.left c.has_text.ensures).0 c.if-has_text.false
+
+pub end_once_out-requires : goal.end_once_out-requires
+end_once_out-requires g c = record { made = ap (λ (s : LineStateValue). s.left) c.take_stage.ensures.reads ∙ (no_text c.has_text.result c.self.inside.state.left c.has_text.ensures).0 c.if-has_text.false }
+
+pub returns-then-has_text-clause-knows : goal.returns-then-has_text-clause-knows
+returns-then-has_text-clause-knows g c = knows_itself _
+
+pub returns-in-Ending-clause-knows : goal.returns-in-Ending-clause-knows
+returns-in-Ending-clause-knows g c = knows_itself _
+
+pub read_on-requires-clause-made : goal.read_on-requires-clause-made
+read_on-requires-clause-made g c = ap (λ (s : LineStateValue). s.left) c.take_stage.ensures.reads ∙ (no_text c.has_text.result c.self.inside.state.left c.has_text.ensures).0 c.if-has_text.false

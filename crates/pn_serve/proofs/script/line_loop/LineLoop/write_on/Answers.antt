@@ -1,0 +1,24 @@
+-- A block was written, and text was made where there was room.
+use Rattle.std.proofs.Common.{subst}
+use Rattle.pn_serve.specs.Lines.States.{LineLoopValue}
+use Rattle.pn_serve.specs.Lines.Taking.{IsSent}
+use Rattle.pn_serve.proofs.Writing.{Sent-made, Sent-only, Sent-some}
+use Rattle.pn_serve.proofs.script.line_loop.LineLoop.write_on.Goals as goal
+
+pub returns-in-Ok-All-clause-sends : goal.returns-in-Ok-All-clause-sends
+returns-in-Ok-All-clause-sends g c =
+    let before = g.W.Sink.contents c.args.output.now in
+    let after = g.W.Sink.contents c.send_block.new.writer in
+    let old : LineLoopValue = record { line = c.self.inside.line; replies = c.self.inside.replies; state = c.self.inside.state } in
+    subst (λ (r : LineLoopValue). IsSent r before c.make_text.new.self after) c.self.view_is
+    (Sent-made old c.make_text.new.self c.send_block.new.self before after c.in-Ok-All.ensures.ok c.make_text.ensures.kept c.make_text.ensures.whole c.make_text.ensures.grows)
+
+pub returns-in-Ok-Waits-clause-sends : goal.returns-in-Ok-Waits-clause-sends
+returns-in-Ok-Waits-clause-sends g c =
+    let before = g.W.Sink.contents c.args.output.now in
+    let after = g.W.Sink.contents c.send_block.new.writer in
+    let old : LineLoopValue = record { line = c.self.inside.line; replies = c.self.inside.replies; state = c.self.inside.state } in
+    let new : LineLoopValue = record { line = c.self.inside.line; replies = c.send_block.new.self; state = c.self.inside.state } in (
+      subst (λ (r : LineLoopValue). IsSent r before new after) c.self.view_is (Sent-only old c.send_block.new.self c.self.inside.state.out before after c.in-Ok-Waits.ensures.ok),
+      Sent-some c.send_block.new.self c.self.inside.state.left (c.in-Ok-Waits.ensures.waits c.in-Ok-Waits.field-0-is).0,
+    )

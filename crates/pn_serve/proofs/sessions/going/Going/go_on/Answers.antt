@@ -1,0 +1,73 @@
+-- A page, a get and a copy that are gone on with.
+use Rattle.std.proofs.Common.{◌≡◌, ◌≤◌, ◌<◌, ℕ, sym, subst, arith}
+use Rattle.pn_scan.specs.Paging.{Stays}
+use Rattle.pn_live.specs.Readers.{LiveReaderValue}
+use Rattle.pn_protocol.specs.Command.Meaning.{CommandValue}
+use Rattle.pn_serve.specs.declared.sessions.going.Going.{Going}
+use Rattle.pn_serve.specs.Lines.Going.{answer_left}
+use Rattle.pn_serve.specs.Session.Knowing.{KnowsNoLess}
+use Rattle.pn_serve.specs.Session.Looking.{LooksOn, going_left}
+use Rattle.pn_serve.proofs.GoingOn.{copy_nearer, copy_on, keys_nearer, keys_on, only_looks_know, page_nearer, page_on}
+use Rattle.pn_serve.proofs.Knowing.{knows_itself, knows_preorder, moves_knows, stays_knows}
+use Rattle.pn_serve.proofs.Running.{stays_preorder}
+use Rattle.pn_serve.proofs.sessions.going.Going.go_on.Goals as goal
+
+pub returns-in-Page-clause-alone : goal.returns-in-Page-clause-alone
+returns-in-Page-clause-alone c =
+    λ was between command on moved.
+    page_on Stays stays_preorder stays_knows was between c.args.reader.now c.go_on-step.new.view moved command c.in-Page.query c.in-Page.walk c.go_on-step.result c.page_answer.result
+    (subst (λ (going : Going). LooksOn Stays was command between going) c.in-Page.is on) c.go_on-step.ensures.goes c.page_answer.ensures
+
+pub returns-in-Page-clause-shared : goal.returns-in-Page-clause-shared
+returns-in-Page-clause-shared c =
+    λ was between command on moved.
+    page_on KnowsNoLess knows_preorder moves_knows was between c.args.reader.now c.go_on-step.new.view moved command c.in-Page.query c.in-Page.walk c.go_on-step.result c.page_answer.result
+    (subst (λ (going : Going). LooksOn KnowsNoLess was command between going) c.in-Page.is on) c.go_on-step.ensures.goes c.page_answer.ensures
+
+pub returns-in-Page-clause-nearer : goal.returns-in-Page-clause-nearer
+returns-in-Page-clause-nearer c = λ some.
+    subst (λ (going : Going). answer_left c.page_answer.result ≤ going_left going) (sym c.in-Page.is)
+    (page_nearer c.in-Page.query c.in-Page.walk c.go_on-step.result c.page_answer.result c.page_answer.ensures (c.go_on-step.ensures.nearer some) c.recall_few.ensures)
+
+pub returns-in-Page-clause-knows : goal.returns-in-Page-clause-knows
+returns-in-Page-clause-knows c = only_looks_know c.args.reader.now c.go_on-step.new.view c.go_on-step.ensures.looked
+
+pub returns-in-Keys-clause-alone : goal.returns-in-Keys-clause-alone
+returns-in-Keys-clause-alone c =
+    λ was between command on moved.
+    keys_on Stays stays_preorder stays_knows was between c.args.reader.now c.go_on-walk.new.reader moved command c.in-Keys.walk c.go_on-walk.result c.keys_answer.result
+    (subst (λ (going : Going). LooksOn Stays was command between going) c.in-Keys.is on) c.go_on-walk.ensures.goes c.keys_answer.ensures.answers
+
+pub returns-in-Keys-clause-shared : goal.returns-in-Keys-clause-shared
+returns-in-Keys-clause-shared c =
+    λ was between command on moved.
+    keys_on KnowsNoLess knows_preorder moves_knows was between c.args.reader.now c.go_on-walk.new.reader moved command c.in-Keys.walk c.go_on-walk.result c.keys_answer.result
+    (subst (λ (going : Going). LooksOn KnowsNoLess was command between going) c.in-Keys.is on) c.go_on-walk.ensures.goes c.keys_answer.ensures.answers
+
+pub returns-in-Keys-clause-nearer : goal.returns-in-Keys-clause-nearer
+returns-in-Keys-clause-nearer c = λ some.
+    subst (λ (going : Going). answer_left c.keys_answer.result ≤ going_left going) (sym c.in-Keys.is)
+    (keys_nearer c.in-Keys.walk c.max-most.result c.go_on-walk.result c.keys_answer.result (omega arith) c.go_on-walk.ensures.left c.keys_answer.ensures.some c.keys_answer.ensures.fault)
+
+pub returns-in-Keys-clause-knows : goal.returns-in-Keys-clause-knows
+returns-in-Keys-clause-knows c = only_looks_know c.args.reader.now c.go_on-walk.new.reader c.go_on-walk.ensures.looked
+
+pub returns-in-Copy-clause-alone : goal.returns-in-Copy-clause-alone
+returns-in-Copy-clause-alone c =
+    λ was between command on moved.
+    copy_on Stays stays_preorder stays_knows was between c.args.reader.now c.args.reader.now moved command c.in-Copy.count c.args.records c.go_on.result c.copy_answer.result
+    (subst (λ (going : Going). LooksOn Stays was command between going) c.in-Copy.is on) c.go_on.ensures (c.copy_answer.ensures c.args.records c.in-Copy.count c.go_on.ensures)
+
+pub returns-in-Copy-clause-shared : goal.returns-in-Copy-clause-shared
+returns-in-Copy-clause-shared c =
+    λ was between command on moved.
+    copy_on KnowsNoLess knows_preorder moves_knows was between c.args.reader.now c.args.reader.now moved command c.in-Copy.count c.args.records c.go_on.result c.copy_answer.result
+    (subst (λ (going : Going). LooksOn KnowsNoLess was command between going) c.in-Copy.is on) c.go_on.ensures (c.copy_answer.ensures c.args.records c.in-Copy.count c.go_on.ensures)
+
+pub returns-in-Copy-clause-nearer : goal.returns-in-Copy-clause-nearer
+returns-in-Copy-clause-nearer c = λ some.
+    subst (λ (going : Going). answer_left c.copy_answer.result ≤ going_left going) (sym c.in-Copy.is)
+    (copy_nearer c.in-Copy.count c.args.records c.go_on.result c.copy_answer.result some c.go_on.ensures (c.copy_answer.ensures c.args.records c.in-Copy.count c.go_on.ensures))
+
+pub returns-in-Copy-clause-knows : goal.returns-in-Copy-clause-knows
+returns-in-Copy-clause-knows c = knows_itself c.args.reader.now

@@ -1,0 +1,111 @@
+//! How a line loop takes what its input has at hand.
+
+ghost use Rattle.std.specs.Prelude.{◌≡◌, ◌≢◌, ◌⊎◌, ◌+◌, ◌≤◌, ◌<◌, ℕ, List, [], Option, Err, OnSome};
+ghost use Rattle.std.specs.Io.KnownBytes.{IsAtEnd};
+ghost use Rattle.pn_line.specs.declared.line_buffer.TheConstants.{ENDLESS};
+ghost use Rattle.pn_serve.specs.Lines.Bounds.{CountsUnits, Foresees, ForeseesStep, HandsOnAtMost, HandsOnStep, IsIdleAt, IsOutAs, ReadsOn};
+ghost use Rattle.pn_serve.specs.Lines.States.{Start};
+ghost use Rattle.pn_serve.specs.Lines.Stepping.{by, with_rest, Stands, StepsTo};
+ghost use Rattle.pn_serve.specs.declared.script.replies.TheConstants.{REPLY_CAPACITY};
+ghost use Rattle.pn_serve.specs.Session.Knowing.{IsSteady, KnowsNoLess};
+
+use crate::RunFault;
+use crate::machine::line_handler::LineHandler;
+use crate::script::MAX_LINES;
+use crate::script::line_loop::state::Stage;
+use crate::script::line_loop::steps::units_of;
+use crate::script::line_loop::{LineLoop, Step};
+use pn_line::{ENDLESS, Piece, Sink, Source};
+
+impl LineLoop {
+    /// Takes a piece of the input, once all replies are out that may not wait.
+    pub(super) fn read_on<M: LineHandler, S: Source, W: Sink>(
+        &mut self,
+        machine: &mut M,
+        input: &mut S,
+        output: &mut W,
+    ) -> Step
+        requires ready { M.ready }
+        requires reading { self.old.state.stage ≡ Stage.Reading }
+        requires made { self.old.state.left ≡ [] }
+        ensures steps { (start : Start M) (rest : Option (List ℕ)) → IsSteady M.reader M.moves → Stands (by M.moves M.makes M.ends M.goes M.goes_last) start (with_rest (S.left input.old) rest) (W.contents output.old) machine.old self.old
+            → StepsTo (by M.moves M.makes M.ends M.goes M.goes_last) start (with_rest (S.left input.new) rest) (W.contents output.new) machine.new self.new result }
+        ensures idle { IsIdleAt result self.new }
+        ensures out { IsOutAs self.old (W.is_handed_on output.old) → IsOutAs self.new (W.is_handed_on output.new) }
+        ensures handed_on { HandsOnStep result (W.is_handed_on output.new) }
+        ensures few { HandsOnAtMost REPLY_CAPACITY self.old self.new }
+        ensures counted { CountsUnits self.old self.new result }
+        ensures looks { S.looks input.new ≤ S.looks input.old + 1 }
+        ensures reads { ReadsOn (S.looks input.old) (S.looks input.new) self.old self.new result }
+        ensures end { result ≡ Step.NoInput → S.may_end }
+        ensures at_end { result ≡ Step.NoInput → OnSome (S.left input.old) (IsAtEnd (S.left input.new)) }
+        ensures held { result ≡ Step.NoRoom → self.new.replies ≢ [] }
+        ensures room { result ≡ Step.NoRoom → W.may_fail }
+        ensures foresees { Foresees S.may_fail W.may_fail S.may_end self.old → ForeseesStep S.may_fail W.may_fail S.may_end self.new result }
+        ensures knows { KnowsNoLess (M.reader machine.old) (M.reader machine.new) }
+    {
+        if !self.state.has_more() && !self.state.is_out() {
+            return self.put_out(output);
+        }
+        if self.line.len() >= ENDLESS {
+            return self.end_reading(RunFault::TooManyTurns);
+        }
+        if self.counts().lines >= MAX_LINES {
+            return match input.has_more() {
+                Ok(false) => self.wait_for_input(output),
+                Ok(true) => self.end_reading(RunFault::TooManyTurns),
+                Err(_) => self.end_reading(RunFault::Read),
+            };
+        }
+        self.take_piece(machine, input, output)
+    }
+
+    // Takes a piece of the input, and answers the line where it ends.
+    fn take_piece<M: LineHandler, S: Source, W: Sink>(
+        &mut self,
+        machine: &mut M,
+        input: &mut S,
+        output: &mut W,
+    ) -> Step
+        requires ready { M.ready }
+        requires reading { self.old.state.stage ≡ Stage.Reading }
+        requires made { self.old.state.left ≡ [] }
+        requires more { self.old.state.counts.lines < MAX_LINES }
+        requires below { self.old.line.count < ENDLESS }
+        ensures steps { (start : Start M) (rest : Option (List ℕ)) → IsSteady M.reader M.moves → Stands (by M.moves M.makes M.ends M.goes M.goes_last) start (with_rest (S.left input.old) rest) (W.contents output.old) machine.old self.old
+            → StepsTo (by M.moves M.makes M.ends M.goes M.goes_last) start (with_rest (S.left input.new) rest) (W.contents output.new) machine.new self.new result }
+        ensures idle { IsIdleAt result self.new }
+        ensures out { IsOutAs self.old (W.is_handed_on output.old) → IsOutAs self.new (W.is_handed_on output.new) }
+        ensures handed_on { HandsOnStep result (W.is_handed_on output.new) }
+        ensures few { HandsOnAtMost REPLY_CAPACITY self.old self.new }
+        ensures counted { CountsUnits self.old self.new result }
+        ensures looks { S.looks input.new ≤ S.looks input.old + 1 }
+        ensures reads { ReadsOn (S.looks input.old) (S.looks input.new) self.old self.new result }
+        ensures end { result ≡ Step.NoInput → S.may_end }
+        ensures at_end { result ≡ Step.NoInput → OnSome (S.left input.old) (IsAtEnd (S.left input.new)) }
+        ensures held { result ≡ Step.NoRoom → self.new.replies ≢ [] }
+        ensures room { result ≡ Step.NoRoom → W.may_fail }
+        ensures foresees { Foresees S.may_fail W.may_fail S.may_end self.old → ForeseesStep S.may_fail W.may_fail S.may_end self.new result }
+        ensures knows { KnowsNoLess (M.reader machine.old) (M.reader machine.new) }
+    {
+        let before = self.line.len();
+        match input.take_some(&mut self.line) {
+            Ok(Piece::Part) => Step::Next(units_of(self.line.len() - before)),
+            Ok(Piece::Ended { more }) => {
+                self.state.set_more(more);
+                Step::Next(self.answer(machine))
+            }
+            Ok(Piece::NoMore) => self.wait_for_input(output),
+            Err(_) => self.end_reading(RunFault::Read),
+        }
+    }
+
+    // No more is read, and the loop ends by a fault.
+    fn end_reading(&mut self, fault: RunFault) -> Step
+        ensures step { result ≡ Step.Next 0 }
+        ensures ends { self.new ≡ record self.old { state = record self.old.state { stage = Stage.Ending (Err fault) } } }
+    {
+        self.end_by(Err(fault));
+        Step::Next(0)
+    }
+}

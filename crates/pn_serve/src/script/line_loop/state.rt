@@ -1,0 +1,280 @@
+//! Where a line loop is between two steps, and how it is put aside while its buffers serve another.
+
+ghost use Rattle.std.specs.Prelude.{ℕ, List, ◌≡◌, ◌≢◌, ◌↔◌, false, true, IsFalse, IsTrue, []};
+ghost use Rattle.pn_line.specs.Prelude.{so_far};
+ghost use Rattle.pn_protocol.specs.Prelude.{is_refusal as refuses};
+ghost use Rattle.pn_protocol.specs.declared.refusal.Refusal.TheVariants.{Memory};
+ghost use Rattle.pn_protocol.specs.declared.reply.Reply.TheVariants.{Refused};
+ghost use Rattle.pn_serve.specs.Lines.After.{After};
+ghost use Rattle.pn_serve.specs.declared.sessions.going.Going.{Going};
+ghost use Rattle.pn_serve.specs.Lines.Sending.{text_left};
+ghost use Rattle.pn_serve.specs.Lines.States.{counted, new_state, waits_in};
+ghost use Rattle.pn_serve.specs.Lines.Taking.{stage_after};
+
+use crate::machine::line_handler::{LineHandler, is_refusal};
+use crate::script::line_loop::LineLoop;
+use crate::script::replies::ReplyBuffer;
+use crate::sessions::going::Going;
+use crate::{Counts, RunFault};
+use pn_line::LineBuffer;
+use pn_protocol::{Reply, ReplyText};
+use std::marker::Model;
+use std::mem;
+
+/// Where a line loop is between two steps, but for the line that is read and the bytes that wait.
+#[derive(Drop)]
+pub struct LineState {
+    stage: Stage,
+    // The reply whose text is not made to its end.
+    text: Option<ReplyText>,
+    // Whether a further line was seen. If not, reading it may wait for input.
+    more: bool,
+    // Whether all replies were handed on.
+    is_out: bool,
+    // Whether the input is at its end.
+    is_last: bool,
+    counts: Counts,
+}
+
+/// What is done next.
+#[derive(Drop)]
+pub(super) enum Stage {
+    /// The input is read.
+    Reading,
+    /// A look is gone on with.
+    Looking(Going),
+    /// The loop ends so, once its replies are out.
+    Ending(Result<Counts, RunFault>),
+}
+
+impl Model for LineState {
+    ghost use Rattle.pn_serve.specs.Lines.States.{LineStateValue};
+    ghost use Rattle.pn_serve.specs.Lines.Sending.{text_left};
+
+    ghost Value = { LineStateValue };
+
+    ghost use Rattle.pn_serve.specs.contracts.script.line_loop.state.Stage as stages;
+    ghost use Rattle.std.specs.Coded.{codes};
+
+    ghost coded = { Prim.hlevel (codes, stages.the_row.coded) };
+
+    ghost view = { λ state. record { stage = state.stage; left = text_left state.text; more = state.more; out = state.is_out; last = state.is_last; counts = state.counts } };
+}
+
+impl LineState {
+    /// That of a loop that has answered no line.
+    pub fn new() -> LineState
+        ensures { result ≡ new_state }
+    {
+        LineState {
+            stage: Stage::Reading,
+            text: None,
+            more: false,
+            is_out: true,
+            is_last: false,
+            counts: Counts {
+                lines: 0,
+                refused: 0,
+            },
+        }
+    }
+
+    /// What is done next. The state is then one that reads.
+    pub(super) fn take_stage(&mut self) -> Stage
+        ensures stage { result ≡ self.old.stage }
+        ensures reads { self.new ≡ record self.old { stage = Stage.Reading } }
+    {
+        mem::replace(&mut self.stage, Stage::Reading)
+    }
+
+    /// What is done next is this.
+    pub(super) fn set_stage(&mut self, stage: Stage)
+        ensures { self.new ≡ record self.old { stage = stage } }
+    {
+        self.stage = stage;
+    }
+
+    /// Whether the input is read.
+    pub(super) fn is_reading(&self) -> bool
+        ensures { IsTrue result ↔ (self.now.stage ≡ Stage.Reading) }
+    {
+        match &self.stage {
+            Stage::Reading => true,
+            _ => false,
+        }
+    }
+
+    // A look that is given up leaves its line refused.
+    pub(super) fn recall_refused<M: LineHandler>(&self, machine: &M)
+        ensures line { (was between : M) (text : List ℕ) (going : Going) → self.now.stage ≡ Stage.Looking going → M.goes was text between going → M.moves between machine.now → After M.moves M.makes was text machine.now (Refused Memory) }
+        ensures last { (was between : M) (text : List ℕ) (going : Going) → self.now.stage ≡ Stage.Looking going → M.goes_last was text between going → M.moves between machine.now → After M.moves M.ends was text machine.now (Refused Memory) }
+    {
+        if let Stage::Looking(going) = &self.stage {
+            machine.recall_refused(going);
+        }
+    }
+
+    /// Whether text of a reply is still to be made.
+    pub(super) fn has_text(&self) -> bool
+        ensures { IsTrue result ↔ (self.now.left ≢ []) }
+    {
+        match &self.text {
+            Some(text) => !text.is_made(),
+            None => false,
+        }
+    }
+
+    /// The text that is still to be made. The state then has none.
+    pub(super) fn take_text(&mut self) -> Option<ReplyText>
+        ensures text { text_left result ≡ self.old.left }
+        ensures taken { self.new ≡ record self.old { left = [] } }
+    {
+        self.text.take()
+    }
+
+    /// This text is still to be made.
+    pub(super) fn set_text(&mut self, text: Option<ReplyText>)
+        ensures { self.new ≡ record self.old { left = text_left text } }
+    {
+        self.text = text;
+    }
+
+    /// Whether a further line was seen.
+    pub(super) fn has_more(&self) -> bool
+        ensures { result ≡ self.now.more }
+    {
+        self.more
+    }
+
+    /// Whether a further line was seen is this from now on.
+    pub(super) fn set_more(&mut self, more: bool)
+        ensures { self.new ≡ record self.old { more = more } }
+    {
+        self.more = more;
+    }
+
+    /// Whether all replies were handed on.
+    pub(super) fn is_out(&self) -> bool
+        ensures { result ≡ self.now.out }
+    {
+        self.is_out
+    }
+
+    /// Whether all replies were handed on is this from now on.
+    pub(super) fn set_out(&mut self, is_out: bool)
+        ensures { self.new ≡ record self.old { out = is_out } }
+    {
+        self.is_out = is_out;
+    }
+
+    /// The input is at its end.
+    pub(super) fn set_last(&mut self)
+        ensures { self.new ≡ record self.old { last = true } }
+    {
+        self.is_last = true;
+    }
+
+    /// How many lines were answered, and how many refused.
+    pub(super) fn counts(&self) -> Counts
+        ensures { result ≡ self.now.counts }
+    {
+        self.counts
+    }
+
+    /// A reply is counted, and the line that it answers, if it answers one. After the end of the input the loop ends then.
+    pub(super) fn take_reply(&mut self, reply: &Reply, is_line: bool)
+        requires { self.old.stage ≡ Stage.Reading }
+        ensures stage { self.new.stage ≡ stage_after self.old.last self.new.counts }
+        ensures counts { self.new.counts ≡ counted is_line (refuses reply.now) self.old.counts }
+        ensures others { self.new ≡ record self.old { stage = self.new.stage; out = false; counts = self.new.counts } }
+    {
+        if is_line {
+            self.counts.lines = self.counts.lines.saturating_add(1);
+        }
+        if is_refusal(reply) {
+            self.counts.refused = self.counts.refused.saturating_add(1);
+        }
+        self.is_out = false;
+        if self.is_last {
+            self.stage = Stage::Ending(Ok(self.counts));
+        }
+    }
+}
+
+impl LineLoop {
+    /// The line that is read.
+    pub fn line(&self) -> &LineBuffer
+        ensures { result.now ≡ self.now.line }
+    {
+        &self.line
+    }
+
+    /// How many lines were answered, and how many refused.
+    pub fn counts(&self) -> Counts
+        ensures { result ≡ self.now.state.counts }
+    {
+        self.state.counts()
+    }
+
+    /// Whether no bytes wait.
+    pub fn is_sent(&self) -> bool
+        ensures { IsTrue result ↔ (self.now.replies ≡ []) }
+    {
+        self.replies.is_empty()
+    }
+
+    /// Whether bytes wait, or text of a reply is still to be made.
+    pub fn has_replies(&self) -> bool
+        ensures { IsFalse result ↔ (waits_in self.now ≡ []) }
+    {
+        !self.replies.is_empty() || self.state.has_text()
+    }
+
+    /// Whether replies that the output does not take at once can be kept from now on. Where not, long ones are refused.
+    pub fn set_scarce(&mut self, is_scarce: bool)
+        ensures { self.new ≡ self.old }
+    {
+        self.is_scarce = is_scarce;
+    }
+
+    /// Begins a new line.
+    pub fn begin_line(&mut self)
+        ensures { self.new ≡ record self.old { line = so_far [] } }
+    {
+        self.line.start();
+    }
+
+    /// Begins a new line, unless one is read.
+    pub fn begin_unless_reading(&mut self)
+        ensures reading { self.old.state.stage ≡ Stage.Reading → self.new ≡ self.old }
+        ensures begun { self.old.state.stage ≢ Stage.Reading → self.new ≡ record self.old { line = so_far [] } }
+    {
+        if !self.state.is_reading() {
+            self.line.start();
+        }
+    }
+
+    /// Goes on with another line, and gives the one that is read.
+    pub fn swap_line(&mut self, line: &mut LineBuffer)
+        ensures line { self.new ≡ record self.old { line = line.old } }
+        ensures given { line.new ≡ self.old.line }
+    {
+        mem::swap(&mut self.line, line);
+    }
+
+    /// Goes on from another state, and gives its own.
+    pub fn swap_state(&mut self, state: &mut LineState)
+        ensures state { self.new ≡ record self.old { state = state.old } }
+        ensures given { state.new ≡ self.old.state }
+    {
+        mem::swap(&mut self.state, state);
+    }
+
+    /// Goes on with another buffer of replies, and gives its own.
+    pub fn swap_replies(&mut self, replies: &mut ReplyBuffer)
+        ensures replies { self.new ≡ record self.old { replies = replies.old } }
+        ensures given { replies.new ≡ self.old.replies }
+    {
+        mem::swap(&mut self.replies, replies);
+    }
+}

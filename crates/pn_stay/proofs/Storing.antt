@@ -1,0 +1,140 @@
+-- A connection that is kept between two turns stands where it stood.
+use Rattle.std.proofs.Common.{◌≡◌, ◌≢◌, ◌≤◌, ℕ, Bool, true, false, Option, None, Some, List, [], ◌∷◌, ◌++◌, Contains, inl, inr, refl, sym, ap, ◌∙◌, subst, append_assoc}
+use Rattle.std.specs.Prelude.{Result, Err}
+use Rattle.std.specs.Io.KnownBytes.{prepend_known}
+use Rattle.std.proofs.KnownBytes.{Appends-nil}
+use Rattle.std.proofs.lemmas.List.Elements.{All-nil, Contains-append_right}
+use Rattle.pn_line.specs.Line.{LineBufferValue, so_far}
+use Rattle.pn_line.specs.LinesRead.{PartRead}
+use Rattle.pn_line.specs.Reads.{HasShown}
+use Rattle.pn_line.specs.Sent.{AppendsPrefix}
+use Rattle.pn_line.proofs.LineLaws.{kept_bytes-short}
+use Rattle.pn_serve.specs.declared.script.Counts.{Counts}
+use Rattle.pn_serve.specs.declared.script.RunFault.{RunFault}
+use Rattle.pn_serve.specs.declared.script.RunFault.TheVariants.{Write}
+use Rattle.pn_serve.specs.declared.script.line_loop.state.Stage.{Stage}
+use Rattle.pn_serve.specs.declared.script.line_loop.state.Stage.TheVariants.{Reading, Looking, Ending}
+use Rattle.pn_serve.specs.declared.script.line_loop.steps.Step.{Step}
+use Rattle.pn_serve.specs.declared.script.line_loop.steps.Step.TheVariants.{Next, NoInput, NoRoom, Ends}
+use Rattle.pn_serve.specs.declared.sessions.going.Going.{Going}
+use Rattle.pn_serve.specs.Lines.States.{LineStateValue, Start}
+use Rattle.pn_serve.specs.Lines.Stepping.{Handling, HasEnded, IsLooking, IsReading, Stands, StandsAt, StepsTo}
+use Rattle.pn_serve.proofs.Serving.{OnTold}
+use Rattle.pn_stay.specs.Connections.{ConnectionValue, IsKept, SameInput, loop_of}
+use Rattle.pn_stay.specs.Turns.{Continues, KeepsOr, Stores, TurnsTo}
+use Rattle.pn_stay.specs.declared.connection_state.Pause.{Pause}
+use Rattle.pn_stay.specs.declared.connection_state.Pause.TheVariants.{Turn, Input, Output}
+use Rattle.pn_stay.specs.declared.connection_state.TurnOutcome.{TurnOutcome}
+use Rattle.pn_stay.specs.declared.connection_state.TurnOutcome.TheVariants.{Goes, Ended}
+
+-- where bytes wait, something waits
+pub some_waits : (replies left : List ℕ) → replies ≢ [] → replies ++ left ≢ []
+some_waits [] left some = λ none. some refl
+some_waits (b ∷ replies) left some = λ none. cc
+
+-- known bytes with others in front of them
+front : (bs held new_held : List ℕ) (left : Option (List ℕ)) (rest : List ℕ) → new_held ≡ bs ++ held → prepend_known held left ≡ Some rest → prepend_known new_held left ≡ Some (bs ++ rest)
+front bs held new_held None rest back is = absurd (none_known rest is)
+  where
+    none_known : (rest : List ℕ) → None ≡ Some rest → ⊥
+    none_known rest same = cc
+front bs held new_held (Some after) rest back is =
+    let same : held ++ after ≡ rest = cc in
+    ap (λ (l : List ℕ). Some (l ++ after)) back ∙ ap Some (append_assoc bs held after ∙ ap (λ (l : List ℕ). bs ++ l) same)
+
+shown_front : (more : Bool) (bs held new_held : List ℕ) (left : Option (List ℕ)) → new_held ≡ bs ++ held → HasShown more (prepend_known held left) → HasShown more (prepend_known new_held left)
+shown_front false bs held new_held left back shown = tt
+shown_front true bs held new_held None back shown = tt
+shown_front true bs held new_held (Some after) back shown =
+    subst (λ (l : List ℕ). Contains l 10) (sym (ap (λ (l : List ℕ). l ++ after) back ∙ append_assoc bs held after)) (Contains-append_right bs (held ++ after) 10 shown)
+
+-- a line that was put back in front of the input
+PartRead-back : (script held new_held : List ℕ) (left : Option (List ℕ)) (lines : List (List ℕ)) (part : List ℕ) → new_held ≡ part ++ held → PartRead script (prepend_known held left) lines part
+    → PartRead script (prepend_known new_held left) lines []
+PartRead-back script held new_held left lines part back read = record {
+  rest = part ++ read.rest;
+  unbroken = read.unbroken;
+  part_unbroken = All-nil (λ (b : ℕ). b ≢ 10);
+  text_is = read.text_is;
+  left_is = front part held new_held left read.rest back read.left_is;
+}
+
+module _ {V : Type 0} (handling : Handling V) (start : Start V) (left written : Option (List ℕ)) (machine : V) where
+  module _ (line new_line : LineBufferValue) (held new_held replies : List ℕ) (state : LineStateValue) where
+    -- the input is as it was
+    reading_same : (script : List ℕ) → new_line ≡ line → new_held ≡ held → IsReading handling start script (prepend_known held left) written machine (record { line = line; replies = replies; state = state })
+        → IsReading handling start script (prepend_known new_held left) written machine (record { line = new_line; replies = replies; state = state })
+    reading_same script same_line same_held is =
+        subst (λ (h : List ℕ). IsReading handling start script (prepend_known h left) written machine (record { line = new_line; replies = replies; state = state })) (sym same_held)
+        (subst (λ (l : LineBufferValue). IsReading handling start script (prepend_known held left) written machine (record { line = l; replies = replies; state = state })) (sym same_line) is)
+
+    -- the line is in front of it
+    reading_back : (script : List ℕ) → line.count ≤ 65536 → new_line ≡ so_far [] → new_held ≡ line.bytes ++ held → IsReading handling start script (prepend_known held left) written machine (record { line = line; replies = replies; state = state })
+        → IsReading handling start script (prepend_known new_held left) written machine (record { line = new_line; replies = replies; state = state })
+    reading_back script few none put is =
+        let short = subst (λ (l : LineBufferValue). l.count ≤ 65536) is.line_is few in
+        let bytes : line.bytes ≡ is.part = ap (λ (l : LineBufferValue). l.bytes) is.line_is ∙ kept_bytes-short is.part short in
+        let back : new_held ≡ is.part ++ held = put ∙ ap (λ (b : List ℕ). b ++ held) bytes in record {
+          lines = is.lines;
+          part = [];
+          read = PartRead-back script held new_held left is.lines is.part back is.read;
+          short = is.short;
+          line_is = none;
+          bound = elim is.bound [
+            | inl few ↦ inl few
+            | inr all ↦ inr (all.0, refl)
+          ];
+          reached = is.reached;
+          moved = is.moved;
+          answered = is.answered;
+          shown = shown_front state.more is.part held new_held left back is.shown;
+          more_comes = is.more_comes;
+        }
+
+    reading_put : (script : List ℕ) → SameInput line held new_line new_held → IsReading handling start script (prepend_known held left) written machine (record { line = line; replies = replies; state = state })
+        → IsReading handling start script (prepend_known new_held left) written machine (record { line = new_line; replies = replies; state = state })
+    reading_put script (inl same) is = reading_same script same.0 same.1 is
+    reading_put script (inr put) is = reading_back script put.0 put.1 put.2 is
+
+    looking_put : (going : Going) (script : List ℕ) → new_line ≡ so_far [] → new_held ≡ held → IsLooking handling start script (prepend_known held left) written machine (record { line = line; replies = replies; state = state }) going
+        → IsLooking handling start script (prepend_known new_held left) written machine (record { line = new_line; replies = replies; state = state }) going
+    looking_put going script none same is =
+        subst (λ (h : List ℕ). IsLooking handling start script (prepend_known h left) written machine (record { line = new_line; replies = replies; state = state }) going) (sym same)
+        (subst (λ (l : LineBufferValue). IsLooking handling start script (prepend_known held left) written machine (record { line = l; replies = replies; state = state }) going) (is.line_is ∙ sym none) is)
+
+    put_at : (stage : Stage) → (stage ≡ Reading → SameInput line held new_line new_held) → (stage ≢ Reading → (new_line ≡ so_far []) × (new_held ≡ held))
+        → StandsAt handling stage start (prepend_known held left) written machine (record { line = line; replies = replies; state = state })
+        → StandsAt handling stage start (prepend_known new_held left) written machine (record { line = new_line; replies = replies; state = state })
+    put_at Reading input none stands = OnTold start.left _ _ (λ script is. reading_put script (input refl) is) stands
+    put_at (Looking going) input none stands =
+        let same = none (λ is. cc) in
+        OnTold start.left _ _ (λ script is. looking_put going script same.0 same.1 is) stands
+    put_at (Ending ended) input none stands =
+        let same = none (λ is. cc) in
+        subst (λ (h : List ℕ). StandsAt handling (Ending ended) start (prepend_known h left) written machine (record { line = new_line; replies = replies; state = state })) (sym same.1) stands
+
+  pub Continues-kept : (old new : ConnectionValue) → IsKept old new → Continues handling start left written machine old → Continues handling start left written machine new
+  Continues-kept old new kept stands =
+      let put = put_at old.line new.line old.held new.held old.replies old.state old.state.stage kept.input kept.none stands in
+      let replied = subst (λ (r : List ℕ). Stands handling start (prepend_known new.held left) written machine (record { line = new.line; replies = r; state = old.state })) (sym kept.replies) put in
+      subst (λ (s : LineStateValue). Stands handling start (prepend_known new.held left) written machine (record { line = new.line; replies = new.replies; state = s })) (sym kept.state) replied
+
+  -- it is kept, or the writer failed
+  kept_or : (old new : ConnectionValue) (pause : Pause) (outcome : TurnOutcome) → KeepsOr old pause new outcome → Continues handling start left written machine old
+      → HasEnded handling start (prepend_known old.held left) written machine (Err Write) → TurnsTo handling start left written machine new outcome
+  kept_or old new pause (Goes other) keeps stands cut = Continues-kept old new keeps.1 stands
+  kept_or old new pause (Ended ended) keeps stands cut = (old.held, subst (λ (e : Result Counts RunFault). HasEnded handling start (prepend_known old.held left) written machine e) (sym keeps) cut)
+
+  ended_so : (old new : ConnectionValue) (ended : Result Counts RunFault) (outcome : TurnOutcome) → outcome ≡ Ended ended → HasEnded handling start (prepend_known old.held left) written machine ended → TurnsTo handling start left written machine new outcome
+  ended_so old new ended outcome is has = subst (λ (o : TurnOutcome). TurnsTo handling start left written machine new o) (sym is) (old.held, has)
+
+  pub Turns-stored : (old new : ConnectionValue) (step : Step) (outcome : TurnOutcome) → Stores old step new outcome → StepsTo handling start (prepend_known old.held left) written machine (loop_of old) step
+      → (Continues handling start left written machine old → HasEnded handling start (prepend_known old.held left) written machine (Err Write)) → TurnsTo handling start left written machine new outcome
+  Turns-stored old new (Next units) outcome stores steps cut = kept_or old new Turn outcome stores steps (cut steps)
+  Turns-stored old new NoInput outcome stores steps cut = kept_or old new Input outcome stores steps (cut steps)
+  Turns-stored old new NoRoom outcome stores steps cut = kept_or old new Output outcome stores steps.0 steps.2
+  Turns-stored old new (Ends ended) outcome stores steps cut = ended_so old new ended outcome stores steps
+
+-- of what waits nothing was written
+pub AppendsPrefix-none : (written : Option (List ℕ)) (bs : List ℕ) → AppendsPrefix written written bs
+AppendsPrefix-none written bs = record { sent = []; back = bs; appends = Appends-nil written; whole = refl }

@@ -1,0 +1,150 @@
+//! Copies whose lines are counted, some records at a time, before their text is made.
+
+ghost use Rattle.std.specs.Prelude.{◌≡◌, ◌+◌, ◌<◌, ◌≤◌, ◌^◌, length, min, IfOk, OnErr, MatchResult, if◌then◌else◌};
+ghost use Rattle.std.specs.FinMap.{keys};
+ghost use Rattle.std.specs.List.{list_any};
+ghost use Rattle.pn_record.specs.Prelude.{holds_number as content_holds_number, spell};
+ghost use Rattle.pn_tablet.specs.CopyCounts.{CountsOn, CountsTo};
+ghost use Rattle.pn_tablet.specs.CopyMaking.{IsCountedIn, lines_of_copy};
+ghost use Rattle.pn_tablet.specs.declared.form.Form.TheVariants.{Numbers};
+
+use crate::copy_text::recall_size;
+use crate::form::{Form, holds_number};
+use crate::{CopyText, TabletCopy};
+use pn_join::NoMemory;
+use pn_record::{Cell, Records};
+use std::marker::Model;
+
+/// A copy of which some records' lines are counted.
+#[derive(Drop)]
+pub struct CopyCount {
+    copy: TabletCopy,
+    counted: Counted,
+}
+
+// How many records are counted, the lines of their images, and the form that they need.
+#[derive(Clone, Copy, Debug, PartialEq, Eq)]
+struct Counted {
+    records: usize,
+    images: u64,
+    form: Form,
+}
+
+impl Model for CopyCount {
+    ghost use Rattle.pn_tablet.specs.CopyMaking.{CopyCountValue, IsCountedIn, count_code};
+
+    ghost Value = { CopyCountValue };
+
+    ghost coded = { count_code };
+
+    ghost view = { λ count. record { copy = count.copy; index = count.counted.records } };
+
+    ghost invariant = { λ count. IsCountedIn count.copy.cells count.counted };
+}
+
+/// What counting comes to.
+#[derive(Drop)]
+pub enum CopyStep {
+    /// All lines are counted.
+    Done(CopyText),
+    /// Others are still to be counted.
+    Next(CopyCount),
+}
+
+impl CopyCount {
+    /// A copy of which no line is counted.
+    pub fn new(copy: TabletCopy) -> CopyCount
+        ensures { result ≡ record { copy = copy; index = 0 } }
+    {
+        CopyCount {
+            copy,
+            counted: Counted {
+                records: 0,
+                images: 0,
+                form: Form::Texts,
+            },
+        }
+    }
+
+    /// Counts the lines of so many more records at most. An error where there are too many lines for 64 bits.
+    pub fn go_on(self, records: usize) -> Result<CopyStep, NoMemory>
+        ensures { CountsOn records self result }
+    {
+        let CopyCount { copy, counted } = self;
+        match count_some(&copy.cells, counted, records) {
+            Ok(counted) => step_of(copy, counted),
+            Err(fault) => Err(fault),
+        }
+    }
+}
+
+// What counting comes to where so much is counted.
+fn step_of(copy: TabletCopy, counted: Counted) -> Result<CopyStep, NoMemory>
+    requires { IsCountedIn copy.cells counted }
+    ensures { CountsTo copy counted result }
+{
+    if counted.records < copy.cells.len() {
+        return Ok(CopyStep::Next(CopyCount { copy, counted }));
+    }
+    match count_lines(&copy, counted) {
+        Ok(lines) => Ok(CopyStep::Done(CopyText::new(copy, counted.form, lines))),
+        Err(fault) => Err(fault),
+    }
+}
+
+// The lines of a copy of which all images are counted.
+fn count_lines(copy: &TabletCopy, counted: Counted) -> Result<u64, NoMemory>
+    requires counted { IsCountedIn copy.now.cells counted }
+    requires all { length copy.now.cells ≤ counted.records }
+    ensures { MatchResult result (λ lines. lines ≡ lines_of_copy copy.now) (λ _. 2 ^ 64 ≤ lines_of_copy copy.now) }
+{
+    let lines = add(counted.images, copy.marks.len())?;
+    add(lines, 2)
+}
+
+// Counts so many more records at most.
+fn count_some(cells: &Records, counted: Counted, records: usize) -> Result<Counted, NoMemory>
+    requires { IsCountedIn cells.now counted }
+    ensures ok { IfOk result
+        (λ now. IsCountedIn cells.now now × (now.records ≡ min (counted.records + records) (length cells.now))) }
+    ensures err { OnErr result (2 ^ 64 ≤ length (spell cells.now)) }
+{
+    recall_size(cells);
+    let mut now = counted;
+    let mut left = records;
+    for (_key, cell) in cells.iter_from(counted.records) {
+        if left == 0 {
+            return Ok(now);
+        }
+        left -= 1;
+        now = count_cell(now, cell)?;
+    }
+    Ok(now)
+}
+
+fn count_cell(counted: Counted, cell: &Cell) -> Result<Counted, NoMemory>
+    requires { counted.records + 1 < 2 ^ 64 }
+    ensures records { IfOk result (λ now. now.records ≡ counted.records + 1) }
+    ensures images { IfOk result (λ now. now.images ≡ counted.images + length (keys cell.now.1)) }
+    ensures form { IfOk result
+        (λ now. now.form ≡ (if list_any content_holds_number (keys cell.now.1) then Numbers else counted.form)) }
+    ensures err { OnErr result (2 ^ 64 ≤ counted.images + length (keys cell.now.1)) }
+{
+    let images = add(counted.images, cell.contents().len())?;
+    let form = if holds_number(cell) {
+        Form::Numbers
+    } else {
+        counted.form
+    };
+    Ok(Counted {
+        records: counted.records + 1,
+        images,
+        form,
+    })
+}
+
+fn add(count: u64, more: usize) -> Result<u64, NoMemory>
+    ensures { MatchResult result (λ sum. sum ≡ count + more) (λ _. 2 ^ 64 ≤ count + more) }
+{
+    count.checked_add(more as u64).ok_or(NoMemory)
+}

@@ -1,0 +1,196 @@
+//! Copies whose text is made a line at a time.
+
+ghost use Rattle.std.specs.Prelude.{◌≡◌, ◌+◌, ◌<◌, ◌↔◌, ◌^◌, [], length, nat_lt, IsTrue, if◌then◌else◌};
+ghost use Rattle.pn_json.specs.Prelude.{MakesPiece};
+ghost use Rattle.pn_record.specs.Prelude.{spell};
+ghost use Rattle.pn_tablet.specs.CopyMaking.{IsCopyPlace, IsTextOf, lines_of_copy, MakesLine};
+ghost use Rattle.pn_tablet.specs.CopyWriting.{copy_text};
+ghost use Rattle.pn_tablet.specs.Forms.{form_of};
+ghost use Rattle.pn_tablet.specs.declared.copy_text.CopyPlace.TheVariants.{Image, Mark, Written};
+
+use crate::TabletCopy;
+use crate::copy_line_appending::{append_end, append_head, append_image_line, append_mark};
+use crate::form::Form;
+use pn_join::Marks;
+use pn_record::Records;
+use std::marker::Model;
+
+/// A copy whose text is made a line at a time.
+#[derive(Drop)]
+pub struct CopyText {
+    copy: TabletCopy,
+    form: Form,
+    lines: u64,
+    place: CopyPlace,
+}
+
+/// Before which line the text is.
+#[derive(Clone, Copy, Debug, PartialEq, Eq)]
+enum CopyPlace {
+    Head,
+    Mark(usize),
+    /// The line of a content of a record, or the end where there is no such record.
+    Image { index: usize, content: usize },
+    /// After the last.
+    Written,
+}
+
+impl Model for CopyText {
+    ghost use Rattle.pn_tablet.specs.CopyMaking.{CopyTextValue, IsTextOf, copy_rest, text_code};
+
+    ghost Value = { CopyTextValue };
+
+    ghost coded = { text_code };
+
+    ghost view = { λ text. record { copy = text.copy; left = copy_rest text.copy text.place } };
+
+    ghost invariant = { λ text. IsTextOf text.copy text.form text.lines text.place };
+}
+
+impl CopyText {
+    /// A copy of which no line is made.
+    pub(crate) fn new(copy: TabletCopy, form: Form, lines: u64) -> CopyText
+        requires form { form ≡ form_of (spell copy.cells) }
+        requires lines { lines ≡ lines_of_copy copy }
+        ensures { result ≡ record { copy = copy; left = copy_text copy } }
+    {
+        CopyText {
+            copy,
+            form,
+            lines,
+            place: CopyPlace::Head,
+        }
+    }
+
+    /// How many lines the text of the copy has.
+    pub fn lines(&self) -> u64
+        ensures { result ≡ lines_of_copy self.now.copy }
+    {
+        self.lines
+    }
+
+    /// Whether all lines are made.
+    pub fn is_made(&self) -> bool
+        ensures { IsTrue result ↔ (self.now.left ≡ []) }
+    {
+        is_written(self.place)
+    }
+
+    /// Adds the next line to what a buffer holds that has room for it, if one is left.
+    pub fn append_line(&mut self, out: &mut Vec<u8>)
+        ensures line { MakesPiece 60000 self.old.left self.new.left out.old out.new }
+        ensures copy { self.new.copy ≡ self.old.copy }
+    {
+        self.place = append_next(out, &self.copy, self.form, self.lines, self.place);
+    }
+}
+
+// Whether no line comes after a place.
+fn is_written(place: CopyPlace) -> bool
+    ensures { IsTrue result ↔ (place ≡ Written) }
+{
+    match place {
+        CopyPlace::Written => true,
+        _ => false,
+    }
+}
+
+/// Recalls for the prover that records can be counted.
+pub(crate) fn recall_size(cells: &Records)
+    ensures { length cells.now < 2 ^ 64 }
+{
+    let _ = cells.len();
+}
+
+// Adds the line of a place. The next place.
+fn append_next(
+    out: &mut Vec<u8>,
+    copy: &TabletCopy,
+    form: Form,
+    lines: u64,
+    place: CopyPlace,
+) -> CopyPlace
+    requires { IsTextOf copy.now form lines place }
+    ensures { MakesLine copy.now place out.old out.new result }
+{
+    match place {
+        CopyPlace::Head => {
+            append_head(out, form, &copy.range);
+            CopyPlace::Mark(0)
+        }
+        CopyPlace::Mark(index) => append_mark_at(out, copy, lines, index),
+        CopyPlace::Image { index, content } => append_image_at(out, copy, lines, index, content),
+        CopyPlace::Written => CopyPlace::Written,
+    }
+}
+
+// Adds the line of a mark, or the first after all marks.
+fn append_mark_at(out: &mut Vec<u8>, copy: &TabletCopy, lines: u64, index: usize) -> CopyPlace
+    requires { lines ≡ lines_of_copy copy.now }
+    ensures { MakesLine copy.now (Mark index) out.old out.new result }
+{
+    recall_count(&copy.marks);
+    match copy.marks.entry_at(index) {
+        Some((name, position)) => {
+            append_mark(out, name, position.0);
+            CopyPlace::Mark(index + 1)
+        }
+        None => {
+            copy.cells.recall_table();
+            append_image_at(out, copy, lines, 0, 0)
+        }
+    }
+}
+
+// Recalls for the prover that marks can be counted.
+fn recall_count(marks: &Marks)
+    ensures { length marks.now < 2 ^ 64 }
+{
+    let _ = marks.len();
+}
+
+// Adds the line of an image, or the end after all images.
+fn append_image_at(
+    out: &mut Vec<u8>,
+    copy: &TabletCopy,
+    lines: u64,
+    index: usize,
+    content: usize,
+) -> CopyPlace
+    requires lines { lines ≡ lines_of_copy copy.now }
+    requires place { IsCopyPlace copy.now (Image index content) }
+    ensures { MakesLine copy.now (Image index content) out.old out.new result }
+{
+    copy.cells.recall_table();
+    match copy.cells.entry_at(index) {
+        Some((key, cell)) => {
+            recall_size(&copy.cells);
+            let contents = cell.contents();
+            append_image_line(out, key, cell.version(), &contents[content]);
+            next_place(index, content, contents.len())
+        }
+        None => {
+            let count = lines - 2;
+            append_end(out, count);
+            CopyPlace::Written
+        }
+    }
+}
+
+// The place after a content of so many.
+fn next_place(index: usize, content: usize, count: usize) -> CopyPlace
+    requires index { index + 1 < 2 ^ 64 }
+    requires content { content < count }
+    ensures { result ≡ (if nat_lt (content + 1) count then Image index (content + 1) else Image (index + 1) 0) }
+{
+    if content + 1 < count {
+        return CopyPlace::Image {
+            index,
+            content: content + 1,
+        };
+    }
+    CopyPlace::Image {
+        index: index + 1,
+        content: 0,
+    }
+}
