@@ -149,9 +149,11 @@ fn get_beside<R: Threads + Wait + Sync>(
     format!(in alloc; "{left} of {} left, then{numbers}", keys.len()).ok()
 }
 
+// The numbers of the versions of cells; none where a key has no record.
 fn numbers_of(alloc: Global, cells: &[Option<Cell>]) -> Option<String> {
     let mut text = String::new(alloc);
-    for cell in cells.iter().flatten() {
+    for cell in cells {
+        let cell = cell.as_ref()?;
         write!(text, " {}", cell.version().number).ok()?;
     }
     Some(text)
