@@ -51,6 +51,15 @@ fn query_of(alloc: Global, text: &str) -> Option<Query> {
     Query::new(None, None, None, conditions, 10)
 }
 
+// A walk whose first step has not come to the page.
+fn begin_page(alloc: Global, reader: &mut LiveReader, query: &Query) -> Option<PageWalk> {
+    let walk = PageWalk::new(alloc, reader.layout(), query);
+    match walk.go_on(alloc, reader, query, 1).ok()? {
+        PageStep::Done(_page) => None,
+        PageStep::Next(walk) => Some(walk),
+    }
+}
+
 // The page that a walk comes to.
 fn end_page(
     alloc: Global,
@@ -76,10 +85,7 @@ fn page_beside<R: Threads + Wait + Sync>(
     reader: &mut LiveReader,
     query: &Query,
 ) -> Option<Page> {
-    let walk = PageWalk::new(alloc, reader.layout(), query);
-    let PageStep::Next(walk) = walk.go_on(alloc, reader, query, 1).ok()? else {
-        return None;
-    };
+    let walk = begin_page(alloc, reader, query)?;
     if walk.looked() == 0 || !take(rt, alloc, live, RECORDS + 2, "last@8") {
         return None;
     }
