@@ -1,6 +1,6 @@
 -- What a step that writes, or takes an answer, counts, foresees and leaves to be handed on.
-use Rattle.std.proofs.Common.{◌≡◌, ◌≢◌, ◌⊎◌, ℕ, ◌+◌, ◌*◌, ◌-◌, ◌^◌, ◌<◌, ◌≤◌, min, Bool, true, false, Option, Some, None, List, [], ◌∷◌, ◌++◌, length, IfSome, OnSome, Contains, inl, inr, refl, sym, ap, ◌∙◌, subst, arith, length-append, ⊎_elim}
-use Rattle.std.specs.Prelude.{Result, Ok, Err}
+use Rattle.std.proofs.Common.{◌≡◌, ◌≢◌, ◌⊎◌, ℕ, ◌+◌, ◌-◌, ◌<◌, ◌≤◌, Bool, true, false, Option, Some, None, List, [], ◌∷◌, length, IfSome, OnSome, inl, inr, refl, sym, ap, ◌∙◌, subst, arith, length-append, ⊎_elim}
+use Rattle.std.specs.Prelude.{Result, Err}
 use Rattle.std.specs.Io.KnownBytes.{IsAtEnd, Keeps}
 use Rattle.std.proofs.lemmas.Bool.{cases_eq, cases_lt}
 use Rattle.std.proofs.lemmas.List.Elements.{Contains-append_left}
@@ -20,7 +20,7 @@ use Rattle.pn_serve.specs.declared.script.line_loop.steps.Step.TheVariants.{Next
 use Rattle.pn_serve.specs.Lines.Bounds.{CanEndBy, CountsUnits, Foresees, ForeseesAt, ForeseesStep, HandsOnStep, IsIdleAt, IsOutAs}
 use Rattle.pn_serve.specs.Lines.States.{LineLoopValue, one_more, waits_in}
 use Rattle.pn_serve.specs.Lines.Stepping.{with_rest}
-use Rattle.pn_serve.specs.Lines.Taking.{EndsTo, HasKept, HasReply, IsSent, SendsTo, Takes, TakesAnswer, WaitsTo, stage_after}
+use Rattle.pn_serve.specs.Lines.Taking.{EndsTo, HasKept, HasReply, IsSent, SendsTo, Takes, WaitsTo, stage_after}
 use Rattle.pn_serve.specs.Lines.Waiting.{HandsOn}
 
 untrue : true ≡ false → ⊥

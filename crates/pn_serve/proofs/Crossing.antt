@@ -1,7 +1,8 @@
 -- What threads share of a server may go to another thread, and may be shared: what control sessions and the writer leave for each
 -- other, counters, and faults of streams.
 use denote.Param.Send.{IsSend, IsSync, sendable}
-use denote.Param.SendFields.{variants_send}
+use denote.Param.SendFields.{declared_send, variants_send}
+use denote.Struct.Record.{declared}
 use Rattle.std.proofs.Crossing.{crosses}
 use Rattle.pn_join.specs.contracts.marks.name.Name as name
 use Rattle.pn_record.specs.contracts.content.Content as content
@@ -11,9 +12,12 @@ use Rattle.pn_record.specs.contracts.key.Key as key
 use Rattle.pn_tablet.specs.contracts.copy.TabletCopy as copy
 use Rattle.pn_tablet.specs.contracts.copy_text.CopyText as copy_text
 use Rattle.pn_scan.specs.contracts.view.Row as row
+use Rattle.pn_region.specs.contracts.notices.Since as since
 use Rattle.pn_protocol.specs.contracts.reply.PageReply as page
 use Rattle.pn_protocol.specs.contracts.reply.Reply as reply
 use Rattle.pn_serve.specs.contracts.control.commands.WriterCommand as command
+use Rattle.pn_serve.specs.contracts.control.commands.WriterAnswer as answer
+use Rattle.pn_serve.specs.contracts.control.answers.Question as question
 use Rattle.pn_serve.specs.contracts.control.answers.GivenAnswer as given
 use Rattle.pn_serve.specs.contracts.control.mailboxes.HeldCommand as held_command
 use Rattle.pn_serve.specs.contracts.control.mailboxes.ControlMailbox as control_mailbox
@@ -109,8 +113,17 @@ reply_send = variants_send reply.enum (
   ),
 )
 
+since_send : IsSend since.the_row
+since_send = search (sendable, crosses) depth 60 fits 20000
+
+answer_send : IsSend answer.the_row
+answer_send = variants_send answer.enum ((reply_send, tt), ((since_send, tt), tt))
+
+question_send : IsSend question.the_row
+question_send = search (sendable, crosses) depth 40
+
 given_send : IsSend given.the_row
-given_send = search (sendable, crosses, reply_send) depth 60 fits 20000
+given_send = declared_send (declared given.struct _) (question_send, (answer_send, tt))
 
 held_command_send : IsSend held_command.the_row
 held_command_send = variants_send held_command.enum (tt, ((command_send, tt), (tt, ((given_send, tt), (tt, tt)))))

@@ -17,7 +17,7 @@ use Rattle.pn_serve.specs.Lines.After.{After}
 use Rattle.pn_serve.specs.Lines.Stepping.{BeginsLast, BeginsLine, Handling, HasEnded, IsLooking, Makes, MakesLast, StandsAt}
 use Rattle.pn_serve.specs.Lines.Replies.{texts_of}
 use Rattle.pn_serve.specs.Lines.Stopped.{Cut}
-use Rattle.pn_serve.proofs.Serving.{answer_push, texts_push, stays}
+use Rattle.pn_serve.proofs.Serving.{answer_push, texts_push}
 use Rattle.pn_serve.proofs.Stopping.{no_part}
 use Rattle.pn_serve.proofs.Standing.{HasEnded-untold, at_told, cut_reading, told_or}
 

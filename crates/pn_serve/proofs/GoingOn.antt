@@ -1,5 +1,5 @@
 -- Lookups that are gone on with come to their replies.
-use Rattle.std.proofs.Common.{◌≡◌, ◌⊎◌, ◌+◌, ◌*◌, ◌-◌, ◌^◌, ◌<◌, ◌≤◌, ℕ, List, [], ◌∷◌, ◌++◌, length, Option, IfOk, IfErr, inl, inr, refl, sym, ap, ◌∙◌, subst, arith}
+use Rattle.std.proofs.Common.{◌≡◌, ◌+◌, ◌-◌, ◌<◌, ◌≤◌, ℕ, List, [], ◌∷◌, ◌++◌, length, Option, IfOk, IfErr, inl, inr, refl, sym, ap, ◌∙◌, subst, arith}
 use Rattle.std.specs.Prelude.{Result, Ok, Err}
 use Rattle.pn_join.specs.Marks.{Positions}
 use Rattle.pn_join.specs.declared.memory.NoMemory.{NoMemory}
@@ -10,7 +10,7 @@ use Rattle.pn_tablet.specs.CopyMaking.{CopyCountValue}
 use Rattle.pn_tablet.specs.declared.copy_count.CopyStep.{CopyStep}
 use Rattle.pn_tablet.specs.declared.copy_count.CopyStep.TheVariants as copies
 use Rattle.pn_tablet.specs.Layouts.{Bounds}
-use Rattle.pn_scan.specs.Paging.{AreMade, Follows, Gaps, IsNearer, IsOnPage, IsPreorder, LookMade, LooksAfter, Moving, OnlyLooks, PagesTo, looks_in, steps_left}
+use Rattle.pn_scan.specs.Paging.{AreMade, Follows, Gaps, IsNearer, IsOnPage, IsPreorder, LookMade, LooksAfter, Moving, OnlyLooks, PagesTo, looks_in}
 use Rattle.pn_scan.specs.Queries.{QueryValue}
 use Rattle.pn_scan.specs.Reads.{IsGet}
 use Rattle.pn_scan.specs.declared.fault.ScanFault.{ScanFault}

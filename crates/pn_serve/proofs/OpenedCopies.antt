@@ -1,5 +1,5 @@
 -- Why a live region does not start from copies.
-use Rattle.std.proofs.Common.{◌≡◌, ◌≢◌, ◌⊎◌, List, Err, inl, inr, map, refl}
+use Rattle.std.proofs.Common.{◌≡◌, ◌≢◌, List, Err, inl, inr, map}
 use Rattle.std.specs.List.Sorted.{IsPermutation, IsSortedByKey}
 use Rattle.std.specs.Option.{option_cmp}
 use Rattle.pn_record.specs.Order.{bytes_cmp}

@@ -5,13 +5,13 @@ use Rattle.std.proofs.lemmas.Result.{err_from_is_err_and}
 use Rattle.pn_join.specs.Marks.{Positions}
 use Rattle.pn_stream.specs.Batches as batches
 use Rattle.pn_tablet.specs.Layouts.{Bounds}
-use Rattle.pn_live.specs.LiveRegions.{LiveRegionValue, IsNewLive}
+use Rattle.pn_live.specs.LiveRegions.{LiveRegionValue}
 use Rattle.pn_serve.specs.Server.Faults.{names_of, NamesOne, IsOfRounds}
 use Rattle.pn_serve.specs.Server.Reading.{ReadToEnds, ReadUpTo, RunsRounds}
 use Rattle.pn_serve.specs.declared.server.mailboxes.AtFault.{AtFault}
 use Rattle.pn_serve.specs.declared.server.mailboxes.AtFault.TheVariants.{Stop}
 use Rattle.pn_serve.proofs.RoundsRead.{of_rounds}
-use Rattle.pn_serve.specs.Server.Served.{EndsReading, Serves, EndsRegion, EndsServing}
+use Rattle.pn_serve.specs.Server.Served.{EndsReading, EndsRegion, EndsServing}
 use Rattle.pn_serve.specs.Server.Whole.{IsTakenWhole}
 use Rattle.pn_serve.specs.declared.server.fault.ServeFault.{ServeFault}
 use Rattle.pn_serve.specs.declared.server.fault.ServeFault.TheVariants.{Start, Stream, Round, Close, Write}

@@ -1,5 +1,5 @@
 -- What a reply buffer makes and sends.
-use Rattle.std.specs.Prelude.{◌≡◌, ℕ, List, [], ◌++◌, Option, None, Some}
+use Rattle.std.specs.Prelude.{◌≡◌, ℕ, List, [], Option, None, Some}
 use Rattle.std.specs.IoError.{error_kind}
 use Rattle.std.specs.declared.io.ErrorKind.TheVariants.{WouldBlock as would_block}
 use Rattle.pn_line.specs.declared.writing.WriteFault.{WriteFault}

@@ -1,9 +1,9 @@
 -- Where a line loop stands between two steps, and what a step comes to.
-use Rattle.std.specs.Prelude.{◌≡◌, ◌≢◌, ◌⊎◌, ◌<◌, ◌≤◌, ℕ, ◌+◌, ◌*◌, Bool, true, false, List, [], ◌∷◌, ◌++◌, All, length, Option, None, Some, IfSome, OnSome, IsFalse, Result, Ok, Err}
+use Rattle.std.specs.Prelude.{◌≡◌, ◌≢◌, ◌⊎◌, ◌<◌, ℕ, ◌+◌, Bool, true, false, List, [], ◌∷◌, ◌++◌, All, Option, None, Some, IfSome, Result, Err}
 use Rattle.std.specs.Io.KnownBytes.{Appends, prepend_known}
 use Rattle.pn_line.specs.Line.{so_far}
 use Rattle.pn_line.specs.LinesRead.{LinesRead, PartRead}
-use Rattle.pn_line.specs.Reads.{IsUnbroken, HasShown}
+use Rattle.pn_line.specs.Reads.{HasShown}
 use Rattle.pn_line.specs.Sent.{AppendsPrefix}
 use Rattle.pn_protocol.specs.declared.reply.Reply.{Reply}
 use Rattle.pn_scan.specs.Paging.{Moving}
@@ -11,7 +11,6 @@ use Rattle.pn_serve.specs.declared.script.Counts.{Counts}
 use Rattle.pn_serve.specs.declared.script.RunFault.{RunFault}
 use Rattle.pn_serve.specs.declared.script.RunFault.TheVariants.{Write}
 use Rattle.pn_serve.specs.declared.script.TheConstants.{MAX_LINES}
-use Rattle.pn_serve.specs.declared.script.replies.TheConstants.{BLOCK}
 use Rattle.pn_serve.specs.declared.script.line_loop.state.Stage.{Stage}
 use Rattle.pn_serve.specs.declared.script.line_loop.state.Stage.TheVariants.{Reading, Looking, Ending}
 use Rattle.pn_serve.specs.declared.script.line_loop.steps.Step.{Step}
@@ -20,7 +19,6 @@ use Rattle.pn_serve.specs.declared.sessions.going.Going.{Going}
 use Rattle.pn_serve.specs.Lines.After.{After}
 use Rattle.pn_serve.specs.Lines.Ends.{EndsBy}
 use Rattle.pn_serve.specs.Lines.Served.{AllAnswered, IsShort}
-use Rattle.pn_serve.specs.Session.Looking.{left_of}
 use Rattle.pn_serve.specs.Lines.States.{LineLoopValue, Start, waiting_in, waits_in}
 
 -- what is left of an input, of which this is at hand and that comes after it, where both are known

@@ -4,7 +4,7 @@ use Rattle.pn_stream.specs.Batches.{Stream}
 use Rattle.pn_live.specs.LiveRegions.{LiveRegionValue}
 use Rattle.pn_serve.specs.Server.Served.{EndsReading}
 use Rattle.pn_serve.specs.declared.server.fault.ServeFault.{ServeFault}
-use Rattle.pn_serve.specs.declared.server.fault.ServeFault.TheVariants.{Start, Close, Write}
+use Rattle.pn_serve.specs.declared.server.fault.ServeFault.TheVariants.{Close, Write}
 
 module _ {S : Type 0} (left : S → Option (List ℕ)) where
   -- the open region came to another by reading

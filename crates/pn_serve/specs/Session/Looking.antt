@@ -1,5 +1,5 @@
 -- Lookups of a session that are gone on with.
-use Rattle.std.specs.Prelude.{◌≡◌, ◌≤◌, ◌+◌, ◌-◌, ◌*◌, ◌^◌, ℕ, List, [], ◌∷◌, length, false, Option, Some, Result, Ok, Err}
+use Rattle.std.specs.Prelude.{◌≡◌, ◌≤◌, ◌+◌, ◌-◌, ◌*◌, ◌^◌, ℕ, List, [], ◌∷◌, length, false, Option, Result, Ok, Err}
 use Rattle.pn_join.specs.Marks.{Positions}
 use Rattle.pn_live.specs.Copying.{IsCopied}
 use Rattle.pn_join.specs.declared.memory.NoMemory.{NoMemory}

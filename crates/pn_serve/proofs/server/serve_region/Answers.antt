@@ -1,8 +1,7 @@
 -- What is served is a new region.
-use Rattle.std.proofs.Common.{◌≡◌, Result, ℕ, IfOk, subst}
+use Rattle.std.proofs.Common.{◌≡◌, ℕ, IfOk, subst}
 use Rattle.pn_live.specs.LiveRegions.{IsNewLive}
 use Rattle.pn_serve.specs.Settings.{SettingsValue}
-use Rattle.pn_serve.specs.declared.server.fault.ServeFault.{ServeFault}
 use Rattle.pn_serve.proofs.OpenedServing.{as_region}
 use Rattle.pn_serve.proofs.ServedStreams.{not_opened, no_write}
 use Rattle.pn_serve.proofs.server.serve_region.Goals as goal

@@ -1,5 +1,5 @@
 -- The layout was changed, or the bounds are those of none.
-use Rattle.std.proofs.Common.{sym, ap, ◌∙◌}
+use Rattle.std.proofs.Common.{sym, ◌∙◌}
 use Rattle.pn_serve.proofs.Relaying.{relaid_obeys, relaid_not}
 use Rattle.pn_serve.proofs.machine.tablets.relayout.Goals as goal
 

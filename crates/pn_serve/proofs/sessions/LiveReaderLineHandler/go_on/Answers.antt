@@ -1,7 +1,5 @@
 -- A line that is looked up so far comes to its reply, or goes on.
 use Rattle.pn_scan.specs.Paging.{Stays}
-use Rattle.pn_live.specs.Readers.{LiveReaderValue}
-use Rattle.pn_protocol.specs.Command.Meaning.{CommandValue}
 use Rattle.pn_serve.proofs.Lookups.{answers_said, last_on}
 use Rattle.pn_serve.proofs.sessions.LiveReaderLineHandler.go_on.Goals as goal
 

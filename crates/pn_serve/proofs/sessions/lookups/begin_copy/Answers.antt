@@ -1,5 +1,5 @@
 -- A copy was taken, of which no line is counted.
-use Rattle.std.proofs.Common.{◌≤◌, ◌<◌, length, refl, sym, ap, subst, arith}
+use Rattle.std.proofs.Common.{length, refl, sym, ap, subst, arith}
 use Rattle.pn_tablet.specs.Layouts.{Bounds}
 use Rattle.pn_scan.specs.Paging.{Stays}
 use Rattle.pn_protocol.specs.Command.Meaning.{copy}

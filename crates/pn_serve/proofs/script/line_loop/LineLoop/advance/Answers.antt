@@ -1,9 +1,9 @@
 -- A step, and what goes on with it, lead where the loop stands, or has ended.
-use Rattle.std.proofs.Common.{◌≡◌, ◌+◌, ◌<◌, ◌≤◌, ℕ, List, [], Option, Some, refl, arith}
+use Rattle.std.proofs.Common.{◌+◌, [], Some, refl, arith}
 use Rattle.std.specs.Prelude.{Err}
 use Rattle.pn_serve.specs.declared.script.RunFault.TheVariants.{Write}
 use Rattle.pn_serve.specs.Lines.Bounds.{looks_left}
-use Rattle.pn_serve.specs.Lines.Stepping.{Stands, by}
+use Rattle.pn_serve.specs.Lines.Stepping.{by}
 use Rattle.pn_serve.proofs.Bounded.{end_foresees, end_out}
 use Rattle.pn_serve.proofs.Knowing.{knows_on}
 use Rattle.pn_serve.proofs.Measured.{end_nearer, reads_more}

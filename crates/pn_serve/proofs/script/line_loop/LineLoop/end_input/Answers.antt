@@ -1,5 +1,5 @@
 -- The last part was answered, or begun.
-use Rattle.std.proofs.Common.{◌≡◌, ◌≢◌, ℕ, List, [], Bool, true, false, refl, sym, ap, ◌∙◌, subst}
+use Rattle.std.proofs.Common.{[], Bool, true, false, ap, ◌∙◌, subst}
 use Rattle.pn_line.specs.Line.{LineBufferValue, so_far}
 use Rattle.pn_serve.specs.Lines.Going.{AnswersLast}
 use Rattle.pn_serve.specs.Lines.States.{LineLoopValue, LineStateValue}

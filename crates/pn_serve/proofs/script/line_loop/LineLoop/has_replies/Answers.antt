@@ -1,5 +1,5 @@
 -- Nothing waits where both tests say so.
-use Rattle.std.proofs.Common.{◌≡◌, ◌++◌, [], ap, sym, ◌∙◌}
+use Rattle.std.proofs.Common.{ap, sym, ◌∙◌}
 use Rattle.pn_serve.specs.Lines.States.{waits_in}
 use Rattle.pn_serve.proofs.Writing.{no_text, none_wait, waits_none}
 use Rattle.pn_serve.proofs.script.line_loop.LineLoop.has_replies.Goals as goal

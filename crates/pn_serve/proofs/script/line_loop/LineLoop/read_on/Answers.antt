@@ -1,10 +1,8 @@
 -- Replies are handed on, or there is too much, or the source has more, no more, or failed.
-use Rattle.std.proofs.Common.{◌≡◌, ◌≢◌, ◌+◌, ◌<◌, ◌≤◌, ℕ, List, [], Option, false, IfSome, refl, sym, ap, ◌∙◌, subst, arith}
-use Rattle.std.specs.Prelude.{Ok, Err}
-use Rattle.pn_line.specs.declared.line_buffer.TheConstants.{ENDLESS}
+use Rattle.std.proofs.Common.{◌≡◌, false, sym, ap, subst, arith}
+use Rattle.std.specs.Prelude.{Ok}
 use Rattle.pn_serve.specs.declared.script.Counts.{Counts}
 use Rattle.pn_serve.specs.declared.script.RunFault.TheVariants.{Read, TooManyTurns}
-use Rattle.pn_serve.specs.declared.script.TheConstants.{MAX_LINES}
 use Rattle.pn_serve.specs.declared.script.line_loop.steps.Step.{Step}
 use Rattle.pn_serve.specs.declared.script.line_loop.steps.Step.TheVariants.{Next}
 use Rattle.pn_serve.specs.Lines.Bounds.{ReadsOn}

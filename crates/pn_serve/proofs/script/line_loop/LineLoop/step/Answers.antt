@@ -1,17 +1,18 @@
 -- A step writes, reads, goes on with a look, or ends.
-use Rattle.std.proofs.Common.{◌≡◌, ◌≢◌, ◌+◌, ◌*◌, ◌<◌, ◌≤◌, ℕ, length, true, List, [], Option, inr, sym, ap, ◌∙◌, subst, arith}
+use Rattle.std.proofs.Common.{◌≡◌, ◌≢◌, ◌+◌, ◌*◌, ◌<◌, length, true, [], inr, sym, ap, ◌∙◌, subst, arith}
 use Rattle.pn_line.specs.Line.{LineBufferValue}
 use Rattle.pn_serve.specs.declared.script.replies.TheConstants.{REPLY_CAPACITY}
 use Rattle.pn_serve.specs.declared.script.line_loop.state.Stage.{Stage}
 use Rattle.pn_serve.specs.declared.script.line_loop.state.Stage.TheVariants.{Reading, Looking, Ending}
 use Rattle.pn_serve.specs.Lines.Bounds.{CountsUnits, Foresees, ForeseesAt, HandsOnAtMost, IsLookingAt, IsOutAs, ReadsOn}
 use Rattle.pn_serve.specs.Lines.Going.{AnswersLast, AnswersWith}
-use Rattle.pn_serve.specs.Lines.States.{LineLoopValue, LineStateValue, waits_in}
-use Rattle.pn_serve.specs.Lines.Stepping.{EndsOnceSent, Stands, StandsAt, by, with_rest}
+use Rattle.pn_serve.specs.Lines.States.{LineLoopValue, LineStateValue}
+use Rattle.pn_serve.specs.Lines.Stepping.{Stands, StandsAt, by, with_rest}
 use Rattle.pn_serve.specs.Lines.Taking.{EndsTo, Takes, TakesLine}
-use Rattle.pn_serve.proofs.Bounded.{ends_counted, ends_foresees, ends_idle, ends_no_input, sends_counted, sends_foresees, sends_hands, sends_idle, sends_no_input, takes_foresees, takes_grows, takes_line, takes_lines, takes_out}
+use Rattle.pn_serve.proofs.Bounded.{ends_counted, ends_foresees, ends_idle, ends_no_input, sends_foresees, takes_foresees, takes_grows, takes_line, takes_lines, takes_out}
 use Rattle.pn_serve.proofs.Knowing.{knows_itself}
 use Rattle.pn_serve.proofs.Measured.{ends_nearer}
+use Rattle.pn_serve.proofs.Stages.{taken_as_was, taken_reads}
 use Rattle.pn_serve.proofs.Standing.{Steps-ended, Steps-written}
 use Rattle.pn_serve.proofs.Steps.{Steps-look}
 use Rattle.pn_serve.proofs.Writing.{no_text, out_while_made}
@@ -54,56 +55,32 @@ returns-in-Reading-clause-steps g c =
     let M = g.M.LineHandler in
     let left = g.S.Source.left c.args.input.now in
     let before = g.W.Sink.contents c.args.output.now in
-    let reading : c.self.inside.state.stage ≡ Reading = sym c.take_stage.ensures.stage ∙ c.in-Reading.is in
-    let back : (let r : LineLoopValue = record { line = c.self.inside.line; replies = c.self.inside.replies; state = c.take_stage.new.self } in r) ≡ c.args.self.now =
-    ap (λ (s : LineStateValue). let r : LineLoopValue = record { line = c.self.inside.line; replies = c.self.inside.replies; state = s } in r) c.take_stage.ensures.reads
-    ∙ ap (λ (s : Stage). let r : LineLoopValue = record { line = c.self.inside.line; replies = c.self.inside.replies; state = record c.self.inside.state { stage = s } } in r) (sym reading)
-    ∙ c.self.view_is in
+    let back = taken_as_was c.self.inside.line c.self.inside.replies c.self.inside.state c.take_stage.new.self c.args.self.now c.take_stage.ensures.reads (sym c.take_stage.ensures.stage ∙ c.in-Reading.is) c.self.view_is in
     λ start rest steady stands. c.read_on.ensures.steps start rest steady (subst (λ (r : LineLoopValue). Stands (by M.moves M.makes M.ends M.goes M.goes_last) start (with_rest left rest) before c.args.machine.now r) (sym back) stands)
 
 pub returns-in-Reading-clause-out : goal.returns-in-Reading-clause-out
 returns-in-Reading-clause-out g c =
-    let reading : c.self.inside.state.stage ≡ Reading = sym c.take_stage.ensures.stage ∙ c.in-Reading.is in
-    let back : (let r : LineLoopValue = record { line = c.self.inside.line; replies = c.self.inside.replies; state = c.take_stage.new.self } in r) ≡ c.args.self.now =
-    ap (λ (s : LineStateValue). let r : LineLoopValue = record { line = c.self.inside.line; replies = c.self.inside.replies; state = s } in r) c.take_stage.ensures.reads
-    ∙ ap (λ (s : Stage). let r : LineLoopValue = record { line = c.self.inside.line; replies = c.self.inside.replies; state = record c.self.inside.state { stage = s } } in r) (sym reading)
-    ∙ c.self.view_is in
+    let back = taken_as_was c.self.inside.line c.self.inside.replies c.self.inside.state c.take_stage.new.self c.args.self.now c.take_stage.ensures.reads (sym c.take_stage.ensures.stage ∙ c.in-Reading.is) c.self.view_is in
     λ is. c.read_on.ensures.out (subst (λ (r : LineLoopValue). IsOutAs r (g.W.Sink.is_handed_on c.args.output.now)) (sym back) is)
 
 pub returns-in-Reading-clause-few : goal.returns-in-Reading-clause-few
 returns-in-Reading-clause-few g c =
-    let reading : c.self.inside.state.stage ≡ Reading = sym c.take_stage.ensures.stage ∙ c.in-Reading.is in
-    let back : (let r : LineLoopValue = record { line = c.self.inside.line; replies = c.self.inside.replies; state = c.take_stage.new.self } in r) ≡ c.args.self.now =
-    ap (λ (s : LineStateValue). let r : LineLoopValue = record { line = c.self.inside.line; replies = c.self.inside.replies; state = s } in r) c.take_stage.ensures.reads
-    ∙ ap (λ (s : Stage). let r : LineLoopValue = record { line = c.self.inside.line; replies = c.self.inside.replies; state = record c.self.inside.state { stage = s } } in r) (sym reading)
-    ∙ c.self.view_is in
+    let back = taken_as_was c.self.inside.line c.self.inside.replies c.self.inside.state c.take_stage.new.self c.args.self.now c.take_stage.ensures.reads (sym c.take_stage.ensures.stage ∙ c.in-Reading.is) c.self.view_is in
     subst (λ (r : LineLoopValue). HandsOnAtMost REPLY_CAPACITY r c.read_on.new.self) back c.read_on.ensures.few
 
 pub returns-in-Reading-clause-counted : goal.returns-in-Reading-clause-counted
 returns-in-Reading-clause-counted g c =
-    let reading : c.self.inside.state.stage ≡ Reading = sym c.take_stage.ensures.stage ∙ c.in-Reading.is in
-    let back : (let r : LineLoopValue = record { line = c.self.inside.line; replies = c.self.inside.replies; state = c.take_stage.new.self } in r) ≡ c.args.self.now =
-    ap (λ (s : LineStateValue). let r : LineLoopValue = record { line = c.self.inside.line; replies = c.self.inside.replies; state = s } in r) c.take_stage.ensures.reads
-    ∙ ap (λ (s : Stage). let r : LineLoopValue = record { line = c.self.inside.line; replies = c.self.inside.replies; state = record c.self.inside.state { stage = s } } in r) (sym reading)
-    ∙ c.self.view_is in
+    let back = taken_as_was c.self.inside.line c.self.inside.replies c.self.inside.state c.take_stage.new.self c.args.self.now c.take_stage.ensures.reads (sym c.take_stage.ensures.stage ∙ c.in-Reading.is) c.self.view_is in
     subst (λ (r : LineLoopValue). CountsUnits r c.read_on.new.self c.read_on.result) back c.read_on.ensures.counted
 
 pub returns-in-Reading-clause-reads : goal.returns-in-Reading-clause-reads
 returns-in-Reading-clause-reads g c =
-    let reading : c.self.inside.state.stage ≡ Reading = sym c.take_stage.ensures.stage ∙ c.in-Reading.is in
-    let back : (let r : LineLoopValue = record { line = c.self.inside.line; replies = c.self.inside.replies; state = c.take_stage.new.self } in r) ≡ c.args.self.now =
-    ap (λ (s : LineStateValue). let r : LineLoopValue = record { line = c.self.inside.line; replies = c.self.inside.replies; state = s } in r) c.take_stage.ensures.reads
-    ∙ ap (λ (s : Stage). let r : LineLoopValue = record { line = c.self.inside.line; replies = c.self.inside.replies; state = record c.self.inside.state { stage = s } } in r) (sym reading)
-    ∙ c.self.view_is in
+    let back = taken_as_was c.self.inside.line c.self.inside.replies c.self.inside.state c.take_stage.new.self c.args.self.now c.take_stage.ensures.reads (sym c.take_stage.ensures.stage ∙ c.in-Reading.is) c.self.view_is in
     λ settled. subst (λ (r : LineLoopValue). ReadsOn (g.S.Source.looks c.args.input.now) (g.S.Source.looks c.read_on.new.input) r c.read_on.new.self c.read_on.result) back c.read_on.ensures.reads
 
 pub returns-in-Reading-clause-foresees : goal.returns-in-Reading-clause-foresees
 returns-in-Reading-clause-foresees g c =
-    let reading : c.self.inside.state.stage ≡ Reading = sym c.take_stage.ensures.stage ∙ c.in-Reading.is in
-    let back : (let r : LineLoopValue = record { line = c.self.inside.line; replies = c.self.inside.replies; state = c.take_stage.new.self } in r) ≡ c.args.self.now =
-    ap (λ (s : LineStateValue). let r : LineLoopValue = record { line = c.self.inside.line; replies = c.self.inside.replies; state = s } in r) c.take_stage.ensures.reads
-    ∙ ap (λ (s : Stage). let r : LineLoopValue = record { line = c.self.inside.line; replies = c.self.inside.replies; state = record c.self.inside.state { stage = s } } in r) (sym reading)
-    ∙ c.self.view_is in
+    let back = taken_as_was c.self.inside.line c.self.inside.replies c.self.inside.state c.take_stage.new.self c.args.self.now c.take_stage.ensures.reads (sym c.take_stage.ensures.stage ∙ c.in-Reading.is) c.self.view_is in
     λ was. c.read_on.ensures.foresees (subst (λ (r : LineLoopValue). Foresees g.S.Source.may_fail g.W.Sink.may_fail g.S.Source.may_end r) (sym back) was)
 
 pub returns-in-Looking-clause-steps : goal.returns-in-Looking-clause-steps
@@ -115,9 +92,7 @@ returns-in-Looking-clause-steps g c =
     let new = c.look_on.new.self in
     let going = c.in-Looking.going in
     let mid : LineLoopValue = record old { state = record old.state { stage = Reading } } in
-    let mid_is =
-    ap (λ (s : LineStateValue). let r : LineLoopValue = record { line = c.self.inside.line; replies = c.self.inside.replies; state = s } in r) c.take_stage.ensures.reads
-    ∙ ap (λ (r : LineLoopValue). let m : LineLoopValue = record r { state = record r.state { stage = Reading } } in m) c.self.view_is in
+    let mid_is = taken_reads c.self.inside.line c.self.inside.replies c.self.inside.state c.take_stage.new.self old c.take_stage.ensures.reads c.self.view_is in
     let looking : old.state.stage ≡ Looking going = sym (ap (λ (r : LineLoopValue). r.state.stage) c.self.view_is) ∙ sym c.take_stage.ensures.stage ∙ c.in-Looking.is in
     let takes : Takes true mid new = subst (λ (r : LineLoopValue). Takes true r new) mid_is c.look_on.ensures.takes in
     λ start rest steady stands.
@@ -130,12 +105,8 @@ pub returns-in-Looking-clause-out : goal.returns-in-Looking-clause-out
 returns-in-Looking-clause-out g c =
     let old = c.args.self.now in
     let new = c.look_on.new.self in
-    let going = c.in-Looking.going in
     let mid : LineLoopValue = record old { state = record old.state { stage = Reading } } in
-    let mid_is =
-    ap (λ (s : LineStateValue). let r : LineLoopValue = record { line = c.self.inside.line; replies = c.self.inside.replies; state = s } in r) c.take_stage.ensures.reads
-    ∙ ap (λ (r : LineLoopValue). let m : LineLoopValue = record r { state = record r.state { stage = Reading } } in m) c.self.view_is in
-    let looking : old.state.stage ≡ Looking going = sym (ap (λ (r : LineLoopValue). r.state.stage) c.self.view_is) ∙ sym c.take_stage.ensures.stage ∙ c.in-Looking.is in
+    let mid_is = taken_reads c.self.inside.line c.self.inside.replies c.self.inside.state c.take_stage.new.self old c.take_stage.ensures.reads c.self.view_is in
     let takes : Takes true mid new = subst (λ (r : LineLoopValue). Takes true r new) mid_is c.look_on.ensures.takes in
     λ is. takes_out true mid new (g.W.Sink.is_handed_on c.args.output.now) takes is
 
@@ -143,12 +114,8 @@ pub returns-in-Looking-clause-few : goal.returns-in-Looking-clause-few
 returns-in-Looking-clause-few g c =
     let old = c.args.self.now in
     let new = c.look_on.new.self in
-    let going = c.in-Looking.going in
     let mid : LineLoopValue = record old { state = record old.state { stage = Reading } } in
-    let mid_is =
-    ap (λ (s : LineStateValue). let r : LineLoopValue = record { line = c.self.inside.line; replies = c.self.inside.replies; state = s } in r) c.take_stage.ensures.reads
-    ∙ ap (λ (r : LineLoopValue). let m : LineLoopValue = record r { state = record r.state { stage = Reading } } in m) c.self.view_is in
-    let looking : old.state.stage ≡ Looking going = sym (ap (λ (r : LineLoopValue). r.state.stage) c.self.view_is) ∙ sym c.take_stage.ensures.stage ∙ c.in-Looking.is in
+    let mid_is = taken_reads c.self.inside.line c.self.inside.replies c.self.inside.state c.take_stage.new.self old c.take_stage.ensures.reads c.self.view_is in
     let takes : Takes true mid new = subst (λ (r : LineLoopValue). Takes true r new) mid_is c.look_on.ensures.takes in
     omega (arith, takes_grows true mid new takes)
 
@@ -156,26 +123,16 @@ pub returns-in-Looking-clause-counted : goal.returns-in-Looking-clause-counted
 returns-in-Looking-clause-counted g c =
     let old = c.args.self.now in
     let new = c.look_on.new.self in
-    let going = c.in-Looking.going in
     let mid : LineLoopValue = record old { state = record old.state { stage = Reading } } in
-    let mid_is =
-    ap (λ (s : LineStateValue). let r : LineLoopValue = record { line = c.self.inside.line; replies = c.self.inside.replies; state = s } in r) c.take_stage.ensures.reads
-    ∙ ap (λ (r : LineLoopValue). let m : LineLoopValue = record r { state = record r.state { stage = Reading } } in m) c.self.view_is in
-    let looking : old.state.stage ≡ Looking going = sym (ap (λ (r : LineLoopValue). r.state.stage) c.self.view_is) ∙ sym c.take_stage.ensures.stage ∙ c.in-Looking.is in
+    let mid_is = taken_reads c.self.inside.line c.self.inside.replies c.self.inside.state c.take_stage.new.self old c.take_stage.ensures.reads c.self.view_is in
     let takes : Takes true mid new = subst (λ (r : LineLoopValue). Takes true r new) mid_is c.look_on.ensures.takes in
     (takes_lines true mid new takes, omega (arith, subst (λ (r : LineLoopValue). length new.replies < length r.replies + 1024 * (c.look_on.result + 1)) mid_is c.look_on.ensures.units, ap (λ (l : LineBufferValue). l.count) (takes_line true mid new takes)))
 
 pub returns-in-Looking-clause-reads : goal.returns-in-Looking-clause-reads
 returns-in-Looking-clause-reads g c =
     let old = c.args.self.now in
-    let new = c.look_on.new.self in
     let going = c.in-Looking.going in
-    let mid : LineLoopValue = record old { state = record old.state { stage = Reading } } in
-    let mid_is =
-    ap (λ (s : LineStateValue). let r : LineLoopValue = record { line = c.self.inside.line; replies = c.self.inside.replies; state = s } in r) c.take_stage.ensures.reads
-    ∙ ap (λ (r : LineLoopValue). let m : LineLoopValue = record r { state = record r.state { stage = Reading } } in m) c.self.view_is in
     let looking : old.state.stage ≡ Looking going = sym (ap (λ (r : LineLoopValue). r.state.stage) c.self.view_is) ∙ sym c.take_stage.ensures.stage ∙ c.in-Looking.is in
-    let takes : Takes true mid new = subst (λ (r : LineLoopValue). Takes true r new) mid_is c.look_on.ensures.takes in
     λ settled. absurd (settled.0 (subst (λ (s : Stage). IsLookingAt s) (sym looking) tt))
 
 pub returns-in-Looking-clause-foresees : goal.returns-in-Looking-clause-foresees
@@ -184,9 +141,7 @@ returns-in-Looking-clause-foresees g c =
     let new = c.look_on.new.self in
     let going = c.in-Looking.going in
     let mid : LineLoopValue = record old { state = record old.state { stage = Reading } } in
-    let mid_is =
-    ap (λ (s : LineStateValue). let r : LineLoopValue = record { line = c.self.inside.line; replies = c.self.inside.replies; state = s } in r) c.take_stage.ensures.reads
-    ∙ ap (λ (r : LineLoopValue). let m : LineLoopValue = record r { state = record r.state { stage = Reading } } in m) c.self.view_is in
+    let mid_is = taken_reads c.self.inside.line c.self.inside.replies c.self.inside.state c.take_stage.new.self old c.take_stage.ensures.reads c.self.view_is in
     let looking : old.state.stage ≡ Looking going = sym (ap (λ (r : LineLoopValue). r.state.stage) c.self.view_is) ∙ sym c.take_stage.ensures.stage ∙ c.in-Looking.is in
     let takes : Takes true mid new = subst (λ (r : LineLoopValue). Takes true r new) mid_is c.look_on.ensures.takes in
     λ was.
@@ -203,9 +158,7 @@ returns-in-Ending-clause-steps g c =
     let before = g.W.Sink.contents c.args.output.now in
     let after = g.W.Sink.contents c.end_once_out.new.output in
     let mid : LineLoopValue = record old { state = record old.state { stage = Reading } } in
-    let mid_is =
-    ap (λ (s : LineStateValue). let r : LineLoopValue = record { line = c.self.inside.line; replies = c.self.inside.replies; state = s } in r) c.take_stage.ensures.reads
-    ∙ ap (λ (r : LineLoopValue). let m : LineLoopValue = record r { state = record r.state { stage = Reading } } in m) c.self.view_is in
+    let mid_is = taken_reads c.self.inside.line c.self.inside.replies c.self.inside.state c.take_stage.new.self old c.take_stage.ensures.reads c.self.view_is in
     let ending : old.state.stage ≡ Ending ended = sym (ap (λ (r : LineLoopValue). r.state.stage) c.self.view_is) ∙ sym c.take_stage.ensures.stage ∙ c.in-Ending.is in
     let ends : EndsTo ended mid before new after c.end_once_out.result = subst (λ (r : LineLoopValue). EndsTo ended r before new after c.end_once_out.result) mid_is c.end_once_out.ensures.ends in
     λ start rest steady stands.
@@ -220,10 +173,7 @@ returns-in-Ending-clause-idle g c =
     let before = g.W.Sink.contents c.args.output.now in
     let after = g.W.Sink.contents c.end_once_out.new.output in
     let mid : LineLoopValue = record old { state = record old.state { stage = Reading } } in
-    let mid_is =
-    ap (λ (s : LineStateValue). let r : LineLoopValue = record { line = c.self.inside.line; replies = c.self.inside.replies; state = s } in r) c.take_stage.ensures.reads
-    ∙ ap (λ (r : LineLoopValue). let m : LineLoopValue = record r { state = record r.state { stage = Reading } } in m) c.self.view_is in
-    let ending : old.state.stage ≡ Ending ended = sym (ap (λ (r : LineLoopValue). r.state.stage) c.self.view_is) ∙ sym c.take_stage.ensures.stage ∙ c.in-Ending.is in
+    let mid_is = taken_reads c.self.inside.line c.self.inside.replies c.self.inside.state c.take_stage.new.self old c.take_stage.ensures.reads c.self.view_is in
     let ends : EndsTo ended mid before new after c.end_once_out.result = subst (λ (r : LineLoopValue). EndsTo ended r before new after c.end_once_out.result) mid_is c.end_once_out.ensures.ends in
     ends_idle mid new before after ended c.end_once_out.result ends
 
@@ -235,15 +185,7 @@ pub returns-in-Ending-clause-few : goal.returns-in-Ending-clause-few
 returns-in-Ending-clause-few g c =
     let old = c.args.self.now in
     let new = c.end_once_out.new.self in
-    let ended = c.in-Ending.ended in
-    let before = g.W.Sink.contents c.args.output.now in
-    let after = g.W.Sink.contents c.end_once_out.new.output in
-    let mid : LineLoopValue = record old { state = record old.state { stage = Reading } } in
-    let mid_is =
-    ap (λ (s : LineStateValue). let r : LineLoopValue = record { line = c.self.inside.line; replies = c.self.inside.replies; state = s } in r) c.take_stage.ensures.reads
-    ∙ ap (λ (r : LineLoopValue). let m : LineLoopValue = record r { state = record r.state { stage = Reading } } in m) c.self.view_is in
-    let ending : old.state.stage ≡ Ending ended = sym (ap (λ (r : LineLoopValue). r.state.stage) c.self.view_is) ∙ sym c.take_stage.ensures.stage ∙ c.in-Ending.is in
-    let ends : EndsTo ended mid before new after c.end_once_out.result = subst (λ (r : LineLoopValue). EndsTo ended r before new after c.end_once_out.result) mid_is c.end_once_out.ensures.ends in
+    let mid_is = taken_reads c.self.inside.line c.self.inside.replies c.self.inside.state c.take_stage.new.self old c.take_stage.ensures.reads c.self.view_is in
     subst (λ (r : LineLoopValue). HandsOnAtMost REPLY_CAPACITY r new) mid_is c.end_once_out.ensures.few
 
 pub returns-in-Ending-clause-counted : goal.returns-in-Ending-clause-counted
@@ -254,10 +196,7 @@ returns-in-Ending-clause-counted g c =
     let before = g.W.Sink.contents c.args.output.now in
     let after = g.W.Sink.contents c.end_once_out.new.output in
     let mid : LineLoopValue = record old { state = record old.state { stage = Reading } } in
-    let mid_is =
-    ap (λ (s : LineStateValue). let r : LineLoopValue = record { line = c.self.inside.line; replies = c.self.inside.replies; state = s } in r) c.take_stage.ensures.reads
-    ∙ ap (λ (r : LineLoopValue). let m : LineLoopValue = record r { state = record r.state { stage = Reading } } in m) c.self.view_is in
-    let ending : old.state.stage ≡ Ending ended = sym (ap (λ (r : LineLoopValue). r.state.stage) c.self.view_is) ∙ sym c.take_stage.ensures.stage ∙ c.in-Ending.is in
+    let mid_is = taken_reads c.self.inside.line c.self.inside.replies c.self.inside.state c.take_stage.new.self old c.take_stage.ensures.reads c.self.view_is in
     let ends : EndsTo ended mid before new after c.end_once_out.result = subst (λ (r : LineLoopValue). EndsTo ended r before new after c.end_once_out.result) mid_is c.end_once_out.ensures.ends in
     ends_counted mid new before after ended old c.end_once_out.result ends
 
@@ -269,10 +208,7 @@ returns-in-Ending-clause-reads g c =
     let before = g.W.Sink.contents c.args.output.now in
     let after = g.W.Sink.contents c.end_once_out.new.output in
     let mid : LineLoopValue = record old { state = record old.state { stage = Reading } } in
-    let mid_is =
-    ap (λ (s : LineStateValue). let r : LineLoopValue = record { line = c.self.inside.line; replies = c.self.inside.replies; state = s } in r) c.take_stage.ensures.reads
-    ∙ ap (λ (r : LineLoopValue). let m : LineLoopValue = record r { state = record r.state { stage = Reading } } in m) c.self.view_is in
-    let ending : old.state.stage ≡ Ending ended = sym (ap (λ (r : LineLoopValue). r.state.stage) c.self.view_is) ∙ sym c.take_stage.ensures.stage ∙ c.in-Ending.is in
+    let mid_is = taken_reads c.self.inside.line c.self.inside.replies c.self.inside.state c.take_stage.new.self old c.take_stage.ensures.reads c.self.view_is in
     let ends : EndsTo ended mid before new after c.end_once_out.result = subst (λ (r : LineLoopValue). EndsTo ended r before new after c.end_once_out.result) mid_is c.end_once_out.ensures.ends in
     λ settled. ends_nearer old mid new before after ended (g.S.Source.looks c.args.input.now) c.end_once_out.result ends
 
@@ -284,10 +220,7 @@ returns-in-Ending-clause-end g c =
     let before = g.W.Sink.contents c.args.output.now in
     let after = g.W.Sink.contents c.end_once_out.new.output in
     let mid : LineLoopValue = record old { state = record old.state { stage = Reading } } in
-    let mid_is =
-    ap (λ (s : LineStateValue). let r : LineLoopValue = record { line = c.self.inside.line; replies = c.self.inside.replies; state = s } in r) c.take_stage.ensures.reads
-    ∙ ap (λ (r : LineLoopValue). let m : LineLoopValue = record r { state = record r.state { stage = Reading } } in m) c.self.view_is in
-    let ending : old.state.stage ≡ Ending ended = sym (ap (λ (r : LineLoopValue). r.state.stage) c.self.view_is) ∙ sym c.take_stage.ensures.stage ∙ c.in-Ending.is in
+    let mid_is = taken_reads c.self.inside.line c.self.inside.replies c.self.inside.state c.take_stage.new.self old c.take_stage.ensures.reads c.self.view_is in
     let ends : EndsTo ended mid before new after c.end_once_out.result = subst (λ (r : LineLoopValue). EndsTo ended r before new after c.end_once_out.result) mid_is c.end_once_out.ensures.ends in
     λ is. absurd (ends_no_input mid new before after ended c.end_once_out.result ends is)
 
@@ -299,10 +232,7 @@ returns-in-Ending-clause-at_end g c =
     let before = g.W.Sink.contents c.args.output.now in
     let after = g.W.Sink.contents c.end_once_out.new.output in
     let mid : LineLoopValue = record old { state = record old.state { stage = Reading } } in
-    let mid_is =
-    ap (λ (s : LineStateValue). let r : LineLoopValue = record { line = c.self.inside.line; replies = c.self.inside.replies; state = s } in r) c.take_stage.ensures.reads
-    ∙ ap (λ (r : LineLoopValue). let m : LineLoopValue = record r { state = record r.state { stage = Reading } } in m) c.self.view_is in
-    let ending : old.state.stage ≡ Ending ended = sym (ap (λ (r : LineLoopValue). r.state.stage) c.self.view_is) ∙ sym c.take_stage.ensures.stage ∙ c.in-Ending.is in
+    let mid_is = taken_reads c.self.inside.line c.self.inside.replies c.self.inside.state c.take_stage.new.self old c.take_stage.ensures.reads c.self.view_is in
     let ends : EndsTo ended mid before new after c.end_once_out.result = subst (λ (r : LineLoopValue). EndsTo ended r before new after c.end_once_out.result) mid_is c.end_once_out.ensures.ends in
     λ is. absurd (ends_no_input mid new before after ended c.end_once_out.result ends is)
 
@@ -314,9 +244,7 @@ returns-in-Ending-clause-foresees g c =
     let before = g.W.Sink.contents c.args.output.now in
     let after = g.W.Sink.contents c.end_once_out.new.output in
     let mid : LineLoopValue = record old { state = record old.state { stage = Reading } } in
-    let mid_is =
-    ap (λ (s : LineStateValue). let r : LineLoopValue = record { line = c.self.inside.line; replies = c.self.inside.replies; state = s } in r) c.take_stage.ensures.reads
-    ∙ ap (λ (r : LineLoopValue). let m : LineLoopValue = record r { state = record r.state { stage = Reading } } in m) c.self.view_is in
+    let mid_is = taken_reads c.self.inside.line c.self.inside.replies c.self.inside.state c.take_stage.new.self old c.take_stage.ensures.reads c.self.view_is in
     let ending : old.state.stage ≡ Ending ended = sym (ap (λ (r : LineLoopValue). r.state.stage) c.self.view_is) ∙ sym c.take_stage.ensures.stage ∙ c.in-Ending.is in
     let ends : EndsTo ended mid before new after c.end_once_out.result = subst (λ (r : LineLoopValue). EndsTo ended r before new after c.end_once_out.result) mid_is c.end_once_out.ensures.ends in
     λ was. ends_foresees mid new before after ended g.S.Source.may_fail g.W.Sink.may_fail g.S.Source.may_end c.end_once_out.result c.end_once_out.ensures.fault ends (subst (λ (s : Stage). ForeseesAt s g.S.Source.may_fail g.W.Sink.may_fail g.S.Source.may_end old) ending was)

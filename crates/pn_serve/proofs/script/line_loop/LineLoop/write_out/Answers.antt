@@ -1,5 +1,5 @@
 -- A block more was written, or the writer takes no more.
-use Rattle.std.proofs.Common.{◌≡◌, ◌≢◌, ℕ, List, [], ◌++◌, refl, ◌∙◌, subst, append-nil}
+use Rattle.std.proofs.Common.{◌≢◌, ℕ, List, [], refl, ◌∙◌, subst, append-nil}
 use Rattle.pn_line.specs.Sent.{AppendsPrefix}
 use Rattle.pn_line.proofs.SentLaws.{Sends-cut_flush}
 use Rattle.pn_serve.specs.Lines.States.{LineLoopValue, waits_in}

@@ -1,5 +1,5 @@
 -- What was written goes after what was written before.
-use Rattle.std.proofs.Common.{◌≡◌, ◌+◌, ◌≤◌, [], length, arith}
+use Rattle.std.proofs.Common.{arith}
 use Rattle.pn_line.proofs.SentLaws.{Sends-trans}
 use Rattle.pn_serve.proofs.script.replies.ReplyBuffer.send_some.Goals as goal
 

@@ -1,8 +1,6 @@
 -- A page, a get and a copy that are gone on with.
-use Rattle.std.proofs.Common.{◌≡◌, ◌≤◌, ◌<◌, ℕ, sym, subst, arith}
+use Rattle.std.proofs.Common.{◌≤◌, sym, subst, arith}
 use Rattle.pn_scan.specs.Paging.{Stays}
-use Rattle.pn_live.specs.Readers.{LiveReaderValue}
-use Rattle.pn_protocol.specs.Command.Meaning.{CommandValue}
 use Rattle.pn_serve.specs.declared.sessions.going.Going.{Going}
 use Rattle.pn_serve.specs.Lines.Going.{answer_left}
 use Rattle.pn_serve.specs.Session.Knowing.{KnowsNoLess}
