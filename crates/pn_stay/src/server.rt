@@ -118,7 +118,7 @@ impl StayingServer {
         streams: Vec<Stream<O>>,
     ) -> Result<(), ServeFault>
     where
-        R: Threads + Wait + Sync + Copy + Send + 'static,
+        R: Threads + Wait + Clock + Sync + Copy + Send + 'static,
         S: Source + Drop + Send + 'static,
         O: Origin<S> + Drop + Send + 'static,
         ensures alone { self.old.controlled ≡ false → ReadsStreams (map (λ stream. stream.name) streams.items) self.old.live self.new.live result }

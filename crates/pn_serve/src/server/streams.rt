@@ -22,6 +22,7 @@ use std::alloc::{AllocError, Global};
 use std::sync::{Arc, Wait};
 use std::thread;
 use std::thread::Threads;
+use std::time::Clock;
 
 /// Who looks at the rounds, and who asks for something between them.
 #[derive(Drop)]
@@ -44,7 +45,7 @@ pub fn read_streams<R, S, O>(
     watchers: &Watchers,
 ) -> Result<(), ServeFault>
 where
-    R: Threads + Wait + Sync + Copy + Send + 'static,
+    R: Threads + Wait + Clock + Sync + Copy + Send + 'static,
     S: Source + Drop + Send + 'static,
     O: Origin<S> + Drop + Send + 'static,
     requires workers { (1 ≤ workers) × (workers ≤ MAX_WORKERS) }

@@ -1,7 +1,7 @@
 -- The input is taken as a round.
 use Rattle.pn_serve.specs.Server.Gathering.{value_of}
 use Rattle.pn_serve.proofs.RoundsRead.{takes}
-use Rattle.pn_serve.proofs.server.rounds.run_round.Goals as goal
+use Rattle.pn_serve.proofs.server.tries.run_round.Goals as goal
 
 pub returns-clause-takes : goal.returns-clause-takes
 returns-clause-takes g c =
