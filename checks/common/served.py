@@ -17,6 +17,8 @@ PORTS = range(10_000, 32_768)
 LAST_PORT = multiprocessing.Value("i", random.randrange(len(PORTS)))
 # A program that starts holds what other threads have open until it has begun, and so a port that is tried.
 STARTING = threading.Lock()
+# How many times as long as an idle wait something may take that is not held up: a machine that is busy makes both longer.
+TIMES = 50
 
 Json = dict[str, object]
 
@@ -153,3 +155,16 @@ def fifo(folder: str, name: str) -> tuple[str, IO[bytes]]:
     path = os.path.join(folder, name)
     os.mkfifo(path)
     return path, open(os.open(path, os.O_RDWR), "wb", buffering=0)
+
+
+def seconds_of(act: Callable[[], object]) -> float:
+    """For how long something is waited for."""
+    start = time.monotonic()
+    act()
+    return time.monotonic() - start
+
+
+def in_time(what: str, took: float, least: float, idle: float) -> None:
+    """Fails where something took more than so many seconds, and many times as long as an idle wait."""
+    most = max(least, TIMES * idle)
+    same(f"{what}: whether {took:.2f} s are at most {most:.2f}", took <= most, True)

@@ -11,6 +11,8 @@ from common.at_once import at_once
 
 # What a check of a program and a folder of its own fails with.
 FAULTS = (AssertionError, OSError, subprocess.TimeoutExpired, ValueError)
+# What stands in place of a byte of a text that is damaged.
+OTHER_BYTES = {"x": b"x", "a newline": b"\n", "0xff": b"\xff", "nothing": b""}
 Check = Callable[[str, str], None]
 # What is wrong with a text, or None; a text by its name; and some texts that have a name together.
 FindFault = Callable[[bytes], str | None]
@@ -68,6 +70,19 @@ def try_checks(program: str, checks: Mapping[str, Check], names: Iterable[str]) 
                 failed += 1
                 print(f"{name}: WRONG: {fault}", flush=True)
     return 1 if failed else 0
+
+
+def prefixes(text: bytes) -> Iterator[Case]:
+    """Each proper prefix of a text."""
+    for end in range(len(text)):
+        yield f"cut after {end} bytes", text[:end]
+
+
+def damaged(text: bytes) -> Iterator[Case]:
+    """The text with each byte in turn replaced or left out."""
+    for at in range(len(text)):
+        for name, byte in OTHER_BYTES.items():
+            yield f"{name} in place of byte {at}", text[:at] + byte + text[at + 1 :]
 
 
 def first_fault(find_fault: FindFault, cases: Iterable[Case]) -> tuple[int, str | None]:

@@ -51,7 +51,8 @@ import time
 
 from common.crates import TOP, crates_below
 from common.tried import parser_of
-from contracts.wrong_bodies import ERROR, Edit, control_of, edits_of, in_bundles, is_at, of_tests, source, texts_of, unproved_in, without_answers
+from contracts.locations import is_at, source
+from contracts.wrong_bodies import ERROR, Edit, control_of, edits_of, in_bundles, of_tests, texts_of, unproved_in, without_answers
 
 ENDED = re.compile(r"^(only=\d+ proved=|logic=)", re.M)
 NOT_COVERED = "the borrow checker does not cover"
@@ -105,14 +106,12 @@ def write(path: str, text: str) -> None:
         file.write(text)
 
 
-def names_of(edits: list[Edit]) -> set[str]:
-    """The names of the functions that edits change."""
-    return {location.name for edit in edits for location in edit.locations if location}
-
-
-def function_of(path: str) -> str:
-    """The function whose proof has this file."""
-    return path.split("/")[-2]
+def is_proof_of(path: str, edits: list[Edit]) -> bool:
+    """Whether a file is of the proof of a function that one of these edits changes. (The parts of a long function are in a folder of
+    their own.)"""
+    folders = [it for it in path.split("/")[1:-1] if not it.startswith("+")]
+    function = "::".join([edits[0].crate, *folders])
+    return any(is_at(function, location) for edit in edits for location in edit.locations if location)
 
 
 class Trial:
@@ -128,7 +127,7 @@ class Trial:
         if getattr(self.own, "crate", None) != crate:
             self.own.copy, self.own.crate = Workspace(self.folder, crate, self.seconds), crate
         locations = {location for edit in edits for location in edit.locations}
-        is_whole = None in locations or any(location.module == "lib" for location in locations)
+        is_whole = None in locations or any(not location.module for location in locations if location)
         return self.own.copy.check({**texts_of(edits), **dropped}, set() if is_whole else {location.module for location in locations})
 
     def say(self, edit: Edit, text: str) -> None:
@@ -140,7 +139,7 @@ class Trial:
         if not edits:
             return 0
         # (an answer that an edit of another function made unfit is left where it is)
-        dropped = {path: text for path, text in (dropped or {}).items() if function_of(path) in names_of(edits)}
+        dropped = {path: text for path, text in (dropped or {}).items() if is_proof_of(path, edits)}
         said = self.check(edits, dropped)
         if not ENDED.search(said):
             return self.try_apart(edits, said, dropped, attempt)
@@ -169,7 +168,7 @@ class Trial:
             if goals and NOT_COVERED not in goals and (is_alone or any(is_at(function, location) for location in edit.locations if location))
         ]
         if own:
-            is_less = any(function_of(path) in names_of([edit]) for path in dropped)
+            is_less = any(is_proof_of(path, [edit]) for path in dropped)
             self.without_answers += [edit] * is_less
             for _, refused in own:
                 edit.note(refused)
@@ -218,10 +217,9 @@ class Trial:
 
 def less_answers(edits: list[Edit], said: str, dropped: Texts) -> Texts:
     """The proof files of the edited functions, without the answers that no longer fit."""
-    names = names_of(edits)
     wrong: dict[str, set[int]] = {}
     for path, line, _ in ERROR.findall(said):
-        if path.endswith("/Answers.antt") and function_of(path) in names:
+        if path.endswith("/Answers.antt") and is_proof_of(path, edits):
             wrong.setdefault(path, set()).add(int(line))
     return {path: without_answers(dropped.get(path) or source(edits[0].crate, path), lines) for path, lines in wrong.items()}
 

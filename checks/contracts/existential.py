@@ -110,7 +110,7 @@ def trait_function(trait: str, function: str) -> tuple[str, int] | None:
     for path in glob.glob(f"{TOP}/crates/*/src/**/*.rt", recursive=True):
         text = text_at(path)
         head = re.search(rf"^pub(?:\(\w+\))? trait {trait}\b", text, re.M)
-        found = head and re.compile(rf"^\s*fn {function}\b", re.M).search(text, head.end())
+        found = head and re.compile(rf"^\s*fn {function}\b", re.M).search(text, head.end(), text.find("\n}\n", head.end()))
         if found:
             return text, found.start()
     return None

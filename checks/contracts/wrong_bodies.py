@@ -1,16 +1,11 @@
 """The wrong bodies that checks/run edits tries: what they change, which of them go together, and what a check says of them."""
-import os
 import re
 from typing import NamedTuple
 
-from common.crates import TOP
 from contracts.edit_files import Told, told_of
 from contracts.existential import existential_clauses
+from contracts.locations import FUNCTION, Location, location_at, source, sources_of
 
-FUNCTION = re.compile(r"^\s*(?:pub(?:\(\w+\))? )?(?:const )?fn (\w+)", re.M)
-SIGNATURE_END = re.compile(r"^\s*(?:\{|.*\{)$", re.M)
-BEGINS_ITEM = re.compile(r"^(?:pub(?:\(\w+\))? )?(?:const|static|struct|enum|impl|trait|mod|use|type|macro_rules!)\b", re.M)
-IMPL = re.compile(r"^impl\b(?:<.*?>)? (?:.* for )?&?(?:'\w+ )?(\w+)(?!.*\{\}$)", re.M)
 CONSTANT = re.compile(r"\bconst (\w+)")
 DECLARED = re.compile(r"(?m)^(?=(?: {2})?(?:pub )?[^\s:(-][^\s:]* : )")
 EMPTY_MODULE = re.compile(r"(?m)^module _ .* where\n(?=\s*(?:^\S|\Z))")
@@ -19,14 +14,6 @@ NO_PART = "the borrow checker's part in its proof is not made yet"
 WAITS = re.compile(rf"no proof: (?:in `[^`]*`, of this cycle of calls: )?(it calls .*|it waits .*|{NO_PART}.*)$")
 ERROR = re.compile(r"^(?:\./)?((?:src|specs|proofs)/\S+?):(\d+):\d+: error(?:\[[\w-]+\])?: (.*)$", re.M)
 MOST_OF_REASON = 160
-
-
-class Location(NamedTuple):
-    """A function: its module, its name, and the type of its impl, or nothing."""
-
-    module: str
-    name: str
-    owner: str
 
 
 class Change(NamedTuple):
@@ -95,35 +82,10 @@ class Edit:
         return None in self.locations
 
 
-def source(crate: str, path: str) -> str:
-    with open(f"{TOP}/crates/{crate}/{path}", encoding="utf-8") as file:
-        return file.read()
-
-
-def location_at(path: str, text: str, at: int) -> Location | None:
-    """The function whose body has this part of a text, or None where it is in no body."""
-    functions = [it for it in FUNCTION.finditer(text) if it.start() <= at]
-    if not path.startswith("src/") or not functions:
-        return None
-    last = functions[-1]
-    body = text.find("{\n", text.find("\n", last.start()) - 2)
-    signature = SIGNATURE_END.search(text, last.start())
-    if body < 0 or not signature or at < signature.start() or BEGINS_ITEM.search(text, last.end(), at + 1):
-        return None
-    impls = [it for it in IMPL.finditer(text, 0, last.start()) if text.find("\n}\n", it.end(), last.start()) < 0]
-    module = path[len("src/") : -len(".rt")].replace("/", "::")
-    return Location(module, last[1], owner_of(impls[-1]) if impls else "")
-
-
-def owner_of(impl: re.Match[str]) -> str:
-    """The type of an impl, as a check names its methods: one for every type is of `Any`."""
-    return "Any" if re.search(rf"^impl<.*\b{impl[1]}\b.*> ", impl[0].rpartition("for ")[0]) else impl[1]
-
-
 def clauses_without_witness(crate: str, path: str, at: int) -> set[str]:
     """The clauses that say of some value only that there is one, of the function whose body has this part of a file."""
     text = source(crate, path)
-    if location_at(path, text, at) is None:
+    if location_at(crate, path, text, at) is None:
         return set()
     last = [it for it in FUNCTION.finditer(text) if it.start() <= at][-1]
     return set(existential_clauses(text, last.start(), last[1]))
@@ -134,26 +96,11 @@ def locations_at(crate: str, path: str, at: int) -> set[Location | None]:
     text = source(crate, path)
     constant = CONSTANT.search(text[text.rfind("\n", 0, at) + 1 : text.find("\n", at)])
     if not constant:
-        return {location_at(path, text, at)}
+        return {location_at(crate, path, text, at)}
     use = re.compile(rf"\b{constant[1]}\b")
     texts = {it: source(crate, it) for it in sources_of(crate)}
-    used = {location_at(it, text, found.start()) for it, text in texts.items() for found in use.finditer(text)}
+    used = {location_at(crate, it, text, found.start()) for it, text in texts.items() for found in use.finditer(text)}
     return used - {None} or {None}
-
-
-def sources_of(crate: str) -> list[str]:
-    at = f"{TOP}/crates/{crate}"
-    return [os.path.relpath(f"{folder}/{it}", at) for folder, _, files in os.walk(f"{at}/src") for it in files if it.endswith(".rt")]
-
-
-def is_at(function: str, location: Location) -> bool:
-    """Whether a function that a check names is the one of this location, or a closure in it. A method is named by its type's module."""
-    inner = function.partition("::")[2]
-    parts = inner.split("::")
-    if location.owner:
-        return location.name in parts and any(location.owner in it for it in parts[:-1])
-    below = inner if location.module == "lib" else inner.removeprefix(location.module + "::")
-    return (location.module == "lib" or below != inner) and location.name in below.split("::")
 
 
 def edits_of(crate: str) -> list[Edit]:

@@ -18,8 +18,8 @@ import resource
 import subprocess
 from collections.abc import Iterator
 
-from common.tried import Case, Cases, try_cases
-from faults.damage import damaged, prefixes, slow_replies
+from common.tried import Case, Cases, damaged, prefixes, try_cases
+from replies.slow import slow_replies
 from replies.stored import stored
 
 SECONDS = 60

@@ -15,8 +15,7 @@ import time
 from collections.abc import Iterator
 
 from common.served import Client, Served, message, written
-from common.tried import Case, Cases, try_cases
-from faults.damage import damaged, prefixes
+from common.tried import Case, Cases, damaged, prefixes, try_cases
 from replies.slow_lines import Json
 from replies.slow_streams import copy_of, read_stream
 

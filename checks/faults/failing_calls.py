@@ -18,8 +18,8 @@ from collections.abc import Callable, Iterator
 
 from common.served import Client, Served, message, written
 from common.tried import Cases, try_cases
-from faults.damage import slow_replies
 from faults.failing import environment, failing_library
+from replies.slow import slow_replies
 from replies.stored import stored
 
 SECONDS = 60

@@ -281,3 +281,13 @@ class Region:
     def end(self) -> str:
         """The reply that is left at the end of the input."""
         return self.answered(self.end_text) if self.announced else ""
+
+
+def slow_replies(script: bytes, bounds: list[str]) -> bytes:
+    """The replies to a script, of which the last line may lack its newline."""
+    region = Region(bounds)
+    *lines, rest = script.split(b"\n")
+    replies = [region.feed(line) for line in lines]
+    if rest:
+        replies.append(region.feed(rest, b""))
+    return "".join([*replies, region.end()]).encode()

@@ -3,7 +3,7 @@ import itertools
 import json
 import string
 
-from faults.damage import slow_replies
+from replies.slow import slow_replies
 from replies.slow_lines import MAX_LINE_BYTES
 from replies.stored import Stored
 

@@ -7,12 +7,13 @@ three minutes. Exit status 0 where each holds.
 """
 from common.tried import checks_in, checks_parser, try_checks
 from faults import refused_controls
-from serving import control_counts, control_lines, control_losses, control_scripts, control_sessions, control_stops, control_waits
+from serving import control_caches, control_counts, control_lines, control_losses, control_scripts, control_sessions, control_stops, control_waits
 from serving.staying import raise_descriptors
 
 
 def main(words: list[str]) -> int:
-    modules = (control_scripts, control_lines, control_waits, control_counts, control_sessions, control_losses, control_stops, refused_controls)
+    modules = (control_scripts, control_lines, control_waits, control_counts, control_sessions, control_caches, control_losses, control_stops,
+               refused_controls)
     checks = checks_in(*modules)
     parser = checks_parser(__doc__, checks)
     parser.add_argument("--seconds", type=float, default=control_losses.TIME, help="for how long tablets are lost (default: %(default)s)")

@@ -7,8 +7,7 @@ import threading
 import time
 from collections.abc import Callable
 
-from common.served import SECONDS, Json, same
-from common.waits import in_time
+from common.served import SECONDS, Json, in_time, same
 from serving.control_losses import read_on, write_on
 from serving.controlled import CHUNK, TABLETS, Session, adoption, region_in, written
 from serving.staying import Beside, until

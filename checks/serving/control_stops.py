@@ -9,8 +9,7 @@ import socket
 import time
 from collections.abc import Callable
 
-from common.served import SECONDS, same
-from common.waits import in_time, seconds_of
+from common.served import SECONDS, in_time, same, seconds_of
 from serving.controlled import CHUNK, Session, region_in, written
 from serving.staying import KEYS, Beside, Staying, messages, until
 from serving.stream_lives import write_slowly

@@ -6,8 +6,7 @@ import stat
 import subprocess
 import time
 
-from common.served import SECONDS, same
-from common.waits import in_time, seconds_of
+from common.served import SECONDS, in_time, same, seconds_of
 from serving.controlled import Session, region_in, written
 from serving.staying import messages, until
 from serving.writers import Writer

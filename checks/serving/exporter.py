@@ -17,9 +17,8 @@ import sys
 import urllib.parse
 
 from common.crates import TOP
-from common.served import SECONDS, free_port, same
+from common.served import SECONDS, free_port, in_time, same, seconds_of
 from common.tried import checks_in, checks_parser, try_checks
-from common.waits import in_time, seconds_of
 from serving import exporter_page
 from serving.browser import browser
 from serving.controlled import Session, adoption, region_in, written

@@ -4,7 +4,7 @@ import re
 import time
 
 from common.served import Client, Served, message, row_of, same, written
-from faults.watched import Watched
+from faults.preloaded import Watched
 from serving.staying import Staying, messages, until
 
 MANY = 20_000

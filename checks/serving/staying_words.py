@@ -11,7 +11,7 @@ import threading
 import time
 
 from common.served import SECONDS, Client, Served, fifo, message, row_of, same, written
-from faults.watched import Watched
+from faults.preloaded import Watched
 from serving.staying import KEYS, Staying, key_of, messages, until
 
 UMASK = 0o022

@@ -8,8 +8,7 @@ import socket
 import time
 from collections.abc import Iterator
 
-from common.served import SECONDS, Client, row_of, same
-from common.waits import seconds_of
+from common.served import SECONDS, Client, row_of, same, seconds_of
 from serving.staying import Staying, key_of, messages, until
 from serving.writers import Writer, failed, made, said_of_faults, socket_in
 

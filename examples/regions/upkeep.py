@@ -1,5 +1,5 @@
-"""What those do who run regions, while they are read: a tablet is recovered, a cache is kept, a machine that was lost is replaced,
-and all are stopped in turn."""
+"""What those do who run regions, while they are read: a tablet is recovered, a machine that was lost is replaced, and all are stopped
+in turn."""
 
 from __future__ import annotations
 
@@ -7,10 +7,10 @@ import shutil
 import threading
 import time
 from collections.abc import Callable, Sequence
-from pathlib import Path
 
+from cache import Cache
 from machines import PROXY_PORT, RANGES, SHOWN, Machine, context
-from pnuts_client import Client, Control, PnutsError, Record, Recovering, Version
+from pnuts_client import Client, Control, PnutsError, Recovering, Version
 from pnuts_client.addresses import Tcp
 
 from running import until
@@ -18,50 +18,6 @@ from running import until
 # The tablet of the range `high` that is lost. The front's check reads none of its keys.
 LOST, KEYS = 2, [f"z{number}" for number in range(250, 400)]
 PATIENCE = 600.0
-
-
-class Cache:
-    """A copy of a region's records, kept by the changes that its control socket tells."""
-
-    def __init__(self, control: Path) -> None:
-        self.address = f"unix:{control}"
-        self.records: dict[str, Record] = {}
-        self.loads = self.changes = 0
-
-    def run(self, is_over: Callable[[], bool]) -> None:
-        """Reads anew what it may have missed, and else what has changed. It waits while the region is away."""
-        with Control(self.address, retries=1000) as region:
-            for found in region.watch(wait=1):
-                if is_over():
-                    return
-                if found.missed:
-                    self.load(region)
-                for change in found.changes:
-                    self.take(region, change.key)
-
-    def load(self, region: Control) -> None:
-        while True:
-            try:
-                self.records = {record.key: record for record in region.scan(page=1000)}
-                self.loads += 1
-                return
-            except Recovering:
-                time.sleep(0.05)
-
-    def take(self, region: Control, key: str) -> None:
-        """Takes a record that has changed. Where its tablet was lost since, the next changes are missed, and all is read anew."""
-        try:
-            record = region.read(key)
-        except Recovering:
-            return
-        if record is not None:
-            self.records[key] = record
-            self.changes += 1
-
-    def equals_region(self) -> bool:
-        """Whether it has the records of its region, which has to rest."""
-        with Control(self.address) as region:
-            return {record.key: record for record in region.scan(page=1000)} == self.records
 
 
 class Near:
@@ -142,7 +98,7 @@ def renew(machine: Machine, is_level: Callable[[str], bool]) -> float:
 
 
 def faults(near: Near, cache: Cache) -> list[str]:
-    """What is wrong with what was shown, once nothing is published any more."""
+    """What is wrong with what was shown, once nothing is published any more. The cache still follows its region."""
     try:
         until("the cache equals its region", cache.equals_region, PATIENCE)
     except (TimeoutError, PnutsError) as fault:

@@ -1,4 +1,3 @@
-pub mod Ahead
 pub mod Buffers
 pub mod Coming
 pub mod Crossing

@@ -16,13 +16,14 @@ mod threads;
 
 use crate::acceptor::SocketAcceptor;
 use crate::server::control_threads::start_controls;
+use crate::server::starting::ServerSizes;
 use crate::server::stopping::Stopping;
 use crate::server::threads::start_answering;
 use pn_line::Source;
 use pn_live::{LiveReader, LiveRegion};
 use pn_serve::{
-    Acceptor, MAX_CONTROLS, Origin, ServeFault, SessionThread, Settings, Stream, Watchers,
-    close_region, join_sessions, open_region, read_streams, take_commands,
+    Acceptor, MAX_CONTROLS, OpenedRegion, Origin, ServeFault, SessionThread, Settings, Stream,
+    Watchers, close_region, join_sessions, open_region, read_streams, take_commands,
 };
 use pn_tablet::Layout;
 use std::alloc::{AllocError, Global};
@@ -88,25 +89,13 @@ impl StayingServer {
             0
         };
         let (live, readers) = open_for(rt, alloc, layout, threads + controls)?;
-        let mut readers = readers;
-        let sizes = Sizes {
+        let opened = OpenedRegion { live, readers };
+        let sizes = ServerSizes {
             threads,
             connections,
+            workers,
         };
-        match start_threads(rt, alloc, acceptor, sizes, &live, &mut readers) {
-            Ok(started) => Ok(StayingServer {
-                live,
-                workers,
-                running: started.running,
-                readers,
-                watchers: started.watchers,
-                stopping: started.stopping,
-            }),
-            Err(error) => {
-                let _ = close_region(rt, live, readers);
-                Err(error)
-            }
-        }
+        StayingServer::start_from(rt, alloc, acceptor, opened, sizes)
     }
 
     /// Reads streams until all have ended, or the server is asked to stop. Connections are answered meanwhile, and after a
@@ -180,13 +169,6 @@ impl StayingServer {
     }
 }
 
-// How many threads answer connections, and how many may be open at once.
-#[derive(Clone, Copy)]
-struct Sizes {
-    threads: usize,
-    connections: usize,
-}
-
 // What a server has started.
 #[derive(Drop)]
 struct Started {
@@ -200,7 +182,7 @@ fn start_threads<R>(
     rt: &R,
     alloc: Global,
     acceptor: SocketAcceptor,
-    sizes: Sizes,
+    sizes: ServerSizes,
     live: &LiveRegion,
     readers: &mut Vec<LiveReader>,
 ) -> io::Result<Started>

@@ -5,7 +5,7 @@ ghost use Rattle.pn_apply.specs.declared.reducing.TheConstants.{MAX_WORKERS};
 ghost use Rattle.pn_live.specs.Prelude.{tablets_in};
 ghost use Rattle.pn_serve.specs.Server.Sessions.{AllRead};
 
-use super::{Sizes, StayingServer, start_threads};
+use super::{StayingServer, start_threads};
 use crate::acceptor::SocketAcceptor;
 use pn_serve::{OpenedRegion, close_region};
 use std::alloc::Global;
@@ -42,19 +42,10 @@ impl StayingServer {
     {
         let OpenedRegion { live, readers } = opened;
         let mut readers = readers;
-        let ServerSizes {
-            threads,
-            connections,
-            workers,
-        } = sizes;
-        let sizes = Sizes {
-            threads,
-            connections,
-        };
         match start_threads(rt, alloc, acceptor, sizes, &live, &mut readers) {
             Ok(started) => Ok(StayingServer {
                 live,
-                workers,
+                workers: sizes.workers,
                 running: started.running,
                 readers,
                 watchers: started.watchers,

@@ -1,7 +1,7 @@
 //! Copies that are read and written.
 
 use pn_join::NoMemory;
-use pn_tablet::{CopyCount, CopyStep, TabletCopy, read_copy, write_copy};
+use pn_tablet::{CopyCount, CopyStep, CopyText, TabletCopy, read_copy, write_copy};
 use std::alloc::Global;
 use std::test::Fail;
 use test_kit::{newlines, spell_out};
@@ -21,22 +21,26 @@ pub(crate) fn copy(alloc: Global, bars: &str) -> Result<String, Fail> {
     }
 }
 
-/// The text of a copy whose lines are counted a record at a time, and made one at a time. The copy has at most 1,000
-/// records.
+// The text of a copy, made a line at a time.
 fn made(alloc: Global, copy: TabletCopy) -> Result<Vec<u8>, NoMemory> {
-    let mut step = CopyCount::new(copy).go_on(1)?;
-    for _ in 0..1_000 {
-        step = match step {
-            CopyStep::Next(count) => count.go_on(1)?,
-            done => done,
-        };
-    }
     let mut text = Vec::new(alloc);
-    if let CopyStep::Done(mut lines) = step {
+    if let Some(mut lines) = counted(copy)? {
         for _ in 0..lines.lines() {
             text.reserve(60_000)?;
             lines.append_line(&mut text);
         }
     }
     Ok(text)
+}
+
+// A copy whose lines are counted a record at a time; none where it has more than 1,000 records.
+fn counted(copy: TabletCopy) -> Result<Option<CopyText>, NoMemory> {
+    let mut count = CopyCount::new(copy);
+    for _ in 0..1_000 {
+        match count.go_on(1)? {
+            CopyStep::Done(lines) => return Ok(Some(lines)),
+            CopyStep::Next(next) => count = next,
+        }
+    }
+    Ok(None)
 }

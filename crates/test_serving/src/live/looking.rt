@@ -51,6 +51,15 @@ fn query_of(alloc: Global, text: &str) -> Option<Query> {
     Query::new(None, None, None, conditions, 10)
 }
 
+// A walk whose first step has not come to the page.
+fn begin_page(alloc: Global, reader: &mut LiveReader, query: &Query) -> Option<PageWalk> {
+    let walk = PageWalk::new(alloc, reader.layout(), query);
+    match walk.go_on(alloc, reader, query, 1).ok()? {
+        PageStep::Done(_page) => None,
+        PageStep::Next(walk) => Some(walk),
+    }
+}
+
 // The page that a walk comes to.
 fn end_page(
     alloc: Global,
@@ -76,10 +85,7 @@ fn page_beside<R: Threads + Wait + Sync>(
     reader: &mut LiveReader,
     query: &Query,
 ) -> Option<Page> {
-    let walk = PageWalk::new(alloc, reader.layout(), query);
-    let PageStep::Next(walk) = walk.go_on(alloc, reader, query, 1).ok()? else {
-        return None;
-    };
+    let walk = begin_page(alloc, reader, query)?;
     if walk.looked() == 0 || !take(rt, alloc, live, RECORDS + 2, "last@8") {
         return None;
     }
@@ -149,9 +155,11 @@ fn get_beside<R: Threads + Wait + Sync>(
     format!(in alloc; "{left} of {} left, then{numbers}", keys.len()).ok()
 }
 
+// The numbers of the versions of cells; none where a key has no record.
 fn numbers_of(alloc: Global, cells: &[Option<Cell>]) -> Option<String> {
     let mut text = String::new(alloc);
-    for cell in cells.iter().flatten() {
+    for cell in cells {
+        let cell = cell.as_ref()?;
         write!(text, " {}", cell.version().number).ok()?;
     }
     Some(text)

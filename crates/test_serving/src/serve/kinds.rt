@@ -78,7 +78,7 @@ fn end_answer(alloc: Global, counting: &mut CountingReader, begun: Answer) {
     let mut answer = begun;
     for _ in 0..100 {
         match answer {
-            Answer::Done(_) => return,
+            Answer::Done(_reply) => return,
             Answer::Going(going) => answer = counting.go_on(alloc, going, 100).0,
         }
     }

@@ -28,18 +28,14 @@ impl LineHandler for Echo {
     ghost reader = { λ _. no_reader };
 
     fn answer(&mut self, alloc: Global, line: &LineBuffer) -> Answer {
-        let Ok(mut text) = Vec::from_slice(alloc, line.bytes()) else {
-            return Answer::Done(Reply::Silent);
-        };
-        let _ = text.push(b'\n');
-        Answer::Done(Reply::Text(text))
+        Answer::Done(reply_to(alloc, line))
     }
 
     fn answer_end(&mut self, alloc: Global, part: &LineBuffer) -> Answer {
         if part.is_empty() {
             return Answer::Done(Reply::Silent);
         }
-        self.answer(alloc, part)
+        Answer::Done(reply_to(alloc, part))
     }
 
     // No line is gone on with.
@@ -50,4 +46,13 @@ impl LineHandler for Echo {
     fn recall_moves(&self) {}
 
     fn recall_refused(&self, _going: &Going) {}
+}
+
+// As much of a line as is kept, as a line.
+fn reply_to(alloc: Global, line: &LineBuffer) -> Reply {
+    let Ok(mut text) = Vec::from_slice(alloc, line.bytes()) else {
+        return Reply::Silent;
+    };
+    let _ = text.push(b'\n');
+    Reply::Text(text)
 }
