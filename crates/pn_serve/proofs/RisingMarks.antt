@@ -15,6 +15,7 @@ use Rattle.pn_serve.specs.Server.Events.{ToldAll}
 use Rattle.pn_serve.specs.Server.HonestEvents.{region_events}
 use Rattle.pn_serve.specs.Server.Rounds.{Continues, RoundInputValue}
 use Rattle.pn_serve.specs.declared.server.mailboxes.AtFault.{AtFault}
+use Rattle.pn_serve.specs.declared.server.rounds.RoundInput.{RoundInput}
 use Rattle.pn_serve.proofs.EventsDone.{done_leads}
 
 same_reaches : (marks need : Positions) → marks ≡ need → Reaches marks need
@@ -53,3 +54,8 @@ continue_on marks next deliveries reaches all =
     All-weaker (Continues marks) (Continues next) (λ delivery was.
     let further = reaches delivery.stream in
     omega (arith, was, further)) deliveries all
+
+-- so does an input that waits
+pub waits_on : (waiting : Option RoundInput) (marks next : Positions) → Reaches next marks → IfSome waiting (λ input. All (Continues marks) input.deliveries.items) → IfSome waiting (λ input. All (Continues next) input.deliveries.items)
+waits_on None marks next reaches all = tt
+waits_on (Some input) marks next reaches all = continue_on marks next input.deliveries.items reaches all

@@ -21,8 +21,9 @@ use Rattle.pn_serve.specs.Server.Events.{AllDone, WriterEvent, gathered, tried, 
 use Rattle.pn_serve.specs.Server.Reading.{ReadUpTo}
 use Rattle.pn_serve.specs.Server.Gathering.{IsInputOf}
 use Rattle.pn_serve.specs.Server.Rounds.{RoundInputValue, CanBeTaken, Continues, IsNoGap, IsRoundTaken, IsRoundRefused, Lasts, TakesInput, stopping}
-use Rattle.pn_serve.specs.Server.Tries.{IsNextInput, RunsInput, RunsRound, StopsAt, TakesRound}
+use Rattle.pn_serve.specs.Server.Tries.{IsNextInput, RunsInput, RunsRound, StopsAt, TakesRound, waiting_value}
 use Rattle.pn_serve.specs.declared.server.fault.ServeFault.{ServeFault}
+use Rattle.pn_serve.specs.declared.server.rounds.RoundInput.{RoundInput}
 use Rattle.pn_serve.specs.declared.server.fault.ServeFault.TheVariants.{Start, Stream, Round, Close, Write}
 use Rattle.pn_serve.specs.declared.server.mailboxes.AtFault.{AtFault}
 use Rattle.pn_serve.specs.declared.server.mailboxes.AtFault.TheVariants.{Stop, GoOn}
@@ -100,9 +101,14 @@ as_stop at_fault names waiting old left waits new fault result answered stops =
     subst (TakesRound at_fault names waiting old left waits new) (sym is) (subst (StopsAt at_fault names waiting old new) (sym same) stops)
 
 -- names of no streams
-pub no_names : {P : Type 0} (name : P → List ℕ) (streams : List P) → map name streams ≡ [] → length streams ≡ 0
+pub no_names : {P : Type 0} (name : P → List ℕ) (streams : List P) → map name streams ≡ [] → streams ≡ []
 no_names name [] none = refl
 no_names name (stream ∷ streams) none = absurd (cc)
+
+-- no input waits
+pub none_waits : (waiting : Option RoundInput) → waiting_value waiting ≡ None → waiting ≡ None
+none_waits None none = refl
+none_waits (Some input) none = absurd (cc)
 
 -- ---- whom faults name
 

@@ -53,12 +53,16 @@ pub(crate) fn take_round<R: Threads + Wait + Sync>(
     let Some(input) = next_input(rt, alloc, live.marks(), mailboxes, waiting)? else {
         return Ok(false);
     };
-    *waiting = run_input(rt, alloc, live, workers, mailboxes.at_fault, input)?;
-    if waiting.is_some() {
-        return Ok(false);
+    match run_input(rt, alloc, live, workers, mailboxes.at_fault, input)? {
+        Some(back) => {
+            *waiting = Some(back);
+            Ok(false)
+        }
+        None => {
+            mailboxes.count_round(live.marks());
+            Ok(true)
+        }
     }
-    mailboxes.count_round(live.marks());
-    Ok(true)
 }
 
 // Takes the input that waits, or else what the mailboxes give. None where there is no memory to ask them, if that is waited

@@ -33,6 +33,7 @@ pub(crate) fn run_input<R: Threads + Wait + Sync>(
     requires workers { (1 ≤ workers) × (workers ≤ MAX_WORKERS) }
     requires continues { All (Continues live.old.marks) input.deliveries.items }
     ensures runs { RunsInput at_fault input live.old live.new result }
+    ensures continues { IfOk result (λ back. IfSome back (λ input. All (Continues live.new.marks) input.deliveries.items)) }
     ensures same { tablets_in live.new ≡ tablets_in live.old }
 {
     match at_fault {
