@@ -11,16 +11,17 @@ use Rattle.pn_stream.specs.Positions.{DeliveryValue}
 use Rattle.pn_tablet.specs.Refusals.{Refuses}
 use Rattle.pn_region.specs.Marking.{is_memory, new_marks}
 use Rattle.pn_region.specs.Regions.{RegionValue}
-use Rattle.pn_region.specs.Rounds.{after_joins, round}
+use Rattle.pn_region.specs.Logged.{refused_log, with_notices}
+use Rattle.pn_region.specs.Rounds.{after_joins, round, Leaves}
 use Rattle.pn_region.specs.declared.fault.RoundFault.{RoundFault}
 use Rattle.pn_region.specs.declared.fault.RoundFault.TheVariants.{Gap, TooManyStreams, Memory}
 use Rattle.pn_region.proofs.GapLaws.{gap_is_missing}
-use Rattle.pn_live.specs.LiveRegions.{LiveRegionValue, core, LeavesLive}
+use Rattle.pn_live.specs.LiveRegions.{LiveRegionValue, core, tablets_after_round, LeavesLive}
 use Rattle.pn_serve.specs.Server.Faults.{IsOfRounds}
 use Rattle.pn_serve.specs.Server.Events.{AllDone, WriterEvent, gathered, tried, taken, told}
 use Rattle.pn_serve.specs.Server.Reading.{ReadUpTo}
 use Rattle.pn_serve.specs.Server.Gathering.{IsInputOf}
-use Rattle.pn_serve.specs.Server.Rounds.{RoundInputValue, CanBeTaken, Continues, IsNoGap, IsRoundTaken, IsRoundRefused, Lasts, TakesInput, stopping}
+use Rattle.pn_serve.specs.Server.Rounds.{RoundInputValue, CanBeTaken, Continues, IsNoGap, IsRoundTaken, IsRoundRefused, TakesInput, TriesRound, ends_try, stopping}
 use Rattle.pn_serve.specs.Server.Tries.{IsNextInput, RunsInput, RunsRound, StopsAt, TakesRound, waiting_value}
 use Rattle.pn_serve.specs.declared.server.fault.ServeFault.{ServeFault}
 use Rattle.pn_serve.specs.declared.server.rounds.RoundInput.{RoundInput}
@@ -69,29 +70,47 @@ refused_for_good TooManyStreams old deliveries new other continues refuses left 
 refused_for_good (Gap stream wanted got) old deliveries new other continues refuses left =
     absurd (no_gap_in old deliveries (Gap stream wanted got) continues refuses)
 
+-- the round was taken
+pub taken_by : {T : Type 0} (run : Result T RoundFault) (old : LiveRegionValue) (deliveries : List DeliveryValue) (new : LiveRegionValue) → OnOk run (round (core old) deliveries ≡ Ok (core new))
+    → OnOk run (new.tablets ≡ tablets_after_round old deliveries new.marks) → OnOk run (new.log ≡ with_notices old.log (core old) (core new)) → OnOk run (IsRoundTaken old deliveries new)
+taken_by (Ok done) old deliveries new took published noted = record { taken = took; published = published; noted = noted }
+taken_by (Err fault) old deliveries new took published noted = tt
+
+-- a try of a round
+pub tried_so : {T : Type 0} (run : Result T RoundFault) (old : LiveRegionValue) (deliveries : List DeliveryValue) (new : LiveRegionValue) (result : Result Bool ServeFault) → All (Continues old.marks) deliveries
+    → OnOk run (IsRoundTaken old deliveries new) → IfErr run (λ fault. Refuses is_memory fault (round (core old) deliveries)) → IfErr run (λ fault. LeavesLive fault old deliveries new)
+    → IfErr run (λ fault. Leaves fault (core old) deliveries (core new)) → IfErr run (λ fault. new.log ≡ refused_log old.log fault) → MatchResult run (λ _. result ≡ Ok true) (λ fault. result ≡ ends_try fault)
+    → TriesRound old deliveries new result
+tried_so (Ok done) old deliveries new result continues took refuses live left log is = subst (TriesRound old deliveries new) (sym is) took
+tried_so (Err Memory) old deliveries new result continues took refuses live left log is = subst (TriesRound old deliveries new) (sym is) (inr (record { published = live; half = left; broken = log }))
+tried_so (Err TooManyStreams) old deliveries new result continues took refuses live left log is =
+    subst (TriesRound old deliveries new) (sym is) (refl, refused_for_good TooManyStreams old deliveries new (λ same. cc) continues refuses live)
+tried_so (Err (Gap stream wanted got)) old deliveries new result continues took refuses live left log is =
+    subst (TriesRound old deliveries new) (sym is) (refl, refused_for_good (Gap stream wanted got) old deliveries new (λ same. cc) continues refuses live)
+
 run_either : {T : Type 0} (result : Result T RoundFault) (old : LiveRegionValue) (deliveries : List DeliveryValue) (new : LiveRegionValue) → OnOk result (IsRoundTaken old deliveries new) → OnErr result (IsRoundRefused Stop old deliveries new)
     → IsRoundTaken old deliveries new ⊎ IsRoundRefused Stop old deliveries new
-run_either (Ok done) old deliveries new taken refused = inl taken
-run_either (Err fault) old deliveries new taken refused = inr refused
+run_either (Ok done) old deliveries new took refused = inl took
+run_either (Err fault) old deliveries new took refused = inr refused
 
 -- the input was taken as a round
 pub takes : {T : Type 0} (input : RoundInputValue) (old new : LiveRegionValue) (stop : Option (List ℕ)) (run : Result T RoundFault) (result : Result (Unit {0}) ServeFault)
     → stop ≡ input.fault → OnOk run (IsRoundTaken old input.deliveries new) → OnErr run (IsRoundRefused Stop old input.deliveries new)
     → IfSome stop (λ name. result ≡ Err (Stream name)) → (stop ≡ None → MatchResult run (λ _. result ≡ Ok tt) (λ _. result ≡ Err Round))
     → TakesInput Stop input old new result
-takes {T} input old new None run result stops taken refused named unnamed = unless run taken refused (unnamed refl)
+takes {T} input old new None run result stops took refused named unnamed = unless run took refused (unnamed refl)
   where
     unless : (ran : Result T RoundFault) → OnOk ran (IsRoundTaken old input.deliveries new) → OnErr ran (IsRoundRefused Stop old input.deliveries new)
         → MatchResult ran (λ _. result ≡ Ok tt) (λ _. result ≡ Err Round) → TakesInput Stop input old new result
-    unless (Ok done) taken refused is = subst (TakesInput Stop input old new) (sym is) (sym stops, taken)
-    unless (Err fault) taken refused is = subst (TakesInput Stop input old new) (sym is) (sym stops, refused)
-takes input old new (Some name) run result stops taken refused named unnamed =
-    subst (TakesInput Stop input old new) (sym named) (sym stops, run_either run old input.deliveries new taken refused)
+    unless (Ok done) took refused is = subst (TakesInput Stop input old new) (sym is) (sym stops, took)
+    unless (Err fault) took refused is = subst (TakesInput Stop input old new) (sym is) (sym stops, refused)
+takes input old new (Some name) run result stops took refused named unnamed =
+    subst (TakesInput Stop input old new) (sym named) (sym stops, run_either run old input.deliveries new took refused)
 
 -- what was gathered is the next input where none waits
 pub gathered_next : {P : Type 0} (name : P → List ℕ) (streams : List P) (marks : Positions) (input : RoundInputValue) (left : List (List ℕ)) → IsInputOf (map name streams) marks input left → CanBeTaken (length streams) marks input
     → IsNextInput (map name streams) None marks input left
-gathered_next name streams marks input left gathered fits = (gathered, subst (λ (n : ℕ). CanBeTaken n marks input) (sym (length-map streams name)) fits)
+gathered_next name streams marks input left notes fits = (notes, subst (λ (n : ℕ). CanBeTaken n marks input) (sym (length-map streams name)) fits)
 
 -- a fault of a round as an answer
 pub as_stop : (at_fault : AtFault) (names : List (List ℕ)) (waiting : Option RoundInputValue) (old : LiveRegionValue) (left : List (List ℕ)) (waits : Option RoundInputValue) (new : LiveRegionValue) (fault : ServeFault)

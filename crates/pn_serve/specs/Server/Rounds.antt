@@ -63,6 +63,12 @@ pub record IsRoundRefused (at_fault : AtFault) (old : LiveRegionValue) (deliveri
   pub refused : Refuses is_memory fault (round (core old) deliveries)
   pub left : LeavesLive fault old deliveries new
 
+-- what comes of a try that had this fault
+abbrev pub ends_try : RoundFault → Result Bool ServeFault
+ends_try Memory = Ok false
+ends_try TooManyStreams = Err Round
+ends_try (Gap stream wanted got) = Err Round
+
 -- how a try of a round ends where memory is waited for: it was taken; memory ran out, before it began or in it; or it is refused
 abbrev pub TriesRound : LiveRegionValue → List DeliveryValue → LiveRegionValue → Result Bool ServeFault → Type 0
 TriesRound old deliveries new (Ok true) = IsRoundTaken old deliveries new

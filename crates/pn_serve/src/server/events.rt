@@ -53,6 +53,7 @@ pub(crate) fn run_rounds<R: Threads + Wait + Clock + Sync>(
             continue;
         }
         is_short = !take_round(rt, alloc, live, workers, mailboxes, &mut waiting)?;
+        mailboxes.show_shortage(is_short);
         note_log(rt, live, controls);
     }
     unreachable!()

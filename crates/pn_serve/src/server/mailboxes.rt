@@ -13,13 +13,14 @@ use std::sync::{Arc, Condvar, CondvarTimeouts, Mutex, Wait};
 use std::time::{Clock, Duration};
 
 /// The mailboxes of the streams that are read, what wakes the thread that takes their reports, and the count of its rounds
-/// where somebody looks at it.
+/// and whether memory is short, where somebody looks at them.
 #[derive(Drop)]
 pub(crate) struct StreamMailboxes {
     pub(crate) streams: Vec<StreamMailbox>,
     pub(crate) at_fault: AtFault,
     pub(crate) wakeup: Arc<Wakeup>,
     pub(crate) rounds: Option<Arc<Counter>>,
+    pub(crate) shortage: Option<Arc<Counter>>,
 }
 
 /// What follows from a stream's fault.
@@ -84,6 +85,7 @@ impl StreamMailboxes {
             at_fault,
             wakeup,
             rounds,
+            shortage: None,
         })
     }
 
@@ -138,6 +140,13 @@ impl StreamMailboxes {
             rounds.add(1);
         }
         self.show(marks);
+    }
+
+    /// Shows whether a round waits for memory.
+    pub(crate) fn show_shortage(&self, is_short: bool) {
+        if let Some(shortage) = &self.shortage {
+            shortage.set(if is_short { 1 } else { 0 });
+        }
     }
 
     /// Shows how far the streams were taken.

@@ -1,10 +1,10 @@
 //! Tries of a round, which waits for memory where it ran out.
 
-ghost use Rattle.std.specs.Prelude.{◌≡◌, ◌≤◌, All, None, Ok, Err, IfOk, IfErr, IfSome, OnOk, OnErr, MatchOption, MatchResult};
+ghost use Rattle.std.specs.Prelude.{◌≡◌, ◌≤◌, true, All, None, Ok, Err, IfOk, IfErr, IfSome, OnOk, OnErr, MatchResult};
 ghost use Rattle.pn_apply.specs.declared.reducing.TheConstants.{MAX_WORKERS};
 ghost use Rattle.pn_live.specs.Prelude.{tablets_in};
 ghost use Rattle.pn_serve.specs.Server.Gathering.{value_of};
-ghost use Rattle.pn_serve.specs.Server.Rounds.{Continues, IsRoundRefused, IsRoundTaken, TakesInput, TriesRound};
+ghost use Rattle.pn_serve.specs.Server.Rounds.{Continues, IsRoundRefused, IsRoundTaken, TakesInput, TriesRound, ends_try};
 ghost use Rattle.pn_serve.specs.Server.Tries.{RunsInput};
 ghost use Rattle.pn_serve.specs.declared.server.mailboxes.AtFault.TheVariants.{Stop};
 
@@ -67,10 +67,18 @@ fn try_round<R: Threads + Wait + Sync>(
     let Ok(copies) = copy_deliveries(alloc, deliveries) else {
         return Ok(false);
     };
-    match live.round(rt, copies, workers, &Open) {
+    conclude_try(live.round(rt, copies, workers, &Open))
+}
+
+// Whether a try was taken, or the fault, unless memory ran out.
+fn conclude_try(round: Result<(Round, Front), RoundFault>) -> Result<bool, ServeFault>
+    ensures { MatchResult round (λ _. result ≡ Ok true) (λ fault. result ≡ ends_try fault) }
+{
+    match round {
         Ok(_) => Ok(true),
         Err(RoundFault::Memory) => Ok(false),
-        Err(_) => Err(ServeFault::Round),
+        Err(RoundFault::Gap { .. }) => Err(ServeFault::Round),
+        Err(RoundFault::TooManyStreams) => Err(ServeFault::Round),
     }
 }
 
