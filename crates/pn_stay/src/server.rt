@@ -198,6 +198,7 @@ where
     let mut acceptor = acceptor;
     let beside = take_beside(alloc, live, readers, sizes.threads)?;
     let rounds = acceptor.round_counter();
+    let shortage = Some(Arc::try_clone(&acceptor.counters.shortage)?);
     let listener = acceptor.listener.try_clone()?;
     let counters = Arc::try_clone(&acceptor.counters)?;
     let controls = start_controls(rt, alloc, acceptor.control.take(), &counters, beside)?;
@@ -206,6 +207,7 @@ where
         running: answering.running,
         watchers: Watchers {
             rounds,
+            shortage,
             controls: controls.mailboxes,
         },
         stopping: Stopping {
