@@ -64,16 +64,20 @@ waits_taken broker at_fault names waiting old (taken input ∷ later) left new a
 waits_taken broker at_fault names waiting old (told asked said ∷ later) left new all image there =
     taken_after broker (event_by asked said) (region_events later) image (waits_taken broker at_fault names waiting all.0 later left new all.2 image there)
 
+either_taken : (broker : BrokerRecord) (input : RoundInputValue) (events : List RegionEvent) (image : Image) → (Contains (all_images input.deliveries) image → Contains (all_taken broker events) image)
+    → (Contains (all_left events) image → Contains (all_taken broker events) image) → Contains (all_images input.deliveries) image ⊎ Contains (all_left events) image → Contains (all_taken broker events) image
+either_taken broker input events image here further (inl there) = here there
+either_taken broker input events image here further (inr there) = further there
+
 -- so what tries may have left in some tablets is taken in the end, if no input waits then
 pub left_taken : (broker : BrokerRecord) (at_fault : AtFault) (names : List (List ℕ)) (waiting : Option RoundInputValue) (old : LiveRegionValue) (events : List WriterEvent) (left : List (List ℕ)) (new : LiveRegionValue)
     → AllDone at_fault names waiting old events left None new → AreIn (all_left (region_events events)) (all_taken broker (region_events events))
 left_taken broker at_fault names waiting old [] left new all image there = there
 left_taken broker at_fault names waiting old (gathered input ∷ later) left new all image there = left_taken broker at_fault all.0 (Some input) old later left new all.4 image there
-left_taken broker at_fault names waiting old (tried input ∷ later) left new all image there = by (Contains-append_cases (all_images input.deliveries) (all_left (region_events later)) image there)
-  where
-    by : Contains (all_images input.deliveries) image ⊎ Contains (all_left (region_events later)) image → Contains (all_taken broker (region_events later)) image
-    by (inl here) = waits_taken broker at_fault names input all.0 later left new (subst (λ (w : Option RoundInputValue). AllDone at_fault names w all.0 later left None new) all.2 all.4) image here
-    by (inr further) = left_taken broker at_fault names waiting all.0 later left new all.4 image further
+left_taken broker at_fault names waiting old (tried input ∷ later) left new all image there =
+    either_taken broker input (region_events later) image
+    (waits_taken broker at_fault names input all.0 later left new (subst (λ (w : Option RoundInputValue). AllDone at_fault names w all.0 later left None new) all.2 all.4) image)
+    (left_taken broker at_fault names waiting all.0 later left new all.4 image) (Contains-append_cases (all_images input.deliveries) (all_left (region_events later)) image there)
 left_taken broker at_fault names waiting old (taken input ∷ later) left new all image there =
     Contains-append_right (all_images input.deliveries) (all_taken broker (region_events later)) image (left_taken broker at_fault names None all.0 later left new all.3 image there)
 left_taken broker at_fault names waiting old (told asked said ∷ later) left new all image there =

@@ -20,7 +20,7 @@ use Rattle.pn_live.specs.LiveRegions.{LiveRegionValue, core, tablets_after_round
 use Rattle.pn_serve.specs.Server.Faults.{IsOfRounds}
 use Rattle.pn_serve.specs.Server.Events.{AllDone, WriterEvent, gathered, tried, taken, told}
 use Rattle.pn_serve.specs.Server.Reading.{ReadUpTo}
-use Rattle.pn_serve.specs.Server.Gathering.{IsInputOf}
+use Rattle.pn_serve.specs.Server.Gathering.{IsInputOf, value_of}
 use Rattle.pn_serve.specs.Server.Rounds.{RoundInputValue, CanBeTaken, Continues, IsNoGap, IsRoundTaken, IsRoundRefused, TakesInput, TriesRound, ends_try, stopping}
 use Rattle.pn_serve.specs.Server.Tries.{IsNextInput, RunsInput, RunsRound, StopsAt, TakesRound, waiting_value}
 use Rattle.pn_serve.specs.declared.server.fault.ServeFault.{ServeFault}
@@ -111,6 +111,27 @@ takes input old new (Some name) run result stops took refused named unnamed =
 pub gathered_next : {P : Type 0} (name : P → List ℕ) (streams : List P) (marks : Positions) (input : RoundInputValue) (left : List (List ℕ)) → IsInputOf (map name streams) marks input left → CanBeTaken (length streams) marks input
     → IsNextInput (map name streams) None marks input left
 gathered_next name streams marks input left notes fits = (notes, subst (λ (n : ℕ). CanBeTaken n marks input) (sym (length-map streams name)) fits)
+
+-- what comes of the next input: it was taken, it waits, or a fault stops
+module _ (at_fault given : AtFault) (names : List (List ℕ)) (waiting : Option RoundInputValue) (old : LiveRegionValue) (marks : Positions) (input : RoundInput) (left : List (List ℕ)) (new : LiveRegionValue)
+    (same : given ≡ at_fault) (marks_are : marks ≡ old.marks) (next : IsNextInput names waiting marks (value_of input) left) where
+  next_runs : (run : Result (Unit {0}) ServeFault) → TakesInput given (value_of input) old new run → RunsRound at_fault names waiting old (value_of input) left new run
+  next_runs run takes = record {
+    next = subst (λ (m : Positions). IsNextInput names waiting m (value_of input) left) marks_are next;
+    takes = subst (λ (a : AtFault). TakesInput a (value_of input) old new run) same takes;
+  }
+
+  pub next_taken : (waits : Option RoundInputValue) → TakesInput given (value_of input) old new (Ok tt) → waits ≡ None → TakesRound at_fault names waiting old left waits new (Ok true)
+  next_taken waits takes none = (value_of input, next_runs (Ok tt) takes, none)
+
+  pub next_waits : (waits : Option RoundInputValue) (back : RoundInput) → RunsInput given input old new (Ok (Some back)) → waits ≡ Some (value_of back) → TakesRound at_fault names waiting old left waits new (Ok false)
+  next_waits waits back runs is = (
+    sym same ∙ runs.0,
+    inr (value_of input, subst (λ (m : Positions). IsNextInput names waiting m (value_of input) left) marks_are next, is ∙ ap (λ (i : RoundInput). Some (value_of i)) runs.1, runs.2),
+  )
+
+  pub next_stops : (fault : ServeFault) → TakesInput given (value_of input) old new (Err fault) → StopsAt at_fault names waiting old new fault
+  next_stops fault takes = inl (value_of input, left, next_runs (Err fault) takes)
 
 -- a fault of a round as an answer
 pub as_stop : (at_fault : AtFault) (names : List (List ℕ)) (waiting : Option RoundInputValue) (old : LiveRegionValue) (left : List (List ℕ)) (waits : Option RoundInputValue) (new : LiveRegionValue) (fault : ServeFault)

@@ -52,7 +52,8 @@ pub(crate) fn run_rounds<R: Threads + Wait + Clock + Sync>(
         if waiting.is_none() && !mailboxes.has_report(rt) {
             continue;
         }
-        is_short = !take_round(rt, alloc, live, workers, mailboxes, &mut waiting)?;
+        let is_taken = take_round(rt, alloc, live, workers, mailboxes, &mut waiting)?;
+        is_short = !is_taken;
         mailboxes.show_shortage(is_short);
         note_log(rt, live, controls);
     }

@@ -298,9 +298,9 @@ impl Wakeup {
     /// Waits as `wait` does, but for `most` at most.
     pub(crate) fn wait_at_most<R: Wait + Clock>(&self, rt: &R, most: Duration) {
         let guard = self.is_notified.lock(rt);
-        let (mut is_notified, _) =
-            self.notified
-                .wait_timeout_while(rt, guard, most, |is_notified| !*is_notified);
+        let (mut is_notified, _) = self
+            .notified
+            .wait_timeout_while(rt, guard, most, |is_notified| !*is_notified);
         *is_notified = false;
     }
 }

@@ -22,10 +22,10 @@ loop-init g c =
     }
 
 pub take_round-requires-clause-continues : goal.take_round-requires-clause-continues
-take_round-requires-clause-continues g c = waits_on c.loop.waiting c.loop.live.marks c.obey_all.new.live.marks c.obey_all.ensures.rise c.loop.invariant.continues
+take_round-requires-clause-continues g c = λ lifetimes among. waits_on c.loop.waiting c.loop.live.marks c.obey_all.new.live.marks c.obey_all.ensures.rise c.loop.invariant.continues
 
-pub loop-preserved-then-and : goal.loop-preserved-then-and
-loop-preserved-then-and g c =
+pub loop-preserved-then-not-has_report : goal.loop-preserved-then-not-has_report
+loop-preserved-then-not-has_report g c =
     let name = λ (s : StreamMailbox). s.name in
     let at_fault = c.args.mailboxes.now.at_fault in
     let names = map name c.args.mailboxes.now.streams.items in
@@ -53,46 +53,46 @@ loop-preserved g c =
     let so_far = c.loop.invariant in
     let some : waiting ≡ None → still ≢ [] = λ none empty. c.has_ended.ensures.more c.if-has_ended.false (none_waits c.loop.waiting none) (no_names name streams empty) in
     let does =
-    does_round at_fault c.obey_all.new.live still waiting left waits c.take_round.new.live _ some
-    (subst (λ (fault : AtFault). TakesRound fault still waiting c.obey_all.new.live left waits c.take_round.new.live (Ok _)) so_far.at_fault c.in_ok-take_round.ensures.round) in
+    does_round at_fault c.obey_all.new.live still waiting left waits c.take_round.new.live c.in_ok-is_taken.is_taken some
+    (subst (λ (fault : AtFault). TakesRound fault still waiting c.obey_all.new.live left waits c.take_round.new.live (Ok c.in_ok-is_taken.is_taken)) so_far.at_fault c.in_ok-is_taken.ensures.round) in
     let told = more_told at_fault names c.args.live.now still waiting c.loop.live c.obey_all.new.live so_far.so_far (c.obey_all.ensures.told at_fault still waiting) in
     record {
       so_far = one_round at_fault names c.args.live.now still waiting c.obey_all.new.live left waits c.take_round.new.live told does;
       alone = λ none.
           one_more at_fault names c.args.live.now still waiting c.obey_all.new.live left waits c.take_round.new.live
           (subst (λ (live : LiveRegionValue). DoesRounds at_fault names None c.args.live.now still waiting live) (sym (c.obey_all.ensures.alone none)) (so_far.alone none)) does;
-      continues = c.take_round.ensures.continues;
-      same = c.in_ok-take_round.ensures.same ∙ c.obey_all.ensures.same ∙ so_far.same;
-      at_fault = c.in_ok-take_round.ensures.at_fault ∙ so_far.at_fault;
+      continues = c.in_ok-is_taken.ensures.continues;
+      same = c.in_ok-is_taken.ensures.same ∙ c.obey_all.ensures.same ∙ so_far.same;
+      at_fault = c.in_ok-is_taken.ensures.at_fault ∙ so_far.at_fault;
     }
 
-pub returns-in_err-take_round-clause-runs : goal.returns-in_err-take_round-clause-runs
-returns-in_err-take_round-clause-runs g c =
+pub returns-in_err-is_taken-clause-runs : goal.returns-in_err-is_taken-clause-runs
+returns-in_err-is_taken-clause-runs g c =
     let name = λ (s : StreamMailbox). s.name in
     let at_fault = c.args.mailboxes.now.at_fault in
     let names = map name c.args.mailboxes.now.streams.items in
     let still = map name c.loop.mailboxes.streams.items in
     let waiting = waiting_value c.loop.waiting in
     let so_far = c.loop.invariant in
-    let fault = c.in_err-take_round.field-0.0 in
+    let fault = c.in_err-is_taken.field-0.0 in
     let told = more_told at_fault names c.args.live.now still waiting c.loop.live c.obey_all.new.live so_far.so_far (c.obey_all.ensures.told at_fault still waiting) in
     as_fault at_fault names c.args.live.now c.take_round.new.live fault c.from_residual.result c.from_residual.ensures.1
     (ran_up_to at_fault names c.args.live.now still waiting c.obey_all.new.live c.take_round.new.live fault told
-    (subst (λ (a : AtFault). StopsAt a still waiting c.obey_all.new.live c.take_round.new.live fault) so_far.at_fault c.in_err-take_round.ensures.round))
+    (subst (λ (a : AtFault). StopsAt a still waiting c.obey_all.new.live c.take_round.new.live fault) so_far.at_fault c.in_err-is_taken.ensures.round))
 
-pub returns-in_err-take_round-clause-alone : goal.returns-in_err-take_round-clause-alone
-returns-in_err-take_round-clause-alone g c = λ none.
+pub returns-in_err-is_taken-clause-alone : goal.returns-in_err-is_taken-clause-alone
+returns-in_err-is_taken-clause-alone g c = λ none.
     let name = λ (s : StreamMailbox). s.name in
     let at_fault = c.args.mailboxes.now.at_fault in
     let names = map name c.args.mailboxes.now.streams.items in
     let still = map name c.loop.mailboxes.streams.items in
     let waiting = waiting_value c.loop.waiting in
     let so_far = c.loop.invariant in
-    let fault = c.in_err-take_round.field-0.0 in
+    let fault = c.in_err-is_taken.field-0.0 in
     as_answer at_fault names c.args.live.now c.take_round.new.live fault c.from_residual.result c.from_residual.ensures.1
     (read_up_to at_fault names c.args.live.now still waiting c.obey_all.new.live c.take_round.new.live fault
     (subst (λ (live : LiveRegionValue). DoesRounds at_fault names None c.args.live.now still waiting live) (sym (c.obey_all.ensures.alone none)) (so_far.alone none))
-    (subst (λ (a : AtFault). StopsAt a still waiting c.obey_all.new.live c.take_round.new.live fault) so_far.at_fault c.in_err-take_round.ensures.round))
+    (subst (λ (a : AtFault). StopsAt a still waiting c.obey_all.new.live c.take_round.new.live fault) so_far.at_fault c.in_err-is_taken.ensures.round))
 
 pub returns-then-is_stop_asked-clause-runs : goal.returns-then-is_stop_asked-clause-runs
 returns-then-is_stop_asked-clause-runs g c =

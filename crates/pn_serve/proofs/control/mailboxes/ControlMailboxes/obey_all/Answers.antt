@@ -5,7 +5,7 @@ use Rattle.pn_serve.proofs.EventsRead.{none_told, one_told}
 use Rattle.pn_serve.proofs.control.mailboxes.ControlMailboxes.obey_all.Goals as goal
 
 pub loop-mailbox-init : goal.loop-mailbox-init
-loop-mailbox-init g c = record { told = λ at_fault names waiting. none_told at_fault names waiting waiting c.args.live.now; same = refl }
+loop-mailbox-init g c = record { told = λ at_fault names waiting. none_told at_fault names waiting c.args.live.now; same = refl }
 
 pub loop-mailbox-preserved : goal.loop-mailbox-preserved
 loop-mailbox-preserved g c = record {
