@@ -1,72 +1,119 @@
 -- Rounds of what streams gave, and commands of control sessions, one after another.
-use Rattle.std.proofs.Common.{◌≡◌, ◌≢◌, ℕ, List, [], ◌∷◌, ◌++◌, map, inl, inr, refl, sym, subst}
-use Rattle.std.specs.Prelude.{Result, Ok, Err, IsErrAnd, ◌↔◌}
+use Rattle.std.proofs.Common.{◌≡◌, ◌≢◌, ◌⊎◌, ℕ, Bool, true, false, List, [], ◌∷◌, ◌++◌, Option, None, Some, inl, inr, refl, sym, ◌∙◌, subst}
+use Rattle.std.specs.Prelude.{Result, Ok, Err, IsErrAnd}
 use Rattle.std.proofs.lemmas.Result.{err_from_is_err_and}
 use Rattle.pn_live.specs.LiveRegions.{LiveRegionValue}
 use Rattle.pn_serve.specs.Control.Commands.{ObeysLive, Said}
 use Rattle.pn_serve.specs.declared.control.commands.WriterCommand.{WriterCommand}
-use Rattle.pn_serve.specs.Server.Events.{AllDone, ReadsBesides, RunsEvents, RunsOn, RunsUpTo, ToldAll, WriterEvent, taken, told}
-use Rattle.pn_serve.specs.Server.Reading.{AllTaken, RunsRound, StopsAt}
-use Rattle.pn_serve.specs.Server.Rounds.{RoundInputValue}
+use Rattle.pn_serve.specs.Server.Events.{AllDone, ReadsBesides, RunsEvents, RunsOn, RunsUpTo, ToldAll, WriterEvent, gathered, tried, taken, told}
+use Rattle.pn_serve.specs.Server.Reading.{AreOfStreams, ReadToEnds, ReadUpTo, RunsRounds}
+use Rattle.pn_serve.specs.Server.Rounds.{RoundInputValue, IsRoundTried, TakesInput}
+use Rattle.pn_serve.specs.Server.Tries.{IsNextInput, RunsRound, StopsAt, TakesRound, Waits}
 use Rattle.pn_serve.specs.declared.server.fault.ServeFault.{ServeFault}
 use Rattle.pn_serve.specs.declared.server.fault.ServeFault.TheVariants.{Start, Stream, Round, Close, Write}
 use Rattle.pn_serve.specs.declared.server.mailboxes.AtFault.{AtFault}
 use Rattle.pn_serve.specs.declared.server.mailboxes.AtFault.TheVariants.{GoOn}
 
 -- events and those after them
-pub done_after : (at_fault : AtFault) (names : List (List ℕ)) (old : LiveRegionValue) (events : List WriterEvent) (still : List (List ℕ)) (between : LiveRegionValue) (later : List WriterEvent) (left : List (List ℕ)) (new : LiveRegionValue)
-    → AllDone at_fault names old events still between → AllDone at_fault still between later left new → AllDone at_fault names old (events ++ later) left new
-done_after at_fault names old [] still between later left new all then =
-    subst (λ (ns : List (List ℕ)). AllDone at_fault ns old later left new) all.0 (subst (λ (was : LiveRegionValue). AllDone at_fault still was later left new) all.1 then)
-done_after at_fault names old (taken input ∷ events) still between later left new all then =
-    (all.0, all.1, all.2, all.3, done_after at_fault all.1 all.0 events still between later left new all.4 then)
-done_after at_fault names old (told asked said ∷ events) still between later left new all then =
-    (all.0, all.1, done_after at_fault names all.0 events still between later left new all.2 then)
+pub done_after : (at_fault : AtFault) (names : List (List ℕ)) (waiting : Option RoundInputValue) (old : LiveRegionValue) (events : List WriterEvent) (still : List (List ℕ)) (held : Option RoundInputValue) (between : LiveRegionValue)
+    (later : List WriterEvent) (left : List (List ℕ)) (waits : Option RoundInputValue) (new : LiveRegionValue)
+    → AllDone at_fault names waiting old events still held between → AllDone at_fault still held between later left waits new → AllDone at_fault names waiting old (events ++ later) left waits new
+done_after at_fault names waiting old [] still held between later left waits new all then =
+    subst (λ (ns : List (List ℕ)). AllDone at_fault ns waiting old later left waits new) all.0
+    (subst (λ (w : Option RoundInputValue). AllDone at_fault still w old later left waits new) all.1 (subst (λ (was : LiveRegionValue). AllDone at_fault still held was later left waits new) all.2 then))
+done_after at_fault names waiting old (gathered input ∷ events) still held between later left waits new all then =
+    (all.0, all.1, all.2, all.3, done_after at_fault all.0 (Some input) old events still held between later left waits new all.4 then)
+done_after at_fault names waiting old (tried input ∷ events) still held between later left waits new all then =
+    (all.0, all.1, all.2, all.3, done_after at_fault names waiting all.0 events still held between later left waits new all.4 then)
+done_after at_fault names waiting old (taken input ∷ events) still held between later left waits new all then =
+    (all.0, all.1, all.2, done_after at_fault names None all.0 events still held between later left waits new all.3 then)
+done_after at_fault names waiting old (told asked said ∷ events) still held between later left waits new all then =
+    (all.0, all.1, done_after at_fault names waiting all.0 events still held between later left waits new all.2 then)
 
--- rounds alone are those of streams that are read without commands
-pub rounds_done : (at_fault : AtFault) (names : List (List ℕ)) (old : LiveRegionValue) (rounds : List RoundInputValue) (left : List (List ℕ)) (new : LiveRegionValue)
-    → AllTaken at_fault names old rounds left new → AllDone at_fault names old (map taken rounds) left new
-rounds_done at_fault names old [] left new all = all
-rounds_done at_fault names old (input ∷ later) left new all = (all.0, all.1, all.2, all.3, rounds_done at_fault all.1 all.0 later left new all.4)
+-- ---- the events of a round
 
-done_rounds : (at_fault : AtFault) (names : List (List ℕ)) (old : LiveRegionValue) (rounds : List RoundInputValue) (left : List (List ℕ)) (new : LiveRegionValue)
-    → AllDone at_fault names old (map taken rounds) left new → AllTaken at_fault names old rounds left new
-done_rounds at_fault names old [] left new all = all
-done_rounds at_fault names old (input ∷ later) left new all = (all.0, all.1, all.2, all.3, done_rounds at_fault all.1 all.0 later left new all.4)
-
-pub rounds_alone : (at_fault : AtFault) (names : List (List ℕ)) (old : LiveRegionValue) (rounds : List RoundInputValue) (left : List (List ℕ)) (new : LiveRegionValue)
-    → AllDone at_fault names old (map taken rounds) left new ↔ AllTaken at_fault names old rounds left new
-rounds_alone at_fault names old rounds left new = (done_rounds at_fault names old rounds left new, rounds_done at_fault names old rounds left new)
-
--- the events so far, and the streams that are still read
-pub record DoneSoFar (at_fault : AtFault) (names : List (List ℕ)) (old : LiveRegionValue) (still : List (List ℕ)) (new : LiveRegionValue) : Type 0 where
+-- events of streams alone came
+pub record DoesRounds (at_fault : AtFault) (names : List (List ℕ)) (waiting : Option RoundInputValue) (old : LiveRegionValue) (left : List (List ℕ)) (waits : Option RoundInputValue) (new : LiveRegionValue) : Type 0 where
   pub events : List WriterEvent
-  pub done : AllDone at_fault names old events still new
+  pub alone : AreOfStreams events
+  pub done : AllDone at_fault names waiting old events left waits new
+
+module _ (at_fault : AtFault) (old : LiveRegionValue) where
+  -- the next input waits then, and events of it follow
+  next_then : (names : List (List ℕ)) (waiting : Option RoundInputValue) (input : RoundInputValue) (left : List (List ℕ)) (waits : Option RoundInputValue) (new : LiveRegionValue) → (waiting ≡ None → names ≢ [])
+      → IsNextInput names waiting old.marks input left → DoesRounds at_fault left (Some input) old left waits new → DoesRounds at_fault names waiting old left waits new
+  next_then names None input left waits new some next then = record { events = gathered input ∷ then.events; alone = (tt, then.alone); done = (left, refl, some refl, next, then.done) }
+  next_then names (Some waiting) input left waits new some next then =
+      subst (λ (i : RoundInputValue). DoesRounds at_fault names (Some i) old left waits new) next.0
+      (subst (λ (ns : List (List ℕ)). DoesRounds at_fault ns (Some input) old left waits new) next.1 then)
+
+  round_taken : (names : List (List ℕ)) (input : RoundInputValue) (waits : Option RoundInputValue) (new : LiveRegionValue) → TakesInput at_fault input old new (Ok tt) → waits ≡ None → DoesRounds at_fault names (Some input) old names waits new
+  round_taken names input waits new takes none = record { events = taken input ∷ []; alone = (tt, tt); done = (new, refl, takes, (refl, none, refl)) }
+
+  round_waits : (names : List (List ℕ)) (input : RoundInputValue) (waits : Option RoundInputValue) (new : LiveRegionValue) → at_fault ≡ GoOn → waits ≡ Some input → (new ≡ old) ⊎ IsRoundTried old input.deliveries new
+      → DoesRounds at_fault names (Some input) old names waits new
+  round_waits names input waits new goes_on is (inl same) = record { events = []; alone = tt; done = (refl, is, same) }
+  round_waits names input waits new goes_on is (inr tries) = record { events = tried input ∷ []; alone = (tt, tt); done = (new, goes_on, refl, tries, (refl, is, refl)) }
+
+  it_waits : (names : List (List ℕ)) (waiting : Option RoundInputValue) (left : List (List ℕ)) (waits : Option RoundInputValue) (new : LiveRegionValue) → (waiting ≡ None → names ≢ []) → at_fault ≡ GoOn
+      → Waits names waiting old left waits new → DoesRounds at_fault names waiting old left waits new
+  it_waits names waiting left waits new some goes_on (inl nothing) = record { events = []; alone = tt; done = (nothing.1, nothing.2 ∙ sym nothing.0, nothing.3) }
+  it_waits names waiting left waits new some goes_on (inr next) = next_then names waiting next.0 left waits new some next.1 (round_waits left next.0 waits new goes_on next.2 next.3)
+
+  -- what a round does, that went well or waits
+  pub does_round : (names : List (List ℕ)) (waiting : Option RoundInputValue) (left : List (List ℕ)) (waits : Option RoundInputValue) (new : LiveRegionValue) (went : Bool) → (waiting ≡ None → names ≢ [])
+      → TakesRound at_fault names waiting old left waits new (Ok went) → DoesRounds at_fault names waiting old left waits new
+  does_round names waiting left waits new true some ran = next_then names waiting ran.0 left waits new some ran.1.next (round_taken left ran.0 waits new ran.1.takes ran.2)
+  does_round names waiting left waits new false some ran = it_waits names waiting left waits new some ran.0 ran.1
+
+all_of_streams : (events more : List WriterEvent) → AreOfStreams events → AreOfStreams more → AreOfStreams (events ++ more)
+all_of_streams [] more first second = second
+all_of_streams (event ∷ events) more first second = (first.0, all_of_streams events more first.1 second)
+
+-- ---- the events so far
+
+-- the events so far, the streams that are still read, and the input that waits
+pub record DoneSoFar (at_fault : AtFault) (names : List (List ℕ)) (old : LiveRegionValue) (still : List (List ℕ)) (waiting : Option RoundInputValue) (new : LiveRegionValue) : Type 0 where
+  pub events : List WriterEvent
+  pub done : AllDone at_fault names None old events still waiting new
 
 module _ (at_fault : AtFault) (names : List (List ℕ)) (old : LiveRegionValue) where
-  pub nothing_yet : DoneSoFar at_fault names old names old
-  nothing_yet = record { events = []; done = (refl, refl) }
+  pub nothing_yet : DoneSoFar at_fault names old names None old
+  nothing_yet = record { events = []; done = (refl, refl, refl) }
 
-  -- one more round went well
-  pub one_round : (still : List (List ℕ)) (between : LiveRegionValue) (input : RoundInputValue) (left : List (List ℕ)) (new : LiveRegionValue) → DoneSoFar at_fault names old still between → still ≢ []
-      → RunsRound at_fault still between input left new (Ok tt) → DoneSoFar at_fault names old left new
-  one_round still between input left new so some run = record {
-    events = so.events ++ taken input ∷ [];
-    done = done_after at_fault names old so.events still between (taken input ∷ []) left new so.done (new, left, some, run, (refl, refl));
+  pub none_yet : DoesRounds at_fault names None old names None old
+  none_yet = record { events = []; alone = tt; done = (refl, refl, refl) }
+
+  -- one more round
+  pub one_round : (still : List (List ℕ)) (waiting : Option RoundInputValue) (between : LiveRegionValue) (left : List (List ℕ)) (waits : Option RoundInputValue) (new : LiveRegionValue)
+      → DoneSoFar at_fault names old still waiting between → DoesRounds at_fault still waiting between left waits new → DoneSoFar at_fault names old left waits new
+  one_round still waiting between left waits new so more = record {
+    events = so.events ++ more.events;
+    done = done_after at_fault names None old so.events still waiting between more.events left waits new so.done more.done;
+  }
+
+  pub one_more : (still : List (List ℕ)) (waiting : Option RoundInputValue) (between : LiveRegionValue) (left : List (List ℕ)) (waits : Option RoundInputValue) (new : LiveRegionValue)
+      → DoesRounds at_fault names None old still waiting between → DoesRounds at_fault still waiting between left waits new → DoesRounds at_fault names None old left waits new
+  one_more still waiting between left waits new so more = record {
+    events = so.events ++ more.events;
+    alone = all_of_streams so.events more.events so.alone more.alone;
+    done = done_after at_fault names None old so.events still waiting between more.events left waits new so.done more.done;
   }
 
   -- more commands were done
-  pub more_told : (still : List (List ℕ)) (between new : LiveRegionValue) → DoneSoFar at_fault names old still between → ToldAll at_fault still between new → DoneSoFar at_fault names old still new
-  more_told still between new so more = record {
+  pub more_told : (still : List (List ℕ)) (waiting : Option RoundInputValue) (between new : LiveRegionValue) → DoneSoFar at_fault names old still waiting between → ToldAll at_fault still waiting between new
+      → DoneSoFar at_fault names old still waiting new
+  more_told still waiting between new so more = record {
     events = so.events ++ more.events;
-    done = done_after at_fault names old so.events still between more.events still new so.done more.done;
+    done = done_after at_fault names None old so.events still waiting between more.events still waiting new so.done more.done;
   }
 
-  pub ran_on : (still : List (List ℕ)) (new : LiveRegionValue) → DoneSoFar at_fault names old still new → RunsOn at_fault names old new
-  ran_on still new so = record { events = so.events; left = still; done = so.done }
+  pub ran_on : (still : List (List ℕ)) (waiting : Option RoundInputValue) (new : LiveRegionValue) → DoneSoFar at_fault names old still waiting new → RunsOn at_fault names old new
+  ran_on still waiting new so = record { events = so.events; left = still; waits = waiting; done = so.done }
 
-  pub ran_up_to : (still : List (List ℕ)) (between new : LiveRegionValue) (fault : ServeFault) → DoneSoFar at_fault names old still between → StopsAt at_fault still between new fault → RunsUpTo at_fault names old new fault
-  ran_up_to still between new fault so stops = record { events = so.events; last = between; still = still; done = so.done; stops = stops }
+  pub ran_up_to : (still : List (List ℕ)) (waiting : Option RoundInputValue) (between new : LiveRegionValue) (fault : ServeFault) → DoneSoFar at_fault names old still waiting between → StopsAt at_fault still waiting between new fault
+      → RunsUpTo at_fault names old new fault
+  ran_up_to still waiting between new fault so stops = record { events = so.events; last = between; still = still; waiting = waiting; done = so.done; stops = stops }
 
   -- a fault as an answer
   pub as_fault : {T : Type 0} (new : LiveRegionValue) (fault : ServeFault) (result : Result T ServeFault) → IsErrAnd result (λ other. other ≡ fault) → RunsUpTo at_fault names old new fault → RunsEvents at_fault names old new result
@@ -74,24 +121,41 @@ module _ (at_fault : AtFault) (names : List (List ℕ)) (old : LiveRegionValue) 
       let (other, is, same) = err_from_is_err_and result answered in
       subst (RunsEvents at_fault names old new) (sym is) (subst (RunsUpTo at_fault names old new) (sym same) ran)
 
+  pub all_read : (still : List (List ℕ)) (waiting : Option RoundInputValue) (new : LiveRegionValue) → DoesRounds at_fault names None old still waiting new → still ≡ [] → waiting ≡ None → ReadToEnds at_fault names old new
+  all_read still waiting new so none nothing = record {
+    events = so.events;
+    alone = so.alone;
+    done = subst (λ (ns : List (List ℕ)). AllDone at_fault names None old so.events ns None new) none (subst (λ (w : Option RoundInputValue). AllDone at_fault names None old so.events still w new) nothing so.done);
+  }
+
+  pub read_up_to : (still : List (List ℕ)) (waiting : Option RoundInputValue) (between new : LiveRegionValue) (fault : ServeFault) → DoesRounds at_fault names None old still waiting between → StopsAt at_fault still waiting between new fault
+      → ReadUpTo at_fault names old new fault
+  read_up_to still waiting between new fault so stops = record { events = so.events; alone = so.alone; last = between; still = still; waiting = waiting; done = so.done; stops = stops }
+
+  pub as_answer : {T : Type 0} (new : LiveRegionValue) (fault : ServeFault) (result : Result T ServeFault) → IsErrAnd result (λ other. other ≡ fault) → ReadUpTo at_fault names old new fault → RunsRounds at_fault names old new result
+  as_answer new fault result answered read =
+      let (other, is, same) = err_from_is_err_and result answered in
+      subst (RunsRounds at_fault names old new) (sym is) (subst (ReadUpTo at_fault names old new) (sym same) read)
+
 -- one more command was done
-pub one_told : (at_fault : AtFault) (names : List (List ℕ)) (old between new : LiveRegionValue) (asked : WriterCommand) (said : Said) → ToldAll at_fault names old between → ObeysLive between asked new said → ToldAll at_fault names old new
-one_told at_fault names old between new asked said so obeys = record {
+pub one_told : (at_fault : AtFault) (names : List (List ℕ)) (waiting : Option RoundInputValue) (old between new : LiveRegionValue) (asked : WriterCommand) (said : Said) → ToldAll at_fault names waiting old between → ObeysLive between asked new said
+    → ToldAll at_fault names waiting old new
+one_told at_fault names waiting old between new asked said so obeys = record {
   events = so.events ++ told asked said ∷ [];
-  done = done_after at_fault names old so.events names between (told asked said ∷ []) names new so.done (new, obeys, (refl, refl));
+  done = done_after at_fault names waiting old so.events names waiting between (told asked said ∷ []) names waiting new so.done (new, obeys, (refl, refl, refl));
 }
 
-pub none_told : (at_fault : AtFault) (names : List (List ℕ)) (old : LiveRegionValue) → ToldAll at_fault names old old
-none_told at_fault names old = record { events = []; done = (refl, refl) }
+pub none_told : (at_fault : AtFault) (names : List (List ℕ)) (waiting : Option RoundInputValue) (old : LiveRegionValue) → ToldAll at_fault names waiting old old
+none_told at_fault names waiting old = record { events = []; done = (refl, refl, refl) }
 
 -- the fault of a round is not that its threads were refused
-begun : (at_fault : AtFault) (names : List (List ℕ)) (old new : LiveRegionValue) → StopsAt at_fault names old new Start → ⊥
-begun at_fault names old new (inl stops) = stops.2.takes
-begun at_fault names old new (inr stops) = let same = stops.0 in cc
+begun : (at_fault : AtFault) (names : List (List ℕ)) (waiting : Option RoundInputValue) (old new : LiveRegionValue) → StopsAt at_fault names waiting old new Start → ⊥
+begun at_fault names waiting old new (inl stops) = stops.2.takes
+begun at_fault names waiting old new (inr stops) = let same = stops.1 in cc
 
 pub as_besides : (names : List (List ℕ)) (old new : LiveRegionValue) (read : Result (Unit {0}) ServeFault) → RunsEvents GoOn names old new read → ReadsBesides names old new read
 as_besides names old new (Ok done) ran = ran
-as_besides names old new (Err Start) ran = absurd (begun GoOn ran.still ran.last new ran.stops)
+as_besides names old new (Err Start) ran = absurd (begun GoOn ran.still ran.waiting ran.last new ran.stops)
 as_besides names old new (Err (Stream name)) ran = ran
 as_besides names old new (Err Round) ran = ran
 as_besides names old new (Err Close) ran = ran

@@ -1,5 +1,5 @@
 -- Rounds of what streams gave, one after another.
-use Rattle.std.proofs.Common.{◌≡◌, ◌≢◌, ◌⊎◌, ℕ, ◌+◌, ◌≤◌, List, [], ◌∷◌, ◌++◌, Option, None, Some, IfSome, IfErr, OnOk, OnErr, inl, inr, refl, sym, ap, subst, arith, length, map}
+use Rattle.std.proofs.Common.{◌≡◌, ◌≢◌, ◌⊎◌, ℕ, ◌+◌, ◌≤◌, Bool, true, false, List, [], ◌∷◌, Option, None, Some, IfSome, IfErr, IfOk, OnOk, OnErr, inl, inr, refl, sym, ap, ◌∙◌, subst, arith, length, map}
 use Rattle.std.specs.Prelude.{Result, Ok, Err, IsErrAnd, MatchResult}
 use Rattle.std.specs.List.{All, Contains}
 use Rattle.std.specs.Result.{result_map_both}
@@ -11,16 +11,20 @@ use Rattle.pn_stream.specs.Positions.{DeliveryValue}
 use Rattle.pn_tablet.specs.Refusals.{Refuses}
 use Rattle.pn_region.specs.Marking.{is_memory, new_marks}
 use Rattle.pn_region.specs.Regions.{RegionValue}
-use Rattle.pn_region.specs.Rounds.{after_joins, round}
+use Rattle.pn_region.specs.Logged.{refused_log, with_notices}
+use Rattle.pn_region.specs.Rounds.{after_joins, round, Leaves}
 use Rattle.pn_region.specs.declared.fault.RoundFault.{RoundFault}
 use Rattle.pn_region.specs.declared.fault.RoundFault.TheVariants.{Gap, TooManyStreams, Memory}
 use Rattle.pn_region.proofs.GapLaws.{gap_is_missing}
-use Rattle.pn_live.specs.LiveRegions.{LiveRegionValue, core, LeavesLive}
+use Rattle.pn_live.specs.LiveRegions.{LiveRegionValue, core, tablets_after_round, LeavesLive}
 use Rattle.pn_serve.specs.Server.Faults.{IsOfRounds}
-use Rattle.pn_serve.specs.Server.Reading.{AllTaken, ReadToEnds, ReadUpTo, RunsRound, RunsRounds, StopsAt, TakesRound}
-use Rattle.pn_serve.specs.Server.Gathering.{IsInputOf}
-use Rattle.pn_serve.specs.Server.Rounds.{RoundInputValue, CanBeTaken, Continues, IsNoGap, IsRoundTaken, IsRoundRefused, TakesInput, stopping}
+use Rattle.pn_serve.specs.Server.Events.{AllDone, WriterEvent, gathered, tried, taken, told}
+use Rattle.pn_serve.specs.Server.Reading.{ReadUpTo}
+use Rattle.pn_serve.specs.Server.Gathering.{IsInputOf, value_of}
+use Rattle.pn_serve.specs.Server.Rounds.{RoundInputValue, CanBeTaken, Continues, IsNoGap, IsRoundTaken, IsRoundRefused, TakesInput, TriesRound, ends_try, stopping}
+use Rattle.pn_serve.specs.Server.Tries.{IsNextInput, RunsInput, RunsRound, StopsAt, TakesRound, waiting_value}
 use Rattle.pn_serve.specs.declared.server.fault.ServeFault.{ServeFault}
+use Rattle.pn_serve.specs.declared.server.rounds.RoundInput.{RoundInput}
 use Rattle.pn_serve.specs.declared.server.fault.ServeFault.TheVariants.{Start, Stream, Round, Close, Write}
 use Rattle.pn_serve.specs.declared.server.mailboxes.AtFault.{AtFault}
 use Rattle.pn_serve.specs.declared.server.mailboxes.AtFault.TheVariants.{Stop, GoOn}
@@ -52,124 +56,146 @@ no_gap_in old deliveries (Gap stream wanted got) continues refused =
 no_gap_in old deliveries TooManyStreams continues refused = tt
 no_gap_in old deliveries Memory continues refused = tt
 
--- the round was refused with a fault
+-- the round was refused with a fault, where memory is not waited for
 pub refused_by : {T : Type 0} (result : Result T RoundFault) (old : LiveRegionValue) (deliveries : List DeliveryValue) (new : LiveRegionValue) → All (Continues old.marks) deliveries
-    → IfErr result (λ fault. Refuses is_memory fault (round (core old) deliveries)) → IfErr result (λ fault. LeavesLive fault old deliveries new) → OnErr result (IsRoundRefused old deliveries new)
+    → IfErr result (λ fault. Refuses is_memory fault (round (core old) deliveries)) → IfErr result (λ fault. LeavesLive fault old deliveries new) → OnErr result (IsRoundRefused Stop old deliveries new)
 refused_by (Ok done) old deliveries new continues refuses left = tt
-refused_by (Err fault) old deliveries new continues refuses left = record { fault = fault; no_gap = no_gap_in old deliveries fault continues refuses; refused = refuses; left = left }
+refused_by (Err fault) old deliveries new continues refuses left = record { fault = fault; no_gap = no_gap_in old deliveries fault continues refuses; lasts = tt; refused = refuses; left = left }
 
-run_either : {T : Type 0} (result : Result T RoundFault) (old : LiveRegionValue) (deliveries : List DeliveryValue) (new : LiveRegionValue) → OnOk result (IsRoundTaken old deliveries new) → OnErr result (IsRoundRefused old deliveries new)
-    → IsRoundTaken old deliveries new ⊎ IsRoundRefused old deliveries new
-run_either (Ok done) old deliveries new taken refused = inl taken
-run_either (Err fault) old deliveries new taken refused = inr refused
+-- a fault that is not out of memory
+pub refused_for_good : (fault : RoundFault) (old : LiveRegionValue) (deliveries : List DeliveryValue) (new : LiveRegionValue) → fault ≢ Memory → All (Continues old.marks) deliveries
+    → Refuses is_memory fault (round (core old) deliveries) → LeavesLive fault old deliveries new → IsRoundRefused GoOn old deliveries new
+refused_for_good Memory old deliveries new other continues refuses left = absurd (other refl)
+refused_for_good TooManyStreams old deliveries new other continues refuses left = record { fault = TooManyStreams; no_gap = tt; lasts = tt; refused = refuses; left = left }
+refused_for_good (Gap stream wanted got) old deliveries new other continues refuses left =
+    absurd (no_gap_in old deliveries (Gap stream wanted got) continues refuses)
+
+-- the round was taken
+pub taken_by : {T : Type 0} (run : Result T RoundFault) (old : LiveRegionValue) (deliveries : List DeliveryValue) (new : LiveRegionValue) → OnOk run (round (core old) deliveries ≡ Ok (core new))
+    → OnOk run (new.tablets ≡ tablets_after_round old deliveries new.marks) → OnOk run (new.log ≡ with_notices old.log (core old) (core new)) → OnOk run (IsRoundTaken old deliveries new)
+taken_by (Ok done) old deliveries new took published noted = record { taken = took; published = published; noted = noted }
+taken_by (Err fault) old deliveries new took published noted = tt
+
+-- a try of a round
+pub tried_so : {T : Type 0} (run : Result T RoundFault) (old : LiveRegionValue) (deliveries : List DeliveryValue) (new : LiveRegionValue) (result : Result Bool ServeFault) → All (Continues old.marks) deliveries
+    → OnOk run (IsRoundTaken old deliveries new) → IfErr run (λ fault. Refuses is_memory fault (round (core old) deliveries)) → IfErr run (λ fault. LeavesLive fault old deliveries new)
+    → IfErr run (λ fault. Leaves fault (core old) deliveries (core new)) → IfErr run (λ fault. new.log ≡ refused_log old.log fault) → MatchResult run (λ _. result ≡ Ok true) (λ fault. result ≡ ends_try fault)
+    → TriesRound old deliveries new result
+tried_so (Ok done) old deliveries new result continues took refuses live left log is = subst (TriesRound old deliveries new) (sym is) took
+tried_so (Err Memory) old deliveries new result continues took refuses live left log is = subst (TriesRound old deliveries new) (sym is) (inr (record { published = live; half = left; broken = log }))
+tried_so (Err TooManyStreams) old deliveries new result continues took refuses live left log is =
+    subst (TriesRound old deliveries new) (sym is) (refl, refused_for_good TooManyStreams old deliveries new (λ same. cc) continues refuses live)
+tried_so (Err (Gap stream wanted got)) old deliveries new result continues took refuses live left log is =
+    subst (TriesRound old deliveries new) (sym is) (refl, refused_for_good (Gap stream wanted got) old deliveries new (λ same. cc) continues refuses live)
+
+run_either : {T : Type 0} (result : Result T RoundFault) (old : LiveRegionValue) (deliveries : List DeliveryValue) (new : LiveRegionValue) → OnOk result (IsRoundTaken old deliveries new) → OnErr result (IsRoundRefused Stop old deliveries new)
+    → IsRoundTaken old deliveries new ⊎ IsRoundRefused Stop old deliveries new
+run_either (Ok done) old deliveries new took refused = inl took
+run_either (Err fault) old deliveries new took refused = inr refused
 
 -- the input was taken as a round
-pub takes : {T : Type 0} (at_fault : AtFault) (input : RoundInputValue) (old new : LiveRegionValue) (stop : Option (List ℕ)) (run : Result T RoundFault) (result : Result (Unit {0}) ServeFault)
-    → stop ≡ stopping at_fault input.fault → OnOk run (IsRoundTaken old input.deliveries new) → OnErr run (IsRoundRefused old input.deliveries new)
+pub takes : {T : Type 0} (input : RoundInputValue) (old new : LiveRegionValue) (stop : Option (List ℕ)) (run : Result T RoundFault) (result : Result (Unit {0}) ServeFault)
+    → stop ≡ input.fault → OnOk run (IsRoundTaken old input.deliveries new) → OnErr run (IsRoundRefused Stop old input.deliveries new)
     → IfSome stop (λ name. result ≡ Err (Stream name)) → (stop ≡ None → MatchResult run (λ _. result ≡ Ok tt) (λ _. result ≡ Err Round))
-    → TakesInput at_fault input old new result
-takes {T} at_fault input old new None run result stops taken refused named unnamed = unless run taken refused (unnamed refl)
+    → TakesInput Stop input old new result
+takes {T} input old new None run result stops took refused named unnamed = unless run took refused (unnamed refl)
   where
-    unless : (ran : Result T RoundFault) → OnOk ran (IsRoundTaken old input.deliveries new) → OnErr ran (IsRoundRefused old input.deliveries new)
-        → MatchResult ran (λ _. result ≡ Ok tt) (λ _. result ≡ Err Round) → TakesInput at_fault input old new result
-    unless (Ok done) taken refused is = subst (TakesInput at_fault input old new) (sym is) (sym stops, taken)
-    unless (Err fault) taken refused is = subst (TakesInput at_fault input old new) (sym is) (sym stops, refused)
-takes at_fault input old new (Some name) run result stops taken refused named unnamed =
-    subst (TakesInput at_fault input old new) (sym named) (sym stops, run_either run old input.deliveries new taken refused)
+    unless : (ran : Result T RoundFault) → OnOk ran (IsRoundTaken old input.deliveries new) → OnErr ran (IsRoundRefused Stop old input.deliveries new)
+        → MatchResult ran (λ _. result ≡ Ok tt) (λ _. result ≡ Err Round) → TakesInput Stop input old new result
+    unless (Ok done) took refused is = subst (TakesInput Stop input old new) (sym is) (sym stops, took)
+    unless (Err fault) took refused is = subst (TakesInput Stop input old new) (sym is) (sym stops, refused)
+takes input old new (Some name) run result stops took refused named unnamed =
+    subst (TakesInput Stop input old new) (sym named) (sym stops, run_either run old input.deliveries new took refused)
 
--- the input was gathered, and taken so
-pub ran : {P : Type 0} (name : P → List ℕ) (streams : List P) (at_fault given : AtFault) (marks : Positions) (old new : LiveRegionValue) (input : RoundInputValue) (left : List (List ℕ)) (run : Result (Unit {0}) ServeFault)
-    → marks ≡ old.marks → given ≡ at_fault → IsInputOf (map name streams) marks input left → CanBeTaken (length streams) marks input → TakesInput given input old new run
-    → RunsRound at_fault (map name streams) old input left new run
-ran name streams at_fault given marks old new input left run same fault gathered fits takes = record {
-  gathered = subst (λ (m : Positions). IsInputOf (map name streams) m input left) same gathered;
-  fits = subst (λ (n : ℕ). CanBeTaken n old.marks input) (sym (length-map streams name)) (subst (λ (m : Positions). CanBeTaken (length streams) m input) same fits);
-  takes = subst (λ (a : AtFault). TakesInput a input old new run) fault takes;
-}
+-- what was gathered is the next input where none waits
+pub gathered_next : {P : Type 0} (name : P → List ℕ) (streams : List P) (marks : Positions) (input : RoundInputValue) (left : List (List ℕ)) → IsInputOf (map name streams) marks input left → CanBeTaken (length streams) marks input
+    → IsNextInput (map name streams) None marks input left
+gathered_next name streams marks input left notes fits = (notes, subst (λ (n : ℕ). CanBeTaken n marks input) (sym (length-map streams name)) fits)
+
+-- what comes of the next input: it was taken, it waits, or a fault stops
+module _ (at_fault given : AtFault) (names : List (List ℕ)) (waiting : Option RoundInputValue) (old : LiveRegionValue) (marks : Positions) (input : RoundInput) (left : List (List ℕ)) (new : LiveRegionValue)
+    (same : given ≡ at_fault) (marks_are : marks ≡ old.marks) (next : IsNextInput names waiting marks (value_of input) left) where
+  next_runs : (run : Result (Unit {0}) ServeFault) → TakesInput given (value_of input) old new run → RunsRound at_fault names waiting old (value_of input) left new run
+  next_runs run takes = record {
+    next = subst (λ (m : Positions). IsNextInput names waiting m (value_of input) left) marks_are next;
+    takes = subst (λ (a : AtFault). TakesInput a (value_of input) old new run) same takes;
+  }
+
+  pub next_taken : (waits : Option RoundInputValue) → TakesInput given (value_of input) old new (Ok tt) → waits ≡ None → TakesRound at_fault names waiting old left waits new (Ok true)
+  next_taken waits takes none = (value_of input, next_runs (Ok tt) takes, none)
+
+  pub next_waits : (waits : Option RoundInputValue) (back : RoundInput) → RunsInput given input old new (Ok (Some back)) → waits ≡ Some (value_of back) → TakesRound at_fault names waiting old left waits new (Ok false)
+  next_waits waits back runs is = (
+    sym same ∙ runs.0,
+    inr (value_of input, subst (λ (m : Positions). IsNextInput names waiting m (value_of input) left) marks_are next, is ∙ ap (λ (i : RoundInput). Some (value_of i)) runs.1, runs.2),
+  )
+
+  pub next_stops : (fault : ServeFault) → TakesInput given (value_of input) old new (Err fault) → StopsAt at_fault names waiting old new fault
+  next_stops fault takes = inl (value_of input, left, next_runs (Err fault) takes)
 
 -- a fault of a round as an answer
-pub as_stop : (at_fault : AtFault) (names : List (List ℕ)) (old : LiveRegionValue) (left : List (List ℕ)) (new : LiveRegionValue) (fault : ServeFault) (result : Result (Unit {0}) ServeFault)
-    → IsErrAnd result (λ other. other ≡ fault) → StopsAt at_fault names old new fault → TakesRound at_fault names old left new result
-as_stop at_fault names old left new fault result answered stops =
+pub as_stop : (at_fault : AtFault) (names : List (List ℕ)) (waiting : Option RoundInputValue) (old : LiveRegionValue) (left : List (List ℕ)) (waits : Option RoundInputValue) (new : LiveRegionValue) (fault : ServeFault)
+    (result : Result Bool ServeFault) → IsErrAnd result (λ other. other ≡ fault) → StopsAt at_fault names waiting old new fault → TakesRound at_fault names waiting old left waits new result
+as_stop at_fault names waiting old left waits new fault result answered stops =
     let (other, is, same) = err_from_is_err_and result answered in
-    subst (TakesRound at_fault names old left new) (sym is) (subst (StopsAt at_fault names old new) (sym same) stops)
+    subst (TakesRound at_fault names waiting old left waits new) (sym is) (subst (StopsAt at_fault names waiting old new) (sym same) stops)
 
 -- names of no streams
-pub no_names : {P : Type 0} (name : P → List ℕ) (streams : List P) → map name streams ≡ [] → length streams ≡ 0
+pub no_names : {P : Type 0} (name : P → List ℕ) (streams : List P) → map name streams ≡ [] → streams ≡ []
 no_names name [] none = refl
 no_names name (stream ∷ streams) none = absurd (cc)
 
--- one more round went well
-taken_push : (at_fault : AtFault) (names : List (List ℕ)) (old : LiveRegionValue) (rounds : List RoundInputValue) (still : List (List ℕ)) (between : LiveRegionValue) (input : RoundInputValue) (left : List (List ℕ)) (new : LiveRegionValue)
-    → AllTaken at_fault names old rounds still between → still ≢ [] → RunsRound at_fault still between input left new (Ok tt) → AllTaken at_fault names old (rounds ++ input ∷ []) left new
-taken_push at_fault names old [] still between input left new all some run = (
-  new,
-  left,
-  subst (λ (ns : List (List ℕ)). ns ≢ []) all.0 some,
-  subst (λ (ns : List (List ℕ)). RunsRound at_fault ns old input left new (Ok tt)) all.0 (subst (λ (was : LiveRegionValue). RunsRound at_fault still was input left new (Ok tt)) all.1 run),
-  (refl, refl),
-)
-taken_push at_fault names old (first ∷ rounds) still between input left new all some run =
-    (all.0, all.1, all.2, all.3, taken_push at_fault all.1 all.0 rounds still between input left new all.4 some run)
+-- no input waits
+pub none_waits : (waiting : Option RoundInput) → waiting_value waiting ≡ None → waiting ≡ None
+none_waits None none = refl
+none_waits (Some input) none = absurd (cc)
 
--- the rounds so far, and the streams that are still read
-pub record SoFar (at_fault : AtFault) (names : List (List ℕ)) (old : LiveRegionValue) (still : List (List ℕ)) (new : LiveRegionValue) : Type 0 where
-  pub rounds : List RoundInputValue
-  pub taken : AllTaken at_fault names old rounds still new
+-- ---- whom faults name
 
-module _ (at_fault : AtFault) (names : List (List ℕ)) (old : LiveRegionValue) where
-  pub none_yet : SoFar at_fault names old names old
-  none_yet = record { rounds = []; taken = (refl, refl) }
+-- the streams that are read, and the one with a fault in the input that waits, are of these
+record AreAmong (all names : List (List ℕ)) (waiting : Option RoundInputValue) : Type 0 where
+  read : (name : List ℕ) → Contains names name → Contains all name
+  named : IfSome waiting (λ input. IfSome input.fault (Contains all))
 
-  pub one_more : (still : List (List ℕ)) (between : LiveRegionValue) (input : RoundInputValue) (left : List (List ℕ)) (new : LiveRegionValue) → SoFar at_fault names old still between → still ≢ []
-      → RunsRound at_fault still between input left new (Ok tt) → SoFar at_fault names old left new
-  one_more still between input left new so some run =
-      record { rounds = so.rounds ++ input ∷ []; taken = taken_push at_fault names old so.rounds still between input left new so.taken some run }
+contained : (all names : List (List ℕ)) (fault : Option (List ℕ)) → ((name : List ℕ) → Contains names name → Contains all name) → IfSome fault (Contains names) → IfSome fault (Contains all)
+contained all names None more there = tt
+contained all names (Some name) more there = more name there
 
-  pub all_read : (still : List (List ℕ)) (new : LiveRegionValue) → SoFar at_fault names old still new → still ≡ [] → ReadToEnds at_fault names old new
-  all_read still new so none =
-      record { rounds = so.rounds; taken = subst (λ (ns : List (List ℕ)). AllTaken at_fault names old so.rounds ns new) none so.taken }
+still_among : (all : List (List ℕ)) (at_fault : AtFault) (names : List (List ℕ)) (waiting : Option RoundInputValue) (old : LiveRegionValue) (events : List WriterEvent) (still : List (List ℕ)) (waits : Option RoundInputValue) (new : LiveRegionValue)
+    → AllDone at_fault names waiting old events still waits new → AreAmong all names waiting → AreAmong all still waits
+still_among all at_fault names waiting old [] still waits new done among =
+    subst (λ (ns : List (List ℕ)). AreAmong all ns waits) (sym done.0) (subst (AreAmong all names) (sym done.1) among)
+still_among all at_fault names waiting old (gathered input ∷ later) still waits new done among =
+    still_among all at_fault done.0 (Some input) old later still waits new done.4 (record {
+      read = λ name there. among.read name (left_named names old.marks input done.0 name done.3.0 there);
+      named = contained all names input.fault among.read (fault_named names old.marks input done.0 done.3.0);
+    })
+still_among all at_fault names waiting old (tried input ∷ later) still waits new done among = still_among all at_fault names waiting done.0 later still waits new done.4 among
+still_among all at_fault names waiting old (taken input ∷ later) still waits new done among = still_among all at_fault names None done.0 later still waits new done.3 (record { read = among.read; named = tt })
+still_among all at_fault names waiting old (told asked said ∷ later) still waits new done among = still_among all at_fault names waiting done.0 later still waits new done.2 among
 
-  pub read_up_to : (still : List (List ℕ)) (between new : LiveRegionValue) (fault : ServeFault) → SoFar at_fault names old still between → StopsAt at_fault still between new fault → ReadUpTo at_fault names old new fault
-  read_up_to still between new fault so stops = record { rounds = so.rounds; last = between; still = still; taken = so.taken; stops = stops }
-
-  -- a fault as an answer
-  pub as_answer : {T : Type 0} (new : LiveRegionValue) (fault : ServeFault) (result : Result T ServeFault) → IsErrAnd result (λ other. other ≡ fault) → ReadUpTo at_fault names old new fault → RunsRounds at_fault names old new result
-  as_answer new fault result answered read =
-      let (other, is, same) = err_from_is_err_and result answered in
-      subst (RunsRounds at_fault names old new) (sym is) (subst (ReadUpTo at_fault names old new) (sym same) read)
-
--- the streams that are still read are of those that were
-still_among : (at_fault : AtFault) (names : List (List ℕ)) (old : LiveRegionValue) (rounds : List RoundInputValue) (still : List (List ℕ)) (new : LiveRegionValue) (name : List ℕ) → AllTaken at_fault names old rounds still new
-    → Contains still name → Contains names name
-still_among at_fault names old [] still new name all there = subst (λ (ns : List (List ℕ)). Contains ns name) all.0 there
-still_among at_fault names old (input ∷ later) still new name all there =
-    left_named names old.marks input all.1 name all.3.gathered (still_among at_fault all.1 all.0 later still new name all.4 there)
+next_named : (all names : List (List ℕ)) (waiting : Option RoundInputValue) (marks : Positions) (input : RoundInputValue) (left : List (List ℕ)) → AreAmong all names waiting → IsNextInput names waiting marks input left
+    → IfSome input.fault (Contains all)
+next_named all names None marks input left among next = contained all names input.fault among.read (fault_named names marks input left next.0)
+next_named all names (Some waiting) marks input left among next = subst (λ (i : RoundInputValue). IfSome i.fault (Contains all)) (sym next.0) among.named
 
 stopping_is : (at_fault : AtFault) (fault : Option (List ℕ)) (name : List ℕ) → stopping at_fault fault ≡ Some name → fault ≡ Some name
 stopping_is Stop fault name is = is
 stopping_is GoOn fault name is = absurd (cc)
 
-round_named : (at_fault : AtFault) (names : List (List ℕ)) (old : LiveRegionValue) (input : RoundInputValue) (left : List (List ℕ)) (new : LiveRegionValue) (fault : ServeFault)
-    → RunsRound at_fault names old input left new (Err fault) → IsOfRounds names fault
-round_named at_fault names old input left new (Stream name) run =
-    subst (λ (f : Option (List ℕ)). IfSome f (Contains names)) (stopping_is at_fault input.fault name run.takes.0) (fault_named names old.marks input left run.gathered)
-round_named at_fault names old input left new Round run = tt
-round_named at_fault names old input left new Start run = absurd run.takes
-round_named at_fault names old input left new Close run = absurd run.takes
-round_named at_fault names old input left new Write run = absurd run.takes
-
-among : (names still : List (List ℕ)) (fault : ServeFault) → ((name : List ℕ) → Contains still name → Contains names name) → IsOfRounds still fault → IsOfRounds names fault
-among names still (Stream name) more named = more name named
-among names still Round more named = tt
-among names still Start more named = absurd named
-among names still Close more named = absurd named
-among names still Write more named = absurd named
+round_named : (all : List (List ℕ)) (at_fault : AtFault) (names : List (List ℕ)) (waiting : Option RoundInputValue) (old : LiveRegionValue) (input : RoundInputValue) (left : List (List ℕ)) (new : LiveRegionValue) (fault : ServeFault)
+    → AreAmong all names waiting → RunsRound at_fault names waiting old input left new (Err fault) → IsOfRounds all fault
+round_named all at_fault names waiting old input left new (Stream name) among run =
+    subst (λ (f : Option (List ℕ)). IfSome f (Contains all)) (stopping_is at_fault input.fault name run.takes.0) (next_named all names waiting old.marks input left among run.next)
+round_named all at_fault names waiting old input left new Round among run = tt
+round_named all at_fault names waiting old input left new Start among run = absurd run.takes
+round_named all at_fault names waiting old input left new Close among run = absurd run.takes
+round_named all at_fault names waiting old input left new Write among run = absurd run.takes
 
 -- a fault that stops rounds is of a round, or names a stream
 pub of_rounds : (at_fault : AtFault) (names : List (List ℕ)) (old new : LiveRegionValue) (fault : ServeFault) → ReadUpTo at_fault names old new fault → IsOfRounds names fault
 of_rounds at_fault names old new fault read = elim read.stops [
-  | inl stops ↦ among names read.still fault (λ name there. still_among at_fault names old read.rounds read.still read.last name read.taken there)
-      (round_named at_fault read.still read.last stops.0 stops.1 new fault stops.2)
-  | inr stops ↦ subst (IsOfRounds names) (sym stops.0) tt
+  | inl stops ↦ round_named names at_fault read.still read.waiting read.last stops.0 stops.1 new fault
+      (still_among names at_fault names None old read.events read.still read.waiting read.last read.done (record { read = λ name there. there; named = tt })) stops.2
+  | inr stops ↦ subst (IsOfRounds names) (sym stops.1) tt
 ]

@@ -11,5 +11,6 @@ pub mod Reports
 pub mod Rounds
 pub mod Served
 pub mod Sessions
+pub mod Tries
 pub mod Whole
 pub mod Writers

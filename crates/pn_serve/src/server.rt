@@ -27,6 +27,7 @@ mod rounds;
 mod session_threads;
 mod stream_threads;
 mod streams;
+mod tries;
 mod writer_input;
 mod writers;
 
@@ -52,6 +53,7 @@ pub use session_threads::{Acceptor, ComesBack, SessionThread, join_sessions};
 use std::alloc::Global;
 use std::sync::Wait;
 use std::thread::Threads;
+use std::time::Clock;
 pub use streams::{Watchers, read_streams};
 pub use writers::{Origin, Stream, WriterEnd};
 
@@ -76,7 +78,7 @@ pub fn serve<R, L, S, W>(
     out: &mut W,
 ) -> Result<(), ServeFault>
 where
-    R: Threads + Wait + Sync + Copy + Send + 'static,
+    R: Threads + Wait + Clock + Sync + Copy + Send + 'static,
     L: Acceptor + Drop + Send + 'static,
     S: Source + Drop + Send + 'static,
     W: Sink,
@@ -117,7 +119,7 @@ fn serve_region<R, L, S>(
     streams: Vec<StreamReader<S>>,
 ) -> Result<usize, ServeFault>
 where
-    R: Threads + Wait + Sync + Copy + Send + 'static,
+    R: Threads + Wait + Clock + Sync + Copy + Send + 'static,
     L: Acceptor + Drop + Send + 'static,
     S: Source + Drop + Send + 'static,
     requires { (1 ≤ sessions) × (sessions ≤ MAX_SESSIONS) }
@@ -187,7 +189,7 @@ fn serve_streams<R, L, S>(
     streams: Vec<StreamReader<S>>,
 ) -> Result<(), ServeFault>
 where
-    R: Threads + Wait + Sync + Copy + Send + 'static,
+    R: Threads + Wait + Clock + Sync + Copy + Send + 'static,
     L: Acceptor + Drop + Send + 'static,
     S: Source + Drop + Send + 'static,
     requires workers { (1 ≤ workers) × (workers ≤ MAX_WORKERS) }
@@ -218,7 +220,7 @@ where
 }
 
 // Runs the rounds, unless a session was refused.
-fn run_unless_refused<R: Threads + Wait + Sync>(
+fn run_unless_refused<R: Threads + Wait + Clock + Sync>(
     rt: &R,
     alloc: Global,
     live: &mut LiveRegion,

@@ -1,6 +1,6 @@
 //! The laws of streams that resume, as contracts. A call does nothing.
 
-ghost use Rattle.std.specs.Prelude.{◌≡◌, ◌↔◌, ℕ, ◌+◌, List, Option, map};
+ghost use Rattle.std.specs.Prelude.{◌≡◌, ℕ, ◌+◌, List, Option};
 ghost use Rattle.std.specs.FinMap.{find};
 ghost use Rattle.pn_record.specs.Prelude.{bytes_cmp, table_of};
 ghost use Rattle.pn_record.specs.declared.image.Image.{Image};
@@ -11,10 +11,9 @@ ghost use Rattle.pn_region.specs.Prelude.{AreHonestEvents, HoldsStill, IsRegion,
 ghost use Rattle.pn_region.specs.Serving.{AllServe, ServesAt};
 ghost use Rattle.pn_region.specs.Taken.{all_taken};
 ghost use Rattle.pn_live.specs.LiveRegions.{LiveRegionValue, core};
-ghost use Rattle.pn_serve.specs.Server.Events.{AllDone, WriterEvent, taken};
-ghost use Rattle.pn_serve.specs.Server.Honest.{IsHonestWriter, TookHonestly};
-ghost use Rattle.pn_serve.specs.Server.HonestEvents.{DidHonestly, region_events};
-ghost use Rattle.pn_serve.specs.Server.Reading.{AllTaken};
+ghost use Rattle.pn_serve.specs.Server.Events.{AllDone, WriterEvent};
+ghost use Rattle.pn_serve.specs.Server.Honest.{IsHonestWriter};
+ghost use Rattle.pn_serve.specs.Server.HonestEvents.{DidHonestly, TookHonestly, region_events};
 ghost use Rattle.pn_serve.specs.Server.Rounds.{RoundInputValue};
 ghost use Rattle.pn_serve.specs.declared.server.mailboxes.AtFault.{AtFault};
 ghost use Rattle.pn_stream.specs.Batches.{Batch};
@@ -43,17 +42,13 @@ pub fn streams_that_resume_leave_what_was_published()
 /// Rounds of streams and commands of control sessions, one after another, are events of the region. Where streams and adopted
 /// copies are honest, a region whose tablets all serve has exactly the records of what it took, whatever else was done
 /// meanwhile; and a record that its tablet serves before and after is still held.
-///
-/// Rounds without commands are those of streams that are read alone.
 pub fn streams_beside_commands_leave_what_was_taken()
-    ensures alone { (at_fault : AtFault) (names : List (List ℕ)) (old : LiveRegionValue) (rounds : List RoundInputValue) (left : List (List ℕ)) (new : LiveRegionValue)
-        → AllDone at_fault names old (map taken rounds) left new ↔ AllTaken at_fault names old rounds left new }
-    ensures events { (at_fault : AtFault) (names : List (List ℕ)) (old : LiveRegionValue) (events : List WriterEvent) (left : List (List ℕ)) (new : LiveRegionValue)
-        → AllDone at_fault names old events left new → AllLeadTo (region_events events) (core old) (core new) }
+    ensures events { (at_fault : AtFault) (names : List (List ℕ)) (waiting : Option RoundInputValue) (old : LiveRegionValue) (events : List WriterEvent) (left : List (List ℕ)) (waits : Option RoundInputValue) (new : LiveRegionValue)
+        → AllDone at_fault names waiting old events left waits new → AllLeadTo (region_events events) (core old) (core new) }
     ensures records { (broker : BrokerRecord) (live : LiveRegionValue) (did : DidHonestly broker live) → AllServe (core live)
         → all_cells (core live) ≡ table_of (all_taken broker (region_events did.events)) }
-    ensures served { (broker : BrokerRecord) (at_fault : AtFault) (names : List (List ℕ)) (old : LiveRegionValue) (events : List WriterEvent) (left : List (List ℕ)) (new : LiveRegionValue) (key : List ℕ)
-        → IsRegion (core old) → AreFaithful broker (core old).tablets → AllDone at_fault names old events left new
+    ensures served { (broker : BrokerRecord) (at_fault : AtFault) (names : List (List ℕ)) (waiting : Option RoundInputValue) (old : LiveRegionValue) (events : List WriterEvent) (left : List (List ℕ)) (waits : Option RoundInputValue) (new : LiveRegionValue) (key : List ℕ)
+        → IsRegion (core old) → AreFaithful broker (core old).tablets → AllDone at_fault names waiting old events left waits new
         → AreHonestEvents broker (region_events events) → ServesAt (core old) key → ServesAt (core new) key
         → HoldsStill (find bytes_cmp key (all_cells (core old))) (find bytes_cmp key (all_cells (core new))) }
 {}

@@ -90,6 +90,8 @@ impl ConnectionCounters {
 #[derive(Drop)]
 pub struct Counters {
     pub rounds: Arc<Counter>,
+    /// At 1 while a round waits for memory, and else at 0.
+    pub shortage: Arc<Counter>,
     /// What was read from all clients, and how many of their lines were refused.
     pub clients: Arc<InputCounters>,
     pub refused: Counter,
@@ -105,6 +107,7 @@ impl Counters {
     pub fn new(alloc: Global, streams: Vec<StreamCounters>) -> Result<Counters, AllocError> {
         Ok(Counters {
             rounds: Arc::new(alloc, Counter::new())?,
+            shortage: Arc::new(alloc, Counter::new())?,
             clients: Arc::new(alloc, InputCounters::new())?,
             refused: Counter::new(),
             kinds: KindCounters::new(),

@@ -3,10 +3,12 @@
 ghost use Rattle.std.specs.Prelude.{◌≡◌, ◌<◌, ◌≤◌, ◌↔◌, ◌++◌, ◌∷◌, [], length, IfOk, IsTrue};
 ghost use Rattle.pn_stay.specs.Messages.{one_more};
 
+use pn_serve::Counter;
 use std::alloc::{AllocError, Global};
 use std::marker::Model;
 use std::mem;
-use std::sync::{Arc, Condvar, Mutex, Wait};
+use std::sync::{Arc, Condvar, CondvarTimeouts, Mutex, Wait};
+use std::time::{Clock, Duration};
 
 /// How many lines wait at most.
 pub const MAX_WAITING: usize = 1_024;
@@ -37,12 +39,13 @@ impl Messages {
         self.left.notify_one();
     }
 
-    /// Waits until a line was left, and exchanges those that wait for others.
-    pub fn exchange<R: Wait>(&self, rt: &R, others: &mut WaitingLines) {
+    /// Waits until a line was left, for a second at most, and exchanges those that wait for others.
+    pub fn exchange<R: Wait + Clock>(&self, rt: &R, others: &mut WaitingLines) {
         let guard = self.waiting.lock(rt);
-        let mut waiting = self
+        let most = Duration::from_secs(1);
+        let (mut waiting, _) = self
             .left
-            .wait_while(rt, guard, |waiting| waiting.is_empty());
+            .wait_timeout_while(rt, guard, most, |waiting| waiting.is_empty());
         mem::swap(&mut *waiting, others);
     }
 }
@@ -126,10 +129,12 @@ impl WaitingLines {
     }
 }
 
-/// Writes lines to standard error.
+/// Writes lines to standard error, also where a round begins to wait for memory, and where rounds go on.
 #[derive(Drop)]
 pub struct MessagePrinter {
     messages: Arc<Messages>,
+    // At 1 while a round waits for memory.
+    shortage: Arc<Counter>,
     // What it exchanges for lines that wait.
     lines: WaitingLines,
     // What goes before each line.
@@ -141,29 +146,46 @@ impl MessagePrinter {
     pub fn new(
         alloc: Global,
         messages: Arc<Messages>,
+        shortage: Arc<Counter>,
         prefix: &'static str,
     ) -> Result<MessagePrinter, AllocError> {
         Ok(MessagePrinter {
             messages,
+            shortage,
             lines: WaitingLines::new(alloc)?,
             prefix,
         })
     }
 
     /// Writes the lines that are left, for as long as the program runs.
-    pub fn run<R: Wait + Eprint>(self, rt: &R) {
+    pub fn run<R: Wait + Clock + Eprint>(self, rt: &R) {
         let MessagePrinter {
             messages,
+            shortage,
             lines,
             prefix,
         } = self;
         let mut lines = lines;
+        let mut is_short = false;
         for _ in rt.forever() {
             messages.exchange(rt, &mut lines);
             print_lines(rt, &lines, prefix);
             lines.clear();
+            is_short = print_shortage(rt, &shortage, is_short, prefix);
         }
     }
+}
+
+// Tells where memory became short, or is no longer. Answers whether it is short.
+fn print_shortage<R: Eprint>(rt: &R, shortage: &Counter, was_short: bool, prefix: &str) -> bool {
+    let is_short = shortage.get() > 0;
+    if is_short && !was_short {
+        let _ = eprintln!(rt; "{prefix}pnuts: out of memory: a round waits");
+    }
+    if was_short && !is_short {
+        let _ = eprintln!(rt; "{prefix}pnuts: rounds go on");
+    }
+    is_short
 }
 
 fn print_lines<R: Eprint>(rt: &R, waiting: &WaitingLines, prefix: &str) {

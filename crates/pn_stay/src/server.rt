@@ -107,7 +107,7 @@ impl StayingServer {
         streams: Vec<Stream<O>>,
     ) -> Result<(), ServeFault>
     where
-        R: Threads + Wait + Sync + Copy + Send + 'static,
+        R: Threads + Wait + Clock + Sync + Copy + Send + 'static,
         S: Source + Drop + Send + 'static,
         O: Origin<S> + Drop + Send + 'static,
         ensures alone { self.old.controlled ≡ false → ReadsStreams (map (λ stream. stream.name) streams.items) self.old.live self.new.live result }
@@ -198,6 +198,7 @@ where
     let mut acceptor = acceptor;
     let beside = take_beside(alloc, live, readers, sizes.threads)?;
     let rounds = acceptor.round_counter();
+    let shortage = Some(Arc::try_clone(&acceptor.counters.shortage)?);
     let listener = acceptor.listener.try_clone()?;
     let counters = Arc::try_clone(&acceptor.counters)?;
     let controls = start_controls(rt, alloc, acceptor.control.take(), &counters, beside)?;
@@ -206,6 +207,7 @@ where
         running: answering.running,
         watchers: Watchers {
             rounds,
+            shortage,
             controls: controls.mailboxes,
         },
         stopping: Stopping {

@@ -26,7 +26,7 @@ use std::io::BufReader;
 use std::net::{Net, TcpListener, TcpStream};
 use std::process::ExitCode;
 use std::rt::Files;
-use std::sync::Wait;
+use std::sync::{Arc, Wait};
 use std::thread::Threads;
 use std::time::Clock;
 use std::{env, io, thread};
@@ -64,6 +64,9 @@ fn main(rt: HostRuntime) -> ExitCode {
         sockets,
         ..
     } = notes;
+    let Ok(shortage) = Arc::try_clone(&counters.shortage) else {
+        return close_copies(&rt, opened, refuse_start(&rt, &service, &sockets));
+    };
     if service.is_progress_told {
         let telling = thread::spawn(&rt, move || tell_progress(&rt, rt.alloc(), &counters));
         if telling.is_err() {
@@ -72,7 +75,7 @@ fn main(rt: HostRuntime) -> ExitCode {
     }
     if let Some(messages) = messages {
         let prefix = message_prefix(service.is_progress_told);
-        let Ok(printer) = MessagePrinter::new(rt.alloc(), messages, prefix) else {
+        let Ok(printer) = MessagePrinter::new(rt.alloc(), messages, shortage, prefix) else {
             return close_copies(&rt, opened, refuse_start(&rt, &service, &sockets));
         };
         if thread::spawn(&rt, move || printer.run(&rt)).is_err() {

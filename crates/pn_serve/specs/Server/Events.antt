@@ -1,46 +1,55 @@
 -- What the writer of a live region does one after another.
-use Rattle.std.specs.Prelude.{◌≡◌, ◌≢◌, ℕ, List, [], ◌∷◌, Result, Ok, Err}
+use Rattle.std.specs.Prelude.{◌≡◌, ◌≢◌, ℕ, List, [], ◌∷◌, Option, None, Some, Result, Ok, Err}
 use Rattle.pn_live.specs.LiveRegions.{LiveRegionValue}
 use Rattle.pn_serve.specs.Control.Commands.{ObeysLive, Said}
 use Rattle.pn_serve.specs.declared.control.commands.WriterCommand.{WriterCommand}
-use Rattle.pn_serve.specs.Server.Reading.{RunsRound, StopsAt}
-use Rattle.pn_serve.specs.Server.Rounds.{RoundInputValue}
+use Rattle.pn_serve.specs.Server.Rounds.{RoundInputValue, IsRoundTried, TakesInput}
+use Rattle.pn_serve.specs.Server.Tries.{IsNextInput, StopsAt}
 use Rattle.pn_serve.specs.declared.server.fault.ServeFault.{ServeFault}
 use Rattle.pn_serve.specs.declared.server.fault.ServeFault.TheVariants.{Start}
 use Rattle.pn_serve.specs.declared.server.mailboxes.AtFault.{AtFault}
 use Rattle.pn_serve.specs.declared.server.mailboxes.AtFault.TheVariants.{GoOn}
 
--- a round of what streams gave, or a command and its answer
+-- streams gave an input; memory ran out for a round of it; the round was taken; or a command and its answer
 pub data WriterEvent : Type 0 where
+  gathered : RoundInputValue → WriterEvent
+  tried : RoundInputValue → WriterEvent
   taken : RoundInputValue → WriterEvent
   told : WriterCommand → Said → WriterEvent
 
--- these events came one after another; each round is of the streams that still went on; and these streams go on
-abbrev pub AllDone : AtFault → List (List ℕ) → LiveRegionValue → List WriterEvent → List (List ℕ) → LiveRegionValue → Type 0
-AllDone at_fault names old [] left new = (left ≡ names) × (new ≡ old)
-AllDone at_fault names old (taken input ∷ later) left new = (between : LiveRegionValue) × (still : List (List ℕ))
-    × (names ≢ []) × RunsRound at_fault names old input still between (Ok tt) × AllDone at_fault still between later left new
-AllDone at_fault names old (told asked said ∷ later) left new = (between : LiveRegionValue)
-    × ObeysLive old asked between said × AllDone at_fault names between later left new
+-- these events came one after another. An input is asked of the streams that still go on once none waits; it waits until it is
+-- taken, and none is dropped; tries of it come only where memory is waited for. These streams go on, and this input waits then
+abbrev pub AllDone : AtFault → List (List ℕ) → Option RoundInputValue → LiveRegionValue → List WriterEvent → List (List ℕ) → Option RoundInputValue → LiveRegionValue → Type 0
+AllDone at_fault names waiting old [] left waits new = (left ≡ names) × (waits ≡ waiting) × (new ≡ old)
+AllDone at_fault names waiting old (gathered input ∷ later) left waits new = (still : List (List ℕ)) × (waiting ≡ None) × (names ≢ [])
+    × IsNextInput names None old.marks input still × AllDone at_fault still (Some input) old later left waits new
+AllDone at_fault names waiting old (tried input ∷ later) left waits new = (between : LiveRegionValue) × (at_fault ≡ GoOn) × (waiting ≡ Some input)
+    × IsRoundTried old input.deliveries between × AllDone at_fault names waiting between later left waits new
+AllDone at_fault names waiting old (taken input ∷ later) left waits new = (between : LiveRegionValue) × (waiting ≡ Some input)
+    × TakesInput at_fault input old between (Ok tt) × AllDone at_fault names None between later left waits new
+AllDone at_fault names waiting old (told asked said ∷ later) left waits new = (between : LiveRegionValue)
+    × ObeysLive old asked between said × AllDone at_fault names waiting between later left waits new
 
--- commands were done one after another, while these streams went on
-pub record ToldAll (at_fault : AtFault) (names : List (List ℕ)) (old new : LiveRegionValue) : Type 0 where
+-- commands were done one after another, while these streams went on and this input waited, if one did
+pub record ToldAll (at_fault : AtFault) (names : List (List ℕ)) (waiting : Option RoundInputValue) (old new : LiveRegionValue) : Type 0 where
   pub events : List WriterEvent
-  pub done : AllDone at_fault names old events names new
+  pub done : AllDone at_fault names waiting old events names waiting new
 
--- events came until all streams had ended, or a stop was asked for
+-- events came until all streams had ended and no input waited, or a stop was asked for
 pub record RunsOn (at_fault : AtFault) (names : List (List ℕ)) (old new : LiveRegionValue) : Type 0 where
   pub events : List WriterEvent
   pub left : List (List ℕ)
-  pub done : AllDone at_fault names old events left new
+  pub waits : Option RoundInputValue
+  pub done : AllDone at_fault names None old events left waits new
 
 -- some events came, and the next round has this fault
 pub record RunsUpTo (at_fault : AtFault) (names : List (List ℕ)) (old new : LiveRegionValue) (fault : ServeFault) : Type 0 where
   pub events : List WriterEvent
   pub last : LiveRegionValue
   pub still : List (List ℕ)
-  pub done : AllDone at_fault names old events still last
-  pub stops : StopsAt at_fault still last new fault
+  pub waiting : Option RoundInputValue
+  pub done : AllDone at_fault names None old events still waiting last
+  pub stops : StopsAt at_fault still waiting last new fault
 
 -- events came, up to a fault if there is one
 abbrev pub RunsEvents : {T : Type 0} → AtFault → List (List ℕ) → LiveRegionValue → LiveRegionValue → Result T ServeFault → Type 0

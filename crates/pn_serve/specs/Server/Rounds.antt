@@ -1,14 +1,14 @@
 -- Rounds of what streams gave, one after another.
-use Rattle.std.specs.Prelude.{◌≡◌, ◌⊎◌, ℕ, ◌+◌, ◌≤◌, List, length, All, Option, None, Some, Result, Ok, Err}
+use Rattle.std.specs.Prelude.{◌≡◌, ◌⊎◌, ℕ, ◌+◌, ◌≤◌, Bool, true, false, List, length, All, Option, None, Some, Result, Ok, Err}
 use Rattle.pn_join.specs.Marks.{Positions, position_of}
 use Rattle.pn_stream.specs.Positions.{DeliveryValue}
 use Rattle.pn_tablet.specs.Refusals.{Refuses}
-use Rattle.pn_region.specs.Logged.{with_notices}
+use Rattle.pn_region.specs.Logged.{with_break, with_notices}
 use Rattle.pn_region.specs.Marking.{is_memory}
-use Rattle.pn_region.specs.Rounds.{round}
+use Rattle.pn_region.specs.Rounds.{round, IsHalfTaken}
 use Rattle.pn_region.specs.declared.fault.RoundFault.{RoundFault}
 use Rattle.pn_region.specs.declared.fault.RoundFault.TheVariants.{Gap, TooManyStreams, Memory}
-use Rattle.pn_live.specs.LiveRegions.{LiveRegionValue, core, tablets_after_round, LeavesLive}
+use Rattle.pn_live.specs.LiveRegions.{LiveRegionValue, core, tablets_after_round, IsHalfPublished, LeavesLive}
 use Rattle.pn_serve.specs.Server.Messages.{FitRound}
 use Rattle.pn_serve.specs.declared.server.fault.ServeFault.{ServeFault}
 use Rattle.pn_serve.specs.declared.server.fault.ServeFault.TheVariants.{Stream, Round}
@@ -42,12 +42,38 @@ IsNoGap (Gap stream wanted got) = ⊥
 IsNoGap TooManyStreams = Unit {0}
 IsNoGap Memory = Unit {0}
 
--- the live region refused the round: memory ran out, or there were too many streams
-pub record IsRoundRefused (old : LiveRegionValue) (deliveries : List DeliveryValue) (new : LiveRegionValue) : Type 0 where
+-- memory ran out for a round that is tried again: each tablet took its part of it or not, and the log has a break
+pub record IsRoundTried (old : LiveRegionValue) (deliveries : List DeliveryValue) (new : LiveRegionValue) : Type 0 where
+  pub published : IsHalfPublished old deliveries new
+  pub half : IsHalfTaken (core old) deliveries (core new)
+  pub broken : new.log ≡ with_break old.log
+
+-- the fault ends the reading: where a stream's fault ends that stream alone, memory is waited for
+abbrev pub Lasts : AtFault → RoundFault → Type 0
+Lasts Stop fault = Unit {0}
+Lasts GoOn (Gap stream wanted got) = Unit {0}
+Lasts GoOn TooManyStreams = Unit {0}
+Lasts GoOn Memory = ⊥
+
+-- the live region refused the round: there were too many streams, or memory ran out where that is not waited for
+pub record IsRoundRefused (at_fault : AtFault) (old : LiveRegionValue) (deliveries : List DeliveryValue) (new : LiveRegionValue) : Type 0 where
   pub fault : RoundFault
   pub no_gap : IsNoGap fault
+  pub lasts : Lasts at_fault fault
   pub refused : Refuses is_memory fault (round (core old) deliveries)
   pub left : LeavesLive fault old deliveries new
+
+-- what comes of a try that had this fault
+abbrev pub ends_try : RoundFault → Result Bool ServeFault
+ends_try Memory = Ok false
+ends_try TooManyStreams = Err Round
+ends_try (Gap stream wanted got) = Err Round
+
+-- how a try of a round ends where memory is waited for: it was taken; memory ran out, before it began or in it; or it is refused
+abbrev pub TriesRound : LiveRegionValue → List DeliveryValue → LiveRegionValue → Result Bool ServeFault → Type 0
+TriesRound old deliveries new (Ok true) = IsRoundTaken old deliveries new
+TriesRound old deliveries new (Ok false) = (new ≡ old) ⊎ IsRoundTried old deliveries new
+TriesRound old deliveries new (Err fault) = (fault ≡ Round) × IsRoundRefused GoOn old deliveries new
 
 -- the stream with a fault, if that stops all streams
 abbrev pub stopping : AtFault → Option (List ℕ) → Option (List ℕ)
@@ -58,6 +84,6 @@ stopping GoOn fault = None
 abbrev pub TakesInput : AtFault → RoundInputValue → LiveRegionValue → LiveRegionValue → Result (Unit {0}) ServeFault → Type 0
 TakesInput at_fault input old new (Ok done) = (stopping at_fault input.fault ≡ None) × IsRoundTaken old input.deliveries new
 TakesInput at_fault input old new (Err (Stream name)) =
-    (stopping at_fault input.fault ≡ Some name) × (IsRoundTaken old input.deliveries new ⊎ IsRoundRefused old input.deliveries new)
-TakesInput at_fault input old new (Err Round) = (stopping at_fault input.fault ≡ None) × IsRoundRefused old input.deliveries new
+    (stopping at_fault input.fault ≡ Some name) × (IsRoundTaken old input.deliveries new ⊎ IsRoundRefused at_fault old input.deliveries new)
+TakesInput at_fault input old new (Err Round) = (stopping at_fault input.fault ≡ None) × IsRoundRefused at_fault old input.deliveries new
 TakesInput at_fault input old new (Err fault) = ⊥

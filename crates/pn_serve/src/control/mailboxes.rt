@@ -1,10 +1,11 @@
 //! The mailboxes in which control sessions leave commands, and in which the writer leaves its answers.
 
-ghost use Rattle.std.specs.Prelude.{◌≡◌, ◌≢◌, ℕ, List, None, IfSome, MatchBool, MatchOption};
+ghost use Rattle.std.specs.Prelude.{◌≡◌, ◌≢◌, ℕ, List, Option, None, IfSome, MatchBool, MatchOption};
 ghost use Rattle.pn_live.specs.Prelude.{tablets_in};
 ghost use Rattle.pn_serve.specs.Control.Answers.{IsGiven, question_of};
 ghost use Rattle.pn_serve.specs.Control.Commands.{answer_of};
 ghost use Rattle.pn_serve.specs.Server.Events.{ToldAll};
+ghost use Rattle.pn_serve.specs.Server.Rounds.{RoundInputValue};
 ghost use Rattle.pn_serve.specs.declared.control.mailboxes.HeldCommand.TheVariants.{Nothing, Asked, Taken, Answered, Closed};
 ghost use Rattle.pn_serve.specs.declared.server.mailboxes.AtFault.{AtFault};
 
@@ -104,7 +105,7 @@ impl ControlMailboxes {
 
     /// Does one command of each session that asks, and notes the log.
     pub(crate) fn obey_all<R: Wait>(&self, rt: &R, alloc: Global, live: &mut LiveRegion)
-        ensures told { (at_fault : AtFault) (names : List (List ℕ)) → ToldAll at_fault names live.old live.new }
+        ensures told { (at_fault : AtFault) (names : List (List ℕ)) (waiting : Option RoundInputValue) → ToldAll at_fault names waiting live.old live.new }
         ensures same { tablets_in live.new ≡ tablets_in live.old }
     {
         for mailbox in self.mailboxes.iter() {

@@ -1,26 +1,31 @@
 //! What the writer of a live region does one after another: rounds of what streams report, and commands of control
 //! sessions.
 
-ghost use Rattle.std.specs.Prelude.{◌≡◌, ◌≤◌, ℕ, List, map, None, false};
+ghost use Rattle.std.specs.Prelude.{◌≡◌, ◌≢◌, ◌≤◌, ℕ, List, [], Option, map, None, false, IsTrue, IsFalse};
 ghost use Rattle.pn_apply.specs.declared.reducing.TheConstants.{MAX_WORKERS};
+ghost use Rattle.pn_join.specs.Prelude.{Reaches};
+ghost use Rattle.pn_live.specs.LiveRegions.{core};
 ghost use Rattle.pn_live.specs.Prelude.{tablets_in};
+ghost use Rattle.pn_region.specs.Prelude.{IsRegion};
 ghost use Rattle.pn_serve.specs.Server.Events.{RunsCommands, RunsEvents, ToldAll};
 ghost use Rattle.pn_serve.specs.Server.Reading.{RunsRounds};
+ghost use Rattle.pn_serve.specs.Server.Rounds.{RoundInputValue};
 ghost use Rattle.pn_serve.specs.declared.server.mailboxes.AtFault.{AtFault};
 ghost use Rattle.pn_serve.specs.declared.server.mailboxes.AtFault.TheVariants.{GoOn};
 
 use crate::ServeFault;
 use crate::control::mailboxes::ControlMailboxes;
 use crate::server::mailboxes::StreamMailboxes;
-use crate::server::rounds::take_round;
+use crate::server::rounds::{RoundInput, take_round};
 use pn_live::LiveRegion;
 use std::alloc::Global;
 use std::sync::{Arc, Wait};
 use std::thread::Threads;
+use std::time::Clock;
 
 /// Runs rounds, and does commands between them where there are mailboxes for some, until all streams have ended, or a stop
-/// is asked for, or to the first fault.
-pub(crate) fn run_rounds<R: Threads + Wait + Sync>(
+/// is asked for, or to the first fault. Where memory ran out and that is waited for, a round is tried again after a second.
+pub(crate) fn run_rounds<R: Threads + Wait + Clock + Sync>(
     rt: &R,
     alloc: Global,
     live: &mut LiveRegion,
@@ -33,22 +38,43 @@ pub(crate) fn run_rounds<R: Threads + Wait + Sync>(
     ensures runs { RunsEvents mailboxes.old.at_fault (map (λ stream. stream.name) mailboxes.old.streams.items) live.old live.new result }
     ensures same { tablets_in live.new ≡ tablets_in live.old }
 {
+    let mut waiting = None;
+    let mut is_short = false;
     for _ in rt.forever() {
-        if mailboxes.streams.is_empty() {
+        if has_ended(mailboxes, &waiting) {
             return Ok(());
         }
         if is_stop_asked(rt, controls) {
             return Ok(());
         }
-        mailboxes.wait(rt);
+        await_work(rt, mailboxes, is_short);
         obey_all(rt, alloc, live, controls);
-        if !mailboxes.has_report(rt) {
+        if waiting.is_none() && !mailboxes.has_report(rt) {
             continue;
         }
-        take_round(rt, alloc, live, workers, mailboxes)?;
+        let is_taken = take_round(rt, alloc, live, workers, mailboxes, &mut waiting)?;
+        is_short = !is_taken;
+        mailboxes.show_shortage(is_short);
         note_log(rt, live, controls);
     }
     unreachable!()
+}
+
+// Whether all streams have ended, and no input waits.
+fn has_ended(mailboxes: &StreamMailboxes, waiting: &Option<RoundInput>) -> bool
+    ensures ended { IsTrue result → (waiting.now ≡ None) × (mailboxes.now.streams.items ≡ []) }
+    ensures more { IsFalse result → waiting.now ≡ None → mailboxes.now.streams.items ≢ [] }
+{
+    waiting.is_none() && mailboxes.streams.is_empty()
+}
+
+// Waits for a report or a command, unless there is a report; where memory is short, waits for a second at most.
+fn await_work<R: Wait + Clock>(rt: &R, mailboxes: &StreamMailboxes, is_short: bool) {
+    if is_short {
+        mailboxes.wait_for_memory(rt);
+    } else if !mailboxes.has_report(rt) {
+        mailboxes.wait(rt);
+    }
 }
 
 // Whether a control session has asked the server to stop.
@@ -69,13 +95,22 @@ fn obey_all<R: Wait>(
     controls: &Option<Arc<ControlMailboxes>>,
 )
     ensures alone { controls.now ≡ None → live.new ≡ live.old }
-    ensures told { (at_fault : AtFault) (names : List (List ℕ)) → ToldAll at_fault names live.old live.new }
+    ensures rise { Reaches live.new.marks live.old.marks }
+    ensures told { (at_fault : AtFault) (names : List (List ℕ)) (waiting : Option RoundInputValue) → ToldAll at_fault names waiting live.old live.new }
     ensures same { tablets_in live.new ≡ tablets_in live.old }
 {
+    recall_region(live);
     match controls {
         Some(controls) => controls.obey_all(rt, alloc, live),
         None => {}
     }
+}
+
+// A live region is a region.
+fn recall_region(live: &LiveRegion)
+    ensures { IsRegion (core live.now) }
+{
+    let _layout = live.layout();
 }
 
 // Notes the last number of the log where control sessions may wait for it.

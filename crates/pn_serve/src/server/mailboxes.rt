@@ -2,7 +2,6 @@
 
 ghost use Rattle.std.specs.Prelude.{◌≡◌, ◌≢◌, [], ◌∷◌, ◌++◌, map, vec_len, None, IfOk, IfSome, OnOk, MatchBool, MatchOption};
 ghost use Rattle.pn_serve.specs.Server.Reports.{name_in};
-ghost use Rattle.pn_serve.specs.Server.Rounds.{stopping};
 ghost use Rattle.pn_serve.specs.declared.server.mailboxes.Held.TheVariants.{Nothing, Left, Closed};
 
 use crate::server::counter::Counter;
@@ -10,16 +9,18 @@ use crate::server::reports::Report;
 use pn_join::{Marks, StreamName};
 use std::alloc::{AllocError, Global};
 use std::mem;
-use std::sync::{Arc, Condvar, Mutex, Wait};
+use std::sync::{Arc, Condvar, CondvarTimeouts, Mutex, Wait};
+use std::time::{Clock, Duration};
 
 /// The mailboxes of the streams that are read, what wakes the thread that takes their reports, and the count of its rounds
-/// where somebody looks at it.
+/// and whether memory is short, where somebody looks at them.
 #[derive(Drop)]
 pub(crate) struct StreamMailboxes {
     pub(crate) streams: Vec<StreamMailbox>,
     pub(crate) at_fault: AtFault,
     pub(crate) wakeup: Arc<Wakeup>,
     pub(crate) rounds: Option<Arc<Counter>>,
+    pub(crate) shortage: Option<Arc<Counter>>,
 }
 
 /// What follows from a stream's fault.
@@ -37,18 +38,6 @@ pub(crate) struct StreamMailbox {
     pub(crate) name: StreamName,
     pub(crate) mailbox: Arc<Mailbox>,
     pub(crate) taken: Option<Arc<Counter>>,
-}
-
-impl AtFault {
-    /// The stream with a fault, if that stops all streams.
-    pub(crate) fn stopping(self, fault: Option<StreamName>) -> Option<StreamName>
-        ensures { result ≡ stopping self fault }
-    {
-        match self {
-            AtFault::Stop => fault,
-            AtFault::GoOn => None,
-        }
-    }
 }
 
 impl StreamMailbox {
@@ -96,6 +85,7 @@ impl StreamMailboxes {
             at_fault,
             wakeup,
             rounds,
+            shortage: None,
         })
     }
 
@@ -139,12 +129,24 @@ impl StreamMailboxes {
         self.wakeup.wait(rt);
     }
 
+    /// Waits for a second, or until a report or a command is left. So a round that memory ran out for is tried again.
+    pub(crate) fn wait_for_memory<R: Wait + Clock>(&self, rt: &R) {
+        self.wakeup.wait_at_most(rt, Duration::from_secs(1));
+    }
+
     /// Counts a round that was run, and shows how far it took the streams.
     pub(crate) fn count_round(&self, marks: &Marks) {
         if let Some(rounds) = &self.rounds {
             rounds.add(1);
         }
         self.show(marks);
+    }
+
+    /// Shows whether a round waits for memory.
+    pub(crate) fn show_shortage(&self, is_short: bool) {
+        if let Some(shortage) = &self.shortage {
+            shortage.set(if is_short { 1 } else { 0 });
+        }
     }
 
     /// Shows how far the streams were taken.
@@ -291,6 +293,14 @@ impl Wakeup {
         let mut is_notified = self
             .notified
             .wait_while(rt, guard, |is_notified| !*is_notified);
+        *is_notified = false;
+    }
+    /// Waits as `wait` does, but for `most` at most.
+    pub(crate) fn wait_at_most<R: Wait + Clock>(&self, rt: &R, most: Duration) {
+        let guard = self.is_notified.lock(rt);
+        let (mut is_notified, _) = self
+            .notified
+            .wait_timeout_while(rt, guard, most, |is_notified| !*is_notified);
         *is_notified = false;
     }
 }

@@ -17,6 +17,7 @@ use pn_stream::StreamReader;
 use std::alloc::Global;
 use std::sync::Wait;
 use std::thread::Threads;
+use std::time::Clock;
 
 /// Reads streams into a live region that is open, as `serve` does into a new one. It answers one session with each of its
 /// readers, by 1 to 16 workers, and closes it.
@@ -30,7 +31,7 @@ pub fn serve_from<R, L, S, W>(
     out: &mut W,
 ) -> Result<(), ServeFault>
 where
-    R: Threads + Wait + Sync + Copy + Send + 'static,
+    R: Threads + Wait + Clock + Sync + Copy + Send + 'static,
     L: Acceptor + Drop + Send + 'static,
     S: Source + Drop + Send + 'static,
     W: Sink,
@@ -57,7 +58,7 @@ pub(crate) fn serve_opened<R, L, S>(
     streams: Vec<StreamReader<S>>,
 ) -> Result<usize, ServeFault>
 where
-    R: Threads + Wait + Sync + Copy + Send + 'static,
+    R: Threads + Wait + Clock + Sync + Copy + Send + 'static,
     L: Acceptor + Drop + Send + 'static,
     S: Source + Drop + Send + 'static,
     requires workers { (1 ≤ workers) × (workers ≤ MAX_WORKERS) }

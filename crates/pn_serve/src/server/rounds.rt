@@ -1,22 +1,22 @@
 //! Rounds of the messages that streams report.
 
-ghost use Rattle.std.specs.Prelude.{◌≡◌, ◌+◌, ◌<◌, ◌≤◌, [], length, map, vec_len, vec_capacity, All, true, None, Ok, Err, IfOk, IfErr, IfSome, OnOk, OnErr, MatchResult};
+ghost use Rattle.std.specs.Prelude.{◌≡◌, ◌+◌, ◌<◌, ◌≤◌, [], length, map, vec_len, vec_capacity, All, true, None, IfOk, IfErr, IfSome};
 ghost use Rattle.pn_apply.specs.declared.reducing.TheConstants.{MAX_WORKERS};
 ghost use Rattle.pn_live.specs.Prelude.{tablets_in};
 ghost use Rattle.pn_region.specs.Marking.{leaves_gap};
 ghost use Rattle.pn_serve.specs.Server.Gathering.{IsInputOf, first_fault, goes_on, no_input, value_of, with_report};
 ghost use Rattle.pn_serve.specs.Server.Messages.{FitRound};
-ghost use Rattle.pn_serve.specs.Server.Reading.{TakesRound};
-ghost use Rattle.pn_serve.specs.Server.Rounds.{CanBeTaken, Continues, IsRoundRefused, IsRoundTaken, TakesInput, stopping};
+ghost use Rattle.pn_serve.specs.Server.Rounds.{CanBeTaken, Continues};
+ghost use Rattle.pn_serve.specs.Server.Tries.{IsNextInput, TakesRound, waiting_value};
+ghost use Rattle.pn_serve.specs.declared.server.mailboxes.AtFault.TheVariants.{Stop, GoOn};
 
 use crate::ServeFault;
 use crate::server::mailboxes::{AtFault, StreamMailbox, StreamMailboxes};
 use crate::server::messages::Messages;
 use crate::server::reports::Report;
-use pn_apply::Open;
+use crate::server::tries::run_input;
 use pn_join::{Marks, StreamName};
-use pn_live::{Front, LiveRegion};
-use pn_region::{Round, RoundFault};
+use pn_live::LiveRegion;
 use pn_stream::Delivery;
 use std::alloc::{AllocError, Global};
 use std::mem;
@@ -32,24 +32,66 @@ pub(crate) struct RoundInput {
     pub(crate) fault: Option<StreamName>,
 }
 
-/// Runs one round of what the mailboxes give, and counts it.
+/// Runs one round of the input that waits, or else of what the mailboxes give, and counts it. False where memory ran out, if
+/// that is waited for: then the input waits, if there is one.
 pub(crate) fn take_round<R: Threads + Wait + Sync>(
     rt: &R,
     alloc: Global,
     live: &mut LiveRegion,
     workers: usize,
     mailboxes: &mut StreamMailboxes,
-) -> Result<(), ServeFault>
+    waiting: &mut Option<RoundInput>,
+) -> Result<bool, ServeFault>
     requires workers { (1 ≤ workers) × (workers ≤ MAX_WORKERS) }
-    ensures round { TakesRound mailboxes.old.at_fault (map (λ stream. stream.name) mailboxes.old.streams.items) live.old
-        (map (λ stream. stream.name) mailboxes.new.streams.items) live.new result }
+    requires continues { IfSome waiting.old (λ input. All (Continues live.old.marks) input.deliveries.items) }
+    ensures round { TakesRound mailboxes.old.at_fault (map (λ stream. stream.name) mailboxes.old.streams.items) (waiting_value waiting.old) live.old
+        (map (λ stream. stream.name) mailboxes.new.streams.items) (waiting_value waiting.new) live.new result }
+    ensures continues { IfSome waiting.new (λ input. All (Continues live.new.marks) input.deliveries.items) }
     ensures at_fault { mailboxes.new.at_fault ≡ mailboxes.old.at_fault }
     ensures same { tablets_in live.new ≡ tablets_in live.old }
 {
-    let input = gather(rt, alloc, mailboxes, live.marks())?;
-    run_round(rt, live, workers, mailboxes.at_fault, input)?;
-    mailboxes.count_round(live.marks());
-    Ok(())
+    let Some(input) = next_input(rt, alloc, live.marks(), mailboxes, waiting)? else {
+        return Ok(false);
+    };
+    match run_input(rt, alloc, live, workers, mailboxes.at_fault, input)? {
+        Some(back) => {
+            *waiting = Some(back);
+            Ok(false)
+        }
+        None => {
+            mailboxes.count_round(live.marks());
+            Ok(true)
+        }
+    }
+}
+
+// Takes the input that waits, or else what the mailboxes give. None where there is no memory to ask them, if that is waited
+// for; elsewhere that is the fault.
+fn next_input<R: Wait>(
+    rt: &R,
+    alloc: Global,
+    marks: &Marks,
+    mailboxes: &mut StreamMailboxes,
+    waiting: &mut Option<RoundInput>,
+) -> Result<Option<RoundInput>, ServeFault>
+    requires continues { IfSome waiting.old (λ input. All (Continues marks.now) input.deliveries.items) }
+    ensures next { IfOk result (λ next. IfSome next (λ input. IsNextInput (map (λ stream. stream.name) mailboxes.old.streams.items) (waiting_value waiting.old) marks.now
+        (value_of input) (map (λ stream. stream.name) mailboxes.new.streams.items))) }
+    ensures continues { IfOk result (λ next. IfSome next (λ input. All (Continues marks.now) input.deliveries.items)) }
+    ensures none { IfOk result (λ next. next ≡ None → (mailboxes.old.at_fault ≡ GoOn) × (waiting.old ≡ None)
+        × (map (λ stream. stream.name) mailboxes.new.streams.items ≡ map (λ stream. stream.name) mailboxes.old.streams.items)) }
+    ensures fault { IfErr result (λ fault. (mailboxes.old.at_fault ≡ Stop) × (fault ≡ ServeFault.Round)) }
+    ensures taken { waiting.new ≡ None }
+    ensures at_fault { mailboxes.new.at_fault ≡ mailboxes.old.at_fault }
+{
+    if let Some(input) = mem::replace(waiting, None) {
+        return Ok(Some(input));
+    }
+    match (gather(rt, alloc, mailboxes, marks), mailboxes.at_fault) {
+        (Ok(input), _) => Ok(Some(input)),
+        (Err(fault), AtFault::Stop) => Err(fault),
+        (Err(_), AtFault::GoOn) => Ok(None),
+    }
 }
 
 // Takes one report of each stream that has one. The streams that ended are read no more. The fault is out of memory, before a
@@ -65,6 +107,7 @@ fn gather<R: Wait>(
     ensures fits { IfOk result (λ input. CanBeTaken (length mailboxes.old.streams.items) marks.now (value_of input)) }
     ensures fault { IfErr result (λ fault. fault ≡ ServeFault.Round) }
     ensures at_fault { mailboxes.new.at_fault ≡ mailboxes.old.at_fault }
+    ensures none { IfErr result (λ _. mailboxes.new.streams.items ≡ mailboxes.old.streams.items) }
 {
     let Ok((mut input, left)) = new_input(alloc, mailboxes.streams.len()) else {
         return Err(ServeFault::Round);
@@ -138,55 +181,4 @@ fn is_gap(marks: &Marks, delivery: &Delivery) -> bool
     ensures { result ≡ leaves_gap marks.now delivery.now }
 {
     marks.position(delivery.stream()) < delivery.first() - 1
-}
-
-// Runs one round of what the mailboxes gave, also if a stream has a fault.
-fn run_round<R: Threads + Wait + Sync>(
-    rt: &R,
-    live: &mut LiveRegion,
-    workers: usize,
-    at_fault: AtFault,
-    input: RoundInput,
-) -> Result<(), ServeFault>
-    requires workers { (1 ≤ workers) × (workers ≤ MAX_WORKERS) }
-    requires fit { All FitRound input.deliveries.items }
-    requires continues { All (Continues live.old.marks) input.deliveries.items }
-    ensures takes { TakesInput at_fault (value_of input) live.old live.new result }
-    ensures same { tablets_in live.new ≡ tablets_in live.old }
-{
-    let RoundInput { deliveries, fault } = input;
-    let round = apply_deliveries(rt, live, workers, deliveries);
-    conclude_round(at_fault.stopping(fault), round)
-}
-
-// Runs one round of messages, at most 1,000 of each stream.
-fn apply_deliveries<R: Threads + Wait + Sync>(
-    rt: &R,
-    live: &mut LiveRegion,
-    workers: usize,
-    deliveries: Vec<Delivery>,
-) -> Result<(Round, Front), RoundFault>
-    requires workers { (1 ≤ workers) × (workers ≤ MAX_WORKERS) }
-    requires fit { All FitRound deliveries.items }
-    requires continues { All (Continues live.old.marks) deliveries.items }
-    ensures taken { OnOk result (IsRoundTaken live.old deliveries.items live.new) }
-    ensures refused { OnErr result (IsRoundRefused live.old deliveries.items live.new) }
-    ensures same { tablets_in live.new ≡ tablets_in live.old }
-{
-    live.round(rt, deliveries, workers, &Open)
-}
-
-// Answers how the round went, or the fault of a stream that stops all streams.
-fn conclude_round(
-    fault: Option<StreamName>,
-    round: Result<(Round, Front), RoundFault>,
-) -> Result<(), ServeFault>
-    ensures stream { IfSome fault (λ name. result ≡ Err (ServeFault.Stream name)) }
-    ensures round { fault ≡ None → MatchResult round (λ _. result ≡ Ok tt) (λ _. result ≡ Err ServeFault.Round) }
-{
-    match (fault, round) {
-        (Some(name), _) => Err(ServeFault::Stream(name)),
-        (None, Err(_)) => Err(ServeFault::Round),
-        (None, Ok(_)) => Ok(()),
-    }
 }

@@ -22,19 +22,23 @@ use std::alloc::{AllocError, Global};
 use std::sync::{Arc, Wait};
 use std::thread;
 use std::thread::Threads;
+use std::time::Clock;
 
 /// Who looks at the rounds, and who asks for something between them.
 #[derive(Drop)]
 pub struct Watchers {
     /// Counts the rounds, where somebody looks at them.
     pub rounds: Option<Arc<Counter>>,
+    /// Stands at 1 while a round waits for memory, and else at 0, where somebody looks at that.
+    pub shortage: Option<Arc<Counter>>,
     /// The mailboxes of control sessions, where there may be some.
     pub controls: Option<Arc<ControlMailboxes>>,
 }
 
 /// Reads streams into a live region, each after its mark, until all have ended, or a control session asks the server to stop, at most 1,000 messages
-/// of each a round. Between two rounds it does what control sessions ask for. A stream's fault ends that stream alone. The
-/// fault is `Start`, or `Round`, after which no stream is read. Rounds are counted where somebody looks at the count.
+/// of each a round. Between two rounds it does what control sessions ask for. A stream's fault ends that stream alone. Where
+/// memory runs out, a round waits, and is tried again after a second. The fault is `Start`, or `Round` where there are too many
+/// streams, after which no stream is read. Rounds are counted where somebody looks at the count.
 pub fn read_streams<R, S, O>(
     rt: &R,
     alloc: Global,
@@ -44,7 +48,7 @@ pub fn read_streams<R, S, O>(
     watchers: &Watchers,
 ) -> Result<(), ServeFault>
 where
-    R: Threads + Wait + Sync + Copy + Send + 'static,
+    R: Threads + Wait + Clock + Sync + Copy + Send + 'static,
     S: Source + Drop + Send + 'static,
     O: Origin<S> + Drop + Send + 'static,
     requires workers { (1 ≤ workers) × (workers ≤ MAX_WORKERS) }
@@ -100,11 +104,18 @@ fn new_mailboxes(
         Some(controls) => Arc::try_clone(&controls.wakeup)?,
         None => Arc::new(alloc, Wakeup::new())?,
     };
-    let rounds = match &watchers.rounds {
-        Some(rounds) => Some(Arc::try_clone(rounds)?),
-        None => None,
-    };
-    StreamMailboxes::new(alloc, streams, AtFault::GoOn, rounds, wakeup)
+    let rounds = share(&watchers.rounds)?;
+    let mut mailboxes = StreamMailboxes::new(alloc, streams, AtFault::GoOn, rounds, wakeup)?;
+    mailboxes.shortage = share(&watchers.shortage)?;
+    Ok(mailboxes)
+}
+
+// The same counter, where there is one.
+fn share(counter: &Option<Arc<Counter>>) -> Result<Option<Arc<Counter>>, AllocError> {
+    match counter {
+        Some(counter) => Ok(Some(Arc::try_clone(counter)?)),
+        None => Ok(None),
+    }
 }
 
 fn start_thread<R, S, O>(

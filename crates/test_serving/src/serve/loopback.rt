@@ -11,6 +11,7 @@ use std::net::{Net, SocketAddr, TcpListener, TcpStream};
 use std::sync::{Arc, Wait};
 use std::test::Fail;
 use std::thread::Threads;
+use std::time::Clock;
 use std::{io, thread};
 use test_kit::{Answer, ask, bars};
 
@@ -142,7 +143,7 @@ fn listen<R: Net<Listener = TcpListener, Stream = TcpStream>>(
 // Serves one session.
 fn serve_one<R>(rt: &R, alloc: Global, listener: &Logged, how: &str) -> Option<Served>
 where
-    R: Threads + Wait + Sync + Copy + Send + 'static,
+    R: Threads + Wait + Clock + Sync + Copy + Send + 'static,
 {
     let mut written = Vec::new(alloc);
     let ended = match how {
@@ -172,7 +173,7 @@ fn serve_new<R>(
     written: &mut Vec<u8>,
 ) -> Option<Result<(), ServeFault>>
 where
-    R: Threads + Wait + Sync + Copy + Send + 'static,
+    R: Threads + Wait + Clock + Sync + Copy + Send + 'static,
 {
     let settings = settings(alloc)?;
     let streams = readers_of(alloc, messages)?;
@@ -191,7 +192,7 @@ fn serve_copy<R>(
     written: &mut Vec<u8>,
 ) -> Option<Result<(), ServeFault>>
 where
-    R: Threads + Wait + Sync + Copy + Send + 'static,
+    R: Threads + Wait + Clock + Sync + Copy + Send + 'static,
 {
     let streams = readers_of(alloc, FIRST)?;
     let opened = open_text(rt, alloc, 1, first_copy(), 1).ok()?;

@@ -103,7 +103,7 @@ where
 // Serves one session.
 fn serve_one<R>(rt: &R, alloc: Global, acceptor: &SocketAcceptor) -> Option<Served>
 where
-    R: Threads + Wait + Sync + Copy + Send + 'static,
+    R: Threads + Wait + Clock + Sync + Copy + Send + 'static,
 {
     let settings = settings(alloc)?;
     let readers = readers_of(alloc, FIRST)?;

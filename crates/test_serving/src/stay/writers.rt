@@ -157,7 +157,11 @@ fn message(alloc: Global, position: u64) -> Result<String, AllocError> {
 }
 
 // What was left for standard error, with bars between the lines.
-fn show_messages<R: Wait>(rt: &R, alloc: Global, messages: &Messages) -> Result<String, Fail> {
+fn show_messages<R: Wait + Clock>(
+    rt: &R,
+    alloc: Global,
+    messages: &Messages,
+) -> Result<String, Fail> {
     let mut waiting = WaitingLines::new(alloc)?;
     messages.exchange(rt, &mut waiting);
     let mut text = String::new(alloc);
@@ -267,7 +271,7 @@ fn write_again<R: Files<File = File>>(rt: &R, alloc: Global, path: &str) -> io::
 }
 
 /// How many lines wait of very many that were left, how many were dropped, and whether the first one waits.
-pub(crate) fn leave_many<R: Wait>(rt: &R, alloc: Global) -> Result<String, Fail> {
+pub(crate) fn leave_many<R: Wait + Clock>(rt: &R, alloc: Global) -> Result<String, Fail> {
     let messages = Messages::new(alloc)?;
     for number in 0..LINES {
         messages.leave(rt, format!(in alloc; "{number}"));

@@ -1,10 +1,6 @@
 -- The laws are lemmas.
 use Rattle.pn_serve.proofs.EventsDone.{done_leads, done_records, done_served}
-use Rattle.pn_serve.proofs.EventsRead.{rounds_alone}
 use Rattle.pn_serve.proofs.stream_laws.streams_beside_commands_leave_what_was_taken.Goals as goal
-
-pub returns-clause-alone : goal.returns-clause-alone
-returns-clause-alone c = rounds_alone
 
 pub returns-clause-events : goal.returns-clause-events
 returns-clause-events c = done_leads

@@ -1,16 +1,19 @@
--- All events so far went well; without control sessions they are rounds.
-use Rattle.std.proofs.Common.{◌≡◌, map, None}
+-- All events so far went well; without control sessions they are of streams alone. What waits continues what was taken.
+use Rattle.std.proofs.Common.{◌≡◌, map, None, IfSome}
+use Rattle.std.specs.List.{All}
 use Rattle.pn_live.specs.LiveRegions.{tablets_in}
-use Rattle.pn_serve.proofs.EventsRead.{DoneSoFar}
-use Rattle.pn_serve.proofs.RoundsRead.{SoFar}
+use Rattle.pn_serve.specs.Server.Rounds.{Continues}
+use Rattle.pn_serve.specs.Server.Tries.{waiting_value}
+use Rattle.pn_serve.proofs.EventsRead.{DoesRounds, DoneSoFar}
 use Rattle.pn_serve.proofs.server.events.run_rounds.Given as goal
 
 abbrev pub invariant-loop : goal.invariant-loop
 invariant-loop g l = record {
   so_far :
-      DoneSoFar l.fn.mailboxes.at_fault (map (λ stream. stream.name) l.fn.mailboxes.streams.items) l.fn.live (map (λ stream. stream.name) l.mailboxes.streams.items) l.live;
+      DoneSoFar l.fn.mailboxes.at_fault (map (λ stream. stream.name) l.fn.mailboxes.streams.items) l.fn.live (map (λ stream. stream.name) l.mailboxes.streams.items) (waiting_value l.waiting) l.live;
   alone : l.controls ≡ None
-      → SoFar l.fn.mailboxes.at_fault (map (λ stream. stream.name) l.fn.mailboxes.streams.items) l.fn.live (map (λ stream. stream.name) l.mailboxes.streams.items) l.live;
+      → DoesRounds l.fn.mailboxes.at_fault (map (λ stream. stream.name) l.fn.mailboxes.streams.items) None l.fn.live (map (λ stream. stream.name) l.mailboxes.streams.items) (waiting_value l.waiting) l.live;
+  continues : IfSome l.waiting (λ input. All (Continues l.live.marks) input.deliveries.items);
   same : tablets_in l.live ≡ tablets_in l.fn.live;
   at_fault : l.mailboxes.at_fault ≡ l.fn.mailboxes.at_fault;
 }

@@ -1,5 +1,5 @@
 -- More commands were done.
-use Rattle.std.proofs.Common.{[], refl, ◌∙◌}
+use Rattle.std.proofs.Common.{[], None, refl, ◌∙◌}
 use Rattle.pn_serve.specs.declared.server.mailboxes.AtFault.TheVariants.{GoOn}
 use Rattle.pn_serve.proofs.EventsRead.{more_told, nothing_yet, ran_on}
 use Rattle.pn_serve.proofs.server.events.take_commands.Goals as goal
@@ -9,11 +9,11 @@ loop-init g c = record { so_far = nothing_yet GoOn [] c.args.live.now; same = re
 
 pub loop-preserved : goal.loop-preserved
 loop-preserved g c = record {
-  so_far = more_told GoOn [] c.args.live.now [] c.loop.live c.obey_all.new.live c.loop.invariant.so_far (c.obey_all.ensures.told GoOn []);
+  so_far = more_told GoOn [] c.args.live.now [] None c.loop.live c.obey_all.new.live c.loop.invariant.so_far (c.obey_all.ensures.told GoOn [] None);
   same = c.obey_all.ensures.same ∙ c.loop.invariant.same;
 }
 
 pub returns-in-Some-stop_asked-clause-runs : goal.returns-in-Some-stop_asked-clause-runs
 returns-in-Some-stop_asked-clause-runs g c =
-    ran_on GoOn [] c.args.live.now [] c.obey_all.new.live
-    (more_told GoOn [] c.args.live.now [] c.loop.live c.obey_all.new.live c.loop.invariant.so_far (c.obey_all.ensures.told GoOn []))
+    ran_on GoOn [] c.args.live.now [] None c.obey_all.new.live
+    (more_told GoOn [] c.args.live.now [] None c.loop.live c.obey_all.new.live c.loop.invariant.so_far (c.obey_all.ensures.told GoOn [] None))

@@ -1,6 +1,6 @@
 -- A refused round.
 use Rattle.pn_serve.proofs.RoundsRead.{refused_by}
-use Rattle.pn_serve.proofs.server.rounds.apply_deliveries.Goals as goal
+use Rattle.pn_serve.proofs.server.tries.apply_deliveries.Goals as goal
 
 pub returns-clause-refused : goal.returns-clause-refused
 returns-clause-refused g c = refused_by c.round.result _ _ _ c.requires.continues c.round.ensures.refused c.round.ensures.err

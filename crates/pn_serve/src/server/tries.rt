@@ -1,0 +1,170 @@
+//! Tries of a round, which waits for memory where it ran out.
+
+ghost use Rattle.std.specs.Prelude.{◌≡◌, ◌≤◌, true, All, None, Ok, Err, IfOk, IfErr, IfSome, OnOk, OnErr, MatchResult};
+ghost use Rattle.pn_apply.specs.declared.reducing.TheConstants.{MAX_WORKERS};
+ghost use Rattle.pn_live.specs.Prelude.{tablets_in};
+ghost use Rattle.pn_serve.specs.Server.Gathering.{value_of};
+ghost use Rattle.pn_serve.specs.Server.Rounds.{Continues, IsRoundRefused, IsRoundTaken, TakesInput, TriesRound, ends_try};
+ghost use Rattle.pn_serve.specs.Server.Tries.{RunsInput};
+ghost use Rattle.pn_serve.specs.declared.server.mailboxes.AtFault.TheVariants.{Stop};
+
+use crate::ServeFault;
+use crate::server::mailboxes::AtFault;
+use crate::server::rounds::RoundInput;
+use pn_apply::Open;
+use pn_join::{Dup, NoMemory, StreamName};
+use pn_live::{Front, LiveRegion};
+use pn_record::Image;
+use pn_region::{Round, RoundFault};
+use pn_stream::Delivery;
+use std::alloc::Global;
+use std::sync::Wait;
+use std::thread::Threads;
+
+/// Runs one round of an input. Gives it back where memory ran out, if that is waited for.
+pub(crate) fn run_input<R: Threads + Wait + Sync>(
+    rt: &R,
+    alloc: Global,
+    live: &mut LiveRegion,
+    workers: usize,
+    at_fault: AtFault,
+    input: RoundInput,
+) -> Result<Option<RoundInput>, ServeFault>
+    requires workers { (1 ≤ workers) × (workers ≤ MAX_WORKERS) }
+    requires continues { All (Continues live.old.marks) input.deliveries.items }
+    ensures runs { RunsInput at_fault input live.old live.new result }
+    ensures continues { IfOk result (λ back. IfSome back (λ input. All (Continues live.new.marks) input.deliveries.items)) }
+    ensures same { tablets_in live.new ≡ tablets_in live.old }
+{
+    match at_fault {
+        AtFault::Stop => {
+            run_round(rt, live, workers, input)?;
+            Ok(None)
+        }
+        AtFault::GoOn => {
+            if try_round(rt, alloc, live, workers, &input.deliveries)? {
+                Ok(None)
+            } else {
+                Ok(Some(input))
+            }
+        }
+    }
+}
+
+// Runs one round of copies of messages. False where memory ran out.
+fn try_round<R: Threads + Wait + Sync>(
+    rt: &R,
+    alloc: Global,
+    live: &mut LiveRegion,
+    workers: usize,
+    deliveries: &[Delivery],
+) -> Result<bool, ServeFault>
+    requires workers { (1 ≤ workers) × (workers ≤ MAX_WORKERS) }
+    requires continues { All (Continues live.old.marks) deliveries.now }
+    ensures tries { TriesRound live.old deliveries.now live.new result }
+    ensures same { tablets_in live.new ≡ tablets_in live.old }
+{
+    let Ok(copies) = copy_deliveries(alloc, deliveries) else {
+        return Ok(false);
+    };
+    conclude_try(live.round(rt, copies, workers, &Open))
+}
+
+// Whether a try was taken, or the fault, unless memory ran out.
+fn conclude_try(round: Result<(Round, Front), RoundFault>) -> Result<bool, ServeFault>
+    ensures { MatchResult round (λ _. result ≡ Ok true) (λ fault. result ≡ ends_try fault) }
+{
+    match round {
+        Ok(_) => Ok(true),
+        Err(RoundFault::Memory) => Ok(false),
+        Err(RoundFault::Gap { .. }) => Err(ServeFault::Round),
+        Err(RoundFault::TooManyStreams) => Err(ServeFault::Round),
+    }
+}
+
+// Copies of the deliveries.
+fn copy_deliveries(alloc: Global, deliveries: &[Delivery]) -> Result<Vec<Delivery>, NoMemory>
+    ensures { IfOk result (λ copies. copies.items ≡ deliveries.now) }
+{
+    let mut copies = Vec::with_capacity(alloc, deliveries.len())?;
+    for delivery in deliveries {
+        copies.push_reserved(copy_delivery(alloc, delivery)?);
+    }
+    Ok(copies)
+}
+
+fn copy_delivery(alloc: Global, delivery: &Delivery) -> Result<Delivery, NoMemory>
+    ensures { IfOk result (λ copy. copy ≡ delivery.now) }
+{
+    let first = delivery.first();
+    let images = copy_images(alloc, delivery.images())?;
+    Ok(Delivery::of(delivery.stream().dup()?, first, images))
+}
+
+fn copy_images(alloc: Global, images: &[Image]) -> Result<Vec<Image>, NoMemory>
+    ensures { IfOk result (λ copies. copies.items ≡ images.now) }
+{
+    let mut copies = Vec::with_capacity(alloc, images.len())?;
+    for image in images {
+        copies.push_reserved(copy_image(image)?);
+    }
+    Ok(copies)
+}
+
+fn copy_image(image: &Image) -> Result<Image, NoMemory>
+    ensures { IfOk result (λ copy. copy ≡ image.now) }
+{
+    Ok(Image {
+        key: image.key.dup()?,
+        version: image.version,
+        content: image.content.dup()?,
+    })
+}
+
+// Runs one round of an input, also if a stream has a fault, which stops all streams.
+fn run_round<R: Threads + Wait + Sync>(
+    rt: &R,
+    live: &mut LiveRegion,
+    workers: usize,
+    input: RoundInput,
+) -> Result<(), ServeFault>
+    requires workers { (1 ≤ workers) × (workers ≤ MAX_WORKERS) }
+    requires continues { All (Continues live.old.marks) input.deliveries.items }
+    ensures takes { TakesInput Stop (value_of input) live.old live.new result }
+    ensures same { tablets_in live.new ≡ tablets_in live.old }
+{
+    let RoundInput { deliveries, fault } = input;
+    let round = apply_deliveries(rt, live, workers, deliveries);
+    conclude_round(fault, round)
+}
+
+// Runs one round of messages, at most 1,000 of each stream.
+fn apply_deliveries<R: Threads + Wait + Sync>(
+    rt: &R,
+    live: &mut LiveRegion,
+    workers: usize,
+    deliveries: Vec<Delivery>,
+) -> Result<(Round, Front), RoundFault>
+    requires workers { (1 ≤ workers) × (workers ≤ MAX_WORKERS) }
+    requires continues { All (Continues live.old.marks) deliveries.items }
+    ensures taken { OnOk result (IsRoundTaken live.old deliveries.items live.new) }
+    ensures refused { OnErr result (IsRoundRefused Stop live.old deliveries.items live.new) }
+    ensures same { tablets_in live.new ≡ tablets_in live.old }
+{
+    live.round(rt, deliveries, workers, &Open)
+}
+
+// Answers how the round went, or the fault of a stream that stops all streams.
+fn conclude_round(
+    fault: Option<StreamName>,
+    round: Result<(Round, Front), RoundFault>,
+) -> Result<(), ServeFault>
+    ensures stream { IfSome fault (λ name. result ≡ Err (ServeFault.Stream name)) }
+    ensures round { fault ≡ None → MatchResult round (λ _. result ≡ Ok tt) (λ _. result ≡ Err ServeFault.Round) }
+{
+    match (fault, round) {
+        (Some(name), _) => Err(ServeFault::Stream(name)),
+        (None, Err(_)) => Err(ServeFault::Round),
+        (None, Ok(_)) => Ok(()),
+    }
+}
