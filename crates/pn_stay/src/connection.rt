@@ -5,7 +5,7 @@ ghost use Rattle.pn_serve.specs.Session.Knowing.{KnowsNoLess};
 ghost use Rattle.pn_stay.specs.IdleTimeouts.{new_idle_timeout, after_quarter};
 
 use crate::connection_state::{ConnectionState, Pause, ThreadBuffers, TurnOutcome};
-use crate::socket::{Socket, TrackedSocket, has_moved};
+use crate::socket::{Socket, TrackedSocket};
 use pn_serve::LineHandler;
 use std::alloc::Global;
 use std::marker::Model;
@@ -63,8 +63,7 @@ impl Connection {
         let mut output = TrackedSocket::new(&self.socket);
         let turned = self.state.turn(buffers, machine, &mut input, &mut output);
         let is_busy = turned == TurnOutcome::Goes(Pause::Turn);
-        self.idle
-            .note_activity(is_busy || has_moved(&input, &output));
+        self.idle.note_activity(is_busy || output.has_moved());
         self.is_held_up = turned == TurnOutcome::Goes(Pause::Output);
         match turned {
             TurnOutcome::Goes(pause) => Some(pause),
@@ -73,7 +72,7 @@ impl Connection {
     }
 }
 
-/// For how many quarters of a second nothing went over a client's socket.
+/// For how many quarters of a second a client was idle: no reply went to it, and no turn of it had more to do.
 #[derive(Drop)]
 pub struct IdleTimeout {
     quarters: u32,
@@ -99,7 +98,7 @@ impl IdleTimeout {
         }
     }
 
-    /// Notes whether anything went over the socket.
+    /// Notes whether the client was active.
     pub fn note_activity(&mut self, has_moved: bool)
         ensures { self.new ≡ record self.old { has_moved = self.old.has_moved || has_moved } }
     {
@@ -118,7 +117,7 @@ impl IdleTimeout {
         self.has_moved = false;
     }
 
-    /// Whether nothing went over the socket for `most` whole quarters.
+    /// Whether the client was idle for `most` whole quarters.
     pub fn is_over(&self, most: u32) -> bool
         ensures { IsTrue result ↔ (most ≤ self.now.quarters) }
     {
