@@ -4,7 +4,7 @@ ghost use Rattle.std.specs.Prelude.{◌≡◌, ◌≢◌, false, IfErr, MatchBoo
 ghost use Rattle.std.specs.IoError.{error_kind};
 
 use crate::socket::Socket;
-use libc::net::{SHUT_RD, listen, shutdown};
+use libc::net::{SHUT_RD, SO_KEEPALIVE, SOL_SOCKET, listen, setsockopt, shutdown};
 use mio::net::UnixStream as Caller;
 use std::fs::{Files, Permissions};
 use std::io::ErrorKind;
@@ -20,6 +20,9 @@ pub const OWNER_ALONE: u32 = 0o600;
 
 /// As many clients may wait as the system allows.
 const BACKLOG: i32 = -1;
+
+/// How many bytes an option of a socket has that is on or off.
+const SWITCH_SIZE: usize = 4;
 
 /// A socket that is listened on.
 #[derive(Drop)]
@@ -68,6 +71,7 @@ impl Listener {
             Listener::Tcp(listener) => {
                 let (stream, _) = listener.accept()?;
                 stream.set_nodelay(true)?;
+                keep_alive(&stream);
                 Ok(Socket::Tcp(stream))
             }
             Listener::Unix(listener) => {
@@ -76,6 +80,15 @@ impl Listener {
             }
         }
     }
+}
+
+// From now on the system asks a client that is silent for long whether it is still there, and ends the connection where it is
+// not. A system that does not is no reason to refuse the client.
+fn keep_alive(stream: &TcpStream) {
+    let mut on = [0u8; 16];
+    on[..SWITCH_SIZE].copy_from_slice(&1i32.to_ne_bytes());
+    let number = stream.as_raw_fd();
+    let _ = unsafe { setsockopt(number, SOL_SOCKET, SO_KEEPALIVE, &on, SWITCH_SIZE as u32) };
 }
 
 /// Listens at a path, whose file has these permissions. A socket there is replaced where nobody listens on it.
