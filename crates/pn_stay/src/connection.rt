@@ -6,7 +6,7 @@ ghost use Rattle.pn_stay.specs.IdleTimeouts.{new_idle_timeout, after_quarter};
 
 use crate::connection_state::{ConnectionState, Pause, ThreadBuffers, TurnOutcome};
 use crate::socket::{Socket, TrackedSocket};
-use pn_serve::LineHandler;
+use pn_serve::{LineHandler, RunFault};
 use std::alloc::Global;
 use std::marker::Model;
 
@@ -20,6 +20,8 @@ pub(crate) struct Connection {
     pub(crate) is_held_up: bool,
     /// Whether it is among those that are to have a turn.
     pub(crate) is_ready: bool,
+    /// Whether its socket is kept until its client has taken the replies: it had as many lines as may be.
+    pub(crate) lingers: bool,
     // Whether its input ends after what has come of it.
     is_ending: bool,
 }
@@ -33,6 +35,7 @@ impl Connection {
             idle: IdleTimeout::new(),
             is_held_up: false,
             is_ready: false,
+            lingers: false,
             is_ending: false,
         }
     }
@@ -67,7 +70,10 @@ impl Connection {
         self.is_held_up = turned == TurnOutcome::Goes(Pause::Output);
         match turned {
             TurnOutcome::Goes(pause) => Some(pause),
-            TurnOutcome::Ended(_) => None,
+            TurnOutcome::Ended(ended) => {
+                self.lingers = ended == Err(RunFault::TooManyTurns);
+                None
+            }
         }
     }
 }
