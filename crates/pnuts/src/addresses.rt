@@ -61,7 +61,12 @@ where
 {
     match &service.address {
         Address::Port(host, port) => Listener::bind_port(rt, *host, *port),
-        Address::Path(path) => Listener::bind_path(rt, rt.alloc(), path.as_str(), service.socket_mode),
+        Address::Path(path) => Listener::bind_path(
+            rt,
+            rt.alloc(),
+            path.as_str(),
+            service.socket_mode,
+        ),
     }
 }
 
