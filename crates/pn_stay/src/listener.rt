@@ -114,7 +114,11 @@ pub(crate) fn bind_socket<R: Files<File = File> + Net>(
 fn lock_path<R: Files<File = File>>(rt: &R, alloc: Global, path: &str) -> io::Result<File> {
     let name = format!(in alloc; "{path}.lock")?;
     let mut options = OpenOptions::new();
-    let options = options.read(true).write(true).create(true).mode(OWNER_ALONE);
+    let options = options
+        .read(true)
+        .write(true)
+        .create(true)
+        .mode(OWNER_ALONE);
     let file = options.open(rt, name.as_str())?;
     match file.try_lock() {
         Ok(()) => Ok(file),
