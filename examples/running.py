@@ -7,6 +7,7 @@ import shutil
 import signal
 import subprocess
 import sys
+import threading
 import time
 from collections.abc import Callable, Sequence
 from contextlib import ExitStack
@@ -59,6 +60,18 @@ def until(what: str, holds: Callable[[], bool], seconds: float = SECONDS) -> flo
             raise TimeoutError(f"{what}: not within {seconds:.0f} seconds")
         time.sleep(0.01)
     return time.monotonic() - start
+
+
+def faults_of_threads() -> list[str]:
+    """What threads end by from now on. Each is said on standard error, too."""
+    faults: list[str] = []
+
+    def note(ended: threading.ExceptHookArgs) -> None:
+        faults.append(f"a thread ended by {ended.exc_type.__name__}: {ended.exc_value}")
+        threading.__excepthook__(ended)
+
+    threading.excepthook = note
+    return faults
 
 
 def status_of(name: str, criteria: dict[str, bool]) -> int:

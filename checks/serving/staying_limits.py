@@ -1,13 +1,17 @@
-"""Connections that are refused, and their count: checks of `checks/run stay`."""
+"""Connections that are refused or end at a limit, and their count: checks of `checks/run stay`."""
 import contextlib
+import os
+import resource
 import socket
 import struct
+import subprocess
+import threading
 import time
 from collections.abc import Iterator
 
-from common.served import SECONDS, Client, same, written
+from common.served import SECONDS, Client, free_port, same, written
 from faults.failing import environment, failing_library
-from serving.staying import CHUNK, PAGE, Staying
+from serving.staying import CHUNK, PAGE, Staying, until
 
 NO_ROW = b'{"row":null}\n'
 READ = b'{"do":"read","key":"z"}\n'
@@ -18,6 +22,11 @@ PATIENT = 20
 RESET = struct.pack("ii", 1, 0)
 # How often clients come and go, each in its way.
 ENDS = 60
+# The most lines of a connection, how many more a client sends, and before how many of the last replies it waits, for how many seconds.
+MOST_LINES, MORE, LAST, PAUSE = 1_000_000, 50_000, 50_000, 2
+# How often several programs begin to listen at one path, and how many of them.
+TRIES, AT_ONCE = 20, 3
+DESCRIPTORS = 256
 
 
 def none(folder: str) -> list[tuple[str, str]]:
@@ -101,3 +110,77 @@ def check_ended_thread(program: str, folder: str) -> None:
         with Staying(program, folder, none(folder), "--connections", "2", threads=2, environment=given) as region:
             answers = [reply_or_end(region.port) for _ in range(10)]
             same("what they are sent, of which the thread may have ended one", answers.count(NO_ROW) >= 9 and {*answers} <= {NO_ROW, b""}, True)
+
+
+def send_lines(client: socket.socket) -> None:
+    """Sends more lines than a connection may have."""
+    with contextlib.suppress(ConnectionError):
+        for _ in range((MOST_LINES + MORE) // 1_000):
+            client.sendall(READ * 1_000)
+
+
+def check_last_replies(program: str, folder: str) -> None:
+    """A client that sends more lines than it may, and takes the last replies late, gets all to the first million, and then the end."""
+    with Staying(program, folder, none(folder)) as region, connected(region.port, 1) as (client,):
+        sends = threading.Thread(target=send_lines, args=[client])
+        sends.start()
+        client.settimeout(SECONDS)
+        replies, paused = 0, False
+        while part := client.recv(CHUNK):
+            replies += part.count(b"\n")
+            if replies > MOST_LINES - LAST and not paused:
+                time.sleep(PAUSE)
+                paused = True
+        client.close()
+        sends.join()
+        same("how many replies it gets", replies, MOST_LINES)
+
+
+def begun_at(program: str, folder: str, path: str, words: list[str]) -> int:
+    """How many of several programs that start at one moment begin to listen at a path."""
+    line = [program, "serve", "--stay", "--port", str(free_port()), *words, f"east={written(folder, 'east', b'')}"]
+    started = [subprocess.Popen(line, stdout=subprocess.PIPE, stderr=subprocess.DEVNULL) for _ in range(AT_ONCE)]
+    try:
+        said = [process.stdout.readline() for process in started]
+    finally:
+        for process in started:
+            process.kill()
+            process.communicate()
+    same("whether the socket is there", os.path.exists(path), True)
+    return sum(text.startswith(b"listening on") for text in said)
+
+
+def check_one_listens(program: str, folder: str) -> None:
+    """Of three programs that start at one path at one moment, where a socket was left or not, one listens."""
+    for at in range(TRIES):
+        path = os.path.join(folder, f"socket{at}")
+        if at % 2:
+            with socket.socket(socket.AF_UNIX) as left:
+                left.bind(path)
+        same("how many listen", begun_at(program, folder, path, ["--socket", path]), 1)
+
+
+def check_descriptors(program: str, folder: str) -> None:
+    """More connections than the system gives descriptors are refused at the start."""
+    soft, hard = resource.getrlimit(resource.RLIMIT_NOFILE)
+    line = [program, "serve", "--stay", "--port", str(free_port()), "--connections", str(DESCRIPTORS + 1), f"east={written(folder, 'east', b'')}"]
+    resource.setrlimit(resource.RLIMIT_NOFILE, (DESCRIPTORS, hard))
+    try:
+        ran = subprocess.run(line, capture_output=True, timeout=SECONDS, check=False)
+    finally:
+        resource.setrlimit(resource.RLIMIT_NOFILE, (soft, hard))
+    same("its status and what it says", (ran.returncode, ran.stderr), (1, b"pnuts: cannot start: too many open files\n"))
+
+
+def timer_of(port: int) -> int:
+    """The kind of the timer that a connection of a port has in the system's table; 2 asks whether a silent client is there."""
+    with open("/proc/net/tcp", encoding="ascii") as file:
+        rows = [line.split() for line in file][1:]
+    return next(int(row[5].split(":")[0], 16) for row in rows if row[1].endswith(f":{port:04X}") and row[3] == "01")
+
+
+def check_asked_for_life(program: str, folder: str) -> None:
+    """The system asks a silent client of TCP whether it is still there."""
+    with Staying(program, folder, none(folder)) as region, connected(region.port, 1) as (client,):
+        same("whether it is answered", is_answered(client), True)
+        until("the system watches the client", lambda: timer_of(region.port) == 2)

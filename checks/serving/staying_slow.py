@@ -17,6 +17,7 @@ PAUSE, IDLE, TIMES = 0.12, 1.0, 4
 # How often a check is tried in which the machine, and not the client, made a longer pause.
 TRIES = 5
 FEW_BYTES = 4_096
+READ, NO_ROW = b'{"do":"read","key":"z"}\n', b'{"row":null}\n'
 PAGES = 100
 
 
@@ -86,11 +87,18 @@ def slowly(port: int, act: Callable[[], None]) -> None:
 
 @unless_paused
 def check_slow_sender(program: str, folder: str) -> None:
-    """With --idle, a client that sends a line byte by byte, for much longer, and is sent nothing meanwhile, is answered."""
-    with Staying(program, folder, rows(folder), "--idle", "1") as region, Client(region.port) as client:
-        slowly(region.port, lambda: client.send(b" "))
-        client.send(b'{"do":"read","key":"z"}\n')
-        same("what a slow sender is answered", client.reply(), b'{"row":null}\n')
+    """With --idle, a client that sends a line now and then, for much longer, is answered; one whose line never ends is ended."""
+    with Staying(program, folder, rows(folder), "--idle", "1") as region, Client(region.port) as client, Client(region.port) as endless:
+        asked = client.socket.makefile("rb")
+        slowly(region.port, lambda: same("a reply", (client.send(READ), asked.readline())[1], NO_ROW))
+        until("one whose line never ends is ended", lambda: has_ended(endless.socket) or trickle(endless), SECONDS)
+
+
+def trickle(client: Client) -> None:
+    """Sends a byte of a line that never ends, after a pause."""
+    time.sleep(PAUSE)
+    with contextlib.suppress(ConnectionError):
+        client.send(b" ")
 
 
 @unless_paused

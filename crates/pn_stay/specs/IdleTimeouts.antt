@@ -1,7 +1,7 @@
--- For how many quarters of a second nothing went over a client's socket.
+-- For how many quarters of a second a client was idle.
 use Rattle.std.specs.Prelude.{ℕ, ◌+◌, Bool, true, false, min, if◌then◌else◌}
 
--- how many quarters, and whether anything went over the socket in the one that is not over
+-- how many quarters, and whether the client was active in the one that is not over
 pub record IdleTimeoutValue : Type 0 where
   pub quarters : ℕ
   pub has_moved : Bool

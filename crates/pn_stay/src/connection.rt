@@ -5,8 +5,8 @@ ghost use Rattle.pn_serve.specs.Session.Knowing.{KnowsNoLess};
 ghost use Rattle.pn_stay.specs.IdleTimeouts.{new_idle_timeout, after_quarter};
 
 use crate::connection_state::{ConnectionState, Pause, ThreadBuffers, TurnOutcome};
-use crate::socket::{Socket, TrackedSocket, has_moved};
-use pn_serve::LineHandler;
+use crate::socket::{Socket, TrackedSocket};
+use pn_serve::{LineHandler, RunFault};
 use std::alloc::Global;
 use std::marker::Model;
 
@@ -20,6 +20,8 @@ pub(crate) struct Connection {
     pub(crate) is_held_up: bool,
     /// Whether it is among those that are to have a turn.
     pub(crate) is_ready: bool,
+    /// Whether its socket is kept until its client has taken the replies: it had as many lines as may be.
+    pub(crate) lingers: bool,
     // Whether its input ends after what has come of it.
     is_ending: bool,
 }
@@ -33,6 +35,7 @@ impl Connection {
             idle: IdleTimeout::new(),
             is_held_up: false,
             is_ready: false,
+            lingers: false,
             is_ending: false,
         }
     }
@@ -63,17 +66,19 @@ impl Connection {
         let mut output = TrackedSocket::new(&self.socket);
         let turned = self.state.turn(buffers, machine, &mut input, &mut output);
         let is_busy = turned == TurnOutcome::Goes(Pause::Turn);
-        self.idle
-            .note_activity(is_busy || has_moved(&input, &output));
+        self.idle.note_activity(is_busy || output.has_moved());
         self.is_held_up = turned == TurnOutcome::Goes(Pause::Output);
         match turned {
             TurnOutcome::Goes(pause) => Some(pause),
-            TurnOutcome::Ended(_) => None,
+            TurnOutcome::Ended(ended) => {
+                self.lingers = ended == Err(RunFault::TooManyTurns);
+                None
+            }
         }
     }
 }
 
-/// For how many quarters of a second nothing went over a client's socket.
+/// For how many quarters of a second a client was idle: no reply went to it, and no turn of it had more to do.
 #[derive(Drop)]
 pub struct IdleTimeout {
     quarters: u32,
@@ -99,7 +104,7 @@ impl IdleTimeout {
         }
     }
 
-    /// Notes whether anything went over the socket.
+    /// Notes whether the client was active.
     pub fn note_activity(&mut self, has_moved: bool)
         ensures { self.new ≡ record self.old { has_moved = self.old.has_moved || has_moved } }
     {
@@ -118,7 +123,7 @@ impl IdleTimeout {
         self.has_moved = false;
     }
 
-    /// Whether nothing went over the socket for `most` whole quarters.
+    /// Whether the client was idle for `most` whole quarters.
     pub fn is_over(&self, most: u32) -> bool
         ensures { IsTrue result ↔ (most ≤ self.now.quarters) }
     {

@@ -43,7 +43,7 @@ pub(crate) struct EventLoop {
     ready: Vec<usize>,
     // An empty list, which has the memory for the keys of the next round.
     spare: Vec<usize>,
-    // The sockets of connections that a stop has ended.
+    // The sockets of connections that a stop has ended, or that had as many lines as may be.
     lingering: LingeringSockets,
 }
 
@@ -77,7 +77,7 @@ impl EventLoop {
 
     /// Answers connections until the mailbox is closed and the last has ended. An error is one of the system's wait.
     #[tactic(auto, using(pn_serve::proofs::Knowing::knows_on))]
-    pub(crate) fn run<R: Wait, M: LineHandler>(
+    pub(crate) fn run<R: Wait + Clock, M: LineHandler>(
         &mut self,
         rt: &R,
         mailbox: &SocketMailbox,
@@ -93,6 +93,7 @@ impl EventLoop {
                 self.end_inputs(rt, mailbox);
             }
             self.take_turns(rt, mailbox, machine);
+            self.lingering.close_ended(rt);
             if self.is_over(rt, mailbox) {
                 return Ok(());
             }
@@ -107,7 +108,7 @@ impl EventLoop {
     // Waits for events, unless connections are ready. Whether the mailbox has something.
     fn wait(&mut self) -> io::Result<bool> {
         let timeout = if self.ready.is_empty() {
-            None
+            self.lingering.timeout()
         } else {
             Some(Duration::ZERO)
         };
@@ -172,7 +173,7 @@ impl EventLoop {
     {
         if let Some(connection) = self.connections.try_remove(key) {
             self.counters.connections.end();
-            if mailbox.is_stopping(rt) {
+            if connection.lingers || mailbox.is_stopping(rt) {
                 self.lingering.add(connection.into_socket());
             }
             mailbox.release(rt);

@@ -4,13 +4,14 @@ ghost use Rattle.std.specs.Prelude.{◌≡◌, ◌≢◌, false, IfErr, MatchBoo
 ghost use Rattle.std.specs.IoError.{error_kind};
 
 use crate::socket::Socket;
-use libc::net::{SHUT_RD, listen, shutdown};
+use libc::net::{SHUT_RD, SO_KEEPALIVE, SOL_SOCKET, listen, setsockopt, shutdown};
 use mio::net::UnixStream as Caller;
-use std::fs::{Files, Permissions};
+use std::alloc::Global;
+use std::fs::{File, Files, OpenOptions, Permissions, TryLockError};
 use std::io::ErrorKind;
 use std::net::{IpAddr, Net, SocketAddr, TcpListener, TcpStream};
 use std::os::fd::{AsFd, AsRawFd, OwnedFd};
-use std::os::unix::fs::{FileTypeExt, PermissionsExt};
+use std::os::unix::fs::{FileTypeExt, OpenOptionsExt, PermissionsExt};
 use std::os::unix::net;
 use std::os::unix::net::UnixListener;
 use std::{fs, io};
@@ -20,6 +21,9 @@ pub const OWNER_ALONE: u32 = 0o600;
 
 /// As many clients may wait as the system allows.
 const BACKLOG: i32 = -1;
+
+/// How many bytes an option of a socket has that is on or off.
+const SWITCH_SIZE: usize = 4;
 
 /// A socket that is listened on.
 #[derive(Drop)]
@@ -39,8 +43,13 @@ impl Listener {
     }
 
     /// Listens at a path, whose file has these permissions. A socket there is replaced where nobody listens on it.
-    pub fn bind_path<R: Files + Net>(rt: &R, path: &str, permissions: u32) -> io::Result<Listener> {
-        Ok(Listener::Unix(bind_socket(rt, path, permissions)?))
+    pub fn bind_path<R: Files<File = File> + Net>(
+        rt: &R,
+        alloc: Global,
+        path: &str,
+        permissions: u32,
+    ) -> io::Result<Listener> {
+        Ok(Listener::Unix(bind_socket(rt, alloc, path, permissions)?))
     }
 
     /// Another handle of the same socket.
@@ -68,6 +77,7 @@ impl Listener {
             Listener::Tcp(listener) => {
                 let (stream, _) = listener.accept()?;
                 stream.set_nodelay(true)?;
+                keep_alive(&stream);
                 Ok(Socket::Tcp(stream))
             }
             Listener::Unix(listener) => {
@@ -78,8 +88,46 @@ impl Listener {
     }
 }
 
-/// Listens at a path, whose file has these permissions. A socket there is replaced where nobody listens on it.
-pub(crate) fn bind_socket<R: Files + Net>(
+// From now on the system asks a client that is silent for long whether it is still there, and ends the connection where it is
+// not. A system that does not is no reason to refuse the client.
+fn keep_alive(stream: &TcpStream) {
+    let mut on = [0u8; 16];
+    on[..SWITCH_SIZE].copy_from_slice(&1i32.to_ne_bytes());
+    let number = stream.as_raw_fd();
+    let _ = unsafe { setsockopt(number, SOL_SOCKET, SO_KEEPALIVE, &on, SWITCH_SIZE as u32) };
+}
+
+/// Listens at a path, whose file has these permissions. A socket there is replaced where nobody listens on it. Who begins to
+/// listen there at the same moment is refused.
+pub(crate) fn bind_socket<R: Files<File = File> + Net>(
+    rt: &R,
+    alloc: Global,
+    path: &str,
+    permissions: u32,
+) -> io::Result<UnixListener> {
+    let _lock = lock_path(rt, alloc, path)?;
+    bind_or_replace(rt, path, permissions)
+}
+
+// Locks the file beside a path that tells others that somebody begins to listen there. It stays: who removed it could remove the
+// lock of another.
+fn lock_path<R: Files<File = File>>(rt: &R, alloc: Global, path: &str) -> io::Result<File> {
+    let name = format!(in alloc; "{path}.lock")?;
+    let mut options = OpenOptions::new();
+    let options = options
+        .read(true)
+        .write(true)
+        .create(true)
+        .mode(OWNER_ALONE);
+    let file = options.open(rt, name.as_str())?;
+    match file.try_lock() {
+        Ok(()) => Ok(file),
+        Err(TryLockError::WouldBlock) => Err(io::Error::from(ErrorKind::AddrInUse)),
+        Err(TryLockError::Error(error)) => Err(error),
+    }
+}
+
+fn bind_or_replace<R: Files + Net>(
     rt: &R,
     path: &str,
     permissions: u32,

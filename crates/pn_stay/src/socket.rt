@@ -133,6 +133,14 @@ impl<'a> TrackedSocket<'a> {
         self.is_ending = is_ending;
     }
 
+    /// Whether anything went over it.
+    pub(crate) fn has_moved(&self) -> bool
+        ensures { result ≡ self.now.has_moved }
+    {
+        let TrackedSocket { has_moved, .. } = self;
+        *has_moved
+    }
+
     // Answers what a read or a write answered, and notes whether it succeeded: then bytes went over the socket, or its end.
     fn note(&mut self, moved: io::Result<usize>) -> io::Result<usize>
         ensures same { result ≡ moved }
@@ -143,13 +151,6 @@ impl<'a> TrackedSocket<'a> {
         }
         moved
     }
-}
-
-/// Whether anything went over a socket that was read by one and written by the other.
-pub(crate) fn has_moved(input: &TrackedSocket<'_>, output: &TrackedSocket<'_>) -> bool
-    ensures { result ≡ (input.now.has_moved || output.now.has_moved) }
-{
-    input.has_moved || output.has_moved
 }
 
 impl Read for TrackedSocket<'_> {

@@ -49,7 +49,7 @@ fn listen_for_control(
     let Some(path) = &service.control else {
         return Ok(None);
     };
-    match Listener::bind_path(rt, path.as_str(), OWNER_ALONE) {
+    match Listener::bind_path(rt, rt.alloc(), path.as_str(), OWNER_ALONE) {
         Ok(listener) => Ok(Some(listener)),
         Err(error) => Err(fail_at(rt, "cannot listen", path.as_str(), &error, true)),
     }
@@ -57,11 +57,16 @@ fn listen_for_control(
 
 fn bind<R>(rt: &R, service: &Service) -> io::Result<Listener>
 where
-    R: Files<File = File> + Net<Listener = TcpListener, Stream = TcpStream>,
+    R: AllocGlobal + Files<File = File> + Net<Listener = TcpListener, Stream = TcpStream>,
 {
     match &service.address {
         Address::Port(host, port) => Listener::bind_port(rt, *host, *port),
-        Address::Path(path) => Listener::bind_path(rt, path.as_str(), service.socket_mode),
+        Address::Path(path) => Listener::bind_path(
+            rt,
+            rt.alloc(),
+            path.as_str(),
+            service.socket_mode,
+        ),
     }
 }
 

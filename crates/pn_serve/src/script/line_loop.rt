@@ -87,6 +87,7 @@ impl LineLoop {
         ensures few { HandsOnAtMost REPLY_CAPACITY self.old self.new }
         ensures counted { CountsUnits self.old self.new result }
         ensures works { self.old.state.left ≢ [] → WorksOn self.old self.new result }
+        ensures waits { self.old.state.more ≡ false → self.old.state.out ≡ false → input.new ≡ input.old }
         ensures looks { S.looks input.new ≤ S.looks input.old + 1 }
         ensures reads { IsSettled self.old → ReadsOn (S.looks input.old) (S.looks input.new) self.old self.new result }
         ensures end { result ≡ Step.NoInput → S.may_end }

@@ -12,6 +12,8 @@ use crate::counters::Counters;
 use crate::event_loop::{EventLoop, MAILBOX};
 use crate::listener::Listener;
 use crate::socket_mailbox::{Closed, SocketMailbox};
+use libc::types::rlimit;
+use libc::{EMFILE, RLIMIT_NOFILE, getrlimit};
 use mio::{Poll, Waker};
 use pn_live::{LiveReader, LiveRegion};
 use pn_serve::{ComesBack, CountingReader, SessionThread};
@@ -54,6 +56,7 @@ where
         messages,
         ..
     } = acceptor;
+    check_descriptors(connections)?;
     let shared = Shared {
         alloc,
         limit: Arc::new(alloc, ConnectionLimit::new(connections))?,
@@ -66,6 +69,19 @@ where
     let mailboxes = Arc::new(alloc, mailboxes)?;
     start_accepting(rt, shared, listener, Arc::try_clone(&mailboxes)?, notes)?;
     Ok(Answering { running, mailboxes })
+}
+
+// As many connections may not be open as descriptors are refused.
+fn check_descriptors(connections: usize) -> io::Result<()> {
+    let mut limit = rlimit {
+        rlim_cur: 0,
+        rlim_max: 0,
+    };
+    let asked = getrlimit(RLIMIT_NOFILE, &mut limit);
+    if asked == 0 && limit.rlim_cur < connections as u64 {
+        return Err(io::Error::from_raw_os_error(EMFILE));
+    }
+    Ok(())
 }
 
 // What the threads share.

@@ -1,7 +1,8 @@
 //! The socket at which a stream's writers come.
 
 use crate::listener::bind_socket;
-use std::fs::Files;
+use std::alloc::Global;
+use std::fs::{File, Files};
 use std::io;
 use std::net::Net;
 use std::os::unix::net::{UnixListener, UnixStream};
@@ -12,12 +13,13 @@ pub struct StreamListener(UnixListener);
 
 impl StreamListener {
     /// Listens at a path, whose file has these permissions. A socket there is replaced where nobody listens on it.
-    pub fn bind<R: Files + Net>(
+    pub fn bind<R: Files<File = File> + Net>(
         rt: &R,
+        alloc: Global,
         path: &str,
         permissions: u32,
     ) -> io::Result<StreamListener> {
-        Ok(StreamListener(bind_socket(rt, path, permissions)?))
+        Ok(StreamListener(bind_socket(rt, alloc, path, permissions)?))
     }
 
     /// Waits for a writer.

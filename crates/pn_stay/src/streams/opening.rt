@@ -189,7 +189,7 @@ where
     R: Files<File = File> + Net + Wait + Clock + Copy + Drop,
 {
     let shown = String::from_str(notes.alloc, path.as_str())?;
-    match StreamListener::bind(&notes.rt, path.as_str(), permissions) {
+    match StreamListener::bind(&notes.rt, notes.alloc, path.as_str(), permissions) {
         Ok(listener) => {
             sockets.push(path)?;
             Ok(Writers::Socket(SocketWriters::new(listener, shown)))

@@ -6,7 +6,7 @@ use crate::stay::talks::{At, flood, talk};
 use pn_serve::{Counter, Stream, serve};
 use pn_stay::{Counters, Listener, OWNER_ALONE, SocketAcceptor, StayingServer};
 use std::alloc::{AllocError, Global};
-use std::fs::Files;
+use std::fs::{File, Files};
 use std::net::{IpAddr, Ipv4Addr, Net, TcpListener, TcpStream};
 use std::os::unix::fs::PermissionsExt;
 use std::sync::{Arc, Wait};
@@ -18,6 +18,9 @@ use std::{fs, io, thread};
 /// The name of a socket's file.
 const PATH: &str = "socket-of-test";
 
+/// The file that is locked while somebody begins to listen there.
+const LOCK: &str = "socket-of-test.lock";
+
 /// The permissions of a socket that a group may use, too.
 const GROUP: u32 = 0o660;
 
@@ -28,12 +31,12 @@ const ALL: u32 = 0o777;
 const PATIENCE: u32 = 10_000;
 
 // Listens at a port, or at the path, and says where.
-fn listen<R>(rt: &R, at: &str) -> io::Result<(Listener, At)>
+fn listen<R>(rt: &R, alloc: Global, at: &str) -> io::Result<(Listener, At)>
 where
-    R: Files + Net<Listener = TcpListener, Stream = TcpStream>,
+    R: Files<File = File> + Net<Listener = TcpListener, Stream = TcpStream>,
 {
     if at == "path" {
-        let listener = Listener::bind_path(rt, PATH, OWNER_ALONE)?;
+        let listener = Listener::bind_path(rt, alloc, PATH, OWNER_ALONE)?;
         return Ok((listener, At::Path(PATH)));
     }
     let listener = Listener::bind_port(rt, IpAddr::V4(Ipv4Addr::LOCALHOST), 0)?;
@@ -51,6 +54,7 @@ fn place_of(listener: &Listener) -> io::Result<At> {
 fn remove_socket<R: Files>(rt: &R, at: &str) -> io::Result<()> {
     if at == "path" {
         fs::remove_file(rt, PATH)?;
+        fs::remove_file(rt, LOCK)?;
     }
     Ok(())
 }
@@ -78,7 +82,7 @@ pub(crate) fn new_acceptor(
 /// clients are left.
 pub(crate) fn serve_session<R>(rt: &R, alloc: Global, at: &str) -> Result<String, Fail>
 where
-    R: Files
+    R: Files<File = File>
         + Net<Listener = TcpListener, Stream = TcpStream>
         + Threads
         + Wait
@@ -87,7 +91,7 @@ where
         + Send
         + 'static,
 {
-    let (listener, to) = listen(rt, at)?;
+    let (listener, to) = listen(rt, alloc, at)?;
     let acceptor = new_acceptor(alloc, listener, None, Some(60))?;
     let theirs = *rt;
     let client = thread::spawn(rt, move || talk(&theirs, alloc, to, false))?;
@@ -122,7 +126,7 @@ fn add_counts(text: &mut String, counters: &Counters) -> Result<(), AllocError> 
 /// all streams to their ends.
 pub(crate) fn stay_until_idle<R>(rt: &R, alloc: Global, at: &str) -> Result<String, Fail>
 where
-    R: Files
+    R: Files<File = File>
         + Net<Listener = TcpListener, Stream = TcpStream>
         + Threads
         + Wait
@@ -133,7 +137,7 @@ where
         + Drop
         + 'static,
 {
-    let (listener, to) = listen(rt, at)?;
+    let (listener, to) = listen(rt, alloc, at)?;
     let ended = start(rt, alloc, listener)?;
     let told = talk(rt, alloc, to, true);
     remove_socket(rt, at)?;
@@ -149,7 +153,7 @@ where
 // Starts a server that stays, which counts its end of reading.
 fn start<R>(rt: &R, alloc: Global, listener: Listener) -> io::Result<Arc<Counter>>
 where
-    R: Files
+    R: Files<File = File>
         + Net<Listener = TcpListener, Stream = TcpStream>
         + Threads
         + Wait
@@ -170,7 +174,7 @@ where
 /// How many replies are whole that a server sends to a client which asks very often, and reads late.
 pub(crate) fn answer_flood<R>(rt: &R, alloc: Global) -> Result<String, Fail>
 where
-    R: Files
+    R: Files<File = File>
         + Net<Listener = TcpListener, Stream = TcpStream>
         + Threads
         + Wait
@@ -181,7 +185,7 @@ where
         + Drop
         + 'static,
 {
-    let (listener, to) = listen(rt, "path")?;
+    let (listener, to) = listen(rt, alloc, "path")?;
     let _ended = start(rt, alloc, listener)?;
     talk(rt, alloc, to, false)?;
     let flooded = flood(rt, alloc, PATH)?;
@@ -224,14 +228,18 @@ fn one_stream<R: Wait + Clock + Copy>(rt: &R, alloc: Global) -> Option<Vec<Strea
 }
 
 /// Listens at a path where nobody listens any more, and not where somebody does; and the permissions of its file.
-pub(crate) fn listen_twice<R: Files + Net>(rt: &R, alloc: Global) -> Result<String, Fail> {
-    let first = Listener::bind_path(rt, PATH, GROUP)?;
-    let beside = Listener::bind_path(rt, PATH, OWNER_ALONE).is_ok();
+pub(crate) fn listen_twice<R: Files<File = File> + Net>(
+    rt: &R,
+    alloc: Global,
+) -> Result<String, Fail> {
+    let first = Listener::bind_path(rt, alloc, PATH, GROUP)?;
+    let beside = Listener::bind_path(rt, alloc, PATH, OWNER_ALONE).is_ok();
     let shared = mode_of(rt)?;
     drop(first);
-    let later = Listener::bind_path(rt, PATH, OWNER_ALONE).is_ok();
+    let later = Listener::bind_path(rt, alloc, PATH, OWNER_ALONE).is_ok();
     let owned = mode_of(rt)?;
     fs::remove_file(rt, PATH)?;
+    fs::remove_file(rt, LOCK)?;
     Ok(format!(in alloc; "{beside} {later} {shared} {owned}")?)
 }
 

@@ -7,7 +7,7 @@ use pn_join::NoMemory;
 use pn_serve::Stream;
 use pn_stay::{Listener, OWNER_ALONE, SocketAcceptor, StayingServer};
 use std::alloc::Global;
-use std::fs::Files;
+use std::fs::{File, Files};
 use std::io::{BufRead, BufReader, Read, Write};
 use std::net::{Net, TcpListener, TcpStream};
 use std::os::unix::net::UnixStream;
@@ -61,7 +61,7 @@ impl Talk {
 /// accepted.
 pub(crate) fn stop_server<R>(rt: &R, alloc: Global) -> Result<String, Fail>
 where
-    R: Files
+    R: Files<File = File>
         + Net<Listener = TcpListener, Stream = TcpStream>
         + Threads
         + Wait
@@ -79,15 +79,17 @@ where
     let mut told = asking.join(rt)?;
     let (read, is_stopped) = ended.ok_or(NoMemory)?;
     let is_accepted = Talk::begin(rt, alloc, CLIENTS).is_ok();
-    fs::remove_file(rt, CLIENTS)?;
-    fs::remove_file(rt, CONTROL)?;
+    for path in [CLIENTS, CONTROL] {
+        fs::remove_file(rt, path)?;
+        fs::remove_file(rt, format!(in alloc; "{path}.lock")?.as_str())?;
+    }
     write!(told, "{read} {is_stopped} {is_accepted}")?;
     Ok(told)
 }
 
-fn listen<R: Files + Net>(rt: &R, alloc: Global) -> io::Result<SocketAcceptor> {
-    let clients = Listener::bind_path(rt, CLIENTS, OWNER_ALONE)?;
-    let control = Listener::bind_path(rt, CONTROL, OWNER_ALONE)?;
+fn listen<R: Files<File = File> + Net>(rt: &R, alloc: Global) -> io::Result<SocketAcceptor> {
+    let clients = Listener::bind_path(rt, alloc, CLIENTS, OWNER_ALONE)?;
+    let control = Listener::bind_path(rt, alloc, CONTROL, OWNER_ALONE)?;
     Ok(new_acceptor(alloc, clients, Some(control), None)?)
 }
 

@@ -1,6 +1,6 @@
 //! How a line loop takes what its input has at hand.
 
-ghost use Rattle.std.specs.Prelude.{◌≡◌, ◌≢◌, ◌⊎◌, ◌+◌, ◌≤◌, ◌<◌, ℕ, List, [], Option, Err, OnSome};
+ghost use Rattle.std.specs.Prelude.{◌≡◌, ◌≢◌, ◌⊎◌, ◌+◌, ◌≤◌, ◌<◌, ℕ, false, List, [], Option, Err, OnSome};
 ghost use Rattle.std.specs.Io.KnownBytes.{IsAtEnd};
 ghost use Rattle.pn_line.specs.declared.line_buffer.TheConstants.{ENDLESS};
 ghost use Rattle.pn_serve.specs.Lines.Bounds.{CountsUnits, Foresees, ForeseesStep, HandsOnAtMost, HandsOnStep, IsIdleAt, IsOutAs, ReadsOn};
@@ -35,6 +35,7 @@ impl LineLoop {
         ensures handed_on { HandsOnStep result (W.is_handed_on output.new) }
         ensures few { HandsOnAtMost REPLY_CAPACITY self.old self.new }
         ensures counted { CountsUnits self.old self.new result }
+        ensures waits { self.old.state.more ≡ false → self.old.state.out ≡ false → input.new ≡ input.old }
         ensures looks { S.looks input.new ≤ S.looks input.old + 1 }
         ensures reads { ReadsOn (S.looks input.old) (S.looks input.new) self.old self.new result }
         ensures end { result ≡ Step.NoInput → S.may_end }

@@ -1,10 +1,14 @@
 -- The loop steps, and reads where no input is at hand.
+use Rattle.pn_serve.proofs.Knowing.{knows_on}
 use Rattle.pn_stay.proofs.Coming.{waits_well}
 use Rattle.pn_stay.proofs.steps.take_step.Goals as goal
 
 pub returns-in-NoInput-clause-steps : goal.returns-in-NoInput-clause-steps
 returns-in-NoInput-clause-steps g c = λ start steady stands.
     c.read_more.ensures.steps start (g.W.Sink.contents c.step-step.new.output) steady (c.in-NoInput.ensures.steps start (g.R.Read.remaining c.args.input.now) steady stands)
+
+pub returns-in-NoInput-clause-knows : goal.returns-in-NoInput-clause-knows
+returns-in-NoInput-clause-knows g c = knows_on _ _ _ c.step-step.ensures.knows c.read_more.ensures.knows
 
 pub returns-in_default : goal.returns-in_default
 returns-in_default g c = record {

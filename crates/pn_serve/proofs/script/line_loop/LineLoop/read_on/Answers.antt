@@ -1,5 +1,5 @@
 -- Replies are handed on, or there is too much, or the source has more, no more, or failed.
-use Rattle.std.proofs.Common.{◌≡◌, false, sym, ap, subst, arith}
+use Rattle.std.proofs.Common.{◌≡◌, true, false, sym, ap, ◌∙◌, subst, arith}
 use Rattle.std.specs.Prelude.{Ok}
 use Rattle.pn_serve.specs.declared.script.Counts.{Counts}
 use Rattle.pn_serve.specs.declared.script.RunFault.TheVariants.{Read, TooManyTurns}
@@ -13,6 +13,7 @@ use Rattle.pn_serve.proofs.Bounded.{some_rest}
 use Rattle.pn_serve.proofs.Measured.{fault_nearer, out_nearer, waits_nearer}
 use Rattle.pn_serve.proofs.Standing.{Keeps-rest, Steps-put_out, Steps-waited}
 use Rattle.pn_serve.proofs.Steps.{Steps-endless, Steps-kept, Steps-many, Steps-read_fault}
+use Rattle.pn_serve.proofs.script.line_loop.LineLoop.read_on.Goals.{else-not-has_more-via-then-not-has_more+else-not-is_out, else-not-has_more-via-else-not-has_more}
 use Rattle.pn_serve.proofs.script.line_loop.LineLoop.read_on.Goals as goal
 
 pub returns-then-not-is_out-clause-steps : goal.returns-then-not-is_out-clause-steps
@@ -129,3 +130,21 @@ returns-in-Ok-false-clause-knows g c = knows_itself _
 
 pub returns-in-Err-clause-knows : goal.returns-in-Err-clause-knows
 returns-in-Err-clause-knows g c = knows_itself _
+
+pub returns-in-Ok-true-clause-waits : goal.returns-in-Ok-true-clause-waits
+returns-in-Ok-true-clause-waits g c = λ more out. elim c.else-not-has_more.branch [
+  | else-not-has_more-via-then-not-has_more+else-not-is_out w ↦ let no : true ≡ false = sym w.if-not-is_out.false ∙ w.is_out.ensures ∙ ap (λ (r : LineLoopValue). r.state.out) c.self.view_is ∙ out in cc
+  | else-not-has_more-via-else-not-has_more w ↦ let no : true ≡ false = sym w.if-not-has_more.false ∙ c.has_more.ensures ∙ ap (λ (r : LineLoopValue). r.state.more) c.self.view_is ∙ more in cc
+]
+
+pub returns-in-Ok-false-clause-waits : goal.returns-in-Ok-false-clause-waits
+returns-in-Ok-false-clause-waits g c = λ more out. elim c.else-not-has_more.branch [
+  | else-not-has_more-via-then-not-has_more+else-not-is_out w ↦ let no : true ≡ false = sym w.if-not-is_out.false ∙ w.is_out.ensures ∙ ap (λ (r : LineLoopValue). r.state.out) c.self.view_is ∙ out in cc
+  | else-not-has_more-via-else-not-has_more w ↦ let no : true ≡ false = sym w.if-not-has_more.false ∙ c.has_more.ensures ∙ ap (λ (r : LineLoopValue). r.state.more) c.self.view_is ∙ more in cc
+]
+
+pub returns-in-Err-clause-waits : goal.returns-in-Err-clause-waits
+returns-in-Err-clause-waits g c = λ more out. elim c.else-not-has_more.branch [
+  | else-not-has_more-via-then-not-has_more+else-not-is_out w ↦ let no : true ≡ false = sym w.if-not-is_out.false ∙ w.is_out.ensures ∙ ap (λ (r : LineLoopValue). r.state.out) c.self.view_is ∙ out in cc
+  | else-not-has_more-via-else-not-has_more w ↦ let no : true ≡ false = sym w.if-not-has_more.false ∙ c.has_more.ensures ∙ ap (λ (r : LineLoopValue). r.state.more) c.self.view_is ∙ more in cc
+]

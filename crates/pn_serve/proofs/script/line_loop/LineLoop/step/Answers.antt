@@ -73,6 +73,11 @@ returns-in-Reading-clause-counted g c =
     let back = taken_as_was c.self.inside.line c.self.inside.replies c.self.inside.state c.take_stage.new.self c.args.self.now c.take_stage.ensures.reads (sym c.take_stage.ensures.stage ∙ c.in-Reading.is) c.self.view_is in
     subst (λ (r : LineLoopValue). CountsUnits r c.read_on.new.self c.read_on.result) back c.read_on.ensures.counted
 
+pub returns-in-Reading-clause-waits : goal.returns-in-Reading-clause-waits
+returns-in-Reading-clause-waits g c =
+    let back = taken_as_was c.self.inside.line c.self.inside.replies c.self.inside.state c.take_stage.new.self c.args.self.now c.take_stage.ensures.reads (sym c.take_stage.ensures.stage ∙ c.in-Reading.is) c.self.view_is in
+    λ more out. c.read_on.ensures.waits (ap (λ (r : LineLoopValue). r.state.more) back ∙ more) (ap (λ (r : LineLoopValue). r.state.out) back ∙ out)
+
 pub returns-in-Reading-clause-reads : goal.returns-in-Reading-clause-reads
 returns-in-Reading-clause-reads g c =
     let back = taken_as_was c.self.inside.line c.self.inside.replies c.self.inside.state c.take_stage.new.self c.args.self.now c.take_stage.ensures.reads (sym c.take_stage.ensures.stage ∙ c.in-Reading.is) c.self.view_is in
