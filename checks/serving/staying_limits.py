@@ -169,7 +169,7 @@ def check_descriptors(program: str, folder: str) -> None:
         ran = subprocess.run(line, capture_output=True, timeout=SECONDS, check=False)
     finally:
         resource.setrlimit(resource.RLIMIT_NOFILE, (soft, hard))
-    same("its status and what it says", (ran.returncode, ran.stderr), (1, b"pnuts: cannot start: too many open files\n"))
+    same("its status and what it says", (ran.returncode, ran.stderr), (1, b"pnuts: cannot start: Too many open files\n"))
 
 
 def timer_of(port: int) -> int:

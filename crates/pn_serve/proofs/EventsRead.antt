@@ -8,7 +8,7 @@ use Rattle.pn_serve.specs.declared.control.commands.WriterCommand.{WriterCommand
 use Rattle.pn_serve.specs.Server.Events.{AllDone, ReadsBesides, RunsEvents, RunsOn, RunsUpTo, ToldAll, WriterEvent, gathered, tried, taken, told}
 use Rattle.pn_serve.specs.Server.Reading.{AreOfStreams, ReadToEnds, ReadUpTo, RunsRounds}
 use Rattle.pn_serve.specs.Server.Rounds.{RoundInputValue, IsRoundTried, TakesInput}
-use Rattle.pn_serve.specs.Server.Tries.{IsNextInput, RunsRound, StopsAt, TakesRound, Waits}
+use Rattle.pn_serve.specs.Server.Tries.{IsNextInput, StopsAt, TakesRound, Waits}
 use Rattle.pn_serve.specs.declared.server.fault.ServeFault.{ServeFault}
 use Rattle.pn_serve.specs.declared.server.fault.ServeFault.TheVariants.{Start, Stream, Round, Close, Write}
 use Rattle.pn_serve.specs.declared.server.mailboxes.AtFault.{AtFault}

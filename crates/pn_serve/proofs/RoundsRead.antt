@@ -1,11 +1,9 @@
 -- Rounds of what streams gave, one after another.
-use Rattle.std.proofs.Common.{◌≡◌, ◌≢◌, ◌⊎◌, ℕ, ◌+◌, ◌≤◌, Bool, true, false, List, [], ◌∷◌, Option, None, Some, IfSome, IfErr, IfOk, OnOk, OnErr, inl, inr, refl, sym, ap, ◌∙◌, subst, arith, length, map}
-use Rattle.std.specs.Prelude.{Result, Ok, Err, IsErrAnd, MatchResult}
+use Rattle.std.proofs.Common.{◌≡◌, ◌≢◌, ◌⊎◌, ℕ, ◌+◌, ◌≤◌, Bool, true, List, [], ◌∷◌, Option, None, Some, IfSome, IfErr, OnOk, OnErr, inl, inr, refl, sym, ap, subst, arith, map}
+use Rattle.std.specs.Prelude.{Result, Ok, Err, MatchResult}
 use Rattle.std.specs.List.{All, Contains}
 use Rattle.std.specs.Result.{result_map_both}
-use Rattle.std.proofs.lemmas.List.{length-map}
 use Rattle.std.proofs.lemmas.List.Elements.{All-contains, Contains-append_right, Contains-append_left, Contains-push}
-use Rattle.std.proofs.lemmas.Result.{err_from_is_err_and}
 use Rattle.pn_join.specs.Marks.{Positions, position_of}
 use Rattle.pn_stream.specs.Positions.{DeliveryValue}
 use Rattle.pn_tablet.specs.Refusals.{Refuses}
@@ -20,9 +18,8 @@ use Rattle.pn_live.specs.LiveRegions.{LiveRegionValue, core, tablets_after_round
 use Rattle.pn_serve.specs.Server.Faults.{IsOfRounds}
 use Rattle.pn_serve.specs.Server.Events.{AllDone, WriterEvent, gathered, tried, taken, told}
 use Rattle.pn_serve.specs.Server.Reading.{ReadUpTo}
-use Rattle.pn_serve.specs.Server.Gathering.{IsInputOf, value_of}
-use Rattle.pn_serve.specs.Server.Rounds.{RoundInputValue, CanBeTaken, Continues, IsNoGap, IsRoundTaken, IsRoundRefused, TakesInput, TriesRound, ends_try, stopping}
-use Rattle.pn_serve.specs.Server.Tries.{IsNextInput, RunsInput, RunsRound, StopsAt, TakesRound, waiting_value}
+use Rattle.pn_serve.specs.Server.Rounds.{RoundInputValue, Continues, IsNoGap, IsRoundTaken, IsRoundRefused, TakesInput, TriesRound, ends_try, stopping}
+use Rattle.pn_serve.specs.Server.Tries.{IsNextInput, RunsRound, waiting_value}
 use Rattle.pn_serve.specs.declared.server.fault.ServeFault.{ServeFault}
 use Rattle.pn_serve.specs.declared.server.rounds.RoundInput.{RoundInput}
 use Rattle.pn_serve.specs.declared.server.fault.ServeFault.TheVariants.{Start, Stream, Round, Close, Write}
@@ -106,39 +103,6 @@ takes {T} input old new None run result stops took refused named unnamed = unles
     unless (Err fault) took refused is = subst (TakesInput Stop input old new) (sym is) (sym stops, refused)
 takes input old new (Some name) run result stops took refused named unnamed =
     subst (TakesInput Stop input old new) (sym named) (sym stops, run_either run old input.deliveries new took refused)
-
--- what was gathered is the next input where none waits
-pub gathered_next : {P : Type 0} (name : P → List ℕ) (streams : List P) (marks : Positions) (input : RoundInputValue) (left : List (List ℕ)) → IsInputOf (map name streams) marks input left → CanBeTaken (length streams) marks input
-    → IsNextInput (map name streams) None marks input left
-gathered_next name streams marks input left notes fits = (notes, subst (λ (n : ℕ). CanBeTaken n marks input) (sym (length-map streams name)) fits)
-
--- what comes of the next input: it was taken, it waits, or a fault stops
-module _ (at_fault given : AtFault) (names : List (List ℕ)) (waiting : Option RoundInputValue) (old : LiveRegionValue) (marks : Positions) (input : RoundInput) (left : List (List ℕ)) (new : LiveRegionValue)
-    (same : given ≡ at_fault) (marks_are : marks ≡ old.marks) (next : IsNextInput names waiting marks (value_of input) left) where
-  next_runs : (run : Result (Unit {0}) ServeFault) → TakesInput given (value_of input) old new run → RunsRound at_fault names waiting old (value_of input) left new run
-  next_runs run takes = record {
-    next = subst (λ (m : Positions). IsNextInput names waiting m (value_of input) left) marks_are next;
-    takes = subst (λ (a : AtFault). TakesInput a (value_of input) old new run) same takes;
-  }
-
-  pub next_taken : (waits : Option RoundInputValue) → TakesInput given (value_of input) old new (Ok tt) → waits ≡ None → TakesRound at_fault names waiting old left waits new (Ok true)
-  next_taken waits takes none = (value_of input, next_runs (Ok tt) takes, none)
-
-  pub next_waits : (waits : Option RoundInputValue) (back : RoundInput) → RunsInput given input old new (Ok (Some back)) → waits ≡ Some (value_of back) → TakesRound at_fault names waiting old left waits new (Ok false)
-  next_waits waits back runs is = (
-    sym same ∙ runs.0,
-    inr (value_of input, subst (λ (m : Positions). IsNextInput names waiting m (value_of input) left) marks_are next, is ∙ ap (λ (i : RoundInput). Some (value_of i)) runs.1, runs.2),
-  )
-
-  pub next_stops : (fault : ServeFault) → TakesInput given (value_of input) old new (Err fault) → StopsAt at_fault names waiting old new fault
-  next_stops fault takes = inl (value_of input, left, next_runs (Err fault) takes)
-
--- a fault of a round as an answer
-pub as_stop : (at_fault : AtFault) (names : List (List ℕ)) (waiting : Option RoundInputValue) (old : LiveRegionValue) (left : List (List ℕ)) (waits : Option RoundInputValue) (new : LiveRegionValue) (fault : ServeFault)
-    (result : Result Bool ServeFault) → IsErrAnd result (λ other. other ≡ fault) → StopsAt at_fault names waiting old new fault → TakesRound at_fault names waiting old left waits new result
-as_stop at_fault names waiting old left waits new fault result answered stops =
-    let (other, is, same) = err_from_is_err_and result answered in
-    subst (TakesRound at_fault names waiting old left waits new) (sym is) (subst (StopsAt at_fault names waiting old new) (sym same) stops)
 
 -- names of no streams
 pub no_names : {P : Type 0} (name : P → List ℕ) (streams : List P) → map name streams ≡ [] → streams ≡ []

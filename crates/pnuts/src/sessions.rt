@@ -16,6 +16,7 @@ use std::process::ExitCode;
 use std::rt::Files;
 use std::sync::Wait;
 use std::thread::Threads;
+use std::time::Clock;
 
 /// Serves streams to the end of its sessions, from the region that is open or else from a new one, and ends what it listened on.
 pub(crate) fn serve_streams<R>(
@@ -33,6 +34,7 @@ where
         + Eprint
         + Threads
         + Wait
+        + Clock
         + Sync
         + Copy
         + Send

@@ -1,6 +1,6 @@
 //! Tries of a round, which waits for memory where it ran out.
 
-ghost use Rattle.std.specs.Prelude.{◌≡◌, ◌≤◌, true, All, None, Ok, Err, IfOk, IfErr, IfSome, OnOk, OnErr, MatchResult};
+ghost use Rattle.std.specs.Prelude.{◌≡◌, ◌≤◌, true, All, None, Ok, Err, IfOk, IfSome, OnOk, OnErr, MatchResult};
 ghost use Rattle.pn_apply.specs.declared.reducing.TheConstants.{MAX_WORKERS};
 ghost use Rattle.pn_live.specs.Prelude.{tablets_in};
 ghost use Rattle.pn_serve.specs.Server.Gathering.{value_of};

@@ -1,5 +1,5 @@
 -- Each round or try, and the commands before it, go on from what was done before.
-use Rattle.std.proofs.Common.{◌≡◌, ◌≢◌, ℕ, true, false, [], Option, None, map, refl, sym, ap, subst, ◌∙◌}
+use Rattle.std.proofs.Common.{◌≡◌, ◌≢◌, true, false, [], None, map, refl, sym, ap, subst, ◌∙◌}
 use Rattle.std.specs.Prelude.{Ok}
 use Rattle.pn_live.specs.LiveRegions.{LiveRegionValue}
 use Rattle.pn_serve.specs.Server.Tries.{StopsAt, TakesRound, waiting_value}
