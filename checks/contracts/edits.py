@@ -110,8 +110,7 @@ def is_proof_of(path: str, edits: list[Edit]) -> bool:
     """Whether a file is of the proof of a function that one of these edits changes. (The parts of a long function are in a folder of
     their own.)"""
     folders = [it for it in path.split("/")[1:-1] if not it.startswith("+")]
-    function = "::".join([edits[0].crate, *folders])
-    return any(is_at(function, location) for edit in edits for location in edit.locations if location)
+    return any(is_at("::".join([edit.crate, *folders]), location) for edit in edits for location in edit.locations if location)
 
 
 class Trial:
