@@ -10,7 +10,7 @@ from common.tried import parser_of
 
 
 def parts(program: str, scripts: str, live: str, soak: str) -> list[Part]:
-    narrow = {"exit-statuses": [program], "live-copies": [program], "memory-limit": [program],
+    narrow = {"exit-statuses": [program], "live-copies": [program], "memory-limit": [program], "waiting-rounds": [program],
               "json-lines": [program, "--lines", "100000"], "random-scripts": [scripts, "--scripts", "3000"], "random-words": [program],
               "readme": [program], "words": [], "links": [], "naming": []}
     wide = {"sessions": [program], "out-of-memory": [program, live], "failing-calls": [program], "damaged-input": [program],

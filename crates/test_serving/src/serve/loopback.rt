@@ -109,6 +109,7 @@ where
     R: Net<Listener = TcpListener, Stream = TcpStream>
         + Threads
         + Wait
+        + Clock
         + Sync
         + Copy
         + Send

@@ -86,6 +86,7 @@ where
         + Net<Listener = TcpListener, Stream = TcpStream>
         + Threads
         + Wait
+        + Clock
         + Sync
         + Copy
         + Send
