@@ -56,6 +56,11 @@ class Pipelining:
         return len(keys)
 
 
+def left_in(folder: str) -> list[str]:
+    """The files that a program leaves, but for what it said and the locks of its sockets."""
+    return [it for it in os.listdir(folder) if "errors" not in it and not it.endswith(".lock")]
+
+
 def stopped(region: Staying, control: str, seconds: int = 10) -> float:
     """Stops a region, and waits for its end, which is clean. How many seconds it took."""
     start = time.monotonic()
@@ -68,7 +73,7 @@ def stopped(region: Staying, control: str, seconds: int = 10) -> float:
 def ended(region: Staying, start: float) -> float:
     same("its status", region.process.wait(timeout=SECONDS), 0)
     same("what it said", [line for line in region.said().splitlines() if b"ended" not in line and b"begins" not in line], [])
-    same("files of sockets", [it for it in os.listdir(region.folder) if "errors" not in it], [])
+    same("files of sockets", left_in(region.folder), [])
     return time.monotonic() - start
 
 
@@ -187,7 +192,7 @@ def check_stop_of_many_kinds(program: str, folder: str) -> None:
             same("its status", region.process.wait(timeout=SECONDS), 0)
             took[kind] = time.monotonic() - start
             in_time(f"a stop at once, {kind}", took[kind], 3.0, took["none"] if kind != "none" else 0.0)
-            same("files of sockets", [it for it in os.listdir(folder) if "errors" not in it], [])
+            same("files of sockets", left_in(folder), [])
 
 
 def feed_on(is_over: Callable[[], bool], path: str, text: bytes) -> None:
