@@ -14,7 +14,7 @@ use Rattle.pn_stream.specs.declared.next.NextMessage.{NextMessage}
 use Rattle.pn_stream.specs.declared.fault.StreamFault.TheVariants.{Memory}
 
 -- one message more at the end
-InStep-push : (position : ℕ) (lines : List (List ℕ)) (images : List Image) (line : List ℕ) (image : Image) (wanted : ℕ) → wanted ≡ position + length images + 1
+pub InStep-push : (position : ℕ) (lines : List (List ℕ)) (images : List Image) (line : List ℕ) (image : Image) (wanted : ℕ) → wanted ≡ position + length images + 1
     → InStep position lines images → IsUnbroken line → IsMessageLine line (wanted, image) → InStep position (lines ++ line ∷ []) (images ++ image ∷ [])
 InStep-push position [] [] line image wanted is run unbroken said =
     let here : wanted ≡ position + 1 = omega (arith, is) in
@@ -36,7 +36,7 @@ Run-push position text images rest line more image wanted is run first said = re
       ∙ ap (λ t. t ++ more) (sym (text_of-push run.lines line));
 }
 
-InStep-append : (position next : ℕ) (lines others : List (List ℕ)) (one other : List Image) → next ≡ position + length one → InStep position lines one → InStep next others other → InStep position (lines ++ others) (one ++ other)
+pub InStep-append : (position next : ℕ) (lines others : List (List ℕ)) (one other : List Image) → next ≡ position + length one → InStep position lines one → InStep next others other → InStep position (lines ++ others) (one ++ other)
 InStep-append position next [] others [] other is first second =
     let here : next ≡ position = omega (arith, is) in subst (λ (n : ℕ). InStep n others other) here second
 InStep-append position next [] others (image ∷ one) other is first second = absurd first
