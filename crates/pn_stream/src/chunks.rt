@@ -1,7 +1,6 @@
 //! Lines that several threads read, each a chunk of consecutive lines at the positions that its place gives.
 
 ghost use Rattle.std.specs.Prelude.{◌≡◌, ◌+◌, ◌<◌, ◌^◌, ◌⊎◌, [], ◌++◌, length, All, None, Some, IfOk, IfErr, OnOk, OnErr, IsSome};
-ghost use Rattle.std.specs.Thread.{IsSync};
 ghost use Rattle.pn_stream.specs.Faults.{Refuses};
 ghost use Rattle.pn_stream.specs.Lines.{AddsMessage, IsRead, IsWhole};
 ghost use Rattle.pn_stream.specs.MessageLines.{IsMessageLine};
@@ -11,7 +10,6 @@ use crate::lines::WholeLine;
 use crate::next::{check_step, message_of_line, push_image};
 use pn_record::Image;
 use std::alloc::Global;
-use std::marker::Sync;
 use std::thread::{Threads, join};
 
 /// The fewest lines worth a thread.
@@ -32,7 +30,7 @@ pub(crate) fn chunk_count(workers: usize, lines: usize) -> usize {
 /// Reads the messages of the lines, of which the first is due after `position`. While there are two workers or more, one's
 /// chunk is cut off and read in a thread of its own.
 #[cycle(chunks)]
-pub(crate) fn read_chunks<R: Threads + Sync>(
+pub(crate) fn read_chunks<R: Threads>(
     rt: &R,
     alloc: Global,
     lines: &[WholeLine],
@@ -54,7 +52,7 @@ pub(crate) fn read_chunks<R: Threads + Sync>(
         ensures { IsRead position low.entry.now result.images.items result.fault }
     { read_lines(alloc, low, position) };
     let back = || -> ReadRun
-        requires { IsSync R.row × All IsWhole high.now × (next + length high.now < 2 ^ 64) }
+        requires { All IsWhole high.now × (next + length high.now < 2 ^ 64) }
         ensures { IsRead next high.entry.now result.images.items result.fault }
     { read_chunks(rt, alloc, high, next, others) };
     let (earlier, later) = join(rt, front, back);

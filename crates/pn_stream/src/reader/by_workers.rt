@@ -16,14 +16,13 @@ use crate::lines::{WholeLine, take_lines};
 use crate::next::BatchSize;
 use pn_line::Source;
 use pn_record::Image;
-use std::marker::Sync;
 use std::thread::Threads;
 
 #[tactic(auto, using(crate::proofs::Steps::part_within))]
 impl<S: Source + Drop> StreamReader<S> {
     /// The images of the next messages that already arrived, as of `next_ready`. Where there are many, this number of
     /// workers reads them, each some of the lines.
-    pub fn next_ready_by<R: Threads + Sync>(
+    pub fn next_ready_by<R: Threads>(
         &mut self,
         rt: &R,
         workers: usize,
@@ -45,7 +44,7 @@ impl<S: Source + Drop> StreamReader<S> {
     }
 
     // The images of the next messages, and the fault that follows them, if there is one.
-    fn take_by<R: Threads + Sync>(
+    fn take_by<R: Threads>(
         &mut self,
         rt: &R,
         workers: usize,
