@@ -1,8 +1,6 @@
 -- A message of another position is refused for it.
-use Rattle.std.proofs.Common.{refl, subst}
-use Rattle.std.proofs.lemmas.Result.{err_from_is_err_and}
+use Rattle.std.proofs.Common.{refl}
 use Rattle.pn_stream.specs.Faults.{Refuses}
-use Rattle.pn_stream.specs.declared.fault.StreamFault.{StreamFault}
 use Rattle.pn_stream.proofs.Runs.{handed_on}
 use Rattle.pn_stream.proofs.chunks.image_in_step.Goals as goal
 

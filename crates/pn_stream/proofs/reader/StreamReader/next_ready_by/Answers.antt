@@ -2,7 +2,7 @@
 use Rattle.std.proofs.Common.{◌≡◌, length, rules}
 use Rattle.std.proofs.lemmas.Result.{err_from_is_err_and}
 use Rattle.pn_stream.proofs.Runs.{Stands-first}
-use Rattle.pn_stream.proofs.reader.by_workers.StreamReader.next_ready_by.Goals as goal
+use Rattle.pn_stream.proofs.reader.StreamReader.next_ready_by.Goals as goal
 
 pub returns-in_err-settle : goal.returns-in_err-settle
 returns-in_err-settle g c =

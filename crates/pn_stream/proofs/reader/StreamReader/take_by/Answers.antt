@@ -2,7 +2,7 @@
 use Rattle.std.proofs.Common.{sym, arith}
 use Rattle.pn_stream.proofs.ChunkLaws.{no_more_images, read_within}
 use Rattle.pn_stream.proofs.Gathering.{batch_read, read_failure, no_failure}
-use Rattle.pn_stream.proofs.reader.by_workers.StreamReader.take_by.Goals as goal
+use Rattle.pn_stream.proofs.reader.StreamReader.take_by.Goals as goal
 
 pub returns-clause-within : goal.returns-clause-within
 returns-clause-within g c =
