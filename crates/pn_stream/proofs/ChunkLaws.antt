@@ -59,13 +59,13 @@ of_line wanted (line ∷ lines) Failed stops = absurd stops
 
 module _ (position : ℕ) (lines : List (List ℕ)) (images : List Image) where
   -- the position that is due after the images
-  abbrev wanted : ℕ
-  wanted = position + length images + 1
+  abbrev due : ℕ
+  due = position + length images + 1
 
   -- without a fault all lines are read
   pub all_in_step : IsRead position lines images None → InStep position lines images
   all_in_step read =
-      let all : lines ≡ read.front = read.lines_are ∙ ap (λ ls. read.front ++ ls) (none_left wanted read.back read.stops) ∙ append-nil read.front in
+      let all : lines ≡ read.front = read.lines_are ∙ ap (λ ls. read.front ++ ls) (none_left due read.back read.stops) ∙ append-nil read.front in
       subst (λ (ls : List (List ℕ)). InStep position ls images) (sym all) read.in_step
 
   -- no more messages than lines
@@ -78,14 +78,18 @@ module _ (position : ℕ) (lines : List (List ℕ)) (images : List Image) where
   pub fewer_images : (fault : StreamFault) → IsRead position lines images (Some fault) → length images < length lines
   fewer_images fault read =
       let all : length lines ≡ length read.front + length read.back = ap length read.lines_are ∙ length-append read.front read.back in
-      omega (arith, all, InStep-length position read.front images read.in_step, some_left wanted read.back fault read.stops)
+      omega (arith, all, InStep-length position read.front images read.in_step, some_left due read.back fault read.stops)
 
   pub read_within : (fault : Option StreamFault) → position ≤ 10 ^ 15 → IsRead position lines images fault → position + length images ≤ 10 ^ 15
   read_within fault begin read = InStep-within position read.front images begin read.in_step
 
   -- a fault is one of a line
   pub fault_of_line : (fault : StreamFault) → IsRead position lines images (Some fault) → (fault ≢ Read) × (fault ≢ Failed)
-  fault_of_line fault read = of_line wanted read.back fault read.stops
+  fault_of_line fault read = of_line due read.back fault read.stops
+
+-- what is read of the same lines
+pub read_same : (position : ℕ) (shown lines : List (List ℕ)) (images : List Image) (fault : Option StreamFault) → shown ≡ lines → IsRead position shown images fault → IsRead position lines images fault
+read_same position shown lines images fault is read = subst (λ (ls : List (List ℕ)). IsRead position ls images fault) is read
 
 -- ---- one line after another
 

@@ -91,7 +91,7 @@ shown_on P position front part images (Some text) left so shown =
     let told : OnSome (Some so.is_left.0) P = subst (λ (l : Option (List ℕ)). OnSome l P) so.is_left.1 shown in told
 
 -- a text with a newline that was seen has a whole line
-none_shown : (text part rest : List ℕ) (left : Option (List ℕ)) → left ≡ Some rest → text ≡ part ++ rest → HasShown true left → NoLine text → ⊥
+pub none_shown : (text part rest : List ℕ) (left : Option (List ℕ)) → left ≡ Some rest → text ≡ part ++ rest → HasShown true left → NoLine text → ⊥
 none_shown text part rest left is whole shown none =
     let there : Contains rest 10 = subst (λ (l : Option (List ℕ)). IfSome l (λ bytes. Contains bytes 10)) is shown in
     All-contains (λ b. b ≢ 10) text 10 none.unbroken (subst (λ (t : List ℕ). Contains t 10) (sym whole) (Contains-append_right part rest 10 there)) refl

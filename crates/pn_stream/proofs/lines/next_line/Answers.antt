@@ -24,7 +24,7 @@ returns-in_default-clause-part g c =
     IsPart-more _ _ _ _ [] c.requires reads.0 reads.2
 
 pub returns-in_err-copy-clause-stands : goal.returns-in_err-copy-clause-stands
-returns-in_err-copy-clause-stands g c = handed_on c.from_residual-in_err-copy.result Memory _ c.from_residual-in_err-copy.ensures.1 (memory_at_any _ _)
+returns-in_err-copy-clause-stands g c = handed_on c.from_residual-in_err-copy.result Memory _ c.from_residual-in_err-copy.ensures.1 (memory_at_any c.args.line.now.bytes _)
 
 pub returns-clause-next : goal.returns-clause-next
 returns-clause-next g c =
