@@ -3,7 +3,6 @@ use Rattle.std.proofs.Common.{◌≡◌, ◌≢◌, ℕ, suc, ◌+◌, ◌<◌, 
 use Rattle.std.proofs.lemmas.List.{drop_all, take_more}
 use Rattle.std.proofs.lemmas.List.Elements.{All-get_or}
 use Rattle.pn_record.specs.declared.image.Image.{Image}
-use Rattle.pn_stream.specs.MessageLines.{IsMessageLine}
 use Rattle.pn_stream.specs.Streams.{InStep}
 use Rattle.pn_stream.specs.Faults.{Refuses}
 use Rattle.pn_stream.specs.Lines.{IsWhole, AddsMessage, StopsAt, IsRead}

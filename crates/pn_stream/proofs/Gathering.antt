@@ -3,7 +3,7 @@ use Rattle.std.proofs.Common.{◌≡◌, ◌≢◌, ℕ, ◌+◌, ◌<◌, ◌�
 use Rattle.std.proofs.lemmas.List.Elements.{All-head, All-tail}
 use Rattle.pn_line.specs.Line.{LineBufferValue}
 use Rattle.pn_line.specs.LineEnd.{ReadsTo}
-use Rattle.pn_line.specs.Reads.{IsUnbroken, HasShown}
+use Rattle.pn_line.specs.Reads.{HasShown}
 use Rattle.pn_line.specs.Text.{text_of}
 use Rattle.pn_line.specs.declared.reading.BoundedEnd.TheVariants.{Newline}
 use Rattle.pn_line.proofs.TextLaws.{text_of-nil, text_of-append, text_of-push}
