@@ -38,6 +38,23 @@ fn plain_end_by_8(bytes: &[u8], from: usize) -> usize
         }
         end += 8;
     }
+    plain_end_by_4(bytes, end)
+}
+
+// The same, four bytes at a time.
+fn plain_end_by_4(bytes: &[u8], from: usize) -> usize
+    requires { from ≤ length bytes.now }
+    ensures value { result ≡ from + prefix_len is_plain (drop from bytes.now) }
+    ensures within { result ≤ length bytes.now }
+{
+    let mut end = from;
+    while bytes.len() - end >= 4 {
+        let stops = stops_of_4(u8x4::from_slice(&bytes[end..]));
+        if stops != 0 {
+            return end + stops.trailing_zeros() as usize;
+        }
+        end += 4;
+    }
     plain_end_by_1(bytes, end)
 }
 
@@ -71,4 +88,13 @@ fn stops_of_8(bytes: u8x8) -> u64
     (bytes.simd_eq(u8x8::splat(b'"'))
         | bytes.simd_eq(u8x8::splat(b'\\'))
         | bytes.simd_lt(u8x8::splat(0x20))).to_bitmask()
+}
+
+#[inline(always)]
+fn stops_of_4(bytes: u8x4) -> u64
+    ensures { result ≡ mask_l (map is_stop bytes) }
+{
+    (bytes.simd_eq(u8x4::splat(b'"'))
+        | bytes.simd_eq(u8x4::splat(b'\\'))
+        | bytes.simd_lt(u8x4::splat(0x20))).to_bitmask()
 }
