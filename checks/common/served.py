@@ -165,6 +165,6 @@ def seconds_of(act: Callable[[], object]) -> float:
 
 
 def in_time(what: str, took: float, least: float, idle: float) -> None:
-    """Fails where something took more than so many seconds, and many times as long as an idle wait."""
+    """Fails where something took longer than these seconds, and many times as long as an idle wait."""
     most = max(least, TIMES * idle)
     same(f"{what}: whether {took:.2f} s are at most {most:.2f}", took <= most, True)

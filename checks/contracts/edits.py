@@ -224,7 +224,7 @@ def less_answers(edits: list[Edit], said: str, dropped: Texts) -> Texts:
 
 
 def say_witnesses(edits: list[Edit]) -> None:
-    """Counts the edits that may be refused for want of a witness."""
+    """Counts the edits that may be refused since no witness was found."""
     asked = [it for it in edits if it.existential]
     otherwise, tried = sum(it.is_refused_otherwise for it in asked), sum(bool(it.told.witness) for it in asked)
     nothing = sum(it.shows_nothing() for it in asked)

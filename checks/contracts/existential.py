@@ -1,4 +1,4 @@
-"""Which contracts say of some value only that there is one. A wrong body under such a clause may be refused for want of a witness."""
+"""Which contracts say of some value only that there is one. A wrong body under such a clause may be refused since no witness was found."""
 import functools
 import glob
 import os

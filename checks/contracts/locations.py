@@ -73,7 +73,7 @@ def location_at(crate: str, path: str, text: str, at: int) -> Location | None:
 
 
 def owner_of(head: str) -> tuple[str, bool]:
-    """The word by which a check names what an impl has, whose head this is behind `impl`, and whether it is of no trait."""
+    """The word by which a check names what an impl has, whose head this is after `impl`, and whether it is of no trait."""
     parameters: set[str] = set()
     if head.startswith("<"):
         bound, head = cut(head[1:], ">")
@@ -98,7 +98,7 @@ def shown(text: str, parameters: set[str]) -> tuple[str, list[str]]:
 
 
 def cut(text: str, end: str) -> tuple[str, str]:
-    """A text up to the first such end that nothing before it opened, and what is behind it."""
+    """A text up to the first such end that nothing before it opened, and what comes after it."""
     depth = 0
     for at, letter in enumerate(text):
         if letter == end and depth == 0:

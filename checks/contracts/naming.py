@@ -13,7 +13,7 @@ import unittest
 from common.tried import parser_of
 from contracts.locations import FUNCTION, SIGNATURE_END, Location, is_at, location_at, owner_of, source, sources_of
 
-# The heads of impls, each behind its word `impl`, and how a check names what they have.
+# The heads of impls, each after its word `impl`, and how a check names what they have.
 HEADS = {
     " KeyText": "KeyText",
     "<K: Ord + Dup, C: Join> Table<K, C>": "Table",

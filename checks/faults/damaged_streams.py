@@ -28,7 +28,7 @@ STREAM = b"".join([message(1, "k", 0, "x"), message(2, "l", 0, "x"), message(3, 
 
 
 def copied(client: Client, images: list[Json]) -> list[str]:
-    """The copy of a region that serves, once it has taken so many messages."""
+    """The copy of a region that serves, once it has taken this number of messages."""
     last = time.monotonic() + SECONDS
     while time.monotonic() < last:
         reply = client.ask({"do": "copy", "need": {"east": len(images)} if images else {}, "tablet": 0})

@@ -132,7 +132,7 @@ def second_session_fault(program: str, library: str, folder: str, number: int, s
 
 
 def calls(name: str, find_fault: FaultOfCall, count: int, size: int) -> Cases:
-    """So many calls that fail in turn, where each takes so many bytes."""
+    """This number of calls that fail in turn, where each takes this number of bytes."""
     texts = ((f"call {number}", b"%d" % number) for number in range(1, count + 1))
     return f"{name} of {size}", lambda number: find_fault(int(number), size), texts
 

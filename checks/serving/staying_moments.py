@@ -26,7 +26,7 @@ def write_rounds(is_over: Callable[[], bool], path: str) -> None:
 
 
 def versions_after(count: int) -> dict[str, int]:
-    """The version of each key after so many messages."""
+    """The version of each key after this number of messages."""
     return {f"k{key:04}": (count - 1 - key) // KEYS for key in range(min(KEYS, count))}
 
 
