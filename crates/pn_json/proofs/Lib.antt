@@ -3,4 +3,5 @@ pub mod Inverses
 pub mod LookUps
 pub mod MembersByName
 pub mod Names
+pub mod PlainRuns
 pub mod TokenLists

@@ -1,13 +1,13 @@
 //! JSON added to what a buffer holds that has room for it. Nothing is asked of memory where it has.
 
-ghost use Rattle.std.specs.Prelude.{◌≡◌, ◌+◌, ◌<◌, ◌≤◌, decimal, drop, length};
+ghost use Rattle.std.specs.Prelude.{◌≡◌, ◌∷◌, ◌<◌, [], decimal};
 ghost use Rattle.std.specs.Char.{digit_char};
 ghost use Rattle.std.specs.Fmt.{signed_decimal};
-ghost use Rattle.std.specs.List.{prefix_len};
 ghost use Rattle.json.specs.Print.{escape, escape_byte, escape_letter, quoted};
-ghost use Rattle.json.specs.Run.{is_plain};
 ghost use Rattle.serde_json.specs.Written.{comma_if};
 ghost use Rattle.pn_json.specs.AppendedText.{AppendsText};
+
+use crate::plain::plain_end;
 
 /// Adds a text as it is.
 pub fn append_text(out: &mut Vec<u8>, text: &str)
@@ -20,16 +20,19 @@ pub fn append_text(out: &mut Vec<u8>, text: &str)
 pub fn append_bytes(out: &mut Vec<u8>, bytes: &[u8])
     ensures { AppendsText out.old out.new bytes.now }
 {
-    let _ = out.extend_from_slice(bytes);
+    match bytes {
+        [byte] => append_byte(out, *byte),
+        _ => append_slice(out, bytes),
+    }
 }
 
 /// Adds a text as a JSON string.
 pub fn append_string(out: &mut Vec<u8>, text: &str)
     ensures { AppendsText out.old out.new (quoted text.now) }
 {
-    append_bytes(out, b"\"");
+    append_byte(out, b'"');
     append_escaped(out, text.as_bytes());
-    append_bytes(out, b"\"");
+    append_byte(out, b'"');
 }
 
 /// Adds a comma, unless what comes next is the first.
@@ -37,7 +40,7 @@ pub fn append_comma(out: &mut Vec<u8>, later: bool)
     ensures { AppendsText out.old out.new (comma_if later) }
 {
     if later {
-        append_bytes(out, b",");
+        append_byte(out, b',');
     }
 }
 
@@ -57,6 +60,19 @@ pub fn append_signed_number(out: &mut Vec<u8>, number: i64)
     append_bytes(out, buffer.format(number).as_bytes());
 }
 
+// Adds one byte, which takes fewer steps than a slice of one.
+fn append_byte(out: &mut Vec<u8>, byte: u8)
+    ensures { AppendsText out.old out.new (byte ∷ []) }
+{
+    let _ = out.push(byte);
+}
+
+fn append_slice(out: &mut Vec<u8>, bytes: &[u8])
+    ensures { AppendsText out.old out.new bytes.now }
+{
+    let _ = out.extend_from_slice(bytes);
+}
+
 // Adds bytes of a string, with an escape for each that needs one.
 fn append_escaped(out: &mut Vec<u8>, bytes: &[u8])
     ensures { AppendsText out.old out.new (escape bytes.now) }
@@ -64,7 +80,7 @@ fn append_escaped(out: &mut Vec<u8>, bytes: &[u8])
     let mut from = 0;
     'runs: while from < bytes.len() {
         let end = plain_end(bytes, from);
-        append_bytes(out, &bytes[from..end]);
+        append_slice(out, &bytes[from..end]);
         if end == bytes.len() {
             return;
         }
@@ -73,33 +89,20 @@ fn append_escaped(out: &mut Vec<u8>, bytes: &[u8])
     }
 }
 
-// The first byte from an index on that needs an escape, or the end.
-fn plain_end(bytes: &[u8], from: usize) -> usize
-    requires { from ≤ length bytes.now }
-    ensures value { result ≡ from + prefix_len is_plain (drop from bytes.now) }
-    ensures within { result ≤ length bytes.now }
-{
-    let mut end = from;
-    while end < bytes.len() && bytes[end] != b'"' && bytes[end] != b'\\' && bytes[end] >= 0x20 {
-        end += 1;
-    }
-    end
-}
-
 // Adds what stands for a byte in a string.
 fn append_escape(out: &mut Vec<u8>, byte: u8)
     ensures { AppendsText out.old out.new (escape_byte byte) }
 {
     let letter = letter_of(byte);
     if letter > 0 {
-        append_bytes(out, &[b'\\', letter]);
+        append_slice(out, &[b'\\', letter]);
     } else if byte < 0x20 {
-        append_bytes(
+        append_slice(
             out,
             &[b'\\', b'u', b'0', b'0', hex(byte / 16), hex(byte % 16)],
         );
     } else {
-        append_bytes(out, &[byte]);
+        append_byte(out, byte);
     }
 }
 

@@ -2,7 +2,7 @@
 use Rattle.std.proofs.Common.{◌≡◌, ◌+◌, ◌-◌, ◌≤◌, length, drop}
 use Rattle.std.specs.List.{prefix_len}
 use Rattle.json.specs.Run.{is_plain}
-use Rattle.pn_json.proofs.appending.plain_end.Given as goal
+use Rattle.pn_json.proofs.plain.plain_end_by_1.Given as goal
 
 abbrev pub invariant-loop-end : goal.invariant-loop-end
 invariant-loop-end l =
