@@ -36,6 +36,7 @@ use crate::server::events::run_rounds;
 use crate::server::mailboxes::StreamMailboxes;
 use crate::server::session_threads::{StartedSessions, start_sessions};
 use crate::server::stream_threads::{StartedStreams, StreamThread, join_streams, start_streams};
+use crate::server::writer_input::workers_of_each;
 pub use counter::Counter;
 pub use events::take_commands;
 pub use fault::ServeFault;
@@ -199,7 +200,8 @@ where
     ensures ends { EndsReading S.left streams.items region.old.live region.new.live result }
 {
     let (rounds, faults) = (listener.round_counter(), listener.fault_log());
-    let started = start_streams(rt, alloc, streams, rounds, faults)?;
+    let own = workers_of_each(workers, streams.len());
+    let started = start_streams(rt, alloc, streams, own, rounds, faults)?;
     let StartedStreams { mailboxes, threads } = started;
     let mut mailboxes = mailboxes;
     let StartedSessions {

@@ -1,4 +1,6 @@
+pub mod ChunkLaws
 pub mod FirstMessage
+pub mod Gathering
 pub mod Published
 pub mod Runs
 pub mod SameBatch

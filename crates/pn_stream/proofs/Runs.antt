@@ -14,7 +14,7 @@ use Rattle.pn_stream.specs.declared.next.NextMessage.{NextMessage}
 use Rattle.pn_stream.specs.declared.fault.StreamFault.TheVariants.{Memory}
 
 -- one message more at the end
-InStep-push : (position : ℕ) (lines : List (List ℕ)) (images : List Image) (line : List ℕ) (image : Image) (wanted : ℕ) → wanted ≡ position + length images + 1
+pub InStep-push : (position : ℕ) (lines : List (List ℕ)) (images : List Image) (line : List ℕ) (image : Image) (wanted : ℕ) → wanted ≡ position + length images + 1
     → InStep position lines images → IsUnbroken line → IsMessageLine line (wanted, image) → InStep position (lines ++ line ∷ []) (images ++ image ∷ [])
 InStep-push position [] [] line image wanted is run unbroken said =
     let here : wanted ≡ position + 1 = omega (arith, is) in
@@ -36,7 +36,7 @@ Run-push position text images rest line more image wanted is run first said = re
       ∙ ap (λ t. t ++ more) (sym (text_of-push run.lines line));
 }
 
-InStep-append : (position next : ℕ) (lines others : List (List ℕ)) (one other : List Image) → next ≡ position + length one → InStep position lines one → InStep next others other → InStep position (lines ++ others) (one ++ other)
+pub InStep-append : (position next : ℕ) (lines others : List (List ℕ)) (one other : List Image) → next ≡ position + length one → InStep position lines one → InStep next others other → InStep position (lines ++ others) (one ++ other)
 InStep-append position next [] others [] other is first second =
     let here : next ≡ position = omega (arith, is) in subst (λ (n : ℕ). InStep n others other) here second
 InStep-append position next [] others (image ∷ one) other is first second = absurd first
@@ -91,7 +91,7 @@ shown_on P position front part images (Some text) left so shown =
     let told : OnSome (Some so.is_left.0) P = subst (λ (l : Option (List ℕ)). OnSome l P) so.is_left.1 shown in told
 
 -- a text with a newline that was seen has a whole line
-none_shown : (text part rest : List ℕ) (left : Option (List ℕ)) → left ≡ Some rest → text ≡ part ++ rest → HasShown true left → NoLine text → ⊥
+pub none_shown : (text part rest : List ℕ) (left : Option (List ℕ)) → left ≡ Some rest → text ≡ part ++ rest → HasShown true left → NoLine text → ⊥
 none_shown text part rest left is whole shown none =
     let there : Contains rest 10 = subst (λ (l : Option (List ℕ)). IfSome l (λ bytes. Contains bytes 10)) is shown in
     All-contains (λ b. b ≢ 10) text 10 none.unbroken (subst (λ (t : List ℕ). Contains t 10) (sym whole) (Contains-append_right part rest 10 there)) refl

@@ -74,7 +74,7 @@ stops max count position text (Some (OutOfStep named got)) part left of_text end
     not_another line wanted got image other said (subst (λ (l : List ℕ). IsMessageLine l (got, other)) same stray) (λ e. ends.1.refused.1 (e ∙ is))
 
 -- a text that begins with a line begins with it
-begins : (text line : List ℕ) (lines : List (List ℕ)) (rest : List ℕ) → IsUnbroken line → text ≡ text_of (line ∷ lines) ++ rest → FirstLine text line (text_of lines ++ rest)
+pub begins : (text line : List ℕ) (lines : List (List ℕ)) (rest : List ℕ) → IsUnbroken line → text ≡ text_of (line ∷ lines) ++ rest → FirstLine text line (text_of lines ++ rest)
 begins text line lines rest unbroken is = record {
   unbroken = unbroken;
   text_is = is ∙ ap (λ t. t ++ rest) (text_of-cons line lines) ∙ append_assoc line (10 ∷ text_of lines) rest;

@@ -41,8 +41,8 @@ part_from new bytes is short unbroken =
     record { line_is = is ∙ ap so_far (sym front); part = rw front (record { unbroken = unbroken; short = fits }) }
 
 -- what a part grows to is a part
-pub IsPart-more : (line new : LineBufferValue) (left leaves : Option (List ℕ)) → IsPart line → Takes line new left leaves [] → new.count ≤ 65536 → IsPart new
-IsPart-more line new left leaves is takes short =
+pub IsPart-more : (line new : LineBufferValue) (left leaves : Option (List ℕ)) (after : List ℕ) → IsPart line → Takes line new left leaves after → new.count ≤ 65536 → IsPart new
+IsPart-more line new left leaves after is takes short =
     let grown : new ≡ so_far (line.bytes ++ takes.taken) = takes.line ∙ ap (λ (l : LineBufferValue). with_bytes l takes.taken) is.line_is ∙ so_far-append line.bytes takes.taken in
     part_from new (line.bytes ++ takes.taken) grown short (All-append (λ b. b ≢ 10) line.bytes takes.taken is.part.unbroken takes.unbroken)
 

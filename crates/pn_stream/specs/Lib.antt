@@ -2,6 +2,7 @@ pub mod Batches
 pub mod Brokers
 pub mod Calls
 pub mod Faults
+pub mod Lines
 pub mod MessageLines
 pub mod Messages
 pub mod Positions

@@ -1,10 +1,11 @@
 //! The laws of streams, as contracts. A call does nothing.
 
-ghost use Rattle.std.specs.Prelude.{◌≡◌, ℕ, ◌+◌, pred, List, ◌++◌, length, Option, Some, None, Ok, IfSome};
+ghost use Rattle.std.specs.Prelude.{◌≡◌, ℕ, ◌+◌, pred, List, ◌++◌, length, All, Option, Some, None, Ok, IfSome};
 ghost use Rattle.pn_record.specs.declared.image.Image.{Image};
 ghost use Rattle.pn_stream.specs.Batches.{Stream, Batch};
 ghost use Rattle.pn_stream.specs.Calls.{IsCall};
 ghost use Rattle.pn_stream.specs.Faults.{IsOfText};
+ghost use Rattle.pn_stream.specs.Lines.{IsRead, IsWhole};
 ghost use Rattle.pn_stream.specs.MessageLines.{IsMessageLine};
 ghost use Rattle.pn_stream.specs.Messages.{Message};
 ghost use Rattle.pn_stream.specs.Positions.{DeliveryValue};
@@ -42,6 +43,23 @@ pub fn two_calls_are_one()
         → Batch least most position text one None part left
         → IfSome left (λ rest. Batch fewest max (position + length one) (part ++ rest) other fault piece leaves)
         → Batch (length one + fewest) (length one + max) position text (one ++ other) fault piece leaves }
+{}
+
+/// What is read of lines and then of the lines after them, at the positions that follow theirs, is what is read of all of
+/// them; and the fault at one of the earlier lines hides what is read of the later ones.
+pub fn chunks_are_read_as_one()
+    ensures follow { (position : ℕ) (low high : List (List ℕ)) (one other : List Image) (fault : Option StreamFault)
+        → IsRead position low one None → IsRead (position + length low) high other fault
+        → IsRead position (low ++ high) (one ++ other) fault }
+    ensures hidden { (position : ℕ) (low high : List (List ℕ)) (one : List Image) (fault : StreamFault)
+        → IsRead position low one (Some fault) → IsRead position (low ++ high) one (Some fault) }
+{}
+
+/// Whole lines are read in one way, unless memory runs out: in how many chunks makes no difference.
+pub fn chunks_make_no_difference()
+    ensures { (position : ℕ) (lines : List (List ℕ)) (one other : List Image) (fault next : Option StreamFault)
+        → All IsWhole lines → IsRead position lines one fault → IsRead position lines other next
+        → IsOfText fault → IsOfText next → (one ≡ other) × (fault ≡ next) }
 {}
 
 /// What a writer's first message and a call after it give is what one call gives that begins just before that message:

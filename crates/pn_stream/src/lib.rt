@@ -2,10 +2,12 @@
 //! memory.
 #![tactic(auto)]
 
+mod chunks;
 mod delivery;
 mod fault;
 mod first;
 pub mod laws;
+mod lines;
 mod message;
 mod next;
 mod reader;

@@ -27,7 +27,7 @@ pub(crate) struct BatchSize {
 
 impl BatchSize {
     // Whether to read on after `count` messages: they are too few, or a further newline was seen and the most is not reached.
-    fn wants(self, count: usize, more: bool) -> bool
+    pub(crate) fn wants(self, count: usize, more: bool) -> bool
         requires { self.least ≤ self.most }
         ensures most { IsTrue result → count < self.most }
         ensures few { IsTrue result → more ≡ false → count < self.least }
@@ -113,7 +113,7 @@ fn new_line(alloc: Global) -> Result<LineBuffer, NoMemory>
 }
 
 // Adds an image. An error leaves the images as they were.
-fn push_image(images: &mut Vec<Image>, image: Image) -> Result<(), NoMemory>
+pub(crate) fn push_image(images: &mut Vec<Image>, image: Image) -> Result<(), NoMemory>
     ensures ok { OnOk result (images.new.items ≡ images.old.items ++ image ∷ []) }
     ensures err { OnErr result (images.new.items ≡ images.old.items) }
 {
@@ -150,7 +150,7 @@ fn next_in_step<S: Source>(
 }
 
 // Whether the message at `at` has the position `wanted`.
-fn check_step(wanted: u64, at: u64) -> Result<(), StreamFault>
+pub(crate) fn check_step(wanted: u64, at: u64) -> Result<(), StreamFault>
     ensures ok { OnOk result (at ≡ wanted) }
     ensures err { IfErr result (λ fault. (fault ≡ StreamFault.OutOfStep wanted at) × (at ≢ wanted)) }
 {
@@ -192,7 +192,7 @@ pub(crate) fn next_message<S: Source>(
 }
 
 // Whether a further newline was seen after the line, if a whole one was read.
-fn whole_line(end: io::Result<BoundedEnd>) -> Result<Option<bool>, StreamFault>
+pub(crate) fn whole_line(end: io::Result<BoundedEnd>) -> Result<Option<bool>, StreamFault>
     ensures { result ≡ line_ended end }
 {
     match end {
@@ -204,7 +204,11 @@ fn whole_line(end: io::Result<BoundedEnd>) -> Result<Option<bool>, StreamFault>
 }
 
 // The message of a line, or why it is none where that of `wanted` is due.
-fn message_of_line(alloc: Global, line: &[u8], wanted: u64) -> Result<(u64, Image), StreamFault>
+pub(crate) fn message_of_line(
+    alloc: Global,
+    line: &[u8],
+    wanted: u64,
+) -> Result<(u64, Image), StreamFault>
     ensures ok { IfOk result (λ message. IsMessageLine line.now message) }
     ensures err { IfErr result (λ fault. Refuses wanted line.now fault) }
     ensures any_step { IfErr result (λ fault. (named got : ℕ) → fault ≢ StreamFault.OutOfStep named got) }

@@ -19,6 +19,8 @@ use pn_record::Image;
 use std::alloc::Global;
 use std::marker::Model;
 
+mod by_workers;
+
 /// The most messages that one call can be asked for.
 pub const MAX_MESSAGES: usize = 1_000;
 

@@ -14,6 +14,7 @@ use pn_join::StreamName;
 use pn_line::Source;
 use std::alloc::Global;
 use std::sync::Wait;
+use std::thread::Threads;
 
 /// The end of a stream: its name, and the position of its last message.
 #[derive(Drop)]
@@ -24,7 +25,7 @@ pub(crate) struct StreamEnd {
 
 /// Reports a stream from this input on, from one writer after another, until there is none, or until the mailbox is closed.
 /// The error is the stream's name.
-pub(crate) fn report_stream<R: Wait, S: Source + Drop, O: Origin<S> + Drop>(
+pub(crate) fn report_stream<R: Threads + Wait, S: Source + Drop, O: Origin<S> + Drop>(
     rt: &R,
     alloc: Global,
     input: WriterInput<S>,
@@ -61,7 +62,7 @@ fn stop_reading<S: Source + Drop, O: Origin<S>>(input: WriterInput<S>, origin: &
 }
 
 // Reports the messages of a writer. Answers how its input ended, or None where the mailbox takes nothing more.
-fn read_writer<R: Wait, S: Source + Drop, O: Origin<S>>(
+fn read_writer<R: Threads + Wait, S: Source + Drop, O: Origin<S>>(
     rt: &R,
     input: &mut WriterInput<S>,
     origin: &mut O,
@@ -72,7 +73,7 @@ fn read_writer<R: Wait, S: Source + Drop, O: Origin<S>>(
     ensures name { input.new.reader.name ≡ input.old.reader.name }
 {
     for _ in rt.forever() {
-        match input.next() {
+        match input.next(rt) {
             Given::Messages(messages) => {
                 if !reporter.leave(rt, Report::Messages(messages)) {
                     return None;
@@ -118,10 +119,15 @@ fn what_comes_next<S: Source + Drop, O: Origin<S>>(
     ensures before { IfSome result (λ next. next.before ≡ None) }
     ensures last { IfSome result (λ next. next.last ≡ min input.last LAST_POSITION) }
 {
-    let WriterInput { reader, last, .. } = input;
+    let WriterInput {
+        reader,
+        last,
+        workers,
+        ..
+    } = input;
     let name = *reader.name();
     origin.end_writer(reader.into_source(), end, last);
-    next_input(alloc, name, last, origin)
+    next_input(alloc, name, last, workers, origin)
 }
 
 /// The input of the next writer of a stream, all of which was handed on up to `last`. None where the stream has ended.
@@ -129,6 +135,7 @@ pub(crate) fn next_input<S: Source + Drop, O: Origin<S>>(
     alloc: Global,
     name: StreamName,
     last: u64,
+    workers: usize,
     origin: &mut O,
 ) -> Option<WriterInput<S>>
     ensures goes_on { IsSome result → O.may_go_on }
@@ -137,7 +144,7 @@ pub(crate) fn next_input<S: Source + Drop, O: Origin<S>>(
     ensures last { IfSome result (λ next. next.last ≡ min last LAST_POSITION) }
 {
     match origin.next_writer(last) {
-        Some(source) => Some(WriterInput::begin(alloc, name, last, source)),
+        Some(source) => Some(WriterInput::begin(alloc, name, last, source, workers)),
         None => None,
     }
 }

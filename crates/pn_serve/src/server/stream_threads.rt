@@ -68,11 +68,13 @@ impl<S: Source + Drop> StartedStreams<S> {
     }
 }
 
-/// Starts to read streams, each in its own thread. A refused thread, or out of memory, ends the reading.
+/// Starts to read streams, each in its own thread, which shares the lines that are at hand among so many workers. A refused
+/// thread, or out of memory, ends the reading.
 pub(crate) fn start_streams<R, S>(
     rt: &R,
     alloc: Global,
     streams: Vec<StreamReader<S>>,
+    workers: usize,
     rounds: Option<Arc<Counter>>,
     faults: Option<Arc<FaultLog>>,
 ) -> Result<StartedStreams<S>, ServeFault>
@@ -88,7 +90,7 @@ where
         return Err(ServeFault::Start);
     };
     for stream in streams {
-        if let Err(_) = start_stream(rt, alloc, &mut started, stream, &faults) {
+        if let Err(_) = start_stream(rt, alloc, &mut started, stream, workers, &faults) {
             started.mailboxes.close(rt);
             return Err(ServeFault::Start);
         }
@@ -101,6 +103,7 @@ fn start_stream<R, S>(
     alloc: Global,
     started: &mut StartedStreams<S>,
     stream: StreamReader<S>,
+    workers: usize,
     faults: &Option<Arc<FaultLog>>,
 ) -> Result<(), AllocError>
 where
@@ -122,7 +125,7 @@ where
     };
     let promise = SaysWhetherWhole(Snapshot::of(&stream));
     let thread = thread::spawn_with(rt, promise, move || {
-        report_to_end(&host, alloc, stream, origin, &reporter)
+        report_to_end(&host, alloc, stream, workers, origin, &reporter)
     })?;
     started.threads.push(thread)?;
     Ok(())
@@ -137,16 +140,23 @@ fn share(faults: &Option<Arc<FaultLog>>) -> Result<Option<Arc<FaultLog>>, AllocE
 }
 
 // Reports a stream to its end, or until the mailbox is closed. The error is the stream's name.
-fn report_to_end<R: Wait + Copy, S: Source + Drop>(
+fn report_to_end<R: Threads + Wait + Copy, S: Source + Drop>(
     rt: &R,
     alloc: Global,
     stream: StreamReader<S>,
+    workers: usize,
     origin: OneWriter<R>,
     reporter: &Reporter,
 ) -> Result<StreamEnd, StreamName>
     ensures { EndsStream S.left stream result }
 {
-    report_stream(rt, alloc, WriterInput::of(stream), origin, reporter)
+    report_stream(
+        rt,
+        alloc,
+        WriterInput::of(stream, workers),
+        origin,
+        reporter,
+    )
 }
 
 /// Waits for the threads of streams. The error is the first stream that was not read to its end, or that the marks fall

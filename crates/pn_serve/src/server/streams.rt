@@ -14,6 +14,7 @@ use crate::server::events::run_rounds;
 use crate::server::mailboxes::{AtFault, Reporter, StreamMailboxes, Wakeup};
 use crate::server::reporting::{next_input, report_stream};
 use crate::server::reports::Report;
+use crate::server::writer_input::workers_of_each;
 use crate::server::writers::{Origin, Stream};
 use pn_join::Marks;
 use pn_line::Source;
@@ -56,18 +57,21 @@ where
     ensures reads { ReadsBesides (map (λ stream. stream.name) streams.items) live.old live.new result }
     ensures same { tablets_in live.new ≡ tablets_in live.old }
 {
-    let mut mailboxes = start_threads::<R, S, O>(rt, alloc, live.marks(), streams, watchers)?;
+    let own = workers_of_each(workers, streams.len());
+    let mut mailboxes = start_threads::<R, S, O>(rt, alloc, live.marks(), streams, own, watchers)?;
     let read = run_rounds(rt, alloc, live, workers, &mut mailboxes, &watchers.controls);
     mailboxes.close(rt);
     read
 }
 
-// Starts to read streams, each in its own thread, after their marks. A refused thread, or out of memory, ends the reading.
+// Starts to read streams after their marks, each in its own thread, which shares the lines that are at hand among so many
+// workers. A refused thread, or out of memory, ends the reading.
 fn start_threads<R, S, O>(
     rt: &R,
     alloc: Global,
     marks: &Marks,
     streams: Vec<Stream<O>>,
+    workers: usize,
     watchers: &Watchers,
 ) -> Result<StreamMailboxes, ServeFault>
 where
@@ -82,7 +86,7 @@ where
         return Err(ServeFault::Start);
     };
     for stream in streams {
-        if let Err(_) = start_thread::<R, S, O>(rt, alloc, marks, &mut mailboxes, stream) {
+        if let Err(_) = start_thread::<R, S, O>(rt, alloc, marks, &mut mailboxes, stream, workers) {
             mailboxes.close(rt);
             return Err(ServeFault::Start);
         }
@@ -124,6 +128,7 @@ fn start_thread<R, S, O>(
     marks: &Marks,
     mailboxes: &mut StreamMailboxes,
     stream: Stream<O>,
+    workers: usize,
 ) -> Result<(), AllocError>
 where
     R: Threads + Wait + Copy + Send + 'static,
@@ -142,21 +147,22 @@ where
     let reporter = mailboxes.add(alloc, name, taken)?;
     let host = *rt;
     thread::spawn(rt, move || {
-        report_writers::<R, S, O>(&host, alloc, after, origin, &reporter)
+        report_writers::<R, S, O>(&host, alloc, after, workers, origin, &reporter)
     })?;
     Ok(())
 }
 
 // Reports a stream from its first writer on, of which all up to this position was taken before.
-fn report_writers<R: Wait, S: Source + Drop, O: Origin<S> + Drop>(
+fn report_writers<R: Threads + Wait, S: Source + Drop, O: Origin<S> + Drop>(
     rt: &R,
     alloc: Global,
     after: u64,
+    workers: usize,
     origin: O,
     reporter: &Reporter,
 ) {
     let mut origin = origin;
-    match next_input::<S, O>(alloc, reporter.name, after, &mut origin) {
+    match next_input::<S, O>(alloc, reporter.name, after, workers, &mut origin) {
         Some(input) => {
             let _ = report_stream(rt, alloc, input, origin, reporter);
         }

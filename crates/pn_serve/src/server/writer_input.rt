@@ -10,14 +10,21 @@ use pn_join::{LAST_POSITION, StreamName};
 use pn_line::Source;
 use pn_stream::{ResumeFault, StreamReader};
 use std::alloc::Global;
+use std::thread::Threads;
 
-/// A writer's input, the position before its first message once that is known, and the last position of the stream that
-/// was handed on.
+/// A writer's input, the position before its first message once that is known, the last position of the stream that was
+/// handed on, and how many threads read its lines where there are many.
 #[derive(Drop)]
 pub(crate) struct WriterInput<S: Source + Drop> {
     pub(crate) reader: StreamReader<S>,
     pub(crate) before: Option<u64>,
     pub(crate) last: u64,
+    pub(crate) workers: usize,
+}
+
+/// How many workers read the lines of one of several streams.
+pub(crate) fn workers_of_each(workers: usize, streams: usize) -> usize {
+    workers / streams.max(1)
 }
 
 /// What a writer gives next.
@@ -31,7 +38,7 @@ pub(crate) enum Given {
 
 impl<S: Source + Drop> WriterInput<S> {
     /// The input of a reader, which gives the messages after its position.
-    pub(crate) fn of(reader: StreamReader<S>) -> WriterInput<S>
+    pub(crate) fn of(reader: StreamReader<S>, workers: usize) -> WriterInput<S>
         ensures reader { result.reader ≡ reader }
         ensures before { result.before ≡ Some reader.position }
     {
@@ -40,12 +47,19 @@ impl<S: Source + Drop> WriterInput<S> {
             reader,
             before: Some(position),
             last: position,
+            workers,
         }
     }
 
     /// The input of a writer of the stream, of which all messages up to `last` were handed on. Its first message may have
     /// any position up to one past that.
-    pub(crate) fn begin(alloc: Global, name: StreamName, last: u64, source: S) -> WriterInput<S>
+    pub(crate) fn begin(
+        alloc: Global,
+        name: StreamName,
+        last: u64,
+        source: S,
+        workers: usize,
+    ) -> WriterInput<S>
         ensures reader { IsReaderFrom name (min last LAST_POSITION) result.reader }
         ensures before { result.before ≡ None }
         ensures last { result.last ≡ min last LAST_POSITION }
@@ -55,6 +69,7 @@ impl<S: Source + Drop> WriterInput<S> {
             reader: StreamReader::new(alloc, name, last, source),
             before: None,
             last,
+            workers,
         }
     }
 
@@ -66,25 +81,25 @@ impl<S: Source + Drop> WriterInput<S> {
     }
 
     /// Waits for the next message, and gives it with those at hand, or says how the input ended.
-    pub(crate) fn next(&mut self) -> Given
+    pub(crate) fn next<R: Threads>(&mut self, rt: &R) -> Given
         ensures gives { Gives S.left self.old.before self.old.reader result self.new.before self.new.reader }
         ensures name { self.new.reader.name ≡ self.old.reader.name }
         ensures last { self.new.last ≡ self.old.last }
     {
         match self.before {
-            Some(_) => self.next_messages(),
+            Some(_) => self.next_messages(rt),
             None => self.first_message(),
         }
     }
 
     // The next messages after those before.
-    fn next_messages(&mut self) -> Given
+    fn next_messages<R: Threads>(&mut self, rt: &R) -> Given
         requires { IsSome self.old.before }
         ensures gives { Gives S.left self.old.before self.old.reader result self.new.before self.new.reader }
         ensures name { self.new.reader.name ≡ self.old.reader.name }
         ensures last { self.new.last ≡ self.old.last }
     {
-        match self.reader.next_ready(MAX_MESSAGES) {
+        match self.reader.next_ready_by(rt, self.workers, MAX_MESSAGES) {
             Ok(delivery) if delivery.images().is_empty() => Given::Ended(WriterEnd::End),
             Ok(delivery) => Given::Messages(Messages { delivery }),
             Err(fault) => Given::Ended(self.fault(ResumeFault::Stream(fault))),

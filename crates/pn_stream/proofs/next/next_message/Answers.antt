@@ -1,5 +1,5 @@
 -- Where the line's end was met, the line is the first of the text; and where not, none is.
-use Rattle.std.proofs.Common.{Ok, sym, ap, ◌∙◌}
+use Rattle.std.proofs.Common.{Ok, [], sym, ap, ◌∙◌}
 use Rattle.pn_line.specs.LineEnd.{ReadsTo}
 use Rattle.pn_stream.proofs.Runs.{handed_on}
 use Rattle.pn_stream.proofs.Steps.{fault_stands, input_ended, newline_read, next_end, no_line, next_line, next_ok, next_err, part-none, IsPart-more}
@@ -19,7 +19,7 @@ pub returns-in_default-clause-part : goal.returns-in_default-clause-part
 returns-in_default-clause-part g c =
     let ended = sym c.in_ok-more.ensures ∙ ap Ok (no_line _ c.in_default.not-Some) in
     let reads = input_ended c.read_bounded_line.result (λ end. ReadsTo end c.args.line.now c.read_bounded_line.new.line _ _) ended c.read_bounded_line.ensures.takes in
-    IsPart-more _ _ _ _ c.requires reads.0 reads.2
+    IsPart-more _ _ _ _ [] c.requires reads.0 reads.2
 
 pub returns-in_err-at-clause-stands : goal.returns-in_err-at-clause-stands
 returns-in_err-at-clause-stands g c =

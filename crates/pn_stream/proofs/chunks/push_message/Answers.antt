@@ -1,0 +1,12 @@
+-- The image of the message that was read is added.
+use Rattle.pn_stream.specs.Faults.{Refuses}
+use Rattle.pn_stream.specs.declared.fault.StreamFault.TheVariants.{Memory}
+use Rattle.pn_stream.proofs.Runs.{handed_on}
+use Rattle.pn_stream.proofs.chunks.push_message.Goals as goal
+
+pub returns-clause-ok : goal.returns-clause-ok
+returns-clause-ok c = record { image = c.in_ok-image.image; said = c.in_ok-image.ensures.ok; grown = c.in_ok-push_image.ensures.ok }
+
+pub returns-in_err-push_image-clause-err : goal.returns-in_err-push_image-clause-err
+returns-in_err-push_image-clause-err c =
+    handed_on c.from_residual-in_err-push_image.result Memory (λ fault. Refuses c.args.wanted c.args.line.now fault) c.from_residual-in_err-push_image.ensures.1 tt

@@ -1,0 +1,47 @@
+-- Where the line's end was met, the line is the first of the text; and where not, none is.
+use Rattle.std.proofs.Common.{Ok, [], sym, ap, ◌∙◌}
+use Rattle.pn_line.specs.LineEnd.{ReadsTo}
+use Rattle.pn_stream.specs.declared.fault.StreamFault.TheVariants.{Memory}
+use Rattle.pn_stream.proofs.Runs.{handed_on}
+use Rattle.pn_stream.proofs.Steps.{fault_stands, input_ended, newline_read, next_end, no_line, next_line, part-none, IsPart-more}
+use Rattle.pn_stream.proofs.Gathering.{at_any, line_taken, memory_at_any, whole_line}
+use Rattle.pn_stream.proofs.lines.next_line.Goals as goal
+
+pub returns-in_err-more-clause-stands : goal.returns-in_err-more-clause-stands
+returns-in_err-more-clause-stands g c =
+    handed_on c.from_residual.result c.in_err-more.field-0.0 _ c.from_residual.ensures.1
+    (at_any _ _ _ (λ wanted. fault_stands c.read_bounded_line.result c.in_err-more.field-0.0 wanted _ _ _ _ c.requires (sym c.in_err-more.ensures) c.read_bounded_line.ensures.takes))
+
+pub returns-in_default-clause-next : goal.returns-in_default-clause-next
+returns-in_default-clause-next g c =
+    let ended = sym c.in_ok-more.ensures ∙ ap Ok (no_line _ c.in_default.not-Some) in
+    next_end _ _ _ _ c.requires (input_ended c.read_bounded_line.result (λ end. ReadsTo end c.args.line.now c.read_bounded_line.new.line _ _) ended c.read_bounded_line.ensures.takes)
+
+pub returns-in_default-clause-part : goal.returns-in_default-clause-part
+returns-in_default-clause-part g c =
+    let ended = sym c.in_ok-more.ensures ∙ ap Ok (no_line _ c.in_default.not-Some) in
+    let reads = input_ended c.read_bounded_line.result (λ end. ReadsTo end c.args.line.now c.read_bounded_line.new.line _ _) ended c.read_bounded_line.ensures.takes in
+    IsPart-more _ _ _ _ [] c.requires reads.0 reads.2
+
+pub returns-in_err-copy-clause-stands : goal.returns-in_err-copy-clause-stands
+returns-in_err-copy-clause-stands g c = handed_on c.from_residual-in_err-copy.result Memory _ c.from_residual-in_err-copy.ensures.1 (memory_at_any c.args.line.now.bytes _)
+
+pub returns-clause-next : goal.returns-clause-next
+returns-clause-next g c =
+    let whole = sym c.in_ok-more.ensures ∙ ap Ok c.in-Some.is in
+    let takes = next_line _ _ _ _ _ c.requires (newline_read c.read_bounded_line.result c.in-Some.more (λ end. ReadsTo end c.args.line.now c.read_bounded_line.new.line _ _) whole c.read_bounded_line.ensures.takes) in
+    line_taken _ _ _ (record { line = c.in_ok-copy.copy; more = c.in-Some.more }) _ _ takes (c.in_ok-copy.ensures ∙ c.bytes.ensures) (part-none _ c.start.ensures)
+
+pub returns-clause-whole : goal.returns-clause-whole
+returns-clause-whole g c =
+    let whole = sym c.in_ok-more.ensures ∙ ap Ok c.in-Some.is in
+    let read = newline_read c.read_bounded_line.result c.in-Some.more (λ end. ReadsTo end c.args.line.now c.read_bounded_line.new.line _ _) whole c.read_bounded_line.ensures.takes in
+    rw (c.in_ok-copy.ensures, c.bytes.ensures) (whole_line c.in-Some.more _ _ _ _ c.requires read)
+
+pub returns-clause-taken : goal.returns-clause-taken
+returns-clause-taken g c = λ found. part-none _ c.start.ensures
+
+pub returns-clause-more : goal.returns-clause-more
+returns-clause-more g c =
+    let whole = sym c.in_ok-more.ensures ∙ ap Ok c.in-Some.is in
+    (newline_read c.read_bounded_line.result c.in-Some.more (λ end. ReadsTo end c.args.line.now c.read_bounded_line.new.line _ _) whole c.read_bounded_line.ensures.takes).2

@@ -1,0 +1,147 @@
+//! Lines that several threads read, each a chunk of consecutive lines at the positions that its place gives.
+
+ghost use Rattle.std.specs.Prelude.{◌≡◌, ◌+◌, ◌<◌, ◌^◌, ◌⊎◌, [], ◌++◌, length, All, None, Some, IfOk, IfErr, OnOk, OnErr, IsSome};
+ghost use Rattle.pn_stream.specs.Faults.{Refuses};
+ghost use Rattle.pn_stream.specs.Lines.{AddsMessage, IsRead, IsWhole};
+ghost use Rattle.pn_stream.specs.MessageLines.{IsMessageLine};
+
+use crate::fault::StreamFault;
+use crate::lines::WholeLine;
+use crate::next::{check_step, message_of_line, push_image};
+use pn_record::Image;
+use std::alloc::Global;
+use std::thread::{Threads, join};
+
+/// The fewest lines worth a thread.
+pub(crate) const MIN_LINES_PER_THREAD: usize = 128;
+
+/// The images of messages in step, and the fault that ended them, if one did.
+#[derive(Drop)]
+pub(crate) struct ReadRun {
+    pub(crate) images: Vec<Image>,
+    pub(crate) fault: Option<StreamFault>,
+}
+
+/// How many of the workers get a chunk of this many lines.
+pub(crate) fn chunk_count(workers: usize, lines: usize) -> usize {
+    workers.min(lines / MIN_LINES_PER_THREAD)
+}
+
+/// Reads the messages of the lines, of which the first is due after `position`. While there are two workers or more, one's
+/// chunk is cut off and read in a thread of its own.
+#[cycle(chunks)]
+pub(crate) fn read_chunks<R: Threads>(
+    rt: &R,
+    alloc: Global,
+    lines: &[WholeLine],
+    position: u64,
+    workers: usize,
+) -> ReadRun
+    requires whole { All IsWhole lines.now }
+    requires numbers { position + length lines.now < 2 ^ 64 }
+    ensures { IsRead position lines.now result.images.items result.fault }
+{
+    if workers < 2 || lines.len() < 2 {
+        return read_lines(alloc, lines, position);
+    }
+    let count = (lines.len() / workers).clamp(1, lines.len() - 1);
+    let (low, high) = lines.split_at(count);
+    let (next, others) = (position + count as u64, workers - 1);
+    let front = || -> ReadRun
+        requires { All IsWhole low.now × (position + length low.now < 2 ^ 64) }
+        ensures { IsRead position low.entry.now result.images.items result.fault }
+    { read_lines(alloc, low, position) };
+    let back = || -> ReadRun
+        requires { All IsWhole high.now × (next + length high.now < 2 ^ 64) }
+        ensures { IsRead next high.entry.now result.images.items result.fault }
+    { read_chunks(rt, alloc, high, next, others) };
+    let (earlier, later) = join(rt, front, back);
+    put_together(earlier, later)
+}
+
+// The images of a chunk and of what follows it; those of the chunk alone where a fault ended it.
+fn put_together(front: ReadRun, back: ReadRun) -> ReadRun
+    ensures hidden { IsSome front.fault → (result.images.items ≡ front.images.items) × (result.fault ≡ front.fault) }
+    ensures follows { front.fault ≡ None → ((result.images.items ≡ front.images.items ++ back.images.items) × (result.fault ≡ back.fault))
+        ⊎ ((result.images.items ≡ front.images.items) × (result.fault ≡ Some StreamFault.Memory)) }
+{
+    if front.fault.is_some() {
+        return front;
+    }
+    let (mut both, mut more) = (front, back);
+    match both.images.append(&mut more.images) {
+        Ok(()) => ReadRun {
+            images: both.images,
+            fault: more.fault,
+        },
+        Err(_) => ReadRun {
+            images: both.images,
+            fault: Some(StreamFault::Memory),
+        },
+    }
+}
+
+// Reads the messages of the lines, until one is refused.
+fn read_lines(alloc: Global, lines: &[WholeLine], position: u64) -> ReadRun
+    requires whole { All IsWhole lines.now }
+    requires numbers { position + length lines.now < 2 ^ 64 }
+    ensures { IsRead position lines.now result.images.items result.fault }
+{
+    let mut images = Vec::new(alloc);
+    match push_messages(alloc, lines, position, &mut images) {
+        Ok(()) => ReadRun {
+            images,
+            fault: None,
+        },
+        Err(fault) => ReadRun {
+            images,
+            fault: Some(fault),
+        },
+    }
+}
+
+// Adds the images of the lines' messages, until one is refused.
+fn push_messages(
+    alloc: Global,
+    lines: &[WholeLine],
+    position: u64,
+    images: &mut Vec<Image>,
+) -> Result<(), StreamFault>
+    requires none { images.old.items ≡ [] }
+    requires whole { All IsWhole lines.now }
+    requires numbers { position + length lines.now < 2 ^ 64 }
+    ensures ok { OnOk result (IsRead position lines.now images.new.items None) }
+    ensures err { IfErr result (λ fault. IsRead position lines.now images.new.items (Some fault)) }
+{
+    for line in lines {
+        let wanted = position + images.len() as u64 + 1;
+        push_message(alloc, line.bytes(), wanted, images)?;
+    }
+    Ok(())
+}
+
+// Adds the image of the line's message, which must have the position `wanted`. An error leaves the images as they were.
+fn push_message(
+    alloc: Global,
+    line: &[u8],
+    wanted: u64,
+    images: &mut Vec<Image>,
+) -> Result<(), StreamFault>
+    ensures ok { OnOk result (AddsMessage wanted line.now images.old.items images.new.items) }
+    ensures err { IfErr result (λ fault. Refuses wanted line.now fault) }
+    ensures kept { OnErr result (images.new.items ≡ images.old.items) }
+{
+    let image = image_in_step(alloc, line, wanted)?;
+    push_image(images, image)?;
+    Ok(())
+}
+
+// The image of the line's message, which must have the position `wanted`.
+fn image_in_step(alloc: Global, line: &[u8], wanted: u64) -> Result<Image, StreamFault>
+    ensures ok { IfOk result (λ image. IsMessageLine line.now (wanted, image)) }
+    ensures err { IfErr result (λ fault. Refuses wanted line.now fault) }
+{
+    let (at, image) = message_of_line(alloc, line, wanted)?;
+    check_step(wanted, at)?;
+    Ok(image)
+}
