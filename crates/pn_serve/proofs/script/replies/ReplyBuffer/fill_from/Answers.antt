@@ -1,5 +1,5 @@
 -- A piece leaves less to be made, and the rest is the same together.
-use Rattle.std.proofs.Common.{◌≡◌, ◌+◌, ◌<◌, ◌≤◌, ◌++◌, length, inr, ap, ◌∙◌, ⊎_elim, arith, length-append}
+use Rattle.std.proofs.Common.{◌≡◌, ◌<◌, ◌≤◌, ◌++◌, length, inr, ap, ◌∙◌, ⊎_elim, arith, length-append}
 use Rattle.pn_serve.proofs.script.replies.ReplyBuffer.fill_from.Goals as goal
 
 pub pieces-preserved : goal.pieces-preserved

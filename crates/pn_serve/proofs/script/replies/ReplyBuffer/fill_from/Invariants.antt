@@ -1,5 +1,5 @@
 -- What waits and what is still to be made are the same together, and pieces only make less of it.
-use Rattle.std.proofs.Common.{◌≡◌, ◌+◌, ◌≤◌, ◌<◌, ◌⊎◌, ◌++◌, length}
+use Rattle.std.proofs.Common.{◌≡◌, ◌≤◌, ◌<◌, ◌⊎◌, ◌++◌, length}
 use Rattle.pn_serve.proofs.script.replies.ReplyBuffer.fill_from.Given as goal
 
 abbrev pub invariant-pieces : goal.invariant-pieces
