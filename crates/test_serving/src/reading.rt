@@ -20,9 +20,13 @@ use std::thread::Threads;
 use std::time::{Clock, Duration};
 use test_kit::layout;
 
-/// The message at position 1.
-pub(crate) const FIRST: &str =
+const FIRST: &str =
     "{\"at\":1,\"image\":{\"fields\":{\"v\":\"x\"},\"key\":\"k\",\"master\":\"w\",\"version\":[1,0]}}\n";
+
+/// The message at position 1. Functions that take it from here know nothing of its bytes, which the prover would look at.
+pub(crate) fn first_message() -> &'static str {
+    FIRST
+}
 
 /// Gives one writer after another, and notes each call.
 #[derive(Drop)]

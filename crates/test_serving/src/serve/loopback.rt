@@ -1,6 +1,6 @@
 //! Streams in memory, served over loopback to a client in a thread of its own.
 
-use crate::reading::{FIRST, readers_of, settings};
+use crate::reading::{first_message, readers_of, settings};
 use crate::serve::copies::open_text;
 use pn_join::NoMemory;
 use pn_live::LiveReader;
@@ -148,8 +148,8 @@ where
 {
     let mut written = Vec::new(alloc);
     let ended = match how {
-        "1" => serve_new(rt, alloc, listener, FIRST, &mut written),
-        "2" => serve_new(rt, alloc, listener, SECOND, &mut written),
+        "1" => serve_new(rt, alloc, listener, first_message(), &mut written),
+        "2" => serve_new(rt, alloc, listener, second_message(), &mut written),
         _ => serve_copy(rt, alloc, listener, &mut written),
     };
     Some((ended?, written))
@@ -181,6 +181,10 @@ where
     Some(serve(rt, alloc, listener, settings, 1, streams, written))
 }
 
+fn second_message() -> &'static str {
+    SECOND
+}
+
 fn first_copy() -> &'static [u8] {
     COPY.as_bytes()
 }
@@ -195,7 +199,7 @@ fn serve_copy<R>(
 where
     R: Threads + Wait + Clock + Sync + Copy + Send + 'static,
 {
-    let streams = readers_of(alloc, FIRST)?;
+    let streams = readers_of(alloc, first_message())?;
     let opened = open_text(rt, alloc, 1, first_copy(), 1).ok()?;
     Some(serve_from(rt, alloc, listener, opened, 1, streams, written))
 }

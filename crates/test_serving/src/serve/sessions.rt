@@ -37,6 +37,10 @@ fn session_lines() -> &'static [u8] {
     LINES.as_bytes()
 }
 
+fn image_line() -> &'static str {
+    IMAGE
+}
+
 fn due_replies() -> &'static [u8] {
     REPLIES.as_bytes()
 }
@@ -134,7 +138,7 @@ pub(crate) fn fail_sessions<R: Threads + Wait + Sync>(
 ) -> Result<String, Fail> {
     let layout = layout(alloc, "").ok_or(NoMemory)?;
     let (mut live, mut reader) = open_one(rt, alloc, layout).ok_or(NoMemory)?;
-    let changed = count_changed(rt, alloc, &mut live, IMAGE);
+    let changed = count_changed(rt, alloc, &mut live, image_line());
     let ends = match how {
         "over readers that fail" => over_failing_readers(alloc, &mut reader),
         "over a source without end" => over_endless_source(alloc, &mut reader),

@@ -1,6 +1,6 @@
 //! A stream in memory, served at a port and at a path: by sessions that end, and by a server that stays.
 
-use crate::reading::{FIRST, Script, readers_of, settings, stream_of};
+use crate::reading::{Script, first_message, readers_of, settings, stream_of};
 use crate::serve::loopback::{Served, outcome};
 use crate::stay::talks::{At, flood, talk};
 use pn_serve::{Counter, Stream, serve};
@@ -111,7 +111,7 @@ where
     R: Threads + Wait + Clock + Sync + Copy + Send + 'static,
 {
     let settings = settings(alloc)?;
-    let readers = readers_of(alloc, FIRST)?;
+    let readers = readers_of(alloc, first_message())?;
     let mut written = Vec::new(alloc);
     let ended = serve(rt, alloc, acceptor, settings, 1, readers, &mut written);
     Some((ended, written))
@@ -221,7 +221,7 @@ where
 }
 
 fn one_stream<R: Wait + Clock + Copy>(rt: &R, alloc: Global) -> Option<Vec<Stream<Script<R>>>> {
-    let text = String::from_str(alloc, FIRST).ok()?;
+    let text = String::from_str(alloc, first_message()).ok()?;
     let stream = stream_of(rt, alloc, b"east", text, 0)?;
     let mut streams = Vec::with_capacity(alloc, 1).ok()?;
     streams.push(stream).ok()?;

@@ -120,10 +120,14 @@ pub(crate) fn flood<R: Net + Threads + Clock>(
     Ok(format!(in alloc; "{same} of {FLOOD}")?)
 }
 
+fn question() -> &'static [u8] {
+    QUESTION
+}
+
 fn ask_often(stream: UnixStream) -> io::Result<()> {
     let mut stream = stream;
     for _ in 0..FLOOD {
-        stream.write_all(QUESTION)?;
+        stream.write_all(question())?;
     }
     Ok(())
 }
