@@ -15,4 +15,5 @@ mod slot;
 pub use apply::apply_all;
 pub use gate::{Gate, Open};
 pub use reducing::{MAX_WORKERS, reduce, reduce_owned};
+pub use share::copy_deliveries;
 pub use slot::Slot;

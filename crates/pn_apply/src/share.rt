@@ -67,7 +67,7 @@ fn share_out(
     Ok(())
 }
 
-/// Copies of the deliveries.
+/// Copies of deliveries. An error where memory runs out.
 pub fn copy_deliveries(alloc: Global, deliveries: &[Delivery]) -> Result<Vec<Delivery>, NoMemory>
     ensures { IfOk result (λ copies. copies.items ≡ deliveries.now) }
 {

@@ -30,7 +30,7 @@ pub struct Took {
 }
 
 impl Took {
-    /// What is told of it.
+    /// What it prints.
     pub fn text(&self, alloc: Global) -> Option<String> {
         let (reads, rounds) = (self.reads.as_micros(), self.rounds.as_micros());
         format!(in alloc; "{reads} {rounds} microseconds").ok()

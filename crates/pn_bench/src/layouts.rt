@@ -39,7 +39,7 @@ struct Changes {
 }
 
 impl Laid {
-    /// What is told of it.
+    /// What it prints.
     pub fn text(&self, alloc: Global) -> Option<String> {
         let changes = self.changes;
         let mut text = String::new(alloc);

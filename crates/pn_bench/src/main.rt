@@ -43,7 +43,7 @@ fn main(rt: HostRuntime) -> io::Result<()> {
     println!(rt; "{} records, {} rounds", plan.records, plan.rounds)
 }
 
-// What is told of a plan, where the stream has enough messages.
+// What a plan prints, where the stream has enough messages.
 fn measure<R: Clock + Threads + Wait + Sync, S: Source + Drop>(
     rt: &R,
     alloc: Global,

@@ -130,7 +130,7 @@ module _ {K C M : Type 0} (cmp : K → K → Ordering) (o : IsTotalOrder cmp) (m
       ∙ all_joined cmp o meaning joined laws valid own other (puts cmp own (those_there are.made))
       (puts_so_far own other others other are.made own (Rising-from_sorted cmp other others.rising) are.each (none_joined cmp o meaning joined laws valid own other))
 
--- what is told differs from what was there
+-- a reported change differs from what was there
 module _ {K C M : Type 0} (cmp : K → K → Ordering) (o : IsTotalOrder cmp) (meaning : C → M) (joined : M → M → M) (valid : C → Type 0) where
   abbrev IsAt : List (K × C) → K × C → Type 0
   IsAt entries e = find cmp e.0 entries ≡ Some e.1

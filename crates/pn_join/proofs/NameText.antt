@@ -18,7 +18,7 @@ below_128 (b ∷ bytes) named (suc i) = below_128 bytes (grind (arith, nat_tests
 pub IsUtf8-name : (bytes : List ℕ) → IsTrue (is_name bytes) → IsUtf8 bytes
 IsUtf8-name bytes named = IsUtf8-from_ascii bytes (below_128 bytes (grind (arith, nat_tests)))
 
--- a name written over the first of so many zeros
+-- a name written over the first of a list of zeros
 pub HoldsName-written : (text : List ℕ) → IsTrue (is_name text) → HoldsName (text ++ drop (length text) (replicate MAX_NAME_BYTES 0)) (length text)
 HoldsName-written text named =
     let whole = text ++ drop (length text) (replicate MAX_NAME_BYTES 0) in

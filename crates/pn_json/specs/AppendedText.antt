@@ -7,7 +7,7 @@ pub record AppendsText (old new : Vec ℕ Global) (text : List ℕ) : Type 0 whe
   pub items : length old.items + length text ≤ vec_capacity old → new.items ≡ old.items ++ text
   pub capacity : vec_capacity old ≤ vec_capacity new
 
--- a piece of what was left was added, which has at most so many bytes, and at least one if anything was left
+-- a piece of what was left was added, which has at most `most` bytes, and at least one if anything was left
 pub record MakesPiece (most : ℕ) (left rest : List ℕ) (old new : Vec ℕ Global) : Type 0 where
   pub piece : List ℕ
   pub appended : AppendsText old new piece

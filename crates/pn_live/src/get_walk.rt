@@ -60,7 +60,7 @@ impl GetWalk {
         self.keys.len() - self.read
     }
 
-    /// Reads so many more keys at most, each by an entry of its own. Where memory runs out, the other keys are still read, since the
+    /// Reads at most `most` more keys, each by an entry of its own. Where memory runs out, the other keys are still read, since the
     /// fault of a tablet is answered first.
     pub fn go_on(self, reader: &mut LiveReader, most: usize) -> Result<GetWalk, ScanFault>
         ensures goes { (trace : List (LookMade LiveReaderValue)) → IsOnGet reader.old.layout self trace → GetsOn reader.old.layout reader.old reader.new self.keys result trace }

@@ -68,7 +68,7 @@ abbrev pub rows_to_come : QueryValue → Option PartWalkValue → Entries
 rows_to_come query None = []
 rows_to_come query (Some walk) = (walk_answer query walk).0
 
--- so many records are still to be looked at before the next look
+-- the number of records that are still to be looked at before the next look
 abbrev pub records_left : Option PartWalkValue → ℕ
 records_left None = 0
 records_left (Some walk) = length walk.rest

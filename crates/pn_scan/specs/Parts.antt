@@ -30,7 +30,7 @@ abbrev pub IsDone : Part → Type 0
 IsDone (Done rows more looked) = Unit {0}
 IsDone (Rest walk) = ⊥
 
--- of so many records that were left, at most so many were looked at
+-- of the records that were left, at most this number were looked at
 abbrev pub LooksAtMost : ℕ → ℕ → Part → Type 0
 LooksAtMost records left (Done rows more looked) = looked ≤ records
 LooksAtMost records left (Rest walk) = left ≤ length walk.rest + records

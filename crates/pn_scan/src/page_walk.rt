@@ -77,7 +77,7 @@ impl PageWalk {
         }
     }
 
-    /// Looks at so many more records at most, or into the next tablet.
+    /// Looks at at most `records` more records, or into the next tablet.
     pub fn go_on<V: View>(
         self,
         alloc: Global,
@@ -148,7 +148,7 @@ impl PageWalk {
         self.tablet >= self.end.min(layout.count()) || self.rows.len() > query.limit()
     }
 
-    // With what the look into a tablet has come to, which went over so many records unless it is done.
+    // With what the look into a tablet has come to, which went over this number of records unless it is done.
     fn with_part(self, part: Part, records: usize) -> Result<PageWalk, NoMemory>
         ensures rows { IfOk result (λ walk. (query : QueryValue) → walk.rows ++ rows_to_come query walk.part ≡ self.rows ++ (part_at query part).0) }
         ensures part { IfOk result (λ walk. walk.part ≡ going_in part) }

@@ -37,8 +37,8 @@ pub fn part_of(
     Ok(begin_walk(alloc, state.cells(), query, room, records)?)
 }
 
-// A walk from the first key that may be shown, found by a search, to the end of the range, one row past the room, or past so many
-// records.
+// A walk from the first key that may be shown, found by a search, to the end of the range, one row past the room, or past this
+// number of records.
 fn begin_walk(
     alloc: Global,
     cells: &Records,

@@ -76,7 +76,7 @@ impl PartWalk {
         }
     }
 
-    /// Looks at so many more records at most. The answer that it comes to stays.
+    /// Looks at at most `records` more records. The answer that it comes to stays.
     pub fn go_on(self, query: &Query, records: usize) -> Result<Part, NoMemory>
         ensures same { IfOk result (λ part. part_at query.now part ≡ walk_answer query.now self) }
         ensures few { IfOk result (LooksAtMost records (length self.rest)) }
@@ -161,7 +161,7 @@ pub(crate) enum Walked {
     To(usize),
 }
 
-/// Adds the rows that a query shows of so many records at most, from an index on.
+/// Adds the rows that a query shows of at most `records` records, from an index on.
 pub(crate) fn walk_some(
     cells: &Records,
     index: usize,

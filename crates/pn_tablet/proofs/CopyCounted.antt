@@ -128,7 +128,7 @@ counted_all cells counted is over =
 
 -- ---- what counting comes to
 
--- what counting comes to after so many more records
+-- what counting comes to after this number of further records
 pub counts_on : (records : ℕ) (count : CopyCountValue) (counted : Counted) (result : Result CopyStep NoMemory) → counted.records ≡ min (count.index + records) (length count.copy.cells) → CountsTo count.copy counted result → CountsOn records count result
 counts_on records count counted (Ok (Done text)) is to = (to.0, to.1, omega (arith, is, to.2))
 counts_on records count counted (Ok (Next more)) is to = (to.0, omega (arith, is, to.1, to.2), omega (arith, to.1, to.2))

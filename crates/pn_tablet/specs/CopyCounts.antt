@@ -8,13 +8,13 @@ use Rattle.pn_tablet.specs.declared.copy_count.CopyStep.{CopyStep}
 use Rattle.pn_tablet.specs.declared.copy_count.CopyStep.TheVariants.{Done, Next}
 use Rattle.pn_tablet.specs.declared.copy_count.Counted.{Counted}
 
--- so many more records were counted, or all; then the text begins
+-- this number of further records were counted, or all; then the text begins
 abbrev pub CountsOn : ℕ → CopyCountValue → Result CopyStep NoMemory → Type 0
 CountsOn records count (Ok (Done text)) = (text.copy ≡ count.copy) × (text.left ≡ copy_text count.copy) × (length count.copy.cells ≤ count.index + records)
 CountsOn records count (Ok (Next more)) = (more.copy ≡ count.copy) × (more.index ≡ count.index + records) × (more.index < length count.copy.cells)
 CountsOn records count (Err fault) = 2 ^ 64 ≤ lines_of_copy count.copy
 
--- what counting comes to where so much is counted
+-- what counting comes to where this much is counted
 abbrev pub CountsTo : TabletCopyValue → Counted → Result CopyStep NoMemory → Type 0
 CountsTo copy counted (Ok (Done text)) = (text.copy ≡ copy) × (text.left ≡ copy_text copy) × (length copy.cells ≤ counted.records)
 CountsTo copy counted (Ok (Next more)) = (more.copy ≡ copy) × (more.index ≡ counted.records) × (counted.records < length copy.cells)

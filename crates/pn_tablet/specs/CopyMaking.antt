@@ -37,7 +37,7 @@ pub record CopyTextValue : Type 0 where
 abbrev pub text_code : Coded CopyTextValue
 text_code = code_by (TabletCopyValue × List ℕ) (coded× copy_code (coded_list coded_ℕ)) (λ t. (t.copy, t.left)) (λ p. record { copy = p.0; left = p.1 }) (λ _. refl)
 
--- so many lines have the first records' images, in this form
+-- the first records were counted: their images have this many lines, in this form
 pub record IsCountedIn (cells : Entries) (counted : Counted) : Type 0 where
   pub within : counted.records ≤ length cells
   pub images_are : counted.images ≡ length (spell (take counted.records cells))

@@ -66,7 +66,7 @@ impl CopyCount {
         }
     }
 
-    /// Counts the lines of so many more records at most. An error where there are too many lines for 64 bits.
+    /// Counts the lines of at most `records` more records. An error where there are too many lines for 64 bits.
     pub fn go_on(self, records: usize) -> Result<CopyStep, NoMemory>
         ensures { CountsOn records self result }
     {
@@ -78,7 +78,7 @@ impl CopyCount {
     }
 }
 
-// What counting comes to where so much is counted.
+// What counting comes to where this much is counted.
 fn step_of(copy: TabletCopy, counted: Counted) -> Result<CopyStep, NoMemory>
     requires { IsCountedIn copy.cells counted }
     ensures { CountsTo copy counted result }
@@ -102,7 +102,7 @@ fn count_lines(copy: &TabletCopy, counted: Counted) -> Result<u64, NoMemory>
     add(lines, 2)
 }
 
-// Counts so many more records at most.
+// Counts at most `records` more records.
 fn count_some(cells: &Records, counted: Counted, records: usize) -> Result<Counted, NoMemory>
     requires { IsCountedIn cells.now counted }
     ensures ok { IfOk result

@@ -177,7 +177,7 @@ fn append_image_at(
     }
 }
 
-// The place after a content of so many.
+// The place after a content of these lines.
 fn next_place(index: usize, content: usize, count: usize) -> CopyPlace
     requires index { index + 1 < 2 ^ 64 }
     requires content { content < count }

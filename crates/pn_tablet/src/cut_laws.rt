@@ -15,7 +15,7 @@ pub fn ranges_that_cut_all_keys_are_a_layout()
         → CutAllKeys ranges }
 {}
 
-/// Where ranges, put into the order of their beginnings, are no layout, the key that is told is in none of them, or in two,
+/// Where ranges, put into the order of their beginnings, are no layout, the key in the fault is in none of them, or in two,
 /// and each key below it in exactly one.
 pub fn the_first_key_that_is_not_in_one_range_is_told()
     ensures no_copy { (ranges : List Ends) (end : Option (List ℕ)) → AllByRecursion (λ range. IsTrue (are_ends range)) ranges

@@ -1,4 +1,4 @@
--- The walk ends where none is shown any more, where there is no room, or after so many records.
+-- The walk ends where none is shown any more, where there is no room, or after this number of records.
 use Rattle.std.proofs.Common.{◌≡◌, ℕ, ◌+◌, ◌++◌, ◌∷◌, [], List, length, drop, true, false, sym, ap, ◌∙◌, subst, arith}
 use Rattle.std.proofs.lemmas.List.{length_push}
 use Rattle.pn_join.proofs.Rising.{Rising, Rising-from_sorted}
