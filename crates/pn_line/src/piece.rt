@@ -19,7 +19,7 @@ pub enum Piece {
     NoMore,
 }
 
-// Appends the bytes up to the newline to the line. Returns how many bytes that used, the newline included.
+/// Appends the bytes up to the newline to the line. Returns how many bytes that used, the newline included.
 pub(crate) fn take_piece(line: &mut LineBuffer, shown: &[u8]) -> (usize, Piece)
     requires { line.old.count < ENDLESS }
     ensures within { result.0 ≤ length shown.now }

@@ -27,6 +27,7 @@ impl Model for TabletNote {
 }
 
 impl TabletNote {
+    /// The note of this position.
     pub fn of(position: PublishPosition<TabletOp>) -> TabletNote
         ensures book { result.book ≡ position.seen.book }
         ensures list { result.list ≡ settled_of position.seen.log }
@@ -34,6 +35,7 @@ impl TabletNote {
         TabletNote { position }
     }
 
+    /// The position of the note.
     pub fn into_position(self) -> PublishPosition<TabletOp>
         ensures book { result.seen.book ≡ self.book }
         ensures list { settled_of result.seen.log ≡ self.list }
@@ -72,6 +74,7 @@ impl Front {
         Front { notes }
     }
 
+    /// The notes of the front, one for each tablet.
     pub fn into_notes(self) -> Vec<TabletNote>
         ensures { result.items ≡ self }
     {

@@ -45,7 +45,7 @@ impl Model for LiveReader {
 }
 
 impl LiveReader {
-    // A reader of these tablets, one for each range of the layout. Its answers take memory of the allocator.
+    /// A reader of these tablets, one for each range of the layout. Its answers take memory of the allocator.
     pub(crate) fn of(alloc: Global, layout: Layout, tablet_readers: Vec<TabletReader>) -> LiveReader
         requires { AreTabletReadersOf layout tablet_readers.items }
         ensures layout { result.layout ≡ layout }
@@ -58,6 +58,7 @@ impl LiveReader {
         }
     }
 
+    /// The readers of the tablets, in the order of their numbers.
     pub(crate) fn into_tablet_readers(self) -> Vec<TabletReader>
         ensures tablet_readers { result.items ≡ self.tablet_readers }
         ensures ranges { AreTabletReadersOf self.layout self.tablet_readers }
@@ -173,7 +174,7 @@ fn get_cells(
     cells.ok_or(ScanFault::Memory)
 }
 
-// The cells with one more, or none once memory ran out.
+/// The cells with one more, or none once memory ran out.
 pub(crate) fn with_cell(
     cells: Option<Vec<Option<Cell>>>,
     read: Result<Option<Cell>, ScanFault>,

@@ -40,6 +40,7 @@ impl Model for TabletReader {
 }
 
 impl TabletReader {
+    /// A reader of the tablet of this handle.
     pub fn of(handle: ReaderHandle) -> TabletReader
         ensures book { result.book ≡ handle.told.seen.book }
         ensures range { result.range ≡ range_of handle }
@@ -49,6 +50,7 @@ impl TabletReader {
         TabletReader { handle }
     }
 
+    /// The handle that the reader looks by.
     pub fn into_handle(self) -> ReaderHandle
         ensures book { result.told.seen.book ≡ self.book }
         ensures range { range_of result ≡ self.range }

@@ -102,7 +102,7 @@ impl Region {
         self.state(tablet)
     }
 
-    // The tablet of this number, as that of its range.
+    /// The tablet of this number, as that of its range.
     pub(crate) fn state(&self, tablet: usize) -> &TabletState
         requires { tablet ≤ length self.now.state.layout }
         ensures there { slice_get self.now.state.tablets tablet ≡ Some result.now }
@@ -111,7 +111,7 @@ impl Region {
         &self.tablets[tablet]
     }
 
-    // The tablets, in the order of their numbers.
+    /// The tablets, in the order of their numbers.
     pub(crate) fn states(&self) -> &[TabletState]
         ensures states { result.now ≡ self.now.state.tablets }
         ensures count { length self.now.state.tablets ≡ length self.now.state.layout + 1 }

@@ -71,6 +71,7 @@ fn read_on<V: View>(
     Ok(put_after(rows, part.into_rows(query)?)?)
 }
 
+/// The rows with the further ones after them.
 pub(crate) fn put_after(mut rows: Vec<Row>, mut more: Vec<Row>) -> Result<Vec<Row>, NoMemory>
     ensures { IfOk result (λ all. all.items ≡ rows.items ++ more.items) }
 {
@@ -81,7 +82,7 @@ pub(crate) fn put_after(mut rows: Vec<Row>, mut more: Vec<Row>) -> Result<Vec<Ro
     Ok(rows)
 }
 
-// The candidates of a query, from the first number up to the second.
+/// The candidates of a query, from the first number up to the second.
 pub(crate) fn candidates(layout: &Layout, query: &Query) -> (usize, usize)
     ensures all { all_candidates layout.now query.now ≡ range_with_len result.0 (result.1 - result.0) }
     ensures within { result.1 ≤ length layout.now + 1 }
@@ -126,7 +127,7 @@ fn begins_before(from: Option<&Key>, to: &Key) -> bool
     }
 }
 
-// The page of rows, of which there may be one more than the limit.
+/// The page of rows, of which there may be one more than the limit.
 pub(crate) fn page_of(alloc: Global, query: &Query, mut rows: Vec<Row>) -> Result<Page, NoMemory>
     ensures full { OnErr result (query.now.limit < length rows.items) }
     ensures page { IfOk result (λ page. (all : Entries) → rows.items ≡ take (query.now.limit + 1) all → (page.rows.items, page.next) ≡ first_page query.now all) }

@@ -133,6 +133,7 @@ fn first_index(cells: &Records, query: &Query) -> usize
     index_of(cells, query.from()).max(index_of(cells, query.after()))
 }
 
+/// The index of the first record that is not below the key, or 0 where there is no key.
 pub(crate) fn index_of(cells: &Records, key: Option<&Key>) -> usize
     ensures index { result ≡ option_map_or (λ key. count_by (λ e. is_lt (bytes_cmp e.0 key)) cells.now) (option_copied key.entry) 0 }
 {
@@ -142,6 +143,7 @@ pub(crate) fn index_of(cells: &Records, key: Option<&Key>) -> usize
     }
 }
 
+/// The row of a record.
 pub(crate) fn row_of(key: &Key, cell: &Cell) -> Result<Row, NoMemory>
     ensures { IfOk result (λ row. row ≡ (key.now, cell.now)) }
 {

@@ -115,6 +115,7 @@ impl Query {
     }
 }
 
+/// Whether a page may have this number of rows at most.
 pub(crate) fn is_limit(limit: usize) -> bool
     ensures { result ≡ in_limit limit }
 {

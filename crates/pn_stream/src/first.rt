@@ -14,8 +14,8 @@ use pn_line::{LineBuffer, Source};
 use pn_record::Image;
 use std::alloc::Global;
 
-// The position of the first message, from 1 to one past `position`, and its one image. None where no whole line is
-// left. The part of a line that was read is kept.
+/// The position of the first message, from 1 to one past `position`, and its one image. None where no whole line is
+/// left. The part of a line that was read is kept.
 pub(crate) fn first_message<S: Source>(
     alloc: Global,
     held: &mut Option<LineBuffer>,

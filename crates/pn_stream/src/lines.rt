@@ -45,7 +45,7 @@ impl WholeLine {
     }
 }
 
-// A line that was taken, and whether a further newline was seen after it.
+/// A line that was taken, and whether a further newline was seen after it.
 #[derive(Drop)]
 pub(crate) struct NextLine {
     pub(crate) line: WholeLine,

@@ -26,7 +26,7 @@ pub(crate) struct BatchSize {
 }
 
 impl BatchSize {
-    // Whether to read on after `count` messages: they are too few, or a further newline was seen and the most is not reached.
+    /// Whether to read on after `count` messages: they are too few, or a further newline was seen and the most is not reached.
     pub(crate) fn wants(self, count: usize, more: bool) -> bool
         requires { self.least ≤ self.most }
         ensures most { IsTrue result → count < self.most }
@@ -37,7 +37,7 @@ impl BatchSize {
     }
 }
 
-// A message that was read, and whether a further newline was seen after its line.
+/// A message that was read, and whether a further newline was seen after its line.
 #[derive(Drop)]
 pub(crate) struct NextMessage {
     pub(crate) at: u64,
@@ -45,8 +45,8 @@ pub(crate) struct NextMessage {
     more: bool,
 }
 
-// Adds the images of the next messages, until there are enough, no whole line is left, or a fault comes. The part of
-// a line that was read is kept.
+/// Adds the images of the next messages, until there are enough, no whole line is left, or a fault comes. The part of
+/// a line that was read is kept.
 pub(crate) fn next_images<S: Source>(
     alloc: Global,
     held: &mut Option<LineBuffer>,
@@ -89,7 +89,7 @@ pub(crate) fn next_images<S: Source>(
     Ok(())
 }
 
-// The line whose part was kept, or a new one.
+/// The line whose part was kept, or a new one.
 pub(crate) fn take_line(
     alloc: Global,
     held: &mut Option<LineBuffer>,
@@ -112,7 +112,7 @@ fn new_line(alloc: Global) -> Result<LineBuffer, NoMemory>
     Ok(LineBuffer::new(alloc)?)
 }
 
-// Adds an image. An error leaves the images as they were.
+/// Adds an image. An error leaves the images as they were.
 pub(crate) fn push_image(images: &mut Vec<Image>, image: Image) -> Result<(), NoMemory>
     ensures ok { OnOk result (images.new.items ≡ images.old.items ++ image ∷ []) }
     ensures err { OnErr result (images.new.items ≡ images.old.items) }
@@ -149,7 +149,7 @@ fn next_in_step<S: Source>(
     Ok(Some(next))
 }
 
-// Whether the message at `at` has the position `wanted`.
+/// Whether the message at `at` has the position `wanted`.
 pub(crate) fn check_step(wanted: u64, at: u64) -> Result<(), StreamFault>
     ensures ok { OnOk result (at ≡ wanted) }
     ensures err { IfErr result (λ fault. (fault ≡ StreamFault.OutOfStep wanted at) × (at ≢ wanted)) }
@@ -161,8 +161,8 @@ pub(crate) fn check_step(wanted: u64, at: u64) -> Result<(), StreamFault>
     }
 }
 
-// The next message, of any position, or why there is none where that of `wanted` is due. None where no whole line is
-// left.
+/// The next message, of any position, or why there is none where that of `wanted` is due. None where no whole line is
+/// left.
 pub(crate) fn next_message<S: Source>(
     alloc: Global,
     line: &mut LineBuffer,
@@ -191,7 +191,7 @@ pub(crate) fn next_message<S: Source>(
     Ok(Some(NextMessage { at, image, more }))
 }
 
-// Whether a further newline was seen after the line, if a whole one was read.
+/// Whether a further newline was seen after the line, if a whole one was read.
 pub(crate) fn whole_line(end: io::Result<BoundedEnd>) -> Result<Option<bool>, StreamFault>
     ensures { result ≡ line_ended end }
 {
@@ -203,7 +203,7 @@ pub(crate) fn whole_line(end: io::Result<BoundedEnd>) -> Result<Option<bool>, St
     }
 }
 
-// The message of a line, or why it is none where that of `wanted` is due.
+/// The message of a line, or why it is none where that of `wanted` is due.
 pub(crate) fn message_of_line(
     alloc: Global,
     line: &[u8],

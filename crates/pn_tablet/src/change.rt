@@ -15,14 +15,14 @@ pub struct Change {
     pub after: Version,
 }
 
-// An empty list that takes `count` changes without growing.
+/// An empty list that takes `count` changes without growing.
 pub fn reserve_changes(alloc: Global, count: usize) -> Result<Vec<Change>, NoMemory>
     ensures { IfOk result (λ changes. (changes.items ≡ []) × (count ≤ vec_capacity changes)) }
 {
     Ok(Vec::with_capacity(alloc, count)?)
 }
 
-// Adds the changes that a join reports, to an empty list.
+/// Adds the changes that a join reports, to an empty list.
 pub fn add_changes(changes: &mut Vec<Change>, told: Vec<TableChange<Key, Cell>>)
     requires none { changes.old.items ≡ [] }
     requires capacity { length told.items ≤ vec_capacity changes.old }

@@ -22,6 +22,7 @@ pub enum Leaf<K, C> {
 }
 
 impl<K, C> Leaf<K, C> {
+    /// The entries of the leaf.
     pub fn entries(&self) -> &[(K, C)]
         ensures { result.now ≡ leaf_entries self.now }
     {

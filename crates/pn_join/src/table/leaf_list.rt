@@ -65,6 +65,7 @@ impl<K: Ord + Dup, C: Join> LeafList<K, C> {
         }
     }
 
+    /// Where the leaves take memory.
     pub(crate) fn alloc(&self) -> Global {
         *self.leaves.allocator()
     }

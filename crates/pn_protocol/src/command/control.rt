@@ -36,7 +36,7 @@ pub enum ControlCommand {
     Stop { seconds: u64 },
 }
 
-// The word of a command that only control sessions have, or that they read in another way.
+/// The word of a command that only control sessions have, or that they read in another way.
 #[derive(Clone, Copy)]
 pub(crate) enum ControlWord {
     Advance,

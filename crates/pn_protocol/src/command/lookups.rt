@@ -30,6 +30,7 @@ impl From<QueryFault> for Refusal {
     }
 }
 
+/// Reads the members of a `get`.
 #[tactic(auto, using(crate::proofs::CommandLimits::are_keys), unfolding(crate::specs::Command::Lookups::get_in))]
 pub(crate) fn parse_get(alloc: Global, members: &Map<String, Value>) -> Result<Command, Refusal>
     ensures { ShowsUnless Refusal.Memory command_value result (get_in (members_view members.now.entries)) }
@@ -39,6 +40,7 @@ pub(crate) fn parse_get(alloc: Global, members: &Map<String, Value>) -> Result<C
     Ok(Command::Get(build_keys(alloc, &keys)?))
 }
 
+/// Reads the members of a `notices`.
 #[tactic(auto, unfolding(crate::specs::Command::Lookups::notices_in))]
 pub(crate) fn parse_notices(members: &Map<String, Value>) -> Result<Command, Refusal>
     ensures exact { Shows command_value result (notices_in (members_view members.now.entries)) }
@@ -49,6 +51,7 @@ pub(crate) fn parse_notices(members: &Map<String, Value>) -> Result<Command, Ref
     Ok(Command::Notices { since })
 }
 
+/// Reads the members of a `read`.
 #[tactic(auto, unfolding(crate::specs::Command::Lookups::read_in))]
 pub(crate) fn parse_read(alloc: Global, members: &Map<String, Value>) -> Result<Command, Refusal>
     ensures exact { ShowsUnless Refusal.Memory command_value result (read_in (members_view members.now.entries)) }
@@ -63,6 +66,7 @@ pub(crate) fn parse_read(alloc: Global, members: &Map<String, Value>) -> Result<
     Ok(Command::Read { key, version })
 }
 
+/// Reads the members of a `scan`.
 #[tactic(auto, unfolding(crate::specs::Command::Lookups::scan_in))]
 pub(crate) fn parse_scan(alloc: Global, members: &Map<String, Value>) -> Result<Command, Refusal>
     ensures exact { ShowsUnless Refusal.Memory command_value result (scan_in (members_view members.now.entries)) }

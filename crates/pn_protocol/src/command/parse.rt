@@ -84,7 +84,7 @@ fn parse_allowed(alloc: Global, line: &[u8], allowed: Allowed) -> Result<Command
     parse_value(alloc, value, allowed)
 }
 
-// Reads a value as a command. Memory runs out only for a command, or while batches, keys or bounds are collected.
+/// Reads a value as a command. Memory runs out only for a command, or while batches, keys or bounds are collected.
 #[tactic(auto, unfolding(crate::specs::Command::Objects::allowed_in, crate::specs::Command::Deliveries::deliver_at))]
 pub(crate) fn parse_value(alloc: Global, value: Value, allowed: Allowed) -> Result<Command, Refusal>
     ensures exact { ShowsUnless Refusal.Memory command_value result (allowed_in allowed (view value)) }

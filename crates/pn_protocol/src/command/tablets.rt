@@ -17,6 +17,7 @@ use pn_record::{ImageFault, marks_of};
 use serde_json::{Map, Value};
 use std::alloc::Global;
 
+/// Reads the members of an `adopt`.
 #[tactic(auto, unfolding(crate::specs::Command::Tablets::adopt_in))]
 pub(crate) fn parse_adopt(members: &Map<String, Value>) -> Result<Command, Refusal>
     ensures exact { Shows command_value result (adopt_in (members_view members.now.entries)) }
@@ -27,6 +28,7 @@ pub(crate) fn parse_adopt(members: &Map<String, Value>) -> Result<Command, Refus
     Ok(Command::Adopt { lines })
 }
 
+/// Reads the members of a `lose`.
 #[tactic(auto, unfolding(crate::specs::Command::Tablets::lose_in))]
 pub(crate) fn parse_lose(members: &Map<String, Value>) -> Result<Command, Refusal>
     ensures exact { Shows command_value result (lose_in (members_view members.now.entries)) }
@@ -36,6 +38,7 @@ pub(crate) fn parse_lose(members: &Map<String, Value>) -> Result<Command, Refusa
     Ok(Command::Lose { tablet })
 }
 
+/// Reads the members of a `relayout`.
 #[tactic(auto, using(crate::proofs::CommandLimits::bounds_are_keys), unfolding(crate::specs::Command::Tablets::relayout_in))]
 pub(crate) fn parse_relayout(
     alloc: Global,
@@ -48,6 +51,7 @@ pub(crate) fn parse_relayout(
     Ok(Command::Relayout(build_keys(alloc, &bounds)?))
 }
 
+/// Reads the members of a `copy`.
 #[tactic(auto, unfolding(crate::specs::Command::Tablets::copy_in))]
 pub(crate) fn parse_copy(alloc: Global, members: &Map<String, Value>) -> Result<Command, Refusal>
     ensures exact { ShowsUnless Refusal.Memory command_value result (copy_in (members_view members.now.entries)) }

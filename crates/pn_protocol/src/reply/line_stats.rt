@@ -34,6 +34,7 @@ pub struct LineKinds {
 }
 
 impl LineStats {
+    /// Writes the counts of lines as members of a reply.
     #[tactic(auto, unfolding(crate::specs::Reply::LineStats::lines_data))]
     pub(crate) fn write(&self, writer: &mut Writer) -> Result<(), NoMemory>
         ensures { OnOk result (Appends writer.old writer.new (value_tokens (lines_data self.now))) }

@@ -66,6 +66,7 @@ fn fields_fit(members: &Map<String, Value>) -> bool
     true
 }
 
+/// The value that a JSON value stands for, or an empty text.
 pub(crate) fn value_or_empty(value: &Value) -> ValueRef<'_>
     ensures { shown_ref result ≡ value_given (view value.now) }
 {

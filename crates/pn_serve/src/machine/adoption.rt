@@ -129,7 +129,7 @@ pub(crate) fn adopt(alloc: Global, region: &mut Region, text: Option<Vec<u8>>) -
     }
 }
 
-// Parses the copy and frees its text.
+/// Parses the copy and frees its text.
 pub(crate) fn read_text(alloc: Global, text: Vec<u8>) -> Result<TabletCopy, CopyTextFault>
     ensures { IsUnless CopyTextFault.Memory result (copy_at text.items) }
 {

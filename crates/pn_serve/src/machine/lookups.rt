@@ -15,6 +15,7 @@ use pn_region::{Region, Since};
 use pn_scan::Query;
 use std::alloc::Global;
 
+/// Answers a `get`.
 pub(crate) fn get(alloc: Global, region: &Region, keys: Vec<Key>) -> Reply
     ensures { Obeys (machine_over region.now) (get_asked keys.items) (machine_over region.now) result }
 {
@@ -22,6 +23,7 @@ pub(crate) fn get(alloc: Global, region: &Region, keys: Vec<Key>) -> Reply
     answer_get(alloc, keys, found)
 }
 
+/// Answers a `read`.
 pub(crate) fn read(alloc: Global, region: &Region, key: Key, version: Option<Version>) -> Reply
     ensures { Obeys (machine_over region.now) (read_asked key version) (machine_over region.now) result }
 {
@@ -29,12 +31,14 @@ pub(crate) fn read(alloc: Global, region: &Region, key: Key, version: Option<Ver
     answer_read(alloc, key, found)
 }
 
+/// Answers a `scan`.
 pub(crate) fn scan(alloc: Global, region: &Region, query: &Query) -> Reply
     ensures { Obeys (machine_over region.now) (scan_asked query.now) (machine_over region.now) result }
 {
     answer_scan(alloc, region.scan(query))
 }
 
+/// Answers a `notices`.
 pub(crate) fn look_up_notices(alloc: Global, region: &Region, since: u64) -> Reply
     ensures { Obeys (machine_over region.now) (notices_asked since) (machine_over region.now) result }
 {

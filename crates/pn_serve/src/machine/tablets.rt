@@ -15,6 +15,7 @@ use pn_region::Region;
 use pn_tablet::Layout;
 use std::alloc::Global;
 
+/// Answers a `lose`.
 pub(crate) fn lose_tablet(region: &mut Region, tablet: u64) -> Reply
     ensures { Obeys (machine_over region.old) (lose_asked tablet) (machine_over region.new) result }
 {
@@ -25,6 +26,7 @@ pub(crate) fn lose_tablet(region: &mut Region, tablet: u64) -> Reply
     Reply::Lost(tablet)
 }
 
+/// Answers a `copy`.
 pub(crate) fn copy_tablet(alloc: Global, region: &Region, need: &Marks, tablet: u64) -> Reply
     ensures { Obeys (machine_over region.now) (copy_asked need.now tablet) (machine_over region.now) result }
 {
@@ -34,6 +36,7 @@ pub(crate) fn copy_tablet(alloc: Global, region: &Region, need: &Marks, tablet: 
     answer_copy(alloc, tablet as usize, region.copy(tablet as usize, need))
 }
 
+/// Answers a `relayout`.
 pub(crate) fn relayout(alloc: Global, region: &mut Region, bounds: Vec<Key>) -> Reply
     ensures { Obeys (machine_over region.old) (relayout_asked bounds.items) (machine_over region.new) result }
 {

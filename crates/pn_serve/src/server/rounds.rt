@@ -23,7 +23,7 @@ use std::mem;
 use std::sync::Wait;
 use std::thread::Threads;
 
-// What the mailboxes gave for one round.
+/// What the mailboxes gave for one round.
 #[derive(Drop)]
 pub(crate) struct RoundInput {
     /// The messages of the streams that have some.

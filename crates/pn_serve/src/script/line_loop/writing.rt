@@ -123,7 +123,7 @@ impl LineLoop {
         }
     }
 
-    // Where the output fails as what waits is written, the loop has ended so. A look is given up then.
+    /// Where the output fails as what waits is written, the loop has ended so. A look is given up then.
     pub fn recall_cut<M: LineHandler>(&self, machine: &M)
         ensures { (start : Start M) (left before after : Option (List ℕ)) → IsSteady M.reader M.moves → Stands (by M.moves M.makes M.ends M.goes M.goes_last) start left before machine.now self.now → AppendsPrefix before after (waits_in self.now)
             → HasEnded (by M.moves M.makes M.ends M.goes M.goes_last) start left after machine.now (Err RunFault.Write) }
