@@ -44,6 +44,6 @@ Sends-more before after waited waits more sends = record {
 pub count_from : (all : List ℕ) (start : ℕ) → length (drop start all) ≡ length all - start
 count_from all start = length-drop start all
 
--- of so many bytes at most no more were taken
+-- no more bytes were taken than the most that were asked for
 pub few_of : (count most start : ℕ) (l : List ℕ) → count ≤ length (take ((start + most) - start) l) → count ≤ most
 few_of count most start l within = omega (arith, within, length-take ((start + most) - start) l)

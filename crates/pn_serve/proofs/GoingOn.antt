@@ -178,7 +178,7 @@ page_nearer query walk (Ok (pages.Next next)) (Begun going) is nearer few =
 page_nearer query walk (Err fault) (Done reply) shows nearer few = omega arith
 page_nearer query walk (Err fault) (Begun going) shows nearer few = absurd shows
 
--- so many keys fewer are to be read
+-- this number of keys fewer are to be read
 pub keys_nearer : (walk : GetWalkValue) (most : ℕ) (result : Result GetWalkValue ScanFault) (answer : Answer) → 1 ≤ most → IfOk result (λ next. length next.keys - next.read ≡ length walk.keys - walk.read - most)
     → IfOk result (λ next. (going : Going) → answer ≡ Begun going → (going ≡ Keys next) × (next.read < length next.keys)) → IfErr result (λ _. answer_left answer ≡ 0) → answer_left answer ≤ going_left (Keys walk)
 keys_nearer walk most (Ok next) (Done reply) some left begun fault = omega arith
@@ -188,7 +188,7 @@ keys_nearer walk most (Ok next) (Begun going) some left begun fault =
     omega (arith, here, left, more, some)
 keys_nearer walk most (Err other) answer some left begun fault = omega (arith, fault)
 
--- so many lines more are counted
+-- this number of lines more are counted
 pub copy_nearer : (count : CopyCountValue) (records : ℕ) (step : Result CopyStep NoMemory) (answer : Answer) → 0 < records → CountsOn records count step → CopyAnswer step answer → answer_left answer ≤ going_left (Copy count)
 copy_nearer count records (Ok (copies.Done text)) (Done reply) some to shows = omega arith
 copy_nearer count records (Ok (copies.Done text)) (Begun going) some to shows = absurd shows

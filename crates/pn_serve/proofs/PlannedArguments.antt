@@ -1,4 +1,4 @@
--- What `clap` takes has a command, and what a command says is a plan or a fault that is told.
+-- What `clap` takes has a command, and what a command says is a plan or a fault.
 use Rattle.std.proofs.Common.{◌≡◌, ◌⊎◌, inl, inr, ℕ, Bool, true, false, cond, List, [], ◌∷◌, Option, Some, None, Result, Ok, Err, codes, refl, subst, is_some, arith}
 use Rattle.std.specs.Prelude.{◌≤◌, IfOk, IsSome, max, min}
 use Rattle.std.specs.Option.{ok_or}

@@ -58,7 +58,7 @@ StopsOpen copies Memory = Unit {0}
 StopsOpen copies (Line n fault) = ⊥
 StopsOpen copies Read = ⊥
 
--- what is told of copies that are those of no layout
+-- the fault of copies that are those of no layout
 abbrev pub cut_fault : CutFault → CopiesFault
 cut_fault cut.TooMany = TooMany
 cut_fault (cut.NoCopy key) = NoCopy key
@@ -71,7 +71,7 @@ NoRefusal (Adopt adopt.WrongRange) = ⊥
 NoRefusal (Adopt (adopt.TooOld stream has needs)) = ⊥
 NoRefusal _ = Unit {0}
 
--- what is told where a live region of all tablets does not start
+-- the fault where a live region of all tablets does not start
 abbrev pub start_fault : StartFault → CopiesFault
 start_fault (Advance advance.TooManyStreams) = TooManyStreams
 start_fault _ = Memory

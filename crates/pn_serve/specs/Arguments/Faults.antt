@@ -15,7 +15,7 @@ pub record RefusedValue : Type 0 where
   pub text : Text
   pub why : Why
 
--- what `clap` refuses; or bounds, an address, the socket of control sessions, copies or a stream, each with what is told of it;
+-- what `clap` refuses; or bounds, an address, the socket of control sessions, copies or a stream, each with the text and why;
 -- or no memory
 pub data FaultValue : Type 0 where
   words : FaultValue

@@ -31,7 +31,7 @@ HandsOnStep NoInput handed_on = Unit {0}
 HandsOnStep NoRoom handed_on = Unit {0}
 HandsOnStep (Ends ended) handed_on = HandsOn ended handed_on
 
--- a step hands on so many bytes at most
+-- a step hands on at most this number of bytes
 abbrev pub HandsOnAtMost : ℕ → LineLoopValue → LineLoopValue → Type 0
 HandsOnAtMost most old new = length old.replies ≤ length new.replies + most
 
@@ -143,7 +143,7 @@ pub record IsNoFarther (old new : LineLoopValue) : Type 0 where
   pub reads : reads_left new ≤ reads_left old
   pub looks : looks_left new ≤ looks_left old
 
--- a step of a settled loop that goes on leaves fewer steps; and it looked at its source, from so many looks to so many, as often as is left at most
+-- a step of a settled loop that goes on leaves fewer steps; and it looked at its source, from the first number of looks to the second, at most as often as is left
 abbrev pub ReadsOn : ℕ → ℕ → LineLoopValue → LineLoopValue → Step → Type 0
 ReadsOn was now old new (Next units) = (reads_left new < reads_left old) × (now + looks_left new ≤ was + looks_left old) × IsFreshAt new.state.stage new
 ReadsOn was now old new NoInput = (old.state.stage ≡ Reading) × (now ≤ was + looks_left old)

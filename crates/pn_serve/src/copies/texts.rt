@@ -66,7 +66,7 @@ impl<S: Source + Drop> CopyTexts<S> {
         })
     }
 
-    /// The texts of the next copies, at most so many. Fewer come only at the end.
+    /// The texts of the next copies, at most this number. Fewer come only at the end.
     pub(crate) fn next_texts(&mut self, most: usize) -> Result<Vec<CopyText>, CopiesFault>
         ensures cuts { IfOk result (λ texts. (bytes : List ℕ) → S.left self.old.source ≡ Some bytes
             → (rest : List ℕ) × (S.left self.new.source ≡ Some rest)

@@ -64,7 +64,7 @@ pub trait LineHandler {
         ensures ends { (text : List ℕ) → part.now ≡ so_far text → AnswersLast ends goes_last self.old text self.new result }
         ensures knows { KnowsNoLess (reader self.old) (reader self.new) };
 
-    /// Goes on with a look, at so many records at most, or with the next look. How many records that counts for.
+    /// Goes on with a look, at at most `records` records, or with the next look. Returns how many records that counts for.
     fn go_on(&mut self, alloc: Global, going: Going, records: usize) -> (Answer, usize)
         requires { ready }
         ensures lines { (was between : Self) (text : List ℕ) → goes was text between going → moves between self.old

@@ -69,7 +69,7 @@ impl LineLoop {
         })
     }
 
-    /// One step, of about so many units at most: takes a piece of the input, answers a line, goes on with a look, makes a block of
+    /// One step, of at most about `units` units: takes a piece of the input, answers a line, goes on with a look, makes a block of
     /// a reply's text, or writes.
     pub fn step<M: LineHandler, S: Source, W: Sink>(
         &mut self,

@@ -150,7 +150,7 @@ impl ReplyBuffer {
         }
     }
 
-    // Writes so many of the waiting bytes, unless the writer would block before.
+    // Writes this number of the waiting bytes, unless the writer would block before.
     fn send_some<W: Sink>(&mut self, writer: &mut W, most: usize) -> Result<SendOutcome, WriteFault>
         requires { most ≤ length self.old }
         ensures ok { IfOk result (λ _. Sends (W.contents writer.old) (W.contents writer.new) self.old self.new []) }
@@ -171,7 +171,7 @@ impl ReplyBuffer {
         Ok(SendOutcome::All)
     }
 
-    // Writes once, so many bytes at most, and tells how many. At least one byte is taken if one may be.
+    // Writes once, at most this number of bytes, and returns how many. At least one byte is taken if one may be.
     fn send_once<W: Sink>(&mut self, writer: &mut W, most: usize) -> Result<usize, WriteFault>
         requires { most ≤ length self.old }
         ensures ok { IfOk result (λ _. Sends (W.contents writer.old) (W.contents writer.new) self.old self.new []) }

@@ -68,7 +68,7 @@ impl<S: Source + Drop> StartedStreams<S> {
     }
 }
 
-/// Starts to read streams, each in its own thread, which shares the lines that are at hand among so many workers. A refused
+/// Starts to read streams, each in its own thread, which shares the lines that are at hand among these workers. A refused
 /// thread, or out of memory, ends the reading.
 pub(crate) fn start_streams<R, S>(
     rt: &R,

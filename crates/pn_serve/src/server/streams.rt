@@ -64,8 +64,8 @@ where
     read
 }
 
-// Starts to read streams after their marks, each in its own thread, which shares the lines that are at hand among so many
-// workers. A refused thread, or out of memory, ends the reading.
+// Starts to read streams after their marks, each in its own thread, which shares the lines that are at hand among
+// these workers. A refused thread, or out of memory, ends the reading.
 fn start_threads<R, S, O>(
     rt: &R,
     alloc: Global,

@@ -11,10 +11,9 @@ ghost use Rattle.pn_serve.specs.declared.server.mailboxes.AtFault.TheVariants.{S
 use crate::ServeFault;
 use crate::server::mailboxes::AtFault;
 use crate::server::rounds::RoundInput;
-use pn_apply::Open;
-use pn_join::{Dup, NoMemory, StreamName};
+use pn_apply::{Open, copy_deliveries};
+use pn_join::StreamName;
 use pn_live::{Front, LiveRegion};
-use pn_record::Image;
 use pn_region::{Round, RoundFault};
 use pn_stream::Delivery;
 use std::alloc::Global;
@@ -80,45 +79,6 @@ fn conclude_try(round: Result<(Round, Front), RoundFault>) -> Result<bool, Serve
         Err(RoundFault::Gap { .. }) => Err(ServeFault::Round),
         Err(RoundFault::TooManyStreams) => Err(ServeFault::Round),
     }
-}
-
-// Copies of the deliveries.
-fn copy_deliveries(alloc: Global, deliveries: &[Delivery]) -> Result<Vec<Delivery>, NoMemory>
-    ensures { IfOk result (λ copies. copies.items ≡ deliveries.now) }
-{
-    let mut copies = Vec::with_capacity(alloc, deliveries.len())?;
-    for delivery in deliveries {
-        copies.push_reserved(copy_delivery(alloc, delivery)?);
-    }
-    Ok(copies)
-}
-
-fn copy_delivery(alloc: Global, delivery: &Delivery) -> Result<Delivery, NoMemory>
-    ensures { IfOk result (λ copy. copy ≡ delivery.now) }
-{
-    let first = delivery.first();
-    let images = copy_images(alloc, delivery.images())?;
-    Ok(Delivery::of(delivery.stream().dup()?, first, images))
-}
-
-fn copy_images(alloc: Global, images: &[Image]) -> Result<Vec<Image>, NoMemory>
-    ensures { IfOk result (λ copies. copies.items ≡ images.now) }
-{
-    let mut copies = Vec::with_capacity(alloc, images.len())?;
-    for image in images {
-        copies.push_reserved(copy_image(image)?);
-    }
-    Ok(copies)
-}
-
-fn copy_image(image: &Image) -> Result<Image, NoMemory>
-    ensures { IfOk result (λ copy. copy ≡ image.now) }
-{
-    Ok(Image {
-        key: image.key.dup()?,
-        version: image.version,
-        content: image.content.dup()?,
-    })
 }
 
 // Runs one round of an input, also if a stream has a fault, which stops all streams.

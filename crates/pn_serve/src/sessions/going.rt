@@ -71,7 +71,7 @@ impl Going {
         }
     }
 
-    /// Looks at so many records more, and at few beside them. How many that counts for.
+    /// Looks at this number of further records, and at few beside them. Returns how many that counts for.
     pub(crate) fn go_on(
         self,
         alloc: Global,

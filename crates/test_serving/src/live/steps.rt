@@ -16,7 +16,7 @@ use std::sync::Wait;
 use std::thread::Threads;
 use test_kit::{deliveries, keys, layout};
 
-/// What each step answers, with bars behind the answers.
+/// What each step answers, with bars after the answers.
 pub(crate) fn take_steps<R: Threads + Wait + Sync>(
     rt: &R,
     alloc: Global,
@@ -28,7 +28,7 @@ pub(crate) fn take_steps<R: Threads + Wait + Sync>(
     take_and_end(rt, alloc, live, reader, bounds, steps)
 }
 
-/// What each step answers, with bars behind the answers, on a region and its reader. Copies are adopted between the bounds.
+/// What each step answers, with bars after the answers, on a region and its reader. Copies are adopted between the bounds.
 pub(crate) fn take_and_end<R: Threads + Wait + Sync>(
     rt: &R,
     alloc: Global,

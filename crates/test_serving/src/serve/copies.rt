@@ -19,7 +19,7 @@ use test_kit::{newlines, spell_out};
 /// How many times a reader is asked at most.
 const TURNS: usize = 100;
 
-/// What a region that starts has, whose copies so many workers read from a text in which a bar is a newline; or why it does not.
+/// What a region that starts has, whose copies this number of workers read from a text in which a bar is a newline; or why it does not.
 pub(crate) fn start<R: Threads + Wait + Sync>(
     rt: &R,
     alloc: Global,

@@ -26,21 +26,21 @@ pub enum Step {
     Ends(Result<Counts, RunFault>),
 }
 
-/// How many whole units so many bytes are, as far as that has 32 bits.
+/// How many whole units these bytes are, as far as that has 32 bits.
 pub(super) fn units_of(bytes: usize) -> u32
     ensures { result ≡ min (bytes / UNIT_BYTES) (2 ^ 32 - 1) }
 {
     u32::try_from(bytes / UNIT_BYTES).unwrap_or(u32::MAX)
 }
 
-/// How many whole units so many records are, as far as that has 32 bits.
+/// How many whole units these records are, as far as that has 32 bits.
 pub(super) fn units_of_records(records: usize) -> u32
     ensures { result ≡ min (records / UNIT_RECORDS) (2 ^ 32 - 1) }
 {
     u32::try_from(records / UNIT_RECORDS).unwrap_or(u32::MAX)
 }
 
-/// How many records a step of so many units may look at.
+/// How many records a step of this number of units may look at.
 pub(super) fn records_of(units: u32) -> usize
     ensures { result ≡ UNIT_RECORDS * units }
 {
