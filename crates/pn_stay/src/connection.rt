@@ -5,7 +5,9 @@ ghost use Rattle.pn_serve.specs.Session.Knowing.{KnowsNoLess};
 ghost use Rattle.pn_stay.specs.IdleTimeouts.{new_idle_timeout, after_quarter};
 
 use crate::connection_state::{ConnectionState, Pause, ThreadBuffers, TurnOutcome};
+use crate::polled_input::PolledInput;
 use crate::socket::{Socket, TrackedSocket};
+use mio::event::Event;
 use pn_serve::{LineHandler, RunFault};
 use std::alloc::Global;
 use std::marker::Model;
@@ -24,6 +26,8 @@ pub(crate) struct Connection {
     pub(crate) lingers: bool,
     // Whether its input ends after what has come of it.
     is_ending: bool,
+    // Whether the end of its input was reported, or a fault.
+    is_closed: bool,
 }
 
 impl Connection {
@@ -37,7 +41,13 @@ impl Connection {
             is_ready: false,
             lingers: false,
             is_ending: false,
+            is_closed: false,
         }
+    }
+
+    /// Notes what an event of its socket says of the end.
+    pub(crate) fn note_event(&mut self, event: &Event) {
+        self.is_closed |= event.is_read_closed() || event.is_error();
     }
 
     /// Its client's input ends after what has come of it.
@@ -61,8 +71,9 @@ impl Connection {
         ensures knows { KnowsNoLess (M.reader machine.old) (M.reader machine.new) }
     {
         self.is_ready = false;
-        let mut input = TrackedSocket::new(&self.socket);
-        input.end_input_if(self.is_ending);
+        let mut socket = TrackedSocket::new(&self.socket);
+        socket.end_input_if(self.is_ending);
+        let mut input = PolledInput::new(socket, !self.is_ending && !self.is_closed);
         let mut output = TrackedSocket::new(&self.socket);
         let turned = self.state.turn(buffers, machine, &mut input, &mut output);
         let is_busy = turned == TurnOutcome::Goes(Pause::Turn);

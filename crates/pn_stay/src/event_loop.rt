@@ -118,11 +118,11 @@ impl EventLoop {
             if event.token() == MAILBOX {
                 has_mail = true;
             } else {
-                make_ready(
-                    &mut self.connections,
-                    &mut self.ready,
-                    usize::from(event.token()),
-                );
+                let key = usize::from(event.token());
+                if let Some(connection) = self.connections.get_mut(key) {
+                    connection.note_event(event);
+                }
+                make_ready(&mut self.connections, &mut self.ready, key);
             }
         }
         Ok(has_mail)

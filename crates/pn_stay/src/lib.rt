@@ -15,6 +15,7 @@ mod lingering;
 mod listener;
 mod memory;
 mod messages;
+mod polled_input;
 mod progress;
 mod reasons;
 mod scripted;
