@@ -3,7 +3,6 @@
 ghost use Rattle.std.specs.Prelude.{◌≡◌, ◌≢◌, ◌≤◌, ◌<◌, ◌↔◌, [], true, false, length, vec_len, vec_capacity, IfOk, IsTrue, OnErr};
 ghost use Rattle.std.specs.Io.KnownBytes.{Consumes, IsAtEnd, Keeps};
 ghost use Rattle.pn_line.specs.Reads.{newline_after};
-ghost use Rattle.pn_stay.specs.Inputs.{TakesAtMost};
 
 use pn_line::{InMemory, LineBuffer, MAX_LINE_BYTES, Piece, Source};
 use std::alloc::{AllocError, Global};
@@ -83,7 +82,7 @@ impl InputBuffer {
         ensures end { IfOk result (λ more. more ≡ false → (self.new ≡ []) × IsAtEnd (R.remaining input.new)) }
         ensures kept { OnErr result (Keeps (R.remaining input.old) (R.remaining input.new)) }
         ensures none { OnErr result (self.new ≡ []) }
-        ensures few { TakesAtMost READ_SIZE (R.remaining input.old) (R.remaining input.new) }
+        ensures few { length self.new ≤ READ_SIZE }
     {
         self.start = 0;
         read_piece(input, &mut self.piece, &mut self.bytes)
