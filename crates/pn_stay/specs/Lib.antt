@@ -1,6 +1,7 @@
 -- Connections that are answered in turns.
 pub mod Connections
 pub mod IdleTimeouts
+pub mod Inputs
 pub mod Loops
 pub mod Messages
 pub mod Reasons

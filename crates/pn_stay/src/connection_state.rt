@@ -5,6 +5,7 @@ ghost use Rattle.pn_serve.specs.Lines.Stepping.{by, Stands, StepsTo};
 ghost use Rattle.pn_serve.specs.Lines.States.{Start};
 ghost use Rattle.pn_stay.specs.Connections.{new_connection};
 ghost use Rattle.pn_stay.specs.Turns.{in_buffers, Continues, PausesWell, StepsIn, StopsWell, TurnsTo};
+ghost use Rattle.pn_stay.specs.Inputs.{most_taken, TakesAtMost};
 ghost use Rattle.pn_serve.specs.Session.Knowing.{IsSteady, KnowsNoLess};
 
 mod storage;
@@ -132,6 +133,7 @@ impl ConnectionState {
         ensures turns { (start : Start M) → IsSteady M.reader M.moves → Continues (by M.moves M.makes M.ends M.goes M.goes_last) start (R.remaining input.old) (W.contents output.old) machine.old self.old
             → TurnsTo (by M.moves M.makes M.ends M.goes M.goes_last) start (R.remaining input.new) (W.contents output.new) machine.new self.new result }
         ensures pauses { PausesWell self.new result }
+        ensures few { TakesAtMost most_taken (R.remaining input.old) (R.remaining input.new) }
         ensures knows { KnowsNoLess (M.reader machine.old) (M.reader machine.new) }
     {
         self.load(buffers);
@@ -155,6 +157,7 @@ fn send_and_step<M: LineHandler, R: Read, W: Sink>(
     ensures steps { (start : Start M) → IsSteady M.reader M.moves → Continues (by M.moves M.makes M.ends M.goes M.goes_last) start (R.remaining input.old) (W.contents output.old) machine.old (in_buffers buffers.old)
         → StepsIn (by M.moves M.makes M.ends M.goes M.goes_last) start (R.remaining input.new) (W.contents output.new) machine.new buffers.new result }
     ensures stops { StopsWell (in_buffers buffers.new) result }
+    ensures few { TakesAtMost most_taken (R.remaining input.old) (R.remaining input.new) }
     ensures knows { KnowsNoLess (M.reader machine.old) (M.reader machine.new) }
 {
     match send_waiting(buffers, &*machine, output) {
@@ -174,6 +177,7 @@ fn step_and_send<M: LineHandler, R: Read, W: Sink>(
     ensures steps { (start : Start M) → IsSteady M.reader M.moves → Continues (by M.moves M.makes M.ends M.goes M.goes_last) start (R.remaining input.old) (W.contents output.old) machine.old (in_buffers buffers.old)
         → StepsIn (by M.moves M.makes M.ends M.goes M.goes_last) start (R.remaining input.new) (W.contents output.new) machine.new buffers.new result }
     ensures stops { StopsWell (in_buffers buffers.new) result }
+    ensures few { TakesAtMost most_taken (R.remaining input.old) (R.remaining input.new) }
     ensures knows { KnowsNoLess (M.reader machine.old) (M.reader machine.new) }
 {
     match take_steps(buffers, machine, input, output) {

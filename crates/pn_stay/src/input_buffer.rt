@@ -82,6 +82,7 @@ impl InputBuffer {
         ensures end { IfOk result (λ more. more ≡ false → (self.new ≡ []) × IsAtEnd (R.remaining input.new)) }
         ensures kept { OnErr result (Keeps (R.remaining input.old) (R.remaining input.new)) }
         ensures none { OnErr result (self.new ≡ []) }
+        ensures few { length self.new ≤ READ_SIZE }
     {
         self.start = 0;
         read_piece(input, &mut self.piece, &mut self.bytes)

@@ -1,11 +1,13 @@
 //! The steps of a connection's turn: those of its line loop, and reads where no more input is at hand.
 
-ghost use Rattle.std.specs.Prelude.{◌≡◌, ℕ, List, [], Option};
+ghost use Rattle.std.specs.Prelude.{◌≡◌, ◌<◌, ◌≤◌, ◌+◌, ◌*◌, ℕ, List, [], length, Option};
 ghost use Rattle.pn_serve.specs.Lines.Bounds.{IsIdleAt};
 ghost use Rattle.pn_serve.specs.Lines.States.{Start};
 ghost use Rattle.pn_serve.specs.Session.Knowing.{IsSteady, KnowsNoLess};
 ghost use Rattle.pn_serve.specs.Lines.Stepping.{by};
 ghost use Rattle.pn_stay.specs.Turns.{in_buffers, Continues, IsRead, StepsIn, WaitsWell};
+ghost use Rattle.pn_stay.specs.Inputs.{most_taken, ReadsOnce, TakesAtMost};
+ghost use Rattle.pn_stay.specs.declared.input_buffer.TheConstants.{READ_SIZE};
 
 use crate::connection_state::ThreadBuffers;
 use crate::socket::is_wait;
@@ -28,16 +30,26 @@ pub(crate) fn take_steps<M: LineHandler, R: Read, W: Sink>(
     ensures steps { (start : Start M) → IsSteady M.reader M.moves → Continues (by M.moves M.makes M.ends M.goes M.goes_last) start (R.remaining input.old) (W.contents output.old) machine.old (in_buffers buffers.old)
         → StepsIn (by M.moves M.makes M.ends M.goes M.goes_last) start (R.remaining input.new) (W.contents output.new) machine.new buffers.new result }
     ensures waits { WaitsWell (in_buffers buffers.new) result }
+    ensures few { TakesAtMost most_taken (R.remaining input.old) (R.remaining input.new) }
     ensures knows { KnowsNoLess (M.reader machine.old) (M.reader machine.new) }
 {
     let mut units = TURN_UNITS;
     'steps: while units > 0 {
         match take_step(buffers, machine, input, output, units) {
-            Step::Next(used) => units = units.saturating_sub(used.max(1)),
+            Step::Next(used) => units = units_after(units, used),
             step => return step,
         }
     }
     Step::Next(0)
+}
+
+// How many units are left after a step, which counts for one at least.
+fn units_after(units: u32, used: u32) -> u32
+    requires { 0 < units }
+    ensures fewer { result < units }
+    ensures counted { 0 < result → result + used ≤ units }
+{
+    units.saturating_sub(used.max(1))
 }
 
 // One step of the line loop, or a read.
@@ -52,6 +64,7 @@ fn take_step<M: LineHandler, R: Read, W: Sink>(
     ensures steps { (start : Start M) → IsSteady M.reader M.moves → Continues (by M.moves M.makes M.ends M.goes M.goes_last) start (R.remaining input.old) (W.contents output.old) machine.old (in_buffers buffers.old)
         → StepsIn (by M.moves M.makes M.ends M.goes M.goes_last) start (R.remaining input.new) (W.contents output.new) machine.new buffers.new result }
     ensures waits { WaitsWell (in_buffers buffers.new) result }
+    ensures few { ReadsOnce result (R.remaining input.old) (R.remaining input.new) }
     ensures knows { KnowsNoLess (M.reader machine.old) (M.reader machine.new) }
 {
     let step = buffers
@@ -75,11 +88,12 @@ fn read_more<M: LineHandler, R: Read>(
     ensures steps { (start : Start M) (written : Option (List ℕ)) → IsSteady M.reader M.moves → Continues (by M.moves M.makes M.ends M.goes M.goes_last) start (R.remaining input.old) written machine.old (in_buffers buffers.old)
         → StepsIn (by M.moves M.makes M.ends M.goes M.goes_last) start (R.remaining input.new) written machine.new buffers.new result }
     ensures waits { WaitsWell (in_buffers buffers.new) result }
+    ensures few { ReadsOnce result (R.remaining input.old) (R.remaining input.new) }
     ensures knows { KnowsNoLess (M.reader machine.old) (M.reader machine.new) }
 {
     let read = buffers.input.read_from(input);
     match came_of(&read) {
-        Came::Input => Step::Next((buffers.input.bytes().len() / UNIT_BYTES) as u32),
+        Came::Input => Step::Next(units_of(buffers.input.bytes())),
         Came::Nothing => Step::NoInput,
         Came::End => {
             buffers.lines.end_input(machine);
@@ -90,6 +104,14 @@ fn read_more<M: LineHandler, R: Read>(
             Step::Next(0)
         }
     }
+}
+
+// How many units so many bytes of input count for.
+fn units_of(bytes: &[u8]) -> u32
+    requires { length bytes.now ≤ READ_SIZE }
+    ensures { length bytes.now ≤ UNIT_BYTES * (result + 1) }
+{
+    (bytes.len() / UNIT_BYTES) as u32
 }
 
 // What came of a read.

@@ -3,6 +3,7 @@ use Rattle.std.proofs.Common.{ℕ, List, sym, subst}
 use Rattle.std.specs.Io.KnownBytes.{prepend_known}
 use Rattle.pn_serve.specs.Lines.Stepping.{Stands, StepsTo, by}
 use Rattle.pn_serve.proofs.Knowing.{knows_itself}
+use Rattle.pn_stay.proofs.Inputs.{takes_nothing}
 use Rattle.pn_stay.proofs.connection_state.send_and_step.Goals as goal
 
 pub returns-in-Next-clause-steps : goal.returns-in-Next-clause-steps
@@ -21,5 +22,6 @@ returns-in_default g c = record {
       let sent = c.send_waiting.ensures.steps start (prepend_known c.args.buffers.now.input left) steady stands in
       subst (λ (h : List ℕ). StepsTo H start (prepend_known h left) (g.W.Sink.contents c.send_waiting.new.output) c.args.machine.now c.send_waiting.new.buffers.lines c.send_waiting.result) (sym c.send_waiting.ensures.input) sent;
   stops = c.send_waiting.ensures.stops;
+  few = takes_nothing _ _;
   knows = knows_itself _;
 }

@@ -1,11 +1,12 @@
 -- What a read brought.
-use Rattle.std.proofs.Common.{◌≡◌, Bool, false, ℕ, List, [], refl, sym, subst}
+use Rattle.std.proofs.Common.{◌≡◌, Bool, false, ℕ, List, [], length, arith, refl, sym, ap, subst}
 use Rattle.std.specs.Io.KnownBytes.{Consumes, IsAtEnd, Keeps, prepend_known}
 use Rattle.pn_serve.specs.Lines.States.{LineLoopValue}
 use Rattle.pn_serve.specs.Lines.Stepping.{Stands, by}
 use Rattle.pn_serve.proofs.Knowing.{knows_itself}
 use Rattle.pn_serve.proofs.Steps.{Steps-read_fault}
 use Rattle.pn_stay.proofs.Coming.{Consumes-nothing, Ends-known, Keeps-front, Stands-came, at_end, at_fault, at_input, at_nothing}
+use Rattle.pn_stay.proofs.Inputs.{reads_nothing}
 use Rattle.pn_stay.proofs.steps.read_more.Goals as goal
 
 pub returns-in-Input-clause-steps : goal.returns-in-Input-clause-steps
@@ -67,3 +68,26 @@ returns-in-Nothing-clause-knows g c = knows_itself _
 
 pub returns-in-Fault-clause-knows : goal.returns-in-Fault-clause-knows
 returns-in-Fault-clause-knows g c = knows_itself _
+
+pub returns-in-Input-clause-few : goal.returns-in-Input-clause-few
+returns-in-Input-clause-few g c = record {
+  taken = c.read_from-read.new.self;
+  consumes = at_input c.read_from-read.result _ c.in-Input.ensures c.read_from-read.ensures.came;
+  few = c.read_from-read.ensures.few;
+  counted = omega (arith, c.units_of.ensures, ap length c.bytes.ensures.held);
+}
+
+pub returns-in-Nothing-clause-few : goal.returns-in-Nothing-clause-few
+returns-in-Nothing-clause-few g c = reads_nothing _ _ _ (Consumes-nothing _ _ (at_nothing c.read_from-read.result _ c.in-Nothing.ensures c.read_from-read.ensures.kept))
+
+pub returns-in-End-clause-few : goal.returns-in-End-clause-few
+returns-in-End-clause-few g c =
+    let left = g.R.Read.remaining c.args.input.now in
+    let leaves = g.R.Read.remaining c.read_from-read.new.input in
+    let came : Consumes left leaves c.read_from-read.new.self = at_end c.read_from-read.result (λ _. Consumes left leaves c.read_from-read.new.self) c.in-End.ensures c.read_from-read.ensures.came in
+    let end : (c.read_from-read.new.self ≡ []) × IsAtEnd leaves =
+    at_end c.read_from-read.result (λ (more : Bool). more ≡ false → (c.read_from-read.new.self ≡ []) × IsAtEnd leaves) c.in-End.ensures c.read_from-read.ensures.end refl in
+    reads_nothing _ _ _ (subst (λ (b : List ℕ). Consumes left leaves b) end.0 came)
+
+pub returns-in-Fault-clause-few : goal.returns-in-Fault-clause-few
+returns-in-Fault-clause-few g c = reads_nothing _ _ _ (Consumes-nothing _ _ (at_fault c.read_from-read.result _ c.in-Fault.ensures c.read_from-read.ensures.kept))

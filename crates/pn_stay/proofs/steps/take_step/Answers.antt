@@ -1,6 +1,7 @@
 -- The loop steps, and reads where no input is at hand.
 use Rattle.pn_serve.proofs.Knowing.{knows_on}
 use Rattle.pn_stay.proofs.Coming.{waits_well}
+use Rattle.pn_stay.proofs.Inputs.{reads_none}
 use Rattle.pn_stay.proofs.steps.take_step.Goals as goal
 
 pub returns-in-NoInput-clause-steps : goal.returns-in-NoInput-clause-steps
@@ -14,5 +15,6 @@ pub returns-in_default : goal.returns-in_default
 returns-in_default g c = record {
   steps = λ start steady stands. c.step-step.ensures.steps start (g.R.Read.remaining c.args.input.now) steady stands;
   waits = waits_well (record { line = c.step-step.new.self.line; held = c.step-step.new.input; replies = c.step-step.new.self.replies; state = c.step-step.new.self.state }) c.step-step.result c.in_default.not-NoInput c.step-step.ensures.held;
+  few = reads_none _ _;
   knows = c.step-step.ensures.knows;
 }

@@ -1,13 +1,16 @@
 -- One step after another.
 use Rattle.pn_serve.proofs.Knowing.{knows_itself, knows_on}
+use Rattle.pn_stay.proofs.Inputs.{within_after, within_all, within_last, within_turn}
 use Rattle.pn_stay.proofs.steps.take_steps.Goals as goal
 
 pub steps-init : goal.steps-init
-steps-init g c = record { stands = λ start steady stands. stands; knows = knows_itself _ }
+steps-init g c = record { stands = λ start steady stands. stands; within = within_all _; few = within_turn _ _ _ (within_all _); knows = knows_itself _ }
 
 pub steps-preserved : goal.steps-preserved
-steps-preserved g c = record {
+steps-preserved g c = let within = within_after _ _ _ _ _ _ c.steps-test.true c.units_after-units.ensures.fewer c.units_after-units.ensures.counted c.steps.invariant.within c.in-Next.ensures.few in record {
   stands = λ start steady stands. c.in-Next.ensures.steps start steady (c.steps.invariant.stands start steady stands);
+  within = within;
+  few = within_turn _ _ _ within;
   knows = knows_on _ _ _ c.steps.invariant.knows c.take_step.ensures.knows;
 }
 
@@ -15,5 +18,6 @@ pub returns-in_default : goal.returns-in_default
 returns-in_default g c = record {
   steps = λ start steady stands. c.take_step.ensures.steps start steady (c.steps.invariant.stands start steady stands);
   waits = c.take_step.ensures.waits;
+  few = within_last _ _ _ _ _ c.steps-test.true c.steps.invariant.within c.take_step.ensures.few;
   knows = knows_on _ _ _ c.steps.invariant.knows c.take_step.ensures.knows;
 }

@@ -2,7 +2,9 @@
 use Rattle.pn_serve.specs.Lines.States.{Start}
 use Rattle.pn_serve.specs.Lines.Stepping.{by}
 use Rattle.pn_serve.specs.Session.Knowing.{IsSteady, KnowsNoLess}
+use Rattle.pn_stay.specs.Inputs.{most_taken, TakesAtMost}
 use Rattle.pn_stay.specs.Turns.{Continues, in_buffers}
+use Rattle.pn_stay.proofs.Inputs.{TakesWithin}
 use Rattle.pn_stay.proofs.steps.take_steps.Given as goal
 
 abbrev pub invariant-steps : goal.invariant-steps
@@ -10,6 +12,8 @@ invariant-steps g l = record {
   stands : (start : Start g.row.M.Denot) → IsSteady g.M.LineHandler.reader g.M.LineHandler.moves
       → Continues (by g.M.LineHandler.moves g.M.LineHandler.makes g.M.LineHandler.ends g.M.LineHandler.goes g.M.LineHandler.goes_last) start (g.R.Read.remaining l.initial.input) (g.W.Sink.contents l.initial.output) l.initial.machine (in_buffers l.initial.buffers)
       → Continues (by g.M.LineHandler.moves g.M.LineHandler.makes g.M.LineHandler.ends g.M.LineHandler.goes g.M.LineHandler.goes_last) start (g.R.Read.remaining l.input) (g.W.Sink.contents l.output) l.machine (in_buffers l.buffers);
+  within : TakesWithin l.units (g.R.Read.remaining l.initial.input) (g.R.Read.remaining l.input);
+  few : TakesAtMost most_taken (g.R.Read.remaining l.initial.input) (g.R.Read.remaining l.input);
   knows : KnowsNoLess (g.M.LineHandler.reader l.initial.machine) (g.M.LineHandler.reader l.machine);
 }
 

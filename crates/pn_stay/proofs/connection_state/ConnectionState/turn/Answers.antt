@@ -20,3 +20,6 @@ returns-clause-turns g c = λ start steady continues.
 
 pub returns-clause-pauses : goal.returns-clause-pauses
 returns-clause-pauses g c = c.store.ensures.pauses c.send_and_step-step.ensures.stops
+
+pub returns-clause-few : goal.returns-clause-few
+returns-clause-few g c = c.send_and_step-step.ensures.few
