@@ -7,7 +7,7 @@ use Rattle.pn_serve.specs.declared.script.line_loop.steps.TheConstants.{TURN_UNI
 use Rattle.pn_stay.specs.declared.input_buffer.TheConstants.{READ_SIZE}
 use Rattle.pn_stay.specs.declared.steps.TheConstants.{UNIT_BYTES}
 
--- so many bytes at most were taken from a source
+-- at most this number of bytes was taken from a source
 pub record TakesAtMost (most : ℕ) (left leaves : Option (List ℕ)) : Type 0 where
   pub taken : List ℕ
   pub consumes : Consumes left leaves taken
@@ -17,7 +17,7 @@ pub record TakesAtMost (most : ℕ) (left leaves : Option (List ℕ)) : Type 0 w
 abbrev pub most_taken : ℕ
 most_taken = 2 * UNIT_BYTES * TURN_UNITS + READ_SIZE
 
--- so many bytes that were taken are counted
+-- the bytes that were taken are counted
 abbrev pub CountsBytes : Step → ℕ → Type 0
 CountsBytes (Next units) count = count ≤ UNIT_BYTES * (units + 1)
 CountsBytes NoInput count = Unit {0}

@@ -106,7 +106,7 @@ fn read_more<M: LineHandler, R: Read>(
     }
 }
 
-// How many units so many bytes of input count for.
+// How many units the bytes of an input count for.
 fn units_of(bytes: &[u8]) -> u32
     requires { length bytes.now ≤ READ_SIZE }
     ensures { length bytes.now ≤ UNIT_BYTES * (result + 1) }
