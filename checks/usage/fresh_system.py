@@ -145,12 +145,19 @@ class System:
         return found.returncode, found.stdout.strip()
 
     def run(self, *words: str) -> str:
-        """Runs a command in there. Fails with what it prints and with the journal where it does."""
-        status, text = self.status(*words)
+        """Runs a command in there. Fails with what it prints and with the journal where it does, or does not end."""
+        try:
+            status, text = self.status(*words)
+        except subprocess.TimeoutExpired as late:
+            raise TimeoutError(f"{shlex.join(words)} has not ended after {late.timeout} seconds\n{self.journal()}") from late
         if status:
-            journal = self.status("journalctl", "--no-pager", "--lines=20")[1]
-            raise AssertionError(f"{shlex.join(words)} ended with {status}:\n{text[-3_000:]}\n{journal}")
+            raise AssertionError(f"{shlex.join(words)} ended with {status}:\n{text[-3_000:]}\n{self.journal()}")
         return text
+
+    def journal(self) -> str:
+        """The last lines of the journal, and what systemd has not done yet."""
+        shown = (("journalctl", "--no-pager", "--lines=20"), ("systemctl", "list-jobs", "--no-pager"))
+        return "\n".join(self.status(*words)[1] for words in shown)
 
     def run_beside(self, *words: str) -> str:
         """Runs a command of this system, which sees of that one only the network."""
@@ -161,5 +168,5 @@ class System:
         last = time.monotonic() + SECONDS
         while (found := self.status(*words)[1]) != wanted:
             if time.monotonic() > last:
-                raise TimeoutError(f"{' '.join(words)} shows {found!r}, not {wanted!r}")
+                raise TimeoutError(f"{' '.join(words)} shows {found!r}, not {wanted!r}\n{self.journal()}")
             time.sleep(PAUSE)
