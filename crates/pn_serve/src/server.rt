@@ -28,6 +28,7 @@ mod session_threads;
 mod stream_threads;
 mod streams;
 mod tries;
+pub(crate) mod wakeup;
 mod writer_input;
 mod writers;
 

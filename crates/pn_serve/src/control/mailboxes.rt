@@ -13,7 +13,7 @@ use crate::control::answers::{GivenAnswer, Question, give_answer};
 use crate::control::commands::{WriterAnswer, WriterCommand};
 use crate::control::log_watch::LogWatch;
 use crate::control::stop::StopRequest;
-use crate::server::mailboxes::Wakeup;
+use crate::server::wakeup::Wakeup;
 use pn_live::LiveRegion;
 use std::alloc::{AllocError, Global};
 use std::mem;

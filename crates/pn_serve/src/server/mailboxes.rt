@@ -1,4 +1,4 @@
-//! The mailboxes in which the threads of streams leave reports, and the wakeup of the thread that takes them.
+//! The mailboxes in which the threads of streams leave reports.
 
 ghost use Rattle.std.specs.Prelude.{◌≡◌, ◌≢◌, [], ◌∷◌, ◌++◌, map, vec_len, None, IfOk, IfSome, OnOk, MatchBool, MatchOption};
 ghost use Rattle.pn_serve.specs.Server.Reports.{name_in};
@@ -6,10 +6,11 @@ ghost use Rattle.pn_serve.specs.declared.server.mailboxes.Held.TheVariants.{Noth
 
 use crate::server::counter::Counter;
 use crate::server::reports::Report;
+use crate::server::wakeup::Wakeup;
 use pn_join::{Marks, StreamName};
 use std::alloc::{AllocError, Global};
 use std::mem;
-use std::sync::{Arc, Condvar, CondvarTimeouts, Mutex, Wait};
+use std::sync::{Arc, Condvar, Mutex, Wait};
 use std::time::{Clock, Duration};
 
 /// The mailboxes of the streams that are read, what wakes the thread that takes their reports, and the count of its rounds
@@ -262,45 +263,5 @@ impl Held {
         ensures { self.new ≡ Closed }
     {
         *self = Held::Closed;
-    }
-}
-
-/// Many threads notify it; one thread waits until it is notified.
-#[derive(Drop)]
-pub(crate) struct Wakeup {
-    is_notified: Mutex<bool>,
-    notified: Condvar,
-}
-
-impl Wakeup {
-    /// A wakeup that was not notified.
-    pub(crate) fn new() -> Wakeup {
-        Wakeup {
-            is_notified: Mutex::new(false),
-            notified: Condvar::new(),
-        }
-    }
-
-    /// Ends the wait of the thread that waits, or its next one.
-    pub(crate) fn notify<R: Wait>(&self, rt: &R) {
-        *self.is_notified.lock(rt) = true;
-        self.notified.notify_one();
-    }
-
-    /// Waits until it is notified, or was notified since the last call.
-    pub(crate) fn wait<R: Wait>(&self, rt: &R) {
-        let guard = self.is_notified.lock(rt);
-        let mut is_notified = self
-            .notified
-            .wait_while(rt, guard, |is_notified| !*is_notified);
-        *is_notified = false;
-    }
-    /// Waits as `wait` does, but for `most` at most.
-    pub(crate) fn wait_at_most<R: Wait + Clock>(&self, rt: &R, most: Duration) {
-        let guard = self.is_notified.lock(rt);
-        let (mut is_notified, _) = self
-            .notified
-            .wait_timeout_while(rt, guard, most, |is_notified| !*is_notified);
-        *is_notified = false;
     }
 }

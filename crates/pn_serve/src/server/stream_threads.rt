@@ -9,8 +9,9 @@ ghost use Rattle.pn_serve.specs.declared.server.mailboxes.AtFault.TheVariants.{S
 use crate::ServeFault;
 use crate::server::counter::Counter;
 use crate::server::fault_log::{FaultLog, OneWriter};
-use crate::server::mailboxes::{AtFault, Reporter, StreamMailboxes, Wakeup};
+use crate::server::mailboxes::{AtFault, Reporter, StreamMailboxes};
 use crate::server::reporting::{StreamEnd, report_stream};
+use crate::server::wakeup::Wakeup;
 use crate::server::writer_input::WriterInput;
 use pn_join::{Marks, StreamName};
 use pn_line::Source;

@@ -1,0 +1,45 @@
+//! The wakeup of the thread that takes the reports and commands which others leave.
+
+use std::sync::{Condvar, CondvarTimeouts, Mutex, Wait};
+use std::time::{Clock, Duration};
+
+/// Many threads notify it; one thread waits until it is notified.
+#[derive(Drop)]
+pub(crate) struct Wakeup {
+    is_notified: Mutex<bool>,
+    notified: Condvar,
+}
+
+impl Wakeup {
+    /// A wakeup that was not notified.
+    pub(crate) fn new() -> Wakeup {
+        Wakeup {
+            is_notified: Mutex::new(false),
+            notified: Condvar::new(),
+        }
+    }
+
+    /// Ends the wait of the thread that waits, or its next one.
+    pub(crate) fn notify<R: Wait>(&self, rt: &R) {
+        *self.is_notified.lock(rt) = true;
+        self.notified.notify_one();
+    }
+
+    /// Waits until it is notified, or was notified since the last call.
+    pub(crate) fn wait<R: Wait>(&self, rt: &R) {
+        let guard = self.is_notified.lock(rt);
+        let mut is_notified = self
+            .notified
+            .wait_while(rt, guard, |is_notified| !*is_notified);
+        *is_notified = false;
+    }
+
+    /// Waits as `wait` does, but for `most` at most.
+    pub(crate) fn wait_at_most<R: Wait + Clock>(&self, rt: &R, most: Duration) {
+        let guard = self.is_notified.lock(rt);
+        let (mut is_notified, _) = self
+            .notified
+            .wait_timeout_while(rt, guard, most, |is_notified| !*is_notified);
+        *is_notified = false;
+    }
+}
