@@ -92,9 +92,9 @@ def new_deliveries(count: int, in_line: int = IMAGES_IN_LINE, image: Callable[[s
     return b"".join(lines)
 
 
-def new_messages(keys: list[str]) -> bytes:
-    """A stream of images of new keys."""
-    return "".join(f'{{"at":{at},"image":{new_image(key)}}}\n' for at, key in enumerate(keys, 1)).encode()
+def new_messages(keys: list[str], first: int = 1) -> bytes:
+    """Part of a stream, from this position on, of images of new keys."""
+    return "".join(f'{{"at":{at},"image":{new_image(key)}}}\n' for at, key in enumerate(keys, first)).encode()
 
 
 class Data:

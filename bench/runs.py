@@ -1,6 +1,7 @@
 """What the benches share: processor time and instructions of a run, and tables."""
 import dataclasses
 import os
+import pathlib
 import re
 import resource
 import shutil
@@ -84,6 +85,12 @@ def print_table(heads: list[str], rows: list[list[str]]) -> None:
     for row in [heads, *rows]:
         first, *others = (word.rjust(width) for word, width in zip(row, widths))
         print("  ".join([row[0].ljust(len(first)), *others]).rstrip(), flush=True)
+
+
+def write_figures(path: pathlib.Path, figures: dict[int, list[float]]) -> None:
+    """Writes a line for each number with its figures, separated by tabs: whole ones from 100 on."""
+    rows = ([number, *(round(figure, 4) if figure < 100 else round(figure) for figure in found)] for number, found in figures.items())
+    path.write_text("".join("\t".join(map(str, row)) + "\n" for row in rows), encoding="utf-8")
 
 
 def are_programs(*words: str) -> bool:

@@ -13,6 +13,12 @@ def build_c(source: pathlib.Path, program: pathlib.Path) -> None:
     subprocess.run(["cc", *OPTIONS, "-o", str(program), str(source)], check=True)
 
 
+def seconds_so_far(process: int) -> float:
+    """The processor time that a process has taken."""
+    fields = pathlib.Path(f"/proc/{process}/stat").read_text().rpartition(")")[2].split()
+    return (int(fields[11]) + int(fields[12])) / TICKS
+
+
 class Server:
     """A process that serves sessions, which is ended with the block. It is ready once a line of its output has the word."""
 
@@ -31,5 +37,4 @@ class Server:
         self.process.stdout.close()
 
     def processor_seconds(self) -> float:
-        fields = pathlib.Path(f"/proc/{self.process.pid}/stat").read_text().rpartition(")")[2].split()
-        return (int(fields[11]) + int(fields[12])) / TICKS
+        return seconds_so_far(self.process.pid)
