@@ -34,7 +34,7 @@ def check_idle(program: str, folder: str) -> None:
     path = fed(folder)
     with contextlib.ExitStack() as stay:
         stay.enter_context(Beside(feed, path, 2_000))
-        region = stay.enter_context(Staying(program, folder, [("east", path)], "--connections", "65536"))
+        region = stay.enter_context(Staying(program, folder, [("east", path)], "--connections", str(IDLE + 2 * BUSY)))
         swarm = stay.enter_context(Swarm(region.port, BUSY))
         alone, before = swarm.run_for(2), region.memory()
         idle = [stay.enter_context(Client(region.port)) for _ in range(IDLE)]
