@@ -237,6 +237,11 @@ impl<K: Ord + Dup, C: Join> Join for Table<K, C> {
     fn join_from(&mut self, other: &Self) -> Result<(), NoMemory> {
         self.recall_table();
         other.recall_table();
+        // An empty table shares the leaves of the other: it needs no edits.
+        if self.len() == 0 {
+            *self = self.join_with(other)?;
+            return Ok(());
+        }
         let edits = self.leaf_list.edits_from(&other.leaf_list)?;
         if !self.leaf_list.put(edits)? {
             *self = self.join_with(other)?;
