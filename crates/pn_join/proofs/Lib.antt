@@ -1,3 +1,4 @@
+pub mod Appending
 pub mod Changing
 pub mod Each
 pub mod EditJoins

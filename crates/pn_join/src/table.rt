@@ -9,6 +9,7 @@ ghost use Rattle.pn_join.specs.Leaves.{all_entries, IsLeaf, AreLeavesOf};
 ghost use Rattle.pn_join.specs.PutInLeaves.{ChangesOneLeaf};
 ghost use Rattle.pn_join.specs.TableChanges.{AreChanges};
 
+mod appending;
 mod change;
 mod edit;
 mod entries;
@@ -203,6 +204,10 @@ impl<K: Ord + Dup, C: Join> Table<K, C> {
         other.recall_table();
         let mut edits = self.leaf_list.edits_from(&other.leaf_list)?;
         let changes = take_changes(self.leaf_list.alloc(), &mut edits)?;
+        if self.can_append(other) {
+            self.append(other)?;
+            return Ok(changes);
+        }
         if self.leaf_list.put(edits)? {
             return Ok(changes);
         }
@@ -241,6 +246,9 @@ impl<K: Ord + Dup, C: Join> Join for Table<K, C> {
         if self.len() == 0 {
             *self = self.join_with(other)?;
             return Ok(());
+        }
+        if self.can_append(other) {
+            return self.append(other);
         }
         let edits = self.leaf_list.edits_from(&other.leaf_list)?;
         if !self.leaf_list.put(edits)? {

@@ -11,6 +11,7 @@ ghost use Rattle.pn_join.specs.PutInLeaves.{IsPutOf, ChangesOneLeaf};
 ghost use Rattle.pn_join.specs.LeafListChanges.{with_back};
 ghost use Rattle.pn_join.specs.Tables.{IsTable};
 
+mod appending;
 mod bulk_join;
 mod search;
 mod slices;

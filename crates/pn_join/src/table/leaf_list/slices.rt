@@ -105,7 +105,7 @@ impl<K: Ord + Dup, C: Join> LeafList<K, C> {
 
     /// Adds the last keys that are missing, where the last entries are the other's from index `from` to before
     /// index `to`.
-    fn take_last_keys(&mut self, other: &Self, from: usize, to: usize)
+    pub(super) fn take_last_keys(&mut self, other: &Self, from: usize, to: usize)
         ensures { self.new ≡ self.old }
     {
         let first = other.leaf_at(from);
