@@ -69,16 +69,7 @@ pub fn time_layouts<R: Clock + Threads + Sync, S: Source + Drop>(
         IN_BATCH,
     )?;
     let mut laying = Laying::new(alloc, &first)?;
-    let built = time_rounds(rt, &mut laying.region, first)?;
-    let before = laying.time_next(rt, &mut stream, plan)?;
-    let changes = laying.time_changes(rt)?;
-    let after = laying.time_next(rt, &mut stream, plan)?;
-    Some(Laid {
-        built,
-        before,
-        after,
-        changes,
-    })
+    laying.time(rt, &mut stream, first, plan)
 }
 
 /// A region of sixteen tablets, and the keys that it was built with.
@@ -102,6 +93,26 @@ impl Laying {
         })
     }
 
+    // How long the first rounds take, and the plan's rounds before and after changes.
+    fn time<R: Clock + Threads + Sync, S: Source + Drop>(
+        &mut self,
+        rt: &R,
+        stream: &mut StreamReader<S>,
+        first: Vec<Vec<Delivery>>,
+        plan: Plan,
+    ) -> Option<Laid> {
+        let built = time_rounds(rt, &mut self.region, first)?;
+        let before = self.time_next(rt, stream, plan)?;
+        let changes = self.time_changes(rt)?;
+        let after = self.time_next(rt, stream, plan)?;
+        Some(Laid {
+            built,
+            before,
+            after,
+            changes,
+        })
+    }
+
     // How long the plan's next rounds take.
     fn time_next<R: Clock + Threads + Sync, S: Source + Drop>(
         &mut self,
@@ -117,8 +128,7 @@ impl Laying {
     fn time_changes<R: Clock>(&mut self, rt: &R) -> Option<Changes> {
         let step = self.keys.len() / TABLETS;
         let leaves = leaves_of(&self.region)?;
-        let there = self.time_change(rt, step / 2)?;
-        let back = self.time_change(rt, step)?;
+        let (there, back) = self.time_both(rt, step)?;
         self.change_often(step)?;
         let leaves_after = leaves_of(&self.region)?;
         Some(Changes {
@@ -129,11 +139,18 @@ impl Laying {
         })
     }
 
+    // How long it takes to change the layout by half a step, and to change it back.
+    fn time_both<R: Clock>(&mut self, rt: &R, step: usize) -> Option<(u128, u128)> {
+        let there = self.time_change(rt, step / 2)?;
+        let back = self.time_change(rt, step)?;
+        Some((there, back))
+    }
+
     // How long it takes to lay the tablets out from the key of this index on.
     fn time_change<R: Clock>(&mut self, rt: &R, first: usize) -> Option<u128> {
         let layout = layout_from(self.alloc, &self.keys, first)?;
         let start = Instant::now(rt).ok()?;
-        self.region.relayout(layout).ok()?;
+        lay_out(&mut self.region, layout)?;
         Some(start.elapsed(rt).ok()?.as_micros())
     }
 
@@ -147,8 +164,12 @@ impl Laying {
 
     fn change(&mut self, first: usize) -> Option<()> {
         let layout = layout_from(self.alloc, &self.keys, first)?;
-        self.region.relayout(layout).ok()
+        lay_out(&mut self.region, layout)
     }
+}
+
+fn lay_out(region: &mut Region, layout: Layout) -> Option<()> {
+    region.relayout(layout).ok()
 }
 
 // All keys of rounds, in order.
@@ -181,9 +202,14 @@ fn time_rounds<R: Clock + Threads + Sync>(
 ) -> Option<u128> {
     let start = Instant::now(rt).ok()?;
     for _ in 0..rounds.len() {
-        region.round(rt, rounds.pop()?, 1, &Open).ok()?;
+        take(rt, region, rounds.pop()?)?;
     }
     Some(start.elapsed(rt).ok()?.as_micros())
+}
+
+fn take<R: Threads + Sync>(rt: &R, region: &mut Region, deliveries: Vec<Delivery>) -> Option<()> {
+    region.round(rt, deliveries, 1, &Open).ok()?;
+    Some(())
 }
 
 fn leaves_of(region: &Region) -> Option<usize> {

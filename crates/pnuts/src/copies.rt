@@ -40,23 +40,34 @@ where
     let Some(path) = &service.copies else {
         return Ok(None);
     };
-    let file = match File::open(rt, path.as_str()) {
-        Ok(file) => file,
-        Err(error) => return Err(fail_at(rt, "copies", path.as_str(), &error, true)),
-    };
-    let Ok(source) = BufReader::with_capacity(rt.alloc(), READ_SIZE, file) else {
-        return Err(fail(rt, "memory"));
-    };
+    let source = open_file(rt, path.as_str())?;
     match open_from(rt, settings, service, source) {
         Ok(opened) => {
             tell_unread(rt, opened.live.marks(), streams);
             Ok(Some(opened))
         }
-        Err(fault) => {
-            let _ = eprintln!(rt; "pnuts: copies: {fault}");
-            Err(ExitCode::FAILURE)
-        }
+        Err(fault) => Err(refuse_copies(rt, &fault)),
     }
+}
+
+// Opens the file of copies, or prints why not.
+fn open_file<R>(rt: &R, path: &str) -> Result<BufReader<File>, ExitCode>
+where
+    R: AllocGlobal + Files<File = File> + Eprint,
+{
+    let file = match File::open(rt, path) {
+        Ok(file) => file,
+        Err(error) => return Err(fail_at(rt, "copies", path, &error, true)),
+    };
+    match BufReader::with_capacity(rt.alloc(), READ_SIZE, file) {
+        Ok(source) => Ok(source),
+        Err(_) => Err(fail(rt, "memory")),
+    }
+}
+
+fn refuse_copies(rt: &impl Eprint, fault: &CopiesFault) -> ExitCode {
+    let _ = eprintln!(rt; "pnuts: copies: {fault}");
+    ExitCode::FAILURE
 }
 
 // Prints which streams have marks and are not read.
@@ -65,13 +76,15 @@ fn tell_unread(rt: &impl Eprint, marks: &Marks, streams: &[(Name, StreamPath)]) 
         let Some((name, _)) = marks.entry_at(at) else {
             return;
         };
-        if !streams
-            .iter()
-            .any(|stream| stream.0.as_str() == name.as_str())
-        {
+        if !is_read(name.as_str(), streams) {
             let _ = eprintln!(rt; "pnuts: copies: stream {} is not read", name.as_str());
         }
     }
+}
+
+// Whether a stream of this name is read.
+fn is_read(name: &str, streams: &[(Name, StreamPath)]) -> bool {
+    streams.iter().any(|stream| stream.0.as_str() == name)
 }
 
 // Opens a live region that starts from the copies of a file.
@@ -114,11 +127,15 @@ where
             return Ok(reader.into_copies());
         }
         if is_told && has_passed(rt, &told) {
-            let _ = eprintln!(rt; "pnuts: copies: {} tablets", reader.count());
+            tell_count(rt, reader.count());
             told = Instant::now(rt).ok();
         }
     }
     Ok(reader.into_copies())
+}
+
+fn tell_count(rt: &impl Eprint, count: usize) {
+    let _ = eprintln!(rt; "pnuts: copies: {count} tablets");
 }
 
 // Whether a second has passed.

@@ -18,13 +18,17 @@ fn index(words: &mut Split<'_, char>) -> Result<usize, Fail> {
 pub(crate) fn slice(alloc: Global, text: &str) -> Result<String, Fail> {
     let mut words = text.split(' ');
     let table = table(alloc, &mut words)?;
-    let from = index(&mut words)?.min(table.len());
-    let to = index(&mut words)?.min(table.len()).max(from);
-    let part = match table.slice(from, to) {
-        Ok(part) => part,
-        Err(NoMemory) => table.slice(from, to)?,
-    };
+    let part = part_of(&table, &mut words)?;
     form(alloc, &part)
+}
+
+fn part_of(table: &NumberTable, words: &mut Split<'_, char>) -> Result<NumberTable, Fail> {
+    let from = index(words)?.min(table.len());
+    let to = index(words)?.min(table.len()).max(from);
+    match table.slice(from, to) {
+        Ok(part) => Ok(part),
+        Err(NoMemory) => Ok(table.slice(from, to)?),
+    }
 }
 
 // A table cut at an index, and put together again.
@@ -39,16 +43,31 @@ fn cut_at(table: &NumberTable, index: usize) -> Result<NumberTable, NoMemory> {
 /// Where memory runs out it is cut again.
 pub(crate) fn cut(alloc: Global, text: &str) -> Result<String, Fail> {
     let mut words = text.split(' ');
-    let mut table = table(alloc, &mut words)?;
+    let table = table(alloc, &mut words)?;
     let before = table.leaves().count();
-    for word in words {
-        let index = word.parse::<usize>()?;
-        table = match cut_at(&table, index) {
-            Ok(table) => table,
-            Err(NoMemory) => cut_at(&table, index)?,
-        };
-    }
+    let table = cut_at_all(table, words)?;
+    cut_text(alloc, &table, before)
+}
+
+fn cut_text(alloc: Global, table: &NumberTable, before: usize) -> Result<String, Fail> {
     let few = table.leaves().count() <= before;
-    let form = form(alloc, &table)?;
+    let form = form(alloc, table)?;
     Ok(format!(in alloc; "{form}, no more leaves: {few}")?)
+}
+
+// A table that is cut at each of these indices.
+fn cut_at_all(table: NumberTable, words: Split<'_, char>) -> Result<NumberTable, Fail> {
+    let mut table = table;
+    for word in words {
+        table = cut_at_word(&table, word)?;
+    }
+    Ok(table)
+}
+
+fn cut_at_word(table: &NumberTable, word: &str) -> Result<NumberTable, Fail> {
+    let index = word.parse::<usize>()?;
+    match cut_at(table, index) {
+        Ok(table) => Ok(table),
+        Err(NoMemory) => Ok(cut_at(table, index)?),
+    }
 }

@@ -1,6 +1,6 @@
 //! Tables of up to some thousand entries: their joins, and an entry below all others.
 
-use pn_join::{Dup, Highest, Join, Table};
+use pn_join::{Dup, Highest, Join, NoMemory, Table};
 use std::alloc::Global;
 use std::str::Split;
 use std::test::Fail;
@@ -113,23 +113,36 @@ fn with_entry(alloc: Global, text: &str) -> Result<(NumberTable, NumberTable), F
     let mut words = text.split(' ');
     let mut table = table(alloc, &mut words)?;
     let before = table.dup()?;
-    let key = Highest(number(&mut words)?);
+    add_entry(&mut table, number(&mut words)?)?;
+    Ok((before, table))
+}
+
+fn add_entry(table: &mut NumberTable, number: u64) -> Result<(), NoMemory> {
+    let key = Highest(number);
     if table.join_entry(key, key).is_err() {
         table.join_entry(key, key)?;
     }
-    Ok((before, table))
+    Ok(())
 }
 
 /// A table with one entry more, below all others, and whether its last leaf is as it was.
 pub(crate) fn least(alloc: Global, text: &str) -> Result<String, Fail> {
     let (before, table) = with_entry(alloc, text)?;
-    let stays = last_leaf(&before) == last_leaf(&table);
+    least_text(alloc, &before, &table)
+}
+
+fn least_text(alloc: Global, before: &NumberTable, table: &NumberTable) -> Result<String, Fail> {
+    let stays = last_leaf(before) == last_leaf(table);
     Ok(format!(in alloc; "{} entries, last leaf stays: {stays}", table.len())?)
 }
 
 /// A table with one entry more, and whether that changed one leaf alone.
 pub(crate) fn entry(alloc: Global, text: &str) -> Result<String, Fail> {
     let (before, table) = with_entry(alloc, text)?;
-    let one = is_in_leaves(&table) && changes_one_leaf(&before, &table);
+    entry_text(alloc, &before, &table)
+}
+
+fn entry_text(alloc: Global, before: &NumberTable, table: &NumberTable) -> Result<String, Fail> {
+    let one = is_in_leaves(table) && changes_one_leaf(before, table);
     Ok(format!(in alloc; "{} entries, one leaf changed: {one}", table.len())?)
 }

@@ -1,9 +1,12 @@
 //! A stream whose lines several threads read.
 
+ghost use Rattle.std.specs.Prelude.{◌≤◌};
+ghost use Rattle.pn_stream.specs.declared.reader.TheConstants.{MAX_MESSAGES};
+
 use crate::streams::case::Case;
-use crate::streams::reading::new_reader;
+use crate::streams::reading::{most_of, new_reader};
 use pn_line::{InMemory, Source};
-use pn_stream::{Delivery, MAX_MESSAGES, StreamReader};
+use pn_stream::{Delivery, StreamFault, StreamReader};
 use std::alloc::Global;
 use std::test::Fail;
 use std::thread::Threads;
@@ -21,7 +24,8 @@ pub(crate) fn read_by_workers<R: Threads>(
 ) -> Result<String, Fail> {
     let mut runs = ReplyRuns::new(alloc);
     for workers in 1..=MOST_WORKERS {
-        runs.push(read_all(rt, alloc, case, workers)?)?;
+        let text = read_all(rt, alloc, case, workers)?;
+        runs.push(text)?;
     }
     runs.text()
 }
@@ -34,11 +38,23 @@ fn read_all<R: Threads>(
 ) -> Result<String, Fail> {
     let mut reader = new_reader(alloc, case, InMemory::new(case.text.as_bytes()))?;
     let mut text = String::new(alloc);
-    for _ in 0..case.calls {
-        push_answer(rt, alloc, &mut text, case, &mut reader, workers)?;
-    }
-    write!(text, "at {}", reader.position())?;
+    push_all(rt, alloc, &mut text, case, &mut reader, workers)?;
     Ok(text)
+}
+
+// Adds what all calls give, and where the reader is then.
+fn push_all<R: Threads, S: Source + Drop>(
+    rt: &R,
+    alloc: Global,
+    text: &mut String,
+    case: &Case,
+    reader: &mut StreamReader<S>,
+    workers: usize,
+) -> Result<(), Fail> {
+    for _ in 0..case.calls {
+        push_answer(rt, alloc, text, case, reader, workers)?;
+    }
+    Ok(write!(text, "at {}", reader.position())?)
 }
 
 // Adds what one call gives.
@@ -50,17 +66,27 @@ fn push_answer<R: Threads, S: Source + Drop>(
     reader: &mut StreamReader<S>,
     workers: usize,
 ) -> Result<(), Fail> {
-    let most = usize::try_from(case.most)?;
-    if most < 1 || most > MAX_MESSAGES {
-        return Err(Fail::new("no number of messages"));
-    }
-    match reader.next_ready_by(rt, workers, most) {
+    let most = most_of(case)?;
+    match next_by(rt, reader, workers, most) {
         Ok(delivery) => push_counts(alloc, text, &delivery),
         Err(fault) => Ok(write!(text, "{fault}; ")?),
     }
 }
 
-fn push_counts(alloc: Global, text: &mut String, delivery: &Delivery) -> Result<(), Fail> {
+// What one call gives.
+fn next_by<R: Threads, S: Source + Drop>(
+    rt: &R,
+    reader: &mut StreamReader<S>,
+    workers: usize,
+    most: usize,
+) -> Result<Delivery, StreamFault>
+    requires { (1 ≤ most) × (most ≤ MAX_MESSAGES) }
+{
+    reader.next_ready_by(rt, workers, most)
+}
+
+// How many images have the key of their position.
+fn count_in_place(alloc: Global, delivery: &Delivery) -> Result<usize, Fail> {
     let mut in_place = 0_usize;
     let mut at = delivery.first();
     for image in delivery.images() {
@@ -69,6 +95,11 @@ fn push_counts(alloc: Global, text: &mut String, delivery: &Delivery) -> Result<
         }
         at = at.saturating_add(1);
     }
+    Ok(in_place)
+}
+
+fn push_counts(alloc: Global, text: &mut String, delivery: &Delivery) -> Result<(), Fail> {
+    let in_place = count_in_place(alloc, delivery)?;
     write!(
         text,
         "{} {}: {in_place} of {}; ",

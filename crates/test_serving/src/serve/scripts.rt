@@ -3,7 +3,7 @@
 
 use crate::reading::settings;
 use crate::serve::talk::talk;
-use pn_line::{FailingSource, InMemory, Sink, Source, write_all_of};
+use pn_line::{FailingSource, InMemory, Sink, Source, WriteFault, write_all_of};
 use pn_serve::{Counts, RunFault, run};
 use std::alloc::{AllocError, Global};
 use std::test::Fail;
@@ -92,11 +92,20 @@ fn read_from<R: Threads + Sync, S: Source + Drop>(
 fn in_pieces<R: Threads + Sync>(rt: &R, alloc: Global) -> Result<String, Fail> {
     let mut runs = ReplyRuns::new(alloc);
     for size in [1, 2, 7, 1_000] {
-        let pieces = PiecewiseReader::new(script(), size);
-        let text = read_from(rt, alloc, pieces)?;
-        runs.push(text)?;
+        push_run(rt, alloc, &mut runs, PiecewiseReader::new(script(), size))?;
     }
     runs.text()
+}
+
+// Adds how a run over an input ends.
+fn push_run<R: Threads + Sync, S: Source + Drop>(
+    rt: &R,
+    alloc: Global,
+    runs: &mut ReplyRuns,
+    input: S,
+) -> Result<(), Fail> {
+    let text = read_from(rt, alloc, input)?;
+    runs.push(text)
 }
 
 // Readers that show a byte at a time, of which each fails at another.
@@ -104,8 +113,8 @@ fn failing_readers<R: Threads + Sync>(rt: &R, alloc: Global) -> Result<String, F
     let script = script();
     let mut runs = ReplyRuns::new(alloc);
     for look in 1..=script.len() {
-        let text = read_from(rt, alloc, PiecewiseReader::failing(script, 1, look))?;
-        runs.push(text)?;
+        let input = PiecewiseReader::failing(script, 1, look);
+        push_run(rt, alloc, &mut runs, input)?;
     }
     runs.text()
 }
@@ -115,8 +124,7 @@ fn failing_sources<R: Threads + Sync>(rt: &R, alloc: Global) -> Result<String, F
     let script = script();
     let mut runs = ReplyRuns::new(alloc);
     for look in 1..6 {
-        let text = read_from(rt, alloc, FailingSource::new(script, look))?;
-        runs.push(text)?;
+        push_run(rt, alloc, &mut runs, FailingSource::new(script, look))?;
     }
     runs.text()
 }
@@ -140,14 +148,24 @@ fn stop_in_flush<R: Threads + Sync>(rt: &R, alloc: Global) -> Result<String, Fai
 fn stopping_writers<R: Threads + Sync>(rt: &R, alloc: Global, stop: Stop) -> Result<String, Fail> {
     let mut stopped = 0u64;
     for count in 0..due_replies().len() {
-        let output = StoppingWriter::new(alloc, 1, count.saturating_add(1), stop);
-        let text = write_into(rt, alloc, output)?;
-        let due = stop_text(alloc, count)?;
-        if text == due {
+        if is_stopped_after(rt, alloc, stop, count)? {
             stopped = stopped.saturating_add(1);
         }
     }
     Ok(format!(in alloc; "{stopped} of {}", due_replies().len())?)
+}
+
+// Whether a writer that stops after this many bytes had just these.
+fn is_stopped_after<R: Threads + Sync>(
+    rt: &R,
+    alloc: Global,
+    stop: Stop,
+    count: usize,
+) -> Result<bool, Fail> {
+    let output = StoppingWriter::new(alloc, 1, count.saturating_add(1), stop);
+    let text = write_into(rt, alloc, output)?;
+    let due = stop_text(alloc, count)?;
+    Ok(text == due)
 }
 
 fn stop_text(alloc: Global, count: usize) -> Result<String, AllocError> {
@@ -156,15 +174,28 @@ fn stop_text(alloc: Global, count: usize) -> Result<String, AllocError> {
 
 /// How a write of three bytes ends, by a writer that fails at the third byte, and by one that takes none.
 pub(crate) fn write_three_bytes(alloc: Global) -> Result<String, Fail> {
-    let fails = write_text(alloc, StoppingWriter::new(alloc, 1, 3, Stop::Fails))?;
-    let stops = write_text(alloc, StoppingWriter::never(alloc, 0))?;
-    Ok(format!(in alloc; "{fails}; {stops}")?)
+    let mut text = String::new(alloc);
+    push_write(&mut text, StoppingWriter::new(alloc, 1, 3, Stop::Fails))?;
+    text.push_str("; ")?;
+    push_write(&mut text, StoppingWriter::never(alloc, 0))?;
+    Ok(text)
 }
 
-fn write_text(alloc: Global, mut writer: StoppingWriter) -> Result<String, Fail> {
-    match write_all_of(&mut writer, b"abc") {
-        Ok(()) => Ok(String::from_str(alloc, "whole")?),
-        Err(fault) => Ok(format!(in alloc; "{fault} after {}", writer.taken.len())?),
+// Adds how a write of three bytes ends.
+fn push_write(text: &mut String, writer: StoppingWriter) -> Result<(), AllocError> {
+    let mut writer = writer;
+    let ended = write_all_of(&mut writer, b"abc");
+    push_write_end(text, &ended, writer.taken.len())
+}
+
+fn push_write_end(
+    text: &mut String,
+    ended: &Result<(), WriteFault>,
+    taken: usize,
+) -> Result<(), AllocError> {
+    match ended {
+        Ok(()) => text.push_str("whole"),
+        Err(fault) => write!(text, "{fault} after {taken}"),
     }
 }
 
@@ -176,8 +207,18 @@ pub(crate) fn blocks<R: Threads + Sync>(
 ) -> Result<String, Fail> {
     let count = lines.parse::<usize>()?;
     let script = vec![in alloc; b'\n'; count]?;
-    let mut input = InMemory::new(&script);
+    let output = run_in_blocks(rt, alloc, &script)?;
+    Ok(format!(in alloc; "{} bytes in {} writes", output.taken.len(), output.writes)?)
+}
+
+// What is written of the replies to a script by a writer that takes much at a time.
+fn run_in_blocks<R: Threads + Sync>(
+    rt: &R,
+    alloc: Global,
+    script: &[u8],
+) -> Result<StoppingWriter, RunFault> {
+    let mut input = InMemory::new(script);
     let mut output = StoppingWriter::never(alloc, 1_000_000);
     run_script(rt, alloc, &mut input, &mut output)?;
-    Ok(format!(in alloc; "{} bytes in {} writes", output.taken.len(), output.writes)?)
+    Ok(output)
 }

@@ -9,7 +9,7 @@ use pn_apply::Open;
 use pn_join::{Name, NoMemory};
 use pn_line::{Discard, EndlessSource, InMemory, Sink, Source};
 use pn_live::{LiveReader, LiveRegion};
-use pn_record::read_image;
+use pn_record::{Image, read_image};
 use pn_serve::{Counts, RunFault, session};
 use pn_stream::Delivery;
 use std::alloc::{AllocError, Global};
@@ -47,14 +47,21 @@ fn due_replies() -> &'static [u8] {
 
 // One delivery of the image that the first line is.
 fn delivery_of(alloc: Global, lines: &str) -> Option<Vec<Delivery>> {
+    let images = alone(alloc, image_of(alloc, lines)?)?;
+    let name = Name::read(b"east").ok()?;
+    alone(alloc, Delivery::new(name, 1, images)?)
+}
+
+fn image_of(alloc: Global, lines: &str) -> Option<Image> {
     let line = lines.lines().next()?;
-    let image = read_image(alloc, line.as_bytes()).ok()?;
-    let mut images = Vec::with_capacity(alloc, 1).ok()?;
-    images.push(image).ok()?;
-    let delivery = Delivery::new(Name::read(b"east").ok()?, 1, images)?;
-    let mut given = Vec::with_capacity(alloc, 1).ok()?;
-    given.push(delivery).ok()?;
-    Some(given)
+    read_image(alloc, line.as_bytes()).ok()
+}
+
+// A list of one item.
+fn alone<T: Drop>(alloc: Global, item: T) -> Option<Vec<T>> {
+    let mut items = Vec::new(alloc);
+    items.push(item).ok()?;
+    Some(items)
 }
 
 // How many records the round of the first line changes.
@@ -110,7 +117,16 @@ pub(crate) fn answer_session<R: Threads + Wait + Sync>(
     let lines = newlines(alloc, text)?;
     let mut written = Vec::new(alloc);
     let (changed, counts) = answer_lines(rt, alloc, lines.as_str(), &mut written).ok_or(NoMemory)?;
-    let replies = bars(alloc, &written)?;
+    session_text(alloc, changed, counts, &written)
+}
+
+fn session_text(
+    alloc: Global,
+    changed: u64,
+    counts: Counts,
+    written: &[u8],
+) -> Result<String, Fail> {
+    let replies = bars(alloc, written)?;
     let (lines, refused) = (counts.lines, counts.refused);
     Ok(format!(in alloc; "{changed} changed, {lines} lines, {refused} refused: {replies}")?)
 }
@@ -137,30 +153,56 @@ pub(crate) fn fail_sessions<R: Threads + Wait + Sync>(
     how: &str,
 ) -> Result<String, Fail> {
     let layout = layout(alloc, "").ok_or(NoMemory)?;
-    let (mut live, mut reader) = open_one(rt, alloc, layout).ok_or(NoMemory)?;
-    let changed = count_changed(rt, alloc, &mut live, image_line());
-    let ends = match how {
-        "over readers that fail" => over_failing_readers(alloc, &mut reader),
-        "over a source without end" => over_endless_source(alloc, &mut reader),
-        _ => into_failing_writers(alloc, &mut reader),
-    };
-    end(rt, alloc, live);
+    let (live, reader) = open_one(rt, alloc, layout).ok_or(NoMemory)?;
+    let (changed, ends) = fail_over(rt, alloc, live, reader, how);
     let text = ends?;
     changed.ok_or(NoMemory)?;
     Ok(text)
+}
+
+// How many records the image changed in a region, and how sessions ended by its reader.
+fn fail_over<R: Threads + Wait + Sync>(
+    rt: &R,
+    alloc: Global,
+    live: LiveRegion,
+    reader: LiveReader,
+    how: &str,
+) -> (Option<u64>, Result<String, Fail>) {
+    let (mut live, mut reader) = (live, reader);
+    let changed = count_changed(rt, alloc, &mut live, image_line());
+    let ends = ends_of(alloc, &mut reader, how);
+    end(rt, alloc, live);
+    (changed, ends)
+}
+
+fn ends_of(alloc: Global, reader: &mut LiveReader, how: &str) -> Result<String, Fail> {
+    match how {
+        "over readers that fail" => over_failing_readers(alloc, reader),
+        "over a source without end" => over_endless_source(alloc, reader),
+        _ => into_failing_writers(alloc, reader),
+    }
 }
 
 // Readers that show a byte at a time.
 fn over_failing_readers(alloc: Global, reader: &mut LiveReader) -> Result<String, Fail> {
     let mut ends = ReplyRuns::new(alloc);
     for look in 1..=session_lines().len() {
-        let mut input = PiecewiseReader::failing(session_lines(), 1, look);
-        let mut written = Vec::new(alloc);
-        let ended = answer_by(alloc, reader, &mut input, &mut written);
-        let text = read_end_text(alloc, ended, &written)?;
+        let text = read_and_fail(alloc, reader, look)?;
         ends.push(text)?;
     }
     ends.text()
+}
+
+// How a session ends whose reader fails at this look.
+fn read_and_fail(
+    alloc: Global,
+    reader: &mut LiveReader,
+    look: usize,
+) -> Result<String, AllocError> {
+    let mut input = PiecewiseReader::failing(session_lines(), 1, look);
+    let mut written = Vec::new(alloc);
+    let ended = answer_by(alloc, reader, &mut input, &mut written);
+    read_end_text(alloc, ended, &written)
 }
 
 // Whether a session ended by a fault of its input, after the first of the replies, and how many bytes these are.
@@ -196,14 +238,19 @@ fn endless_session(alloc: Global, reader: &mut LiveReader, text: &[u8]) -> RunFa
 fn into_failing_writers(alloc: Global, reader: &mut LiveReader) -> Result<String, Fail> {
     let mut stopped = 0u64;
     for count in 0..due_replies().len() {
-        let mut input = InMemory::new(session_lines());
-        let mut output = StoppingWriter::new(alloc, 1, count.saturating_add(1), Stop::Fails);
-        let ended = answer_by(alloc, reader, &mut input, &mut output);
-        if matches!(ended, Err(RunFault::Write)) && has_first_replies(&output, count) {
+        if is_stopped_after(alloc, reader, count) {
             stopped = stopped.saturating_add(1);
         }
     }
     Ok(format!(in alloc; "{stopped} of {}", due_replies().len())?)
+}
+
+// Whether a writer that fails after this many bytes had just these.
+fn is_stopped_after(alloc: Global, reader: &mut LiveReader, count: usize) -> bool {
+    let mut input = InMemory::new(session_lines());
+    let mut output = StoppingWriter::new(alloc, 1, count.saturating_add(1), Stop::Fails);
+    let ended = answer_by(alloc, reader, &mut input, &mut output);
+    matches!(ended, Err(RunFault::Write)) && has_first_replies(&output, count)
 }
 
 // Whether a writer took this many of the first bytes of the replies, and no others.
