@@ -76,13 +76,25 @@ fn time_store<R: Clock + Threads + Wait + Sync, S: Source + Drop>(
     let keys = load(rt, alloc, store, &mut stream, plan.records)?;
     let mut runners = runners_of(alloc, readers, &keys)?;
     let reads = time_reads(rt, store, &mut runners, &keys)?;
-    let mut last = next_rounds(alloc, &mut stream, plan.rounds, plan.in_round)?;
-    let rounds = time_way(rt, store, &mut runners, &mut last, plan.way)?;
+    let rounds = time_last(rt, alloc, store, &mut runners, &mut stream, plan)?;
     if found_all(&runners) {
         Some(Took { reads, rounds })
     } else {
         None
     }
+}
+
+// How long the last rounds take.
+fn time_last<R: Clock + Threads + Wait + Sync, S: Source + Drop>(
+    rt: &R,
+    alloc: Global,
+    store: &mut Store,
+    runners: &mut Vec<Runner>,
+    stream: &mut StreamReader<S>,
+    plan: Plan,
+) -> Option<Duration> {
+    let mut rounds = next_rounds(alloc, stream, plan.rounds, plan.in_round)?;
+    time_way(rt, store, runners, &mut rounds, plan.way)
 }
 
 // How long the rounds take, with readers that read on or not.
