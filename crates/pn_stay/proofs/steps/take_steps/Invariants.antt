@@ -1,10 +1,13 @@
 -- The connection goes on as its session does.
+use Rattle.pn_serve.specs.Lines.Made.{MakesAtMost}
 use Rattle.pn_serve.specs.Lines.States.{Start}
 use Rattle.pn_serve.specs.Lines.Stepping.{by}
 use Rattle.pn_serve.specs.Session.Knowing.{IsSteady, KnowsNoLess}
 use Rattle.pn_stay.specs.Inputs.{most_taken, TakesAtMost}
 use Rattle.pn_stay.specs.Turns.{Continues, in_buffers}
 use Rattle.pn_stay.proofs.Inputs.{TakesWithin}
+use Rattle.pn_stay.specs.Outputs.{most_made}
+use Rattle.pn_stay.proofs.Outputs.{MakesWithin}
 use Rattle.pn_stay.proofs.steps.take_steps.Given as goal
 
 abbrev pub invariant-steps : goal.invariant-steps
@@ -14,6 +17,8 @@ invariant-steps g l = record {
       → Continues (by g.M.LineHandler.moves g.M.LineHandler.makes g.M.LineHandler.ends g.M.LineHandler.goes g.M.LineHandler.goes_last) start (g.R.Read.remaining l.input) (g.W.Sink.contents l.output) l.machine (in_buffers l.buffers);
   within : TakesWithin l.units (g.R.Read.remaining l.initial.input) (g.R.Read.remaining l.input);
   few : TakesAtMost most_taken (g.R.Read.remaining l.initial.input) (g.R.Read.remaining l.input);
+  makes : MakesWithin l.units (g.W.Sink.contents l.initial.output) (g.W.Sink.contents l.output) l.initial.buffers.lines.replies l.buffers.lines.replies;
+  written : MakesAtMost most_made (g.W.Sink.contents l.initial.output) (g.W.Sink.contents l.output) l.initial.buffers.lines.replies l.buffers.lines.replies;
   knows : KnowsNoLess (g.M.LineHandler.reader l.initial.machine) (g.M.LineHandler.reader l.machine);
 }
 

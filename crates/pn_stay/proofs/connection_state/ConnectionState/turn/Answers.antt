@@ -23,3 +23,6 @@ returns-clause-pauses g c = c.store.ensures.pauses c.send_and_step-step.ensures.
 
 pub returns-clause-few : goal.returns-clause-few
 returns-clause-few g c = c.send_and_step-step.ensures.few
+
+pub returns-clause-written : goal.returns-clause-written
+returns-clause-written g c = c.send_and_step-step.ensures.written
