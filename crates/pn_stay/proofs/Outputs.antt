@@ -10,10 +10,6 @@ use Rattle.pn_serve.specs.Lines.Made.{AppendsAtMost, MakesAtMost, made_by}
 use Rattle.pn_stay.specs.declared.steps.TheConstants.{UNIT_BYTES}
 use Rattle.pn_stay.specs.Outputs.{most_made, most_written}
 
--- nothing was written
-pub makes_nothing : (most : ℕ) (written : Option (List ℕ)) (waited waits : List ℕ) → length waits ≤ length waited + most → MakesAtMost most written written waited waits
-makes_nothing most written waited waits few = record { written = []; appends = Appends-nil written; few = omega (arith, few) }
-
 -- nothing was made, and then more was
 pub makes_more : (most : ℕ) (before after : Option (List ℕ)) (waited waits now : List ℕ) → MakesAtMost 0 before after waited waits → length now ≤ length waits + most → MakesAtMost most before after waited now
 makes_more most before after waited waits now makes grown = record { written = makes.written; appends = makes.appends; few = omega (arith, makes.few, grown) }
