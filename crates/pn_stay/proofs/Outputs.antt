@@ -1,4 +1,4 @@
--- How much is made and written by one step of a turn after another.
+-- How many lines are answered, and how many bytes made and written, by one step of a turn after another.
 use Rattle.std.proofs.Common.{◌≤◌, ◌<◌, ◌+◌, ◌*◌, ℕ, Option, List, [], ◌++◌, length, arith, length-append}
 use Rattle.std.specs.Io.KnownBytes.{Appends}
 use Rattle.std.proofs.KnownBytes.{Appends-nil, Appends-trans}
@@ -6,9 +6,11 @@ use Rattle.pn_serve.specs.declared.script.line_loop.steps.Step.{Step}
 use Rattle.pn_serve.specs.declared.script.line_loop.steps.Step.TheVariants.{Next, NoInput, NoRoom, Ends}
 use Rattle.pn_serve.specs.declared.script.line_loop.steps.TheConstants.{TURN_UNITS}
 use Rattle.pn_serve.specs.declared.script.replies.TheConstants.{REPLY_CAPACITY}
+use Rattle.pn_serve.specs.Lines.Bounds.{CountsUnits}
 use Rattle.pn_serve.specs.Lines.Made.{AppendsAtMost, MakesAtMost, made_by}
+use Rattle.pn_serve.specs.Lines.States.{LineLoopValue}
 use Rattle.pn_stay.specs.declared.steps.TheConstants.{UNIT_BYTES}
-use Rattle.pn_stay.specs.Outputs.{most_made, most_written}
+use Rattle.pn_stay.specs.Outputs.{AnswersAtMost, lines_by, most_made, most_written}
 
 -- nothing was made, and then more was
 pub makes_more : (most : ℕ) (before after : Option (List ℕ)) (waited waits now : List ℕ) → MakesAtMost 0 before after waited waits → length now ≤ length waits + most → MakesAtMost most before after waited now
@@ -75,3 +77,19 @@ makes_last units step a b c xs ys zs more p q = record {
   appends = Appends-trans a b c p.written q.written p.appends q.appends;
   few = omega (arith, length-append p.written q.written, p.counted more, q.few, made_most step, more);
 }
+
+-- ---- lines
+
+-- a step counts its lines
+pub answers_counted : (old new : LineLoopValue) (step : Step) → CountsUnits old new step → AnswersAtMost (lines_by step) old.state new.state
+answers_counted old new (Next units) counted = counted.0
+answers_counted old new NoInput counted = omega (arith, counted.0)
+answers_counted old new NoRoom counted = omega (arith, counted.0)
+answers_counted old new (Ends ended) counted = omega (arith, counted.0)
+
+-- a step answers one line at most
+pub one_line : (step : Step) → lines_by step ≤ 1
+one_line (Next units) = omega arith
+one_line NoInput = omega arith
+one_line NoRoom = omega arith
+one_line (Ends ended) = omega arith

@@ -4,11 +4,12 @@ ghost use Rattle.std.specs.Prelude.{◌≡◌, ◌<◌, ◌≤◌, ◌+◌, ◌*
 ghost use Rattle.pn_serve.specs.Lines.Bounds.{IsIdleAt};
 ghost use Rattle.pn_serve.specs.Lines.Made.{MakesAtMost, made_by};
 ghost use Rattle.pn_serve.specs.Lines.States.{Start};
+ghost use Rattle.pn_serve.specs.declared.script.line_loop.steps.TheConstants.{TURN_UNITS};
 ghost use Rattle.pn_serve.specs.Session.Knowing.{IsSteady, KnowsNoLess};
 ghost use Rattle.pn_serve.specs.Lines.Stepping.{by};
 ghost use Rattle.pn_stay.specs.Turns.{in_buffers, Continues, IsRead, StepsIn, WaitsWell};
 ghost use Rattle.pn_stay.specs.Inputs.{most_taken, ReadsOnce, TakesAtMost};
-ghost use Rattle.pn_stay.specs.Outputs.{most_made};
+ghost use Rattle.pn_stay.specs.Outputs.{AnswersAtMost, lines_by, most_made};
 ghost use Rattle.pn_stay.specs.declared.input_buffer.TheConstants.{READ_SIZE};
 
 use crate::connection_state::ThreadBuffers;
@@ -34,6 +35,7 @@ pub(crate) fn take_steps<M: LineHandler, R: Read, W: Sink>(
     ensures waits { WaitsWell (in_buffers buffers.new) result }
     ensures few { TakesAtMost most_taken (R.remaining input.old) (R.remaining input.new) }
     ensures written { MakesAtMost most_made (W.contents output.old) (W.contents output.new) buffers.old.lines.replies buffers.new.lines.replies }
+    ensures answers { AnswersAtMost TURN_UNITS buffers.old.lines.state buffers.new.lines.state }
     ensures knows { KnowsNoLess (M.reader machine.old) (M.reader machine.new) }
 {
     let mut units = TURN_UNITS;
@@ -69,6 +71,7 @@ fn take_step<M: LineHandler, R: Read, W: Sink>(
     ensures waits { WaitsWell (in_buffers buffers.new) result }
     ensures few { ReadsOnce result (R.remaining input.old) (R.remaining input.new) }
     ensures written { MakesAtMost (made_by result) (W.contents output.old) (W.contents output.new) buffers.old.lines.replies buffers.new.lines.replies }
+    ensures answers { AnswersAtMost (lines_by result) buffers.old.lines.state buffers.new.lines.state }
     ensures knows { KnowsNoLess (M.reader machine.old) (M.reader machine.new) }
 {
     let step = buffers
@@ -94,6 +97,7 @@ fn read_more<M: LineHandler, R: Read>(
     ensures waits { WaitsWell (in_buffers buffers.new) result }
     ensures few { ReadsOnce result (R.remaining input.old) (R.remaining input.new) }
     ensures makes { length buffers.new.lines.replies ≤ length buffers.old.lines.replies + made_by result }
+    ensures answers { AnswersAtMost (lines_by result) buffers.old.lines.state buffers.new.lines.state }
     ensures knows { KnowsNoLess (M.reader machine.old) (M.reader machine.new) }
 {
     let read = buffers.input.read_from(input);

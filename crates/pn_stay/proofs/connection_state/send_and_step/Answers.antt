@@ -1,6 +1,7 @@
 -- What waits is sent first.
 use Rattle.std.proofs.Common.{ℕ, List, length, sym, ap, subst, arith}
 use Rattle.std.specs.Io.KnownBytes.{prepend_known}
+use Rattle.pn_serve.specs.declared.script.Counts.{Counts}
 use Rattle.pn_serve.specs.Lines.Made.{MakesAtMost}
 use Rattle.pn_serve.specs.Lines.Stepping.{Stands, StepsTo, by}
 use Rattle.pn_serve.proofs.Knowing.{knows_itself}
@@ -24,6 +25,9 @@ returns-in-Next-clause-written g c =
     (subst (λ (ys : List ℕ). MakesAtMost 0 (g.W.Sink.contents c.args.output.now) (g.W.Sink.contents c.send_waiting.new.output) c.args.buffers.now.lines.replies ys) none c.in-Next.ensures.written)
     (subst (λ (ys : List ℕ). MakesAtMost most_made (g.W.Sink.contents c.send_waiting.new.output) (g.W.Sink.contents c.step_and_send.new.output) ys c.step_and_send.new.buffers.lines.replies) none c.step_and_send.ensures.written)
 
+pub returns-in-Next-clause-answers : goal.returns-in-Next-clause-answers
+returns-in-Next-clause-answers g c = omega (arith, ap (λ (n : Counts). n.lines) c.in-Next.ensures.same.counts, c.step_and_send.ensures.answers)
+
 pub returns-in_default : goal.returns-in_default
 returns-in_default g c = record {
   steps = λ start steady stands.
@@ -34,5 +38,6 @@ returns-in_default g c = record {
   stops = c.send_waiting.ensures.stops;
   few = takes_nothing _ _;
   written = writes_held _ _ _ _ c.send_waiting.ensures.few c.send_waiting.ensures.written;
+  answers = omega (arith, ap (λ (n : Counts). n.lines) c.send_waiting.ensures.same.counts);
   knows = knows_itself _;
 }

@@ -1,5 +1,5 @@
 -- Replies are handed on, or there is too much, or the source has more, no more, or failed.
-use Rattle.std.proofs.Common.{◌≡◌, length, true, false, sym, ap, ◌∙◌, subst, arith}
+use Rattle.std.proofs.Common.{◌≡◌, length, true, false, refl, sym, ap, ◌∙◌, subst, arith}
 use Rattle.std.specs.Prelude.{Ok}
 use Rattle.pn_serve.specs.declared.script.Counts.{Counts}
 use Rattle.pn_serve.specs.declared.script.RunFault.TheVariants.{Read, TooManyTurns}
@@ -10,7 +10,7 @@ use Rattle.pn_serve.specs.Lines.Made.{made_by}
 use Rattle.pn_serve.specs.Lines.States.{LineLoopValue}
 use Rattle.pn_serve.specs.Lines.Stepping.{Stands, StepsTo, by, with_rest}
 use Rattle.pn_serve.proofs.Knowing.{knows_itself}
-use Rattle.pn_serve.proofs.Bounded.{some_rest}
+use Rattle.pn_serve.proofs.Bounded.{counts_nothing, sends_counted, some_rest, waits_counted}
 use Rattle.pn_serve.proofs.Made.{makes_none, makes_unwritten}
 use Rattle.pn_serve.proofs.Measured.{fault_nearer, out_nearer, waits_nearer}
 use Rattle.pn_serve.proofs.Standing.{Keeps-rest, Steps-put_out, Steps-waited}
@@ -165,3 +165,18 @@ returns-in-Err-clause-written g c = makes_unwritten (made_by c.end_reading-in-Er
 
 pub returns-in-Ok-false-clause-written : goal.returns-in-Ok-false-clause-written
 returns-in-Ok-false-clause-written g c = makes_none (made_by c.wait_for_input.result) _ _ _ _ c.wait_for_input.ensures.written
+
+pub returns-then-not-is_out-clause-counted : goal.returns-then-not-is_out-clause-counted
+returns-then-not-is_out-clause-counted g c =
+    let before = g.W.Sink.contents c.args.output.now in
+    let after = g.W.Sink.contents c.put_out.new.output in
+    sends_counted c.args.self.now c.put_out.new.self before after c.put_out.result c.requires.made c.put_out.ensures.sends c.put_out.ensures.same c.put_out.ensures.written
+
+pub returns-in-Ok-false-clause-counted : goal.returns-in-Ok-false-clause-counted
+returns-in-Ok-false-clause-counted g c =
+    let old = c.args.self.now in
+    let new = c.wait_for_input.new.self in
+    let before = g.W.Sink.contents c.args.output.now in
+    let after = g.W.Sink.contents c.wait_for_input.new.output in
+    waits_counted old new before after old c.wait_for_input.result c.wait_for_input.ensures.waits
+    (counts_nothing old new before after old (omega arith) refl (omega arith) c.wait_for_input.ensures.same c.wait_for_input.ensures.written)

@@ -1,16 +1,16 @@
 -- A step writes, reads, goes on with a look, or ends.
-use Rattle.std.proofs.Common.{◌≡◌, ◌≢◌, ◌+◌, ◌*◌, ◌<◌, ◌≤◌, length, true, [], inr, sym, ap, ◌∙◌, subst, arith}
+use Rattle.std.proofs.Common.{◌≡◌, ◌≢◌, ◌+◌, ◌*◌, ◌<◌, ◌≤◌, length, true, [], inr, refl, sym, ap, ◌∙◌, subst, arith}
 use Rattle.pn_line.specs.Line.{LineBufferValue}
 use Rattle.pn_serve.specs.declared.script.replies.TheConstants.{REPLY_CAPACITY}
 use Rattle.pn_serve.specs.declared.script.line_loop.state.Stage.{Stage}
 use Rattle.pn_serve.specs.declared.script.line_loop.state.Stage.TheVariants.{Reading, Looking, Ending}
-use Rattle.pn_serve.specs.Lines.Bounds.{CountsUnits, Foresees, ForeseesAt, HandsOnAtMost, IsLookingAt, IsOutAs, ReadsOn}
+use Rattle.pn_serve.specs.Lines.Bounds.{CountsUnits, Foresees, ForeseesAt, HandsOnAtMost, IsLookingAt, IsOutAs, KeepsLine, ReadsOn}
 use Rattle.pn_serve.specs.Lines.Going.{AnswersLast, AnswersWith}
 use Rattle.pn_serve.specs.Lines.Made.{MakesAtMost, made_by, made_in}
 use Rattle.pn_serve.specs.Lines.States.{LineLoopValue, LineStateValue}
 use Rattle.pn_serve.specs.Lines.Stepping.{Stands, StandsAt, by, with_rest}
 use Rattle.pn_serve.specs.Lines.Taking.{EndsTo, Takes, TakesLine}
-use Rattle.pn_serve.proofs.Bounded.{ends_counted, ends_foresees, ends_idle, ends_no_input, sends_foresees, takes_foresees, takes_grows, takes_line, takes_lines, takes_out}
+use Rattle.pn_serve.proofs.Bounded.{counts_nothing, ends_counted, ends_foresees, ends_idle, ends_no_input, sends_foresees, takes_foresees, takes_grows, takes_line, takes_lines, takes_out}
 use Rattle.pn_serve.proofs.Knowing.{knows_itself}
 use Rattle.pn_serve.proofs.Made.{makes_none, makes_unwritten}
 use Rattle.pn_serve.proofs.Measured.{ends_nearer}
@@ -205,7 +205,9 @@ returns-in-Ending-clause-counted g c =
     let mid : LineLoopValue = record old { state = record old.state { stage = Reading } } in
     let mid_is = taken_reads c.self.inside.line c.self.inside.replies c.self.inside.state c.take_stage.new.self old c.take_stage.ensures.reads c.self.view_is in
     let ends : EndsTo ended mid before new after c.end_once_out.result = subst (λ (r : LineLoopValue). EndsTo ended r before new after c.end_once_out.result) mid_is c.end_once_out.ensures.ends in
-    ends_counted mid new before after ended old c.end_once_out.result ends
+    let same = subst (λ (r : LineLoopValue). KeepsLine r new) mid_is c.end_once_out.ensures.same in
+    let makes = subst (λ (r : LineLoopValue). MakesAtMost 0 before after r.replies new.replies) mid_is c.end_once_out.ensures.written in
+    ends_counted mid new before after ended old c.end_once_out.result ends (counts_nothing mid new before after old (omega arith) refl (omega arith) same makes)
 
 pub returns-in-Ending-clause-reads : goal.returns-in-Ending-clause-reads
 returns-in-Ending-clause-reads g c =
