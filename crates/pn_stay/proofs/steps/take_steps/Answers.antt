@@ -11,15 +11,15 @@ steps-init g c = record { stands = λ start steady stands. stands; within = with
 pub steps-preserved : goal.steps-preserved
 steps-preserved g c = let within = within_after _ _ _ _ _ _ c.steps-test.true c.units_after-units.ensures.fewer c.units_after-units.ensures.counted c.steps.invariant.within c.in-Next.ensures.few in
     let makes = makes_after _ _ _ _ _ _ _ _ _ c.steps-test.true c.units_after-units.ensures.fewer c.units_after-units.ensures.counted c.steps.invariant.makes c.in-Next.ensures.written in record {
-  stands = λ start steady stands. c.in-Next.ensures.steps start steady (c.steps.invariant.stands start steady stands);
-  within = within;
-  few = within_turn _ _ _ within;
-  makes = makes;
-  written = makes_turn _ _ _ _ _ makes;
-  lines = omega (arith, c.steps.invariant.lines, c.in-Next.ensures.answers, c.units_after-units.ensures.fewer);
-  answers = omega (arith, c.steps.invariant.lines, c.in-Next.ensures.answers, c.steps-test.true);
-  knows = knows_on _ _ _ c.steps.invariant.knows c.take_step.ensures.knows;
-}
+      stands = λ start steady stands. c.in-Next.ensures.steps start steady (c.steps.invariant.stands start steady stands);
+      within = within;
+      few = within_turn _ _ _ within;
+      makes = makes;
+      written = makes_turn _ _ _ _ _ makes;
+      lines = omega (arith, c.steps.invariant.lines, c.in-Next.ensures.answers, c.units_after-units.ensures.fewer);
+      answers = omega (arith, c.steps.invariant.lines, c.in-Next.ensures.answers, c.steps-test.true);
+      knows = knows_on _ _ _ c.steps.invariant.knows c.take_step.ensures.knows;
+    }
 
 pub returns-in_default : goal.returns-in_default
 returns-in_default g c = record {
