@@ -1,5 +1,5 @@
 -- A block was written, and text was made where there was room.
-use Rattle.std.proofs.Common.{subst}
+use Rattle.std.proofs.Common.{length, ap, subst, arith}
 use Rattle.pn_serve.specs.Lines.States.{LineLoopValue}
 use Rattle.pn_serve.specs.Lines.Taking.{IsSent}
 use Rattle.pn_serve.proofs.Writing.{Sent-made, Sent-only, Sent-some}
@@ -22,3 +22,15 @@ returns-in-Ok-Waits-clause-sends g c =
       subst (λ (r : LineLoopValue). IsSent r before new after) c.self.view_is (Sent-only old c.send_block.new.self c.self.inside.state.out before after c.in-Ok-Waits.ensures.ok),
       Sent-some c.send_block.new.self c.self.inside.state.left (c.in-Ok-Waits.ensures.waits c.in-Ok-Waits.field-0-is).0,
     )
+
+pub returns-in-Ok-Waits-clause-counted : goal.returns-in-Ok-Waits-clause-counted
+returns-in-Ok-Waits-clause-counted g c = (
+  omega (arith, ap (λ (r : LineLoopValue). r.state.counts.lines) c.self.view_is),
+  omega (arith, c.send_block.ensures.written.few, ap (λ (r : LineLoopValue). r.line.count) c.self.view_is, ap (λ (r : LineLoopValue). length r.replies) c.self.view_is),
+)
+
+pub returns-in-Err-clause-counted : goal.returns-in-Err-clause-counted
+returns-in-Err-clause-counted g c = (
+  omega (arith, ap (λ (r : LineLoopValue). r.state.counts.lines) c.self.view_is),
+  omega (arith, c.send_block.ensures.written.few, ap (λ (r : LineLoopValue). r.line.count) c.self.view_is, ap (λ (r : LineLoopValue). length r.replies) c.self.view_is),
+)
