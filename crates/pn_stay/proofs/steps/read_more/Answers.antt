@@ -94,4 +94,4 @@ pub returns-in-Fault-clause-few : goal.returns-in-Fault-clause-few
 returns-in-Fault-clause-few g c = reads_nothing _ _ _ (Consumes-nothing _ _ (at_fault c.read_from-read.result _ c.in-Fault.ensures c.read_from-read.ensures.kept))
 
 pub returns-in-End-clause-answers : goal.returns-in-End-clause-answers
-returns-in-End-clause-answers g c = end_lines _ _ c.end_input.ensures.some c.end_input.ensures.none
+returns-in-End-clause-answers g c = end_lines c.args.buffers.now.lines c.end_input.new.self c.end_input.ensures.some c.end_input.ensures.none
