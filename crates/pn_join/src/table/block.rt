@@ -70,6 +70,7 @@ impl<K: Ord + Dup, C: Join> Block<K, C> {
         }
     }
 
+    /// Where the leaves take memory.
     pub(crate) fn alloc(&self) -> Global {
         *self.leaves.allocator()
     }
@@ -210,6 +211,7 @@ impl<K: Ord + Dup, C: Join> Block<K, C> {
         self.join_in_list(key, content)
     }
 
+    /// Makes the first leaf, of one entry. An error leaves none.
     pub(crate) fn push_first(&mut self, key: K, content: C) -> Result<(), NoMemory>
         requires valid { C.valid content }
         requires none { self.old ≡ [] }

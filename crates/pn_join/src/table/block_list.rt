@@ -76,6 +76,7 @@ impl<K: Ord + Dup, C: Join> BlockList<K, C> {
         }
     }
 
+    /// Where the blocks take memory.
     pub fn alloc(&self) -> Global {
         *self.blocks.allocator()
     }

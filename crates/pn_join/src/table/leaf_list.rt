@@ -166,7 +166,7 @@ impl<K: Ord + Dup, C: Join> LeafList<K, C> {
         self.blocks.join_all(&other.blocks)
     }
 
-    /// The same, with what the other's entries change.
+    /// Does the same, and returns what the other's entries change.
     pub(crate) fn join_and_tell(&mut self, other: &Self) -> Result<Told<K, C>, NoMemory>
         ensures changes { IfOk result (λ told. AreChanges K.cmp C.meaning C.joined C.valid (all_entries self.old) (all_entries other.now) told.changes.items) }
         ensures done { IfOk result (λ told. IsTrue told.is_done → contents_at K.cmp C.meaning (all_entries self.new)

@@ -151,6 +151,7 @@ pub(super) fn insert_last_key<K: Dup, C>(
     }
 }
 
+/// A copy of the last key of a leaf. `None` past the last leaf.
 pub(super) fn last_key<K: Dup, C>(
     leaves: &[Leaf<K, C>],
     index: usize,

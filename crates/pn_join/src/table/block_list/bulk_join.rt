@@ -40,7 +40,7 @@ impl<K: Ord + Dup, C: Join> BlockList<K, C> {
         Ok(done)
     }
 
-    /// The same, with what the other's entries change.
+    /// Does the same, and returns what the other's entries change.
     pub fn join_and_tell(&mut self, other: &Self) -> Result<Told<K, C>, NoMemory>
         ensures changes { IfOk result (λ told. AreChanges K.cmp C.meaning C.joined C.valid (entries_in self.old) (entries_in other.now) told.changes.items) }
         ensures done { IfOk result (λ told. IsTrue told.is_done → contents_at K.cmp C.meaning (entries_in self.new)
