@@ -35,6 +35,7 @@ impl<K: Ord + Dup, C: Join> BlockList<K, C> {
         ensures blocks { AreBlocks K.cmp C.valid self.new }
     {
         other.recall_blocks();
+        self.recall_blocks();
         let edits = self.edits_from(other)?;
         let done = self.put(edits)?;
         Ok(done)
@@ -50,6 +51,7 @@ impl<K: Ord + Dup, C: Join> BlockList<K, C> {
         ensures blocks { AreBlocks K.cmp C.valid self.new }
     {
         other.recall_blocks();
+        self.recall_blocks();
         let mut edits = self.edits_from(other)?;
         let changes = take_all_changes(self.alloc(), &mut edits)?;
         let is_done = self.put(edits)?;
@@ -130,9 +132,10 @@ impl<K: Ord + Dup, C: Join> BlockList<K, C> {
         while index > 0 {
             index -= 1;
             if self.halve_if_long(index).is_err() {
-                return;
+                break;
             }
         }
+        self.recall_blocks();
     }
 
     /// Halves a block if it has too many leaves. No leaf changes, also on an error.

@@ -15,4 +15,4 @@ invariant_of-result g c =
     let sum : c.in-Some._most ≡ c.len.result + c.len-2.result = search (rules, arith) in
     let fits : c.in-Some._most < 2 ^ 64 = search (rules, arith) in
     let few : length (all_entries list) + length edits < 2 ^ 64 = omega (arith, sum, fits, c.len.ensures.count, c.len-2.ensures, c.args.edits.ok.0, ap (λ ls. length (all_entries ls)) c.self.view_is) in
-    rw c.open_leaves.ensures.same (c.self.invariant.0, c.self.invariant.1, c.in-Ok-open_leaves.ensures.ready, fit, aimed, c.requires.valid, few)
+    rw c.open_leaves.ensures.same (c.self.invariant.0, c.self.invariant.1, (rw c.deref-2.ensures.value at c.in-Ok-open_leaves.ensures.ready), fit, aimed, c.requires.valid, few)

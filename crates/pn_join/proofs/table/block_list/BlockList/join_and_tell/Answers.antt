@@ -23,7 +23,7 @@ put-requires-clause-aimed g c =
     let cmp = g.K.Ord.cmp in
     let edits = c.in_ok-edits.edits.items in
     let now : AreAimedAtBlocks cmp c.args.self.now edits = c.in_ok-edits.ensures.aimed in
-    same_block_aims cmp c.args.self.now edits c.take_all_changes.new.edits.items c.in_ok-changes.ensures.same now
+    same_block_aims cmp c.args.self.now edits c.take_all_changes.new.all.items c.in_ok-changes.ensures.same now
 
 pub returns-clause-done : goal.returns-clause-done
 returns-clause-done g c = λ yes.

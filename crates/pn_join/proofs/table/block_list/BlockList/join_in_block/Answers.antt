@@ -33,8 +33,8 @@ raise_from-requires-2 g c =
     let room_leaves : length (all_entries old) + 1 < 2 ^ 64 = omega (arith, room, few_leaves (all_entries old) c.self.invariant.0.leaf_list.sizes) in
     leaves_fit cmp g.met.K.Ord.total g.C.Join.meaning g.C.Join.joined g.C.Join.valid c.args.key c.args.content old c.join_at.new.blocks.items c.self.invariant.0 some c.args.index at _ _ c.in_ok-more.ensures.ok c.self.inside.leaf_counts.items c.self.invariant.2 room_leaves
 
-pub invariant_of-self-in_err-more : goal.invariant_of-self-in_err-more
-invariant_of-self-in_err-more g c = rw c.in_err-more.ensures.err c.self.invariant
+pub invariant_of-self : goal.invariant_of-self
+invariant_of-self g c = rw c.in_err-more.ensures.err c.self.invariant
 
 pub invariant_of-self-2 : goal.invariant_of-self-2
 invariant_of-self-2 g c =

@@ -13,12 +13,12 @@ push_slice-requires-clause-table g c =
     let first = all_entries c.args.first in
     let second = all_entries c.args.second in
     let slice : slice_range (all_entries c.block-other.result.now) 0 c.len.result ≡ second = whole_slice (all_entries c.block-other.result.now) c.len.result c.len.ensures.count ∙ ap all_entries c.block-other.ensures in
-    rw (c.in_ok-both.ensures, slice) (IsTable-back g.K.Ord.cmp g.C.Join.valid own (first ++ second) c.requires.table)
+    rw (c.in_ok-both.ensures.ok, slice) (IsTable-back g.K.Ord.cmp g.C.Join.valid own (first ++ second) c.requires.table)
 
 pub push_halves-requires-clause-table : goal.push_halves-requires-clause-table
 push_halves-requires-clause-table g c =
     let first = all_entries c.args.first in
     let second = all_entries c.args.second in
     let slice : slice_range (all_entries c.block-other.result.now) 0 c.len.result ≡ second = whole_slice (all_entries c.block-other.result.now) c.len.result c.len.ensures.count ∙ ap all_entries c.block-other.ensures in
-    let both : all_entries c.push_slice.new.self ≡ first ++ second = c.in_ok-push_slice.ensures ∙ ap (λ es. es ++ slice_range (all_entries c.block-other.result.now) 0 c.len.result) (ap all_entries c.in_ok-both.ensures) ∙ ap (λ es. first ++ es) slice in
+    let both : all_entries c.push_slice.new.self ≡ first ++ second = c.in_ok-push_slice.ensures ∙ ap (λ es. es ++ slice_range (all_entries c.block-other.result.now) 0 c.len.result) (ap all_entries c.in_ok-both.ensures.ok) ∙ ap (λ es. first ++ es) slice in
     rw both c.requires.table

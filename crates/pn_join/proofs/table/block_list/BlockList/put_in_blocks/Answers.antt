@@ -10,11 +10,11 @@ use Rattle.pn_join.proofs.BlockFacts.{all_in_blocks, length-in_blocks}
 use Rattle.pn_join.proofs.LeafListIndices.{length-counts}
 use Rattle.pn_join.proofs.table.block_list.BlockList.put_in_blocks.Goals as goal
 
-pub edit_blocks-requires-clause-blocks : goal.edit_blocks-requires-clause-blocks
-edit_blocks-requires-clause-blocks g c = c.self.invariant.0
+pub edit_blocks-done-requires-clause-blocks : goal.edit_blocks-done-requires-clause-blocks
+edit_blocks-done-requires-clause-blocks g c = c.self.invariant.0
 
-pub edit_blocks-requires-clause-aimed : goal.edit_blocks-requires-clause-aimed
-edit_blocks-requires-clause-aimed g c = rw c.self.view_is c.requires.aimed
+pub edit_blocks-done-requires-clause-aimed : goal.edit_blocks-done-requires-clause-aimed
+edit_blocks-done-requires-clause-aimed g c = rw c.self.view_is c.requires.aimed
 
 pub count_anew-requires-clause-fits : goal.count_anew-requires-clause-fits
 count_anew-requires-clause-fits g c =
@@ -25,7 +25,8 @@ count_anew-requires-clause-fits g c =
     let changes = changes_in_blocks c.args.all.items in
     let is : Edited cmp valid old new changes = edited cmp valid c.edit_blocks-done.result old new changes c.self.invariant.0 c.edit_blocks-done.ensures.done c.edit_blocks-done.ensures.undone c.edit_blocks-done.ensures.err in
     let all : length (entries_in old) ≡ length (entries_in c.args.self.now) = ap (λ bs. length (entries_in bs)) c.self.view_is in
-    omega (arith, is.few, all, c.len.ensures.count, c.in-Some.ensures, ap (λ bs. length (entries_in bs)) c.deref-2.ensures.value)
+    let fits : c.in-Some._most < 2 ^ 64 = search (rules, arith) in
+    omega (arith, is.few, all, fits, c.len.ensures.count, c.in-Some.ensures, ap (λ es. length (changes_in_blocks es)) c.deref.ensures.value, ap (λ bs. length (entries_in bs)) c.deref-2.ensures.value)
 
 pub count_anew-requires-clause-entry_capacity : goal.count_anew-requires-clause-entry_capacity
 count_anew-requires-clause-entry_capacity g c =

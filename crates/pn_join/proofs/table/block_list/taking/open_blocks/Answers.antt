@@ -59,3 +59,9 @@ returns-clause-done g c = λ yes.
 
 pub returns-clause-within : goal.returns-clause-within
 returns-clause-within g c = holes_within c.loop-edits.taken.items c.loop-edits.blocks.items (length c.loop-edits.blocks.items) refl c.loop-edits.invariant.so_far.holes
+
+pub returns-then-not-branch-clause-within : goal.returns-then-not-branch-clause-within
+returns-then-not-branch-clause-within g c =
+    let now = c.loop-edits in
+    let h = rw c.in-Some.ensures.steps.0 at now.invariant.so_far in
+    (not_taken g.K.Ord.cmp g.C.Join.valid c.args.blocks.now.items now.blocks.items now.taken.items _ (into_iter_items c.next.new.self) c.in-Some.edits h c.take_block.new.blocks.items c.take_block.new.taken.items (c.in_ok-take_block.ensures.stay c.if-not-branch.true)).1
