@@ -66,6 +66,14 @@ module _ {A : Type 0} where
   still_there (x ∷ xs) (suc i) zero some = refl
   still_there (x ∷ xs) (suc i) (suc j) some = still_there xs i j some
 
+-- a block is put back with the entries that it had
+pub put_again : {A : Type 0} (blocks : List (List (List A))) (i : ℕ) (hole block : List (List A)) → all_entries block ≡ all_entries (get_or blocks i []) → in_blocks (set (set blocks i hole) i block) ≡ in_blocks blocks
+put_again blocks i hole block is =
+    ap in_blocks (set_again blocks i hole block)
+    ∙ in_blocks-set blocks i block
+    ∙ ap (set (in_blocks blocks) i) (is ∙ sym (at_block blocks i))
+    ∙ set_as_is (in_blocks blocks) i
+
 module _ {K C : Type 0} where
   -- each was taken from another index
   abbrev Apart : ℕ → List (Taken K C) → Type 0
