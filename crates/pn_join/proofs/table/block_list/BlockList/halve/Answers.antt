@@ -89,7 +89,7 @@ returns-clause-same g c =
     let same : old ≡ c.args.self.now = c.in_ok-reserve.ensures.items ∙ c.self.view_is in
     let are : AreBlocks cmp valid old = rw c.in_ok-reserve.ensures.items c.self.invariant.0 in
     let leaves : all_entries new ≡ all_entries old = same_leaves_halved cmp valid c.args.index _ _ old new c.in_ok-front.ensures.ok are in
-    ?
+    ap all_entries c.insert_last_key.ensures ∙ leaves ∙ ap all_entries same
 
 pub returns-clause-blocks : goal.returns-clause-blocks
 returns-clause-blocks g c =
@@ -99,4 +99,4 @@ returns-clause-blocks g c =
     let new = c.halve_at.new.blocks.items in
     let are : AreBlocks cmp valid old = rw c.in_ok-reserve.ensures.items c.self.invariant.0 in
     let now : AreBlocks cmp valid new = blocks_halved cmp valid c.args.index _ _ old new c.in_ok-front.ensures.ok are in
-    ?
+    rw c.insert_last_key.ensures now
