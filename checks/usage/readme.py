@@ -3,7 +3,7 @@
   checks/run readme PROGRAM
 
 The lines between two texts are run by bash, in a folder for all, with `pnuts` on the PATH and a network of their own; what they
-start ends with them. After a text that ends in "say" or "says" come the lines that the ones before it write. Needs unshare and ip.
+start ends with them. After "It prints" come the lines that the ones before it write. Needs unshare and ip.
 
 Exit status 0 where that is what is written, or skipped.
 """
@@ -58,7 +58,7 @@ def main(words: list[str]) -> int:
         (folder / "bin/pnuts").symlink_to(given.program)
         (folder / "clients").symlink_to(TOP / "clients")
         for told, shown in blocks(text):
-            if told.endswith((" say", " says")):
+            if told.endswith("It prints"):
                 same("what is written", written, shown)
                 count += 1
             elif not shown.startswith("make "):
