@@ -105,10 +105,13 @@ pub struct Counters {
 impl Counters {
     /// The counters of a server that has done nothing so far.
     pub fn new(alloc: Global, streams: Vec<StreamCounters>) -> Result<Counters, AllocError> {
+        let rounds = Arc::new(alloc, Counter::new())?;
+        let shortage = Arc::new(alloc, Counter::new())?;
+        let clients = Arc::new(alloc, InputCounters::new())?;
         Ok(Counters {
-            rounds: Arc::new(alloc, Counter::new())?,
-            shortage: Arc::new(alloc, Counter::new())?,
-            clients: Arc::new(alloc, InputCounters::new())?,
+            rounds,
+            shortage,
+            clients,
             refused: Counter::new(),
             kinds: KindCounters::new(),
             connections: ConnectionCounters::new(),

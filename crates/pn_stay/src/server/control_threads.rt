@@ -50,11 +50,14 @@ where
             clients: Vec::new(alloc),
         });
     };
+    let mailboxes = ControlMailboxes::new(alloc, MAX_CONTROLS)?;
+    let mailboxes = Arc::new(alloc, mailboxes)?;
+    let counters = Arc::try_clone(counters)?;
     let setting = ControlSetting {
         alloc,
         listener,
-        mailboxes: Arc::new(alloc, ControlMailboxes::new(alloc, MAX_CONTROLS)?)?,
-        counters: Arc::try_clone(counters)?,
+        mailboxes,
+        counters,
         started: Instant::now(rt).ok(),
     };
     let clients = start_threads(rt, &setting, readers)?;
@@ -77,11 +80,14 @@ struct ControlSetting {
 
 impl ControlSetting {
     fn try_clone(&self) -> io::Result<ControlSetting> {
+        let listener = self.listener.try_clone()?;
+        let mailboxes = Arc::try_clone(&self.mailboxes)?;
+        let counters = Arc::try_clone(&self.counters)?;
         Ok(ControlSetting {
             alloc: self.alloc,
-            listener: self.listener.try_clone()?,
-            mailboxes: Arc::try_clone(&self.mailboxes)?,
-            counters: Arc::try_clone(&self.counters)?,
+            listener,
+            mailboxes,
+            counters,
             started: self.started,
         })
     }

@@ -57,9 +57,10 @@ where
         ..
     } = acceptor;
     check_descriptors(connections)?;
+    let limit = Arc::new(alloc, ConnectionLimit::new(connections))?;
     let shared = Shared {
         alloc,
-        limit: Arc::new(alloc, ConnectionLimit::new(connections))?,
+        limit,
         idle,
         counters,
     };
@@ -155,12 +156,13 @@ where
     let poll = Poll::new(rt)?;
     let mailbox = new_mailbox(shared, &poll)?;
     mailboxes.push(Arc::try_clone(&mailbox)?)?;
+    let counters = Arc::try_clone(&shared.counters)?;
     let promise = ComesBack(Snapshot::of(&reader));
     let body = LoopThread {
         alloc: shared.alloc,
         poll,
         idle: shared.idle,
-        counters: Arc::try_clone(&shared.counters)?,
+        counters,
         mailbox,
         reader,
     };
