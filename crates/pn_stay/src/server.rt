@@ -8,6 +8,7 @@ ghost use Rattle.pn_serve.specs.Server.Events.{ReadsBesides};
 ghost use Rattle.pn_serve.specs.Server.Reading.{ReadsStreams};
 ghost use Rattle.pn_serve.specs.Server.Sessions.{AllRead};
 
+mod accepting;
 mod control_client;
 mod control_threads;
 pub(crate) mod starting;
@@ -15,6 +16,8 @@ mod stopping;
 mod threads;
 
 use crate::acceptor::SocketAcceptor;
+use crate::counters::Counters;
+use crate::listener::Listener;
 use crate::server::control_threads::start_controls;
 use crate::server::starting::ServerSizes;
 use crate::server::stopping::Stopping;
@@ -22,8 +25,8 @@ use crate::server::threads::start_answering;
 use pn_line::Source;
 use pn_live::{LiveReader, LiveRegion};
 use pn_serve::{
-    Acceptor, MAX_CONTROLS, OpenedRegion, Origin, ServeFault, SessionThread, Settings, Stream,
-    Watchers, close_region, join_sessions, open_region, read_streams, take_commands,
+    Acceptor, Counter, MAX_CONTROLS, OpenedRegion, Origin, ServeFault, SessionThread, Settings,
+    Stream, Watchers, close_region, join_sessions, open_region, read_streams, take_commands,
 };
 use pn_tablet::Layout;
 use std::alloc::{AllocError, Global};
@@ -197,26 +200,46 @@ where
 {
     let mut acceptor = acceptor;
     let beside = take_beside(alloc, live, readers, sizes.threads)?;
-    let rounds = acceptor.round_counter();
-    let shortage = Some(Arc::try_clone(&acceptor.counters.shortage)?);
-    let listener = acceptor.listener.try_clone()?;
-    let counters = Arc::try_clone(&acceptor.counters)?;
-    let controls = start_controls(rt, alloc, acceptor.control.take(), &counters, beside)?;
+    let kept = keep_handles(&acceptor)?;
+    let control = acceptor.control.take();
+    let controls = start_controls(rt, alloc, control, &kept.counters, beside)?;
     let answering = start_answering(rt, alloc, acceptor, sizes.connections, live, readers)?;
     Ok(Started {
         running: answering.running,
         watchers: Watchers {
-            rounds,
-            shortage,
+            rounds: kept.rounds,
+            shortage: kept.shortage,
             controls: controls.mailboxes,
         },
         stopping: Stopping {
-            listener,
+            listener: kept.listener,
             control: controls.listener,
             mailboxes: answering.mailboxes,
             clients: controls.clients,
-            counters,
+            counters: kept.counters,
         },
+    })
+}
+
+// What a server keeps of its acceptor.
+#[derive(Drop)]
+struct KeptHandles {
+    rounds: Option<Arc<Counter>>,
+    shortage: Option<Arc<Counter>>,
+    listener: Listener,
+    counters: Arc<Counters>,
+}
+
+fn keep_handles(acceptor: &SocketAcceptor) -> io::Result<KeptHandles> {
+    let rounds = acceptor.round_counter();
+    let shortage = Some(Arc::try_clone(&acceptor.counters.shortage)?);
+    let listener = acceptor.listener.try_clone()?;
+    let counters = Arc::try_clone(&acceptor.counters)?;
+    Ok(KeptHandles {
+        rounds,
+        shortage,
+        listener,
+        counters,
     })
 }
 
