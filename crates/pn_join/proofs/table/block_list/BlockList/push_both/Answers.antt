@@ -1,0 +1,24 @@
+-- The first block goes on from what is there, and the second from the first.
+use Rattle.std.proofs.Common.{◌≡◌, ◌++◌, ◌<◌, length, slice_range, sym, ap, ◌∙◌, arith, append_assoc}
+use Rattle.pn_join.specs.Blocks.{entries_in}
+use Rattle.pn_join.specs.Leaves.{all_entries}
+use Rattle.pn_join.specs.Tables.{IsTable}
+use Rattle.std.proofs.lemmas.Result.{on_ok_weaker}
+use Rattle.pn_join.proofs.BlockGrowth.{IsTable-back, whole_slice}
+use Rattle.pn_join.proofs.table.block_list.BlockList.push_both.Goals as goal
+
+pub push_slice-requires-clause-table : goal.push_slice-requires-clause-table
+push_slice-requires-clause-table g c =
+    let own = entries_in c.args.self.now in
+    let first = all_entries c.args.first in
+    let second = all_entries c.args.second in
+    let slice : slice_range (all_entries c.block-other.result.now) 0 c.len.result ≡ second = whole_slice (all_entries c.block-other.result.now) c.len.result c.len.ensures.count ∙ ap all_entries c.block-other.ensures in
+    rw (c.in_ok-both.ensures.ok, slice) (IsTable-back g.K.Ord.cmp g.C.Join.valid own (first ++ second) c.requires.table)
+
+pub push_halves-requires-clause-table : goal.push_halves-requires-clause-table
+push_halves-requires-clause-table g c =
+    let first = all_entries c.args.first in
+    let second = all_entries c.args.second in
+    let slice : slice_range (all_entries c.block-other.result.now) 0 c.len.result ≡ second = whole_slice (all_entries c.block-other.result.now) c.len.result c.len.ensures.count ∙ ap all_entries c.block-other.ensures in
+    let both : all_entries c.push_slice.new.self ≡ first ++ second = c.in_ok-push_slice.ensures ∙ ap (λ es. es ++ slice_range (all_entries c.block-other.result.now) 0 c.len.result) (ap all_entries c.in_ok-both.ensures.ok) ∙ ap (λ es. first ++ es) slice in
+    rw both c.requires.table
