@@ -70,6 +70,13 @@ module _ {K X : Type 0} (cmp : K → K → Ordering) (valid : X → Type 0) wher
     });
   }
 
+-- leaves whose entries begin with those of some leaves
+pub some_leaves : {A : Type 0} (list first : List (List A)) (more : List A) → 0 < length first → AllByRecursion (λ leaf. IsLeaf leaf) first → all_entries list ≡ all_entries first ++ more → 0 < length list
+some_leaves list [] more some sizes is = absurd (omega (arith, some))
+some_leaves [] (leaf ∷ first) more some sizes is =
+    absurd (omega (arith, sizes.0.0, ap length is, length-append (leaf ++ all_entries first) more, length-append leaf (all_entries first)))
+some_leaves (l ∷ ls) (leaf ∷ first) more some sizes is = omega arith
+
 -- a slice up to the end
 pub slice_to_end : {A : Type 0} (es : List A) (from to end : ℕ) → end ≡ min to (length es) → slice_range es from end ≡ slice_range es from to
 slice_to_end es from to end is =

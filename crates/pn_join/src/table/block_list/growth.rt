@@ -83,6 +83,7 @@ impl<K: Ord + Dup, C: Join> BlockList<K, C> {
         ensures { OnOk result (entries_in self.new ≡ entries_in self.old ++ (all_entries first ++ all_entries second)) }
     {
         let mut both = first.take(self.alloc())?;
+        both.recall_leaf_list();
         let other = second.block();
         both.push_slice(other, 0, other.len())?;
         self.push_halves(both)

@@ -13,8 +13,8 @@ index_mut-requires g c =
     let both = within_rest now.taken.items c.pop.new.self.items c.in-Some.one n n c.in-Some.ensures.items refl now.invariant.within in
     omega (arith, both.0, now.blocks.ok.0)
 
-pub loop-one-preserved : goal.loop-one-preserved
-loop-one-preserved g c =
+pub loop-one-preserved-in-Some : goal.loop-one-preserved-in-Some
+loop-one-preserved-in-Some g c =
     let now = c.loop-one in
     let one = c.in-Some.one in
     let blocks = now.blocks.items in

@@ -51,5 +51,5 @@ returns-in-NoMemory-clause-err g c =
     let i = c.args.edits.block in
     let within : i < length old = omega (arith, c.args.blocks.now.ok.0) in
     let taken : c.in_ok-block.block ≡ get_or old i [] = c.in_ok-block.ensures.ok ∙ c.index_mut.ensures.value ∙ same_at old i c.index_mut.result.now [] within in
-    let is : all_entries c.seal-2.result ≡ all_entries (get_or old i []) = ap all_entries c.seal-2.ensures ∙ c.in-NoMemory.ensures ∙ ap all_entries taken in
-    record { blocks_stay = put_again old i c.take.new.self c.seal-2.result is; taken_stay = refl }
+    let is : all_entries c.seal-in-NoMemory.result ≡ all_entries (get_or old i []) = ap all_entries c.seal-in-NoMemory.ensures ∙ c.in-NoMemory.ensures ∙ ap all_entries taken in
+    record { blocks_stay = put_again old i c.take.new.self c.seal-in-NoMemory.result is; taken_stay = refl }
