@@ -25,3 +25,16 @@ loop-one-preserved-in-Some g c =
       within = (within_rest now.taken.items c.pop.new.self.items one (length blocks) _ c.in-Some.ensures.items (sym (length_set blocks one.index sealed)) now.invariant.within).1;
       len = now.invariant.len;
     }
+
+pub loop-one-preserved : goal.loop-one-preserved
+loop-one-preserved g c =
+    let now = c.loop-one in
+    let one = c.in-Some.one in
+    let blocks = now.blocks.items in
+    let sealed = c.seal.result in
+    let is : all_entries sealed ≡ was one = ap all_entries c.seal.ensures ∙ c.cancel.ensures in
+    record {
+      back = put_back was now.taken.items c.pop.new.self.items one blocks sealed c.in-Some.ensures.items is ∙ now.invariant.back;
+      within = (within_rest now.taken.items c.pop.new.self.items one (length blocks) _ c.in-Some.ensures.items (sym (length_set blocks one.index sealed)) now.invariant.within).1;
+      len = now.invariant.len;
+    }
