@@ -4,11 +4,11 @@ use Rattle.std.specs.List.{AllByRecursion}
 use Rattle.std.specs.Option.{option_to_list}
 use Rattle.std.specs.FinMap.{find}
 use Rattle.std.proofs.lemmas.List.{length-append, take_more}
-use Rattle.pn_join.specs.BlockEdits.{changes_in_blocks, puts_in_blocks, placed, placed_at, AreAimedAt, AreAimedAtBlocks}
+use Rattle.pn_join.specs.BlockEdits.{changes_in_blocks, puts_in_blocks, placed, placed_at, AreAimedAtBlocks}
 use Rattle.pn_join.specs.Blocks.{in_blocks, entries_in}
 use Rattle.pn_join.specs.Edits.{changes_in, puts_in, AreAimed, IsAimed}
 use Rattle.pn_join.specs.Leaves.{leaf_for}
-use Rattle.pn_join.specs.TableChanges.{Changes, IsChange, AreChanges}
+use Rattle.pn_join.specs.TableChanges.{Changes, AreChanges}
 use Rattle.pn_join.specs.Tables.{IsTable, optional_joined}
 use Rattle.pn_join.specs.declared.table.block_edits.BlockEdits.{BlockEdits}
 use Rattle.pn_join.specs.declared.table.change.TableChange.{TableChange}

@@ -1,15 +1,15 @@
 -- The counts of entries and leaves, block by block.
-use Rattle.std.proofs.Common.{◌≡◌, ℕ, zero, suc, ◌+◌, ◌^◌, ◌<◌, ◌≤◌, true, false, Bool, List, [], ◌∷◌, ◌++◌, length, get_or, take, drop, Result, Ok, Err, IfOk, OnErr, IsTrue, Ordering, refl, sym, ap, ◌∙◌, subst, arith, take-append-drop}
+use Rattle.std.proofs.Common.{◌≡◌, ℕ, zero, suc, ◌+◌, ◌^◌, ◌<◌, ◌≤◌, true, false, Bool, List, [], ◌∷◌, ◌++◌, length, get_or, take, drop, Result, Ok, Err, IfOk, OnErr, IsTrue, Ordering, refl, sym, ap, ◌∙◌, arith, take-append-drop}
 use Rattle.std.proofs.lemmas.List.{length-append, take_more}
 use Rattle.std.specs.List.{AllByRecursion}
 use Rattle.std.specs.FinMap.{put}
 use Rattle.pn_join.specs.Blocks.{in_blocks, entries_in, AreBlocks}
-use Rattle.pn_join.specs.Leaves.{all_entries, AreEntryCounts, IsLeaf, IsLeafList}
+use Rattle.pn_join.specs.Leaves.{all_entries, AreEntryCounts, IsLeaf}
 use Rattle.pn_join.specs.TableChanges.{puts}
 use Rattle.pn_join.specs.Tables.{IsTable}
 use Rattle.pn_join.specs.TakenBlocks.{ArePut}
 use Rattle.pn_join.specs.declared.table.change.TableChange.{TableChange}
-use Rattle.pn_join.proofs.BlockFacts.{all_in_blocks, at_block, blocks_some, has_leaves}
+use Rattle.pn_join.proofs.BlockFacts.{all_in_blocks, blocks_some, has_leaves}
 use Rattle.pn_join.proofs.BlockGrowth.{all_append, in_blocks-push, entries_push}
 use Rattle.pn_join.proofs.Each.{each_append}
 use Rattle.pn_join.proofs.LeafListGrowth.{all_push, pushed_counts}

@@ -2,7 +2,7 @@
 use Rattle.std.proofs.Common.{◌≡◌, ℕ, List, [], ◌∷◌, ◌++◌, get_or, Ordering, refl, sym, ap, ◌∙◌, subst}
 use Rattle.std.specs.List.{AllByRecursion, flat_map, fold}
 use Rattle.std.specs.FinMap.{put}
-use Rattle.pn_join.specs.BlockEdits.{changes_in_blocks, puts_in_blocks, AreAimedAt, AreAimedAtBlocks}
+use Rattle.pn_join.specs.BlockEdits.{changes_in_blocks, puts_in_blocks, AreAimedAtBlocks}
 use Rattle.pn_join.specs.Blocks.{in_blocks}
 use Rattle.pn_join.specs.Edits.{changes_in, puts_in, AreAimed}
 use Rattle.pn_join.specs.Leaves.{leaf_for}

@@ -1,10 +1,10 @@
 -- Blocks added to a list, and the first blocks of one.
-use Rattle.std.proofs.Common.{◌≡◌, ℕ, zero, suc, ◌+◌, ◌^◌, ◌<◌, ◌≤◌, List, [], ◌∷◌, ◌++◌, ◌-◌, min, length, get_or, take, drop, slice_range, Ordering, IsTrue, refl, sym, ap, ◌∙◌, arith, append_assoc, take-append-drop}
+use Rattle.std.proofs.Common.{◌≡◌, ℕ, zero, suc, ◌+◌, ◌<◌, ◌≤◌, List, [], ◌∷◌, ◌++◌, ◌-◌, min, length, get_or, take, drop, slice_range, Ordering, refl, sym, ap, ◌∙◌, arith, append_assoc, take-append-drop}
 use Rattle.std.proofs.lemmas.List.{length-append, length-drop, take_min}
 use Rattle.std.proofs.lemmas.List.Concat.{flat_map-append}
 use Rattle.std.specs.List.{AllByRecursion}
 use Rattle.pn_join.specs.Blocks.{in_blocks, entries_in, AreBlocks}
-use Rattle.pn_join.specs.Leaves.{all_entries, IsLeaf, IsLeafList, AreEntryCounts}
+use Rattle.pn_join.specs.Leaves.{all_entries, IsLeaf, IsLeafList}
 use Rattle.pn_join.specs.Tables.{IsTable}
 use Rattle.pn_join.proofs.BlockFacts.{take_whole}
 use Rattle.pn_join.proofs.Each.{each_prefix, each_back, each_append}

@@ -1,15 +1,14 @@
 -- Blocks and their counts after one was divided in two.
-use Rattle.std.proofs.Common.{◌≡◌, ℕ, zero, suc, ◌+◌, ◌^◌, ◌<◌, ◌≤◌, List, [], ◌∷◌, ◌++◌, length, get_or, set, insert, take, Ordering, refl, sym, ap, ◌∙◌, arith}
+use Rattle.std.proofs.Common.{◌≡◌, ℕ, zero, suc, ◌+◌, ◌<◌, ◌≤◌, List, [], ◌∷◌, length, get_or, set, insert, take, Ordering, refl, sym, ap, ◌∙◌, arith}
 use Rattle.std.proofs.lemmas.List.{length-append}
 use Rattle.pn_join.specs.BlockJoins.{IsHalvedAt}
 use Rattle.pn_join.specs.Blocks.{in_blocks, AreBlocks}
-use Rattle.pn_join.specs.Leaves.{all_entries, AreEntryCounts, IsLeaf}
+use Rattle.pn_join.specs.Leaves.{all_entries, AreEntryCounts}
 use Rattle.pn_join.proofs.BlockCounts.{within_some}
-use Rattle.pn_join.proofs.BlockFacts.{at_block, length-in_blocks, some_entries, each_leaf_has}
+use Rattle.pn_join.proofs.BlockFacts.{at_block, some_entries, each_leaf_has}
 use Rattle.pn_join.proofs.BlockGrowth.{all_append}
 use Rattle.pn_join.proofs.BlockHalves.{halved_counts, halved_leaves, halved_blocks, halved_entries}
 use Rattle.pn_join.proofs.Each.{each_back}
-use Rattle.pn_join.proofs.EditSteps.{each_at}
 use Rattle.pn_join.proofs.LeafListIndices.{leaf_within}
 
 -- the item that was just set

@@ -1,10 +1,9 @@
 -- Halving a block changes no leaf.
 use Rattle.std.proofs.Common.{◌≡◌, ℕ, zero, suc, ◌+◌, ◌<◌, List, [], ◌∷◌, ◌++◌, length, get_or, set, insert, take, Ordering, refl, sym, ap, ◌∙◌, arith}
-use Rattle.std.specs.List.{AllByRecursion}
 use Rattle.pn_join.specs.Blocks.{in_blocks, AreBlocks}
 use Rattle.pn_join.specs.LeafListChanges.{counts_with}
 use Rattle.pn_join.specs.Leaves.{all_entries, AreEntryCounts}
-use Rattle.pn_join.proofs.BlockFacts.{at_block, length-in_blocks, some_entries}
+use Rattle.pn_join.proofs.BlockFacts.{at_block, length-in_blocks}
 use Rattle.pn_join.proofs.BlockGrowth.{all_append}
 use Rattle.pn_join.proofs.BlockJoin.{in_blocks-set}
 use Rattle.pn_join.proofs.LeafListEdits.{each_with_back, raise_none}

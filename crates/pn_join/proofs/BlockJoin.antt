@@ -6,9 +6,9 @@ use Rattle.std.specs.Cmp.{IsTotalOrder}
 use Rattle.std.specs.FinMap.{find, put}
 use Rattle.pn_join.specs.Blocks.{in_blocks, entries_in, AreBlocks}
 use Rattle.pn_join.specs.LeafListChanges.{raised_from}
-use Rattle.pn_join.specs.Leaves.{all_entries, leaf_for, IsLeaf, IsLeafList, AreEntryCounts}
+use Rattle.pn_join.specs.Leaves.{all_entries, leaf_for, IsLeaf, AreEntryCounts}
 use Rattle.pn_join.specs.PutInLeaves.{IsPutOf, ReindicesOneLeaf, ChangesOneLeaf}
-use Rattle.pn_join.specs.Tables.{IsTable, optional_joined}
+use Rattle.pn_join.specs.Tables.{optional_joined}
 use Rattle.pn_join.proofs.BlockFacts.{all_in_blocks, at_block, length-in_blocks, blocks_some, blocks_rising, found_in_block}
 use Rattle.pn_join.proofs.Each.{each_append, each_prefix, each_back}
 use Rattle.pn_join.proofs.EditSteps.{each_set}

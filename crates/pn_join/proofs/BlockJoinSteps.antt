@@ -1,5 +1,5 @@
 -- Blocks and their counts after one entry was joined into one of them.
-use Rattle.std.proofs.Common.{◌≡◌, ℕ, ◌+◌, ◌^◌, ◌<◌, ◌≤◌, List, [], ◌∷◌, ◌++◌, length, get_or, set, Ordering, refl, sym, ap, ◌∙◌, arith}
+use Rattle.std.proofs.Common.{◌≡◌, ℕ, ◌+◌, ◌^◌, ◌<◌, ◌≤◌, List, [], length, get_or, set, Ordering, ap, ◌∙◌, arith}
 use Rattle.std.specs.Cmp.{IsTotalOrder}
 use Rattle.pn_join.specs.BlockJoins.{JoinsAt}
 use Rattle.pn_join.specs.Blocks.{in_blocks, entries_in, AreBlocks}

@@ -1,5 +1,5 @@
 -- The leaves of blocks, shared or not.
-use Rattle.std.specs.Prelude.{List, map}
+use Rattle.std.specs.Prelude.{List}
 use Rattle.pn_join.specs.declared.table.block_ref.Held.{Held}
 use Rattle.pn_join.specs.declared.table.block_ref.Held.TheVariants.{Own, Shared}
 

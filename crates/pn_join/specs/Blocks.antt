@@ -1,5 +1,5 @@
 -- Blocks: the leaves of a table, divided into rows.
-use Rattle.std.specs.Prelude.{◌≡◌, ℕ, ◌<◌, List, map, length}
+use Rattle.std.specs.Prelude.{◌<◌, List, map, length}
 use Rattle.std.specs.declared.cmp.Ordering.{Ordering}
 use Rattle.std.specs.List.{AllByRecursion}
 use Rattle.pn_join.specs.Leaves.{all_entries, IsLeafList}

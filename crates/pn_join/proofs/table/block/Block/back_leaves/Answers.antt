@@ -1,7 +1,7 @@
 -- The next leaf comes after those so far, as in the block.
-use Rattle.std.proofs.Common.{◌≡◌, ◌<◌, ◌∷◌, [], length, get_or, refl, ap, ◌∙◌, arith, rules}
+use Rattle.std.proofs.Common.{◌≡◌, ◌<◌, [], length, get_or, refl, ap, ◌∙◌, arith, rules}
 use Rattle.pn_join.specs.LeafEntries.{leaf_entries, leaves_of}
-use Rattle.pn_join.specs.Leaves.{all_entries, IsLeaf, IsLeafList}
+use Rattle.pn_join.specs.Leaves.{IsLeaf, IsLeafList}
 use Rattle.pn_join.proofs.BlockGrowth.{next_leaves, next_parted}
 use Rattle.pn_join.proofs.Each.{each_last}
 use Rattle.pn_join.proofs.LeafListFacts.{leaf_is, length-leaves}

@@ -1,4 +1,4 @@
-use Rattle.std.proofs.Common.{[], get_or, ap, ◌∙◌, sym}
+use Rattle.std.proofs.Common.{ap, ◌∙◌, sym}
 use Rattle.pn_join.specs.Leaves.{begins_below}
 use Rattle.pn_join.proofs.BlockFacts.{begins_at_first, some_leaves}
 use Rattle.pn_join.proofs.table.block.Block.begins_below.Goals as goal

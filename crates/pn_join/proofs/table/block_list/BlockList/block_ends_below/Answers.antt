@@ -1,4 +1,4 @@
-use Rattle.std.proofs.Common.{[], ap, ◌∙◌, sym}
+use Rattle.std.proofs.Common.{ap, ◌∙◌, sym}
 use Rattle.pn_join.specs.Leaves.{all_entries, ends_below}
 use Rattle.pn_join.proofs.BlockFacts.{at_block, block_there, block_missing}
 use Rattle.pn_join.proofs.table.block_list.BlockList.block_ends_below.Goals as goal

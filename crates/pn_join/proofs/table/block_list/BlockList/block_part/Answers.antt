@@ -1,7 +1,7 @@
 -- The part is cut from the block in which the first entry stands.
-use Rattle.std.proofs.Common.{◌≡◌, ◌+◌, ◌-◌, ◌<◌, ◌++◌, [], length, get_or, take, slice_range, ap, ◌∙◌, sym, arith}
+use Rattle.std.proofs.Common.{◌≡◌, ◌-◌, ◌<◌, [], length, get_or, slice_range, ap, ◌∙◌, sym, arith}
 use Rattle.std.proofs.lemmas.Result.{IfOk-weaker}
-use Rattle.pn_join.specs.Blocks.{in_blocks, entries_in}
+use Rattle.pn_join.specs.Blocks.{in_blocks}
 use Rattle.pn_join.specs.Leaves.{all_entries}
 use Rattle.pn_join.proofs.BlockFacts.{all_in_blocks, at_block, length-in_blocks}
 use Rattle.pn_join.proofs.LeafListFacts.{same_at}

@@ -1,4 +1,4 @@
-use Rattle.std.proofs.Common.{◌≤◌, length, take, ap, ◌∙◌, arith}
+use Rattle.std.proofs.Common.{◌≤◌, length, ap, ◌∙◌, arith}
 use Rattle.pn_join.specs.Leaves.{all_entries}
 use Rattle.pn_join.proofs.BlockFacts.{take_whole}
 use Rattle.pn_join.proofs.table.block_list.BlockList.count.Goals as goal

@@ -1,5 +1,5 @@
 -- What an entry changes in its key's block it changes in the whole list.
-use Rattle.std.proofs.Common.{◌≡◌, [], get_or, option_map, ap, ◌∙◌, sym, subst}
+use Rattle.std.proofs.Common.{◌≡◌, option_map, ap, ◌∙◌, sym, subst}
 use Rattle.std.proofs.lemmas.Result.{IfOk-weaker}
 use Rattle.std.specs.FinMap.{find}
 use Rattle.pn_join.specs.Blocks.{entries_in}

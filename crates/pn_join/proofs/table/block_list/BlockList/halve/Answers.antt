@@ -1,9 +1,9 @@
 -- The counts get one more each, and no leaf changes.
-use Rattle.std.proofs.Common.{◌≡◌, ◌+◌, ◌^◌, ◌<◌, ◌≤◌, [], length, get_or, insert, take, ap, ◌∙◌, sym, arith, rules}
+use Rattle.std.proofs.Common.{◌≡◌, ◌+◌, length, insert, take, ap, ◌∙◌, arith, rules}
 use Rattle.pn_join.specs.Blocks.{in_blocks, AreBlocks}
 use Rattle.pn_join.specs.Leaves.{all_entries, AreEntryCounts}
 use Rattle.pn_join.proofs.BlockCounts.{within_some}
-use Rattle.pn_join.proofs.BlockFacts.{all_in_blocks, length-in_blocks}
+use Rattle.pn_join.proofs.BlockFacts.{length-in_blocks}
 use Rattle.pn_join.proofs.BlockHalfSteps.{front_fits, front_leaves_fit, halved_by_leaves, same_leaves_halved, blocks_halved, halved_by_entries}
 use Rattle.pn_join.proofs.LeafListIndices.{length-counts}
 use Rattle.pn_join.proofs.table.block_list.BlockList.halve.Goals as goal

@@ -1,5 +1,5 @@
 -- A list that has leaves has blocks, also once one is halved.
-use Rattle.std.proofs.Common.{◌≡◌, ◌<◌, length, ap, arith, rules}
+use Rattle.std.proofs.Common.{◌<◌, length, ap, arith, rules}
 use Rattle.pn_join.specs.Leaves.{all_entries}
 use Rattle.pn_join.proofs.BlockFacts.{has_leaves, some_entries}
 use Rattle.pn_join.proofs.table.block_list.BlockList.join_entry.Goals as goal

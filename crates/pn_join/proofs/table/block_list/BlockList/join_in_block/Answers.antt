@@ -1,5 +1,5 @@
 -- The block's change is one of the whole list, and the counts after it grow by as much.
-use Rattle.std.proofs.Common.{◌≡◌, ◌+◌, ◌^◌, ◌<◌, ◌≤◌, length, ap, ◌∙◌, sym, arith}
+use Rattle.std.proofs.Common.{◌≡◌, ◌+◌, ◌^◌, ◌<◌, length, ap, ◌∙◌, sym, arith}
 use Rattle.pn_join.specs.Blocks.{in_blocks, entries_in}
 use Rattle.pn_join.specs.Leaves.{all_entries, leaf_for}
 use Rattle.pn_join.proofs.BlockCounts.{few_leaves}

@@ -1,5 +1,5 @@
 -- The leaves of a block are those up to its end, but for those before it.
-use Rattle.std.proofs.Common.{◌≡◌, ◌<◌, ◌≤◌, [], length, get_or, ap, ◌∙◌, sym, arith}
+use Rattle.std.proofs.Common.{◌<◌, ◌≤◌, length, ap, sym, arith}
 use Rattle.pn_join.proofs.BlockCounts.{next_start, past_none}
 use Rattle.pn_join.proofs.table.block_list.BlockList.leaves_in.Goals as goal
 

@@ -1,4 +1,4 @@
-use Rattle.std.proofs.Common.{◌≤◌, length, take, ap, ◌∙◌, arith}
+use Rattle.std.proofs.Common.{◌≤◌, length, ap, ◌∙◌, arith}
 use Rattle.pn_join.specs.Blocks.{in_blocks}
 use Rattle.pn_join.specs.Leaves.{all_entries}
 use Rattle.pn_join.proofs.BlockFacts.{all_in_blocks, length-in_blocks, take_whole}

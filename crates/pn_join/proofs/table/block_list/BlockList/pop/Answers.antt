@@ -1,5 +1,5 @@
 -- The blocks and both counts lose their last items alike.
-use Rattle.std.proofs.Common.{◌≡◌, ◌-◌, length, take, vec_len, ap, ◌∙◌, sym, arith}
+use Rattle.std.proofs.Common.{◌≡◌, ◌-◌, length, take, vec_len, ap, ◌∙◌, arith}
 use Rattle.pn_join.specs.Blocks.{in_blocks}
 use Rattle.pn_join.proofs.BlockFacts.{length-in_blocks, take_blocks}
 use Rattle.pn_join.proofs.BlockGrowth.{first_blocks}

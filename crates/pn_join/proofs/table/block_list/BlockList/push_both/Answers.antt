@@ -1,8 +1,7 @@
 -- The first block goes on from what is there, and the second from the first.
-use Rattle.std.proofs.Common.{◌≡◌, ◌++◌, ◌<◌, length, slice_range, sym, ap, ◌∙◌, arith, append_assoc}
+use Rattle.std.proofs.Common.{◌≡◌, ◌++◌, ◌<◌, length, slice_range, ap, ◌∙◌, arith}
 use Rattle.pn_join.specs.Blocks.{entries_in}
 use Rattle.pn_join.specs.Leaves.{all_entries}
-use Rattle.pn_join.specs.Tables.{IsTable}
 use Rattle.std.proofs.lemmas.Result.{on_ok_weaker}
 use Rattle.pn_join.proofs.BlockGrowth.{all_append, IsTable-back, some_leaves, whole_slice}
 use Rattle.pn_join.proofs.table.block_list.BlockList.push_both.Goals as goal

@@ -1,5 +1,5 @@
 -- Halving blocks changes no leaf.
-use Rattle.std.proofs.Common.{◌≡◌, [], length, vec_len, refl, ap, ◌∙◌, arith, rules}
+use Rattle.std.proofs.Common.{◌≡◌, [], vec_len, refl, ap, ◌∙◌, arith, rules}
 use Rattle.std.proofs.lemmas.Result.{IfOk-weaker, on_err_weaker}
 use Rattle.pn_join.specs.Leaves.{all_entries}
 use Rattle.pn_join.proofs.PutTogether.{none_left}

@@ -1,5 +1,5 @@
 -- Whatever came of the edits, these are blocks, and they are counted.
-use Rattle.std.proofs.Common.{◌≡◌, ◌+◌, ◌^◌, ◌<◌, ◌≤◌, length, ap, ◌∙◌, sym, arith, rules}
+use Rattle.std.proofs.Common.{◌≡◌, ◌^◌, ◌<◌, length, ap, ◌∙◌, sym, arith, rules}
 use Rattle.std.proofs.lemmas.Result.{IfOk-weaker, on_err_weaker}
 use Rattle.pn_join.specs.BlockEdits.{changes_in_blocks}
 use Rattle.pn_join.specs.Blocks.{in_blocks, entries_in}

@@ -1,5 +1,5 @@
 -- The block grows by what the join adds.
-use Rattle.std.proofs.Common.{◌≡◌, ◌<◌, ◌≤◌, [], length, get_or, set, ap, ◌∙◌, sym, refl, arith}
+use Rattle.std.proofs.Common.{◌≡◌, [], length, get_or, ap, ◌∙◌, refl, arith}
 use Rattle.pn_join.specs.Leaves.{all_entries, IsLeafList}
 use Rattle.pn_join.specs.PutInLeaves.{IsPutOf, ChangesOneLeaf}
 use Rattle.pn_join.proofs.BlockHalfSteps.{just_set}

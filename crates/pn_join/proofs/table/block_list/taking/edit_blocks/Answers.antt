@@ -1,6 +1,5 @@
 -- Blocks are put back as they become, or as they were.
-use Rattle.std.proofs.Common.{◌≡◌, length, ap, ◌∙◌, arith, rules}
-use Rattle.pn_join.specs.TakenBlocks.{ArePut}
+use Rattle.std.proofs.Common.{arith}
 use Rattle.pn_join.proofs.table.block_list.taking.edit_blocks.Goals as goal
 
 pub open_blocks-requires-clause-capacity : goal.open_blocks-requires-clause-capacity

@@ -1,11 +1,8 @@
 -- Each block is taken once, and then all edits are there.
 use Rattle.std.proofs.Common.{◌≡◌, [], length, refl, ap, ◌∙◌, arith, rules}
 use Rattle.std.specs.Vec.Iter.{into_iter_items, into_iter_len}
-use Rattle.pn_join.specs.BlockEdits.{changes_in_blocks}
-use Rattle.pn_join.specs.Blocks.{in_blocks}
-use Rattle.pn_join.specs.TakenBlocks.{filled, becomes, ArePut}
 use Rattle.pn_join.proofs.PutTogether.{none_left}
-use Rattle.pn_join.proofs.TakenFacts.{TakenSoFar, none_taken, one_taken, all_taken, not_taken, next_aimed, next_valid, holes_within}
+use Rattle.pn_join.proofs.TakenFacts.{none_taken, one_taken, all_taken, not_taken, next_aimed, next_valid, holes_within}
 use Rattle.pn_join.proofs.table.block_list.taking.open_blocks.Goals as goal
 
 pub loop-edits-init : goal.loop-edits-init

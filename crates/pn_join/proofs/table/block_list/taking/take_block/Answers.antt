@@ -1,9 +1,8 @@
 -- The block is taken out, or its entries stay.
-use Rattle.std.proofs.Common.{◌≡◌, ◌<◌, ◌∷◌, ◌++◌, [], length, get_or, set, refl, ap, ◌∙◌, sym, arith, rules}
+use Rattle.std.proofs.Common.{◌≡◌, ◌<◌, [], length, get_or, set, refl, ap, ◌∙◌, arith, rules}
 use Rattle.pn_join.specs.Edits.{changes_in}
 use Rattle.pn_join.specs.Leaves.{all_entries}
 use Rattle.pn_join.specs.TableChanges.{puts}
-use Rattle.pn_join.specs.TakenBlocks.{IsTaken, StayTaken}
 use Rattle.pn_join.proofs.LeafListFacts.{same_at}
 use Rattle.pn_join.proofs.TakenFacts.{put_again}
 use Rattle.pn_join.proofs.table.block_list.taking.take_block.Goals as goal

@@ -1,5 +1,4 @@
 use Rattle.std.proofs.Common.{ap, ◌∙◌}
-use Rattle.pn_join.specs.Edits.{changes_in}
 use Rattle.pn_join.specs.LeafEntries.{leaves_of}
 use Rattle.pn_join.specs.Leaves.{all_entries}
 use Rattle.pn_join.proofs.EditJoins.{list_sorted, list_together}
