@@ -1,11 +1,11 @@
 //! Tables: finite maps in key order that join key by key.
 
-ghost use Rattle.std.specs.Prelude.{◌≡◌, ℕ, ◌^◌, ◌<◌, ◌≤◌, ◌∷◌, [], ◌++◌, List, length, map, option_map, slice_get, slice_range, drop, count_by, IsTrue, IfOk, IfSome, OnOk, OnErr};
+ghost use Rattle.std.specs.Prelude.{◌≡◌, ◌^◌, ◌<◌, ◌≤◌, ◌∷◌, [], ◌++◌, List, length, map, option_map, slice_get, slice_range, drop, count_by, IsTrue, IfOk, IfSome, OnOk, OnErr};
 ghost use Rattle.std.specs.Option.{option_copied};
 ghost use Rattle.std.specs.Ordering.{is_lt};
 ghost use Rattle.std.specs.FinMap.{find, put, is_sorted};
 ghost use Rattle.pn_join.specs.Tables.{contents_at, key_by_key, IsTable};
-ghost use Rattle.pn_join.specs.Leaves.{all_entries, IsLeaf, AreLeavesOf};
+ghost use Rattle.pn_join.specs.Leaves.{all_entries, AreLeavesOf};
 ghost use Rattle.pn_join.specs.PutInLeaves.{ChangesOneLeaf};
 ghost use Rattle.pn_join.specs.TableChanges.{AreChanges};
 

@@ -1,11 +1,9 @@
 //! Blocks: rows of leaves, where a search looks into one leaf.
 
-ghost use Rattle.std.specs.Prelude.{◌≡◌, ℕ, ◌+◌, ◌^◌, ◌<◌, ◌≤◌, leb, [], ◌∷◌, ◌++◌, length, vec_len, vec_capacity, take, get_or, option_map, slice_get, IfOk, IfSome, OnOk, OnErr};
-ghost use Rattle.std.specs.FinMap.{find};
+ghost use Rattle.std.specs.Prelude.{◌≡◌, ◌+◌, ◌^◌, ◌<◌, ◌≤◌, leb, [], ◌∷◌, ◌++◌, length, vec_len, vec_capacity, take, get_or, option_map, slice_get, IfOk, OnOk, OnErr};
 ghost use Rattle.std.specs.List.{prefix_len};
-ghost use Rattle.std.specs.Option.{option_copied};
 ghost use Rattle.pn_join.specs.LeafEntries.{leaf_entries, leaves_of};
-ghost use Rattle.pn_join.specs.Leaves.{all_entries, counts_after, leaf_for, IsLeaf, IsLeafList};
+ghost use Rattle.pn_join.specs.Leaves.{all_entries, counts_after, IsLeaf, IsLeafList};
 ghost use Rattle.pn_join.specs.Indices.{index_of};
 ghost use Rattle.pn_join.specs.PutInLeaves.{IsPutOf, ChangesOneLeaf};
 ghost use Rattle.pn_join.specs.LeafListChanges.{with_back};

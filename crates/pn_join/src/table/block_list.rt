@@ -8,12 +8,11 @@
 //! A search takes a logarithm of the blocks and one of a block's leaves; a join changes the counts of the blocks after its own and of
 //! the leaves after its own in one block.
 
-ghost use Rattle.std.specs.Prelude.{◌≡◌, ℕ, ◌+◌, ◌^◌, ◌<◌, ◌≤◌, leb, [], ◌∷◌, ◌++◌, length, take, drop, get_or, option_map, slice_get, IfOk, IfSome, OnOk, OnErr};
+ghost use Rattle.std.specs.Prelude.{◌≡◌, ◌+◌, ◌^◌, ◌<◌, ◌≤◌, leb, [], length, take, drop, option_map, slice_get, IfOk};
 ghost use Rattle.std.specs.List.{prefix_len};
 ghost use Rattle.pn_join.specs.Blocks.{in_blocks, entries_in, AreBlocks};
 ghost use Rattle.pn_join.specs.Indices.{index_of};
-ghost use Rattle.pn_join.specs.Leaves.{all_entries, counts_after, leaf_for};
-ghost use Rattle.pn_join.specs.Tables.{IsTable};
+ghost use Rattle.pn_join.specs.Leaves.{all_entries, counts_after};
 
 mod bulk_join;
 mod counts;

@@ -1,7 +1,7 @@
 //! Puts many contents into a list of leaves at once. All leaves are made ready first, so that nothing fails
 //! halfway.
 
-ghost use Rattle.std.specs.Prelude.{◌≡◌, ◌+◌, ◌^◌, ◌<◌, ◌≤◌, [], length, get_or, vec_capacity, IsTrue, IfOk, OnOk, OnErr};
+ghost use Rattle.std.specs.Prelude.{◌≡◌, ◌+◌, ◌^◌, ◌<◌, ◌≤◌, [], length, get_or, vec_capacity, IsTrue, IfOk, OnOk};
 ghost use Rattle.std.specs.List.{AllByRecursion};
 ghost use Rattle.std.specs.FinMap.{put, is_sorted};
 ghost use Rattle.pn_join.specs.Edits.{put_of, puts_in, put_all, changes_in, AreFew, FitLeaves, GoUp, IsReady, IsReadyAt};

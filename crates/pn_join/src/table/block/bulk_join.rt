@@ -1,12 +1,11 @@
 //! What entries of another table change in a block.
 
-ghost use Rattle.std.specs.Prelude.{◌≡◌, ◌≢◌, ◌++◌, false, Some, None, unwrap_or, option_map, IsTrue, IfOk, IfSome, OnOk, OnErr};
-ghost use Rattle.std.specs.FinMap.{find};
-ghost use Rattle.std.specs.Option.{option_copied, option_to_list};
-ghost use Rattle.pn_join.specs.Edits.{changes_in, AreAimed, FitLeaves, IsAimed};
-ghost use Rattle.pn_join.specs.Leaves.{all_entries, leaf_for, IsLeafList};
-ghost use Rattle.pn_join.specs.TableChanges.{AreChanges, AreValid, Changes, puts};
-ghost use Rattle.pn_join.specs.Tables.{optional_joined, IsTable};
+ghost use Rattle.std.specs.Prelude.{◌≡◌, ◌≢◌, Some, None, option_map, IsTrue, IfOk, IfSome};
+ghost use Rattle.std.specs.Option.{option_copied};
+ghost use Rattle.pn_join.specs.Edits.{FitLeaves, IsAimed};
+ghost use Rattle.pn_join.specs.Leaves.{all_entries, IsLeafList};
+ghost use Rattle.pn_join.specs.TableChanges.{Changes};
+ghost use Rattle.pn_join.specs.Tables.{optional_joined};
 
 use super::Block;
 use crate::table::change::{TableChange, dup_optional};

@@ -1,6 +1,6 @@
 //! Blocks that are open: all memory is there to put contents into them, so that this cannot fail.
 
-ghost use Rattle.std.specs.Prelude.{◌≡◌, IfOk, IfSome, OnErr};
+ghost use Rattle.std.specs.Prelude.{◌≡◌, IfOk, IfSome};
 ghost use Rattle.pn_join.specs.Openings.{IsOpening};
 ghost use Rattle.pn_join.specs.Edits.{changes_in, AreAimed, FitLeaves};
 ghost use Rattle.pn_join.specs.Leaves.{all_entries, IsLeafList};

@@ -163,8 +163,13 @@ fn add_last_keys<K: Dup, C>(
         };
         last_keys.push(key?)?;
     }
+    add_copies(last_keys, others)
+}
+
+/// Adds copies of keys after all others.
+fn add_copies<K: Dup>(keys: &mut Vec<K>, others: &[K]) -> Result<(), NoMemory> {
     for key in others {
-        last_keys.push(key.dup()?)?;
+        keys.push(key.dup()?)?;
     }
     Ok(())
 }

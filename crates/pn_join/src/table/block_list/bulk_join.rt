@@ -1,6 +1,6 @@
 //! Joins all entries of another list at once, if no leaf gets too many.
 
-ghost use Rattle.std.specs.Prelude.{◌≡◌, ℕ, ◌+◌, ◌<◌, [], false, length, get_or, option_map, IsTrue, IfOk, IfSome, OnErr};
+ghost use Rattle.std.specs.Prelude.{◌≡◌, ◌+◌, ◌<◌, [], false, get_or, option_map, IsTrue, IfOk, OnErr};
 ghost use Rattle.pn_join.specs.BlockEdits.{changes_in_blocks, AreAimedAtBlocks};
 ghost use Rattle.pn_join.specs.Blocks.{in_blocks, entries_in, AreBlocks};
 ghost use Rattle.pn_join.specs.Edits.{IsAimed};
