@@ -164,9 +164,7 @@ impl StreamMailboxes {
 }
 
 /// The same counter, where there is one.
-pub(crate) fn share(
-    counter: &Option<Arc<Counter>>,
-) -> Result<Option<Arc<Counter>>, AllocError> {
+pub(crate) fn share(counter: &Option<Arc<Counter>>) -> Result<Option<Arc<Counter>>, AllocError> {
     match counter {
         Some(counter) => Ok(Some(Arc::try_clone(counter)?)),
         None => Ok(None),

@@ -99,7 +99,10 @@ impl<S: Source + Drop> WriterInput<S> {
         ensures name { self.new.reader.name ≡ self.old.reader.name }
         ensures last { self.new.last ≡ self.old.last }
     {
-        match self.reader.next_ready_by(rt, memory, self.workers, MAX_MESSAGES) {
+        match self
+            .reader
+            .next_ready_by(rt, memory, self.workers, MAX_MESSAGES)
+        {
             Ok(delivery) if delivery.images().is_empty() => Given::Ended(WriterEnd::End),
             Ok(delivery) => Given::Messages(Messages { delivery }),
             Err(fault) => Given::Ended(self.fault(ResumeFault::Stream(fault))),
