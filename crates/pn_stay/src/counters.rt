@@ -92,6 +92,8 @@ pub struct Counters {
     pub rounds: Arc<Counter>,
     /// At 1 while a round waits for memory, and else at 0.
     pub shortage: Arc<Counter>,
+    /// How many streams wait for memory.
+    pub waiting: Arc<Counter>,
     /// What was read from all clients, and how many of their lines were refused.
     pub clients: Arc<InputCounters>,
     pub refused: Counter,
@@ -108,6 +110,7 @@ impl Counters {
         Ok(Counters {
             rounds: Arc::new(alloc, Counter::new())?,
             shortage: Arc::new(alloc, Counter::new())?,
+            waiting: Arc::new(alloc, Counter::new())?,
             clients: Arc::new(alloc, InputCounters::new())?,
             refused: Counter::new(),
             kinds: KindCounters::new(),

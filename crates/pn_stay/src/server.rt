@@ -199,6 +199,7 @@ where
     let beside = take_beside(alloc, live, readers, sizes.threads)?;
     let rounds = acceptor.round_counter();
     let shortage = Some(Arc::try_clone(&acceptor.counters.shortage)?);
+    let waiting = Some(Arc::try_clone(&acceptor.counters.waiting)?);
     let listener = acceptor.listener.try_clone()?;
     let counters = Arc::try_clone(&acceptor.counters)?;
     let controls = start_controls(rt, alloc, acceptor.control.take(), &counters, beside)?;
@@ -208,6 +209,7 @@ where
         watchers: Watchers {
             rounds,
             shortage,
+            waiting,
             controls: controls.mailboxes,
         },
         stopping: Stopping {
