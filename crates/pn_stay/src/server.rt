@@ -15,6 +15,7 @@ mod stopping;
 mod threads;
 
 use crate::acceptor::SocketAcceptor;
+use crate::counters::Counters;
 use crate::server::control_threads::start_controls;
 use crate::server::starting::ServerSizes;
 use crate::server::stopping::Stopping;
@@ -22,8 +23,8 @@ use crate::server::threads::start_answering;
 use pn_line::Source;
 use pn_live::{LiveReader, LiveRegion};
 use pn_serve::{
-    Acceptor, MAX_CONTROLS, OpenedRegion, Origin, ServeFault, SessionThread, Settings, Stream,
-    Watchers, close_region, join_sessions, open_region, read_streams, take_commands,
+    Acceptor, Counter, MAX_CONTROLS, OpenedRegion, Origin, ServeFault, SessionThread, Settings,
+    Stream, Watchers, close_region, join_sessions, open_region, read_streams, take_commands,
 };
 use pn_tablet::Layout;
 use std::alloc::{AllocError, Global};
@@ -198,8 +199,7 @@ where
     let mut acceptor = acceptor;
     let beside = take_beside(alloc, live, readers, sizes.threads)?;
     let rounds = acceptor.round_counter();
-    let shortage = Some(Arc::try_clone(&acceptor.counters.shortage)?);
-    let waiting = Some(Arc::try_clone(&acceptor.counters.waiting)?);
+    let (shortage, waiting) = share_waits(&acceptor.counters)?;
     let listener = acceptor.listener.try_clone()?;
     let counters = Arc::try_clone(&acceptor.counters)?;
     let controls = start_controls(rt, alloc, acceptor.control.take(), &counters, beside)?;
@@ -208,8 +208,8 @@ where
         running: answering.running,
         watchers: Watchers {
             rounds,
-            shortage,
-            waiting,
+            shortage: Some(shortage),
+            waiting: Some(waiting),
             controls: controls.mailboxes,
         },
         stopping: Stopping {
@@ -220,6 +220,13 @@ where
             counters,
         },
     })
+}
+
+// The counters of rounds and of streams that wait for memory.
+fn share_waits(counters: &Counters) -> Result<(Arc<Counter>, Arc<Counter>), AllocError> {
+    let shortage = Arc::try_clone(&counters.shortage)?;
+    let waiting = Arc::try_clone(&counters.waiting)?;
+    Ok((shortage, waiting))
 }
 
 // Takes out the readers that are left over once each of the threads has one.
