@@ -4,6 +4,7 @@ import os
 import re
 import resource
 import socket
+import threading
 import time
 from collections.abc import Iterator
 
@@ -17,6 +18,8 @@ DROPPED = re.compile(rb"pnuts: (\d+) lines were dropped")
 MEGABYTE = 1_000_000
 # How much memory a region is left with, and a message that takes some of it.
 LITTLE, TEXT = 20 * MEGABYTE, b"y" * 4_000
+# How many of these are more than there is memory for.
+FILLED = 2 * LITTLE // len(TEXT)
 BIG = b'{"at":%d,"image":{"fields":{"a":"%b","b":"%b"},"key":"big%d","master":"w","version":[1,0]}}\n'
 # How long a region is looked at, and how often a second it may wake up while nothing comes.
 LOOKED, WAKE_UPS = 3.0, 30
@@ -71,36 +74,41 @@ def little_memory(region: Staying) -> Iterator[None]:
         resource.prlimit(process, resource.RLIMIT_AS, before)
 
 
-def fill(path: str) -> None:
-    """A writer that sends more than there is memory for, and is cut off."""
-    with Writer(path) as writer, contextlib.suppress(ConnectionError):
-        after = writer.begin()
-        for at in range(after + 1, after + 2 * LITTLE // len(TEXT)):
-            writer.send(BIG % (at, TEXT, TEXT, at))
-        raise AssertionError(f"{path}: all was taken")
+def fill(writer: Writer) -> None:
+    """Sends more than there is memory for."""
+    for at in range(1, FILLED + 1):
+        writer.send(BIG % (at, TEXT, TEXT, at))
+
+
+def take_up_to(writer: Writer, last: int) -> None:
+    """Waits until a writer is told that all was taken up to a position."""
+    while writer.taken() < last:
+        pass
 
 
 def check_little_memory(program: str, folder: str) -> None:
-    """Where no memory is left writers are refused, what was taken is shown, and once there is some the next writers are taken from there."""
+    """Where no memory is left a stream waits, what was taken is shown, and once there is some the same writer is read on."""
     (path, west), (at, east) = made(folder, "west"), socket_in(folder)
     with Staying(program, folder, [east, west], threads=2) as region, Client(region.port) as client:
         with open(path, "wb", buffering=0) as pipe:
             pipe.write(messages(1, 1))
         client.wait_for(key_of(1), row_of(key_of(1), 0, "x"))
-        with little_memory(region):
-            fill(at)
-            region.wait_for_words(b": memory\n")
-            same("a record that is there", client.read(key_of(1)), {"row": row_of(key_of(1), 0, "x")})
         with Writer(at) as writer:
-            after = writer.begin()
-            same("whether some was taken", after > 0, True)
-            writer.send(BIG % (after + 1, TEXT, TEXT, after + 1))
-            same("what is taken next", writer.taken(), after + 1)
+            same("what was taken before", writer.begin(), 0)
+            filling = threading.Thread(target=fill, args=(writer,), daemon=True)
+            with little_memory(region):
+                filling.start()
+                region.wait_for_words(b"pnuts: out of memory: ")
+                same("a record that is there", client.read(key_of(1)), {"row": row_of(key_of(1), 0, "x")})
+                time.sleep(LOOKED)
+                same("whether the writer still waits", filling.is_alive(), True)
+            filling.join(SECONDS)
+            take_up_to(writer, FILLED)
         with open(path, "wb", buffering=0) as pipe:
             pipe.write(messages(2, 1))
         client.wait_for(key_of(2), row_of(key_of(2), 0, "x"))
-        same("why streams failed", {line.rpartition(b": ")[2] for line in said_of_faults(region)}, {b"memory"})
-        print(f"  {after:,} messages were taken before")
+        same("streams that failed", said_of_faults(region), [])
+        print(f"  {FILLED:,} messages were taken")
 
 
 def wake_ups(region: Staying) -> int:

@@ -25,13 +25,13 @@ pub record EditsSoFar {K C M : Type 0} (cmp : K → K → Ordering) (meaning : C
   pub changes : AreChanges cmp meaning joined valid (all_entries list) done (changes_in edits)
   pub aimed : AreAimed cmp list edits
 
-those_push : {A : Type 0} (xs : List (Option A)) (x : Option A) → those_there (xs ++ x ∷ []) ≡ those_there xs ++ option_to_list x
+pub those_push : {A : Type 0} (xs : List (Option A)) (x : Option A) → those_there (xs ++ x ∷ []) ≡ those_there xs ++ option_to_list x
 those_push [] None = refl
 those_push [] (Some a) = refl
 those_push (None ∷ xs) x = those_push xs x
 those_push (Some a ∷ xs) x = ap (λ ys. a ∷ ys) (those_push xs x)
 
-zip_push : {A B : Type 0} (R : A → B → Type 0) (xs : List A) (ys : List B) (x : A) (y : B) → AllZip R xs ys → R x y → AllZip R (xs ++ x ∷ []) (ys ++ y ∷ [])
+pub zip_push : {A B : Type 0} (R : A → B → Type 0) (xs : List A) (ys : List B) (x : A) (y : B) → AllZip R xs ys → R x y → AllZip R (xs ++ x ∷ []) (ys ++ y ∷ [])
 zip_push R [] [] x y all is = (is, tt)
 zip_push R [] (b ∷ bs) x y all is = absurd all
 zip_push R (a ∷ rest) [] x y all is = absurd all

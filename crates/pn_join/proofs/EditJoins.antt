@@ -84,7 +84,7 @@ module _ {K C : Type 0} (cmp : K → K → Ordering) (o : IsTotalOrder cmp) wher
     stand_list list one leaf_list = record { one = one; some = each_weaker (λ leaf. IsLeaf leaf) (λ leaf. 0 < length leaf) (λ leaf is. is.0) list leaf_list.sizes; table = leaf_list.table }
 
     -- all edits
-    put_together : (edits : List (Edit K C)) (list : List (List (K × C))) → Stand list → AreAimed cmp list edits → AreValid valid (changes_in edits) → Stand (put_all cmp list edits) × (all_entries (put_all cmp list edits) ≡ puts cmp (all_entries list) (changes_in edits))
+    pub put_together : (edits : List (Edit K C)) (list : List (List (K × C))) → Stand list → AreAimed cmp list edits → AreValid valid (changes_in edits) → Stand (put_all cmp list edits) × (all_entries (put_all cmp list edits) ≡ puts cmp (all_entries list) (changes_in edits))
     put_together [] list h aimed are = (h, refl)
     put_together (d ∷ ds) list h aimed are =
         let k = d.change.key in

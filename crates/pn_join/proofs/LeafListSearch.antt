@@ -23,6 +23,10 @@ pub shifted-Err : (n i : ℕ) → shifted n (Err i) ≡ Err (n + i)
 shifted-Err zero i = ap Err (omega arith)
 shifted-Err (suc n) i = ap later (shifted-Err n i) ∙ ap Err (omega arith)
 
+pub shifted-first : (n : ℕ) → Err n ≡ shifted n (Err 0)
+shifted-first zero = refl
+shifted-first (suc n) = ap later (shifted-first n)
+
 shifted-add : (n m : ℕ) (r : Result ℕ ℕ) → shifted (n + m) r ≡ shifted n (shifted m r)
 shifted-add zero m r = let same : 0 + m ≡ m = omega arith in ap (λ k. shifted k r) same
 shifted-add (suc n) m r = let same : suc n + m ≡ suc (n + m) = omega arith in ap (λ k. shifted k r) same ∙ ap later (shifted-add n m r)

@@ -1,4 +1,13 @@
-pub mod Appending
+pub mod BlockChanging
+pub mod BlockCounts
+pub mod BlockEditPuts
+pub mod BlockFacts
+pub mod BlockGrowth
+pub mod BlockHalfSteps
+pub mod BlockHalves
+pub mod BlockJoin
+pub mod BlockJoinSteps
+pub mod BlockPuts
 pub mod Changing
 pub mod Each
 pub mod EditJoins
@@ -26,3 +35,4 @@ pub mod LeafListSplits
 pub mod Singles
 pub mod SliceFacts
 pub mod TableFacts
+pub mod TakenFacts

@@ -96,6 +96,9 @@ module _ {A : Type 0} where
     pub part_size : length (get_or list leaf []) ≤ MAX_LEAF_ENTRIES → IsLeaf part
     part_size most = (omega (arith, long, in_leaf.starts, in_leaf.ends, some), omega (arith, long, most))
 
+    pub part_some : 0 < length part
+    part_some = omega (arith, long, in_leaf.starts, in_leaf.ends, some)
+
     pub part_within : from + length part ≤ to
     part_within = omega (arith, long, some)
 

@@ -1,6 +1,11 @@
+pub mod BlockJoins
+pub mod BlockLeaves
+pub mod Blocks
+pub mod BlockEdits
 pub mod Edits
 pub mod Laws
 pub mod LeafEntries
+pub mod Openings
 pub mod Leaves
 pub mod Marks
 pub mod Naming
@@ -11,3 +16,4 @@ pub mod PutInLeaves
 pub mod LeafListChanges
 pub mod TableChanges
 pub mod Tables
+pub mod TakenBlocks

@@ -1,15 +1,19 @@
 //! Tables: finite maps in key order that join key by key.
 
-ghost use Rattle.std.specs.Prelude.{◌≡◌, ℕ, ◌^◌, ◌<◌, ◌≤◌, ◌∷◌, [], ◌++◌, List, length, map, option_map, slice_get, slice_range, drop, count_by, IsTrue, IfOk, IfSome, OnOk, OnErr};
+ghost use Rattle.std.specs.Prelude.{◌≡◌, ◌^◌, ◌<◌, ◌≤◌, ◌∷◌, [], ◌++◌, List, length, map, option_map, slice_get, slice_range, drop, count_by, IsTrue, IfOk, IfSome, OnOk, OnErr};
 ghost use Rattle.std.specs.Option.{option_copied};
 ghost use Rattle.std.specs.Ordering.{is_lt};
 ghost use Rattle.std.specs.FinMap.{find, put, is_sorted};
 ghost use Rattle.pn_join.specs.Tables.{contents_at, key_by_key, IsTable};
-ghost use Rattle.pn_join.specs.Leaves.{all_entries, IsLeaf, AreLeavesOf};
+ghost use Rattle.pn_join.specs.Leaves.{all_entries, AreLeavesOf};
 ghost use Rattle.pn_join.specs.PutInLeaves.{ChangesOneLeaf};
 ghost use Rattle.pn_join.specs.TableChanges.{AreChanges};
 
-mod appending;
+mod block;
+mod block_edits;
+mod block_entries;
+mod block_list;
+mod block_ref;
 mod change;
 mod edit;
 mod entries;
@@ -20,7 +24,6 @@ mod leaf_list;
 
 use crate::{Dup, Join, NoMemory};
 pub use change::{TableChange, dup_optional};
-use edit::take_changes;
 pub use entries::Entries;
 pub use leaf_list::LeafList;
 use std::alloc::Global;
@@ -202,17 +205,12 @@ impl<K: Ord + Dup, C: Join> Table<K, C> {
     {
         self.recall_table();
         other.recall_table();
-        let mut edits = self.leaf_list.edits_from(&other.leaf_list)?;
-        let changes = take_changes(self.leaf_list.alloc(), &mut edits)?;
-        if self.can_append(other) {
-            self.append(other)?;
-            return Ok(changes);
-        }
-        if self.leaf_list.put(edits)? {
-            return Ok(changes);
+        let told = self.leaf_list.join_and_tell(&other.leaf_list)?;
+        if told.is_done {
+            return Ok(told.changes);
         }
         *self = self.join_with(other)?;
-        Ok(changes)
+        Ok(told.changes)
     }
 }
 
@@ -247,11 +245,7 @@ impl<K: Ord + Dup, C: Join> Join for Table<K, C> {
             *self = self.join_with(other)?;
             return Ok(());
         }
-        if self.can_append(other) {
-            return self.append(other);
-        }
-        let edits = self.leaf_list.edits_from(&other.leaf_list)?;
-        if !self.leaf_list.put(edits)? {
+        if !self.leaf_list.join_all(&other.leaf_list)? {
             *self = self.join_with(other)?;
         }
         Ok(())

@@ -1,6 +1,6 @@
 //! Readers of a live region.
 
-ghost use Rattle.std.specs.Prelude.{◌≡◌, ◌+◌, ◌≤◌, ◌<◌, ◌++◌, ◌∷◌, [], true, false, List, map, Option, Some, Ok, Err, IfOk, IfErr, IfSome, IsSomeAnd, IsOkAnd, IsErrOf, length, vec_capacity, vec_len};
+ghost use Rattle.std.specs.Prelude.{◌≡◌, ◌+◌, ◌≤◌, ◌<◌, ◌++◌, ◌∷◌, [], true, false, List, map, max, Option, Some, Ok, Err, IfOk, IfErr, IfSome, IsSomeAnd, IsOkAnd, IsErrOf, length, vec_capacity, vec_len};
 ghost use Rattle.pn_tablet.specs.Prelude.{tablet_of, TabletStateValue};
 ghost use Rattle.pn_scan.specs.Prelude.{Look, first_page, IsRead, IsGet, IsScan};
 ghost use Rattle.pn_scan.specs.Views.{is_memory};
@@ -8,6 +8,7 @@ ghost use Rattle.pn_live.specs.Copying.{IsCopied};
 ghost use Rattle.pn_live.specs.Counting.{IsCounted};
 ghost use Rattle.pn_live.specs.Readers.{LooksLive, IsFrontFor, AreTabletReadersOf, tablets_of};
 ghost use Rattle.pn_live.specs.TabletReaders.{AllLearn};
+ghost use Rattle.pn_live.specs.declared.reader.TheConstants.{ENTRY_RECORDS};
 
 use crate::front::{Front, TabletNote};
 use crate::tablet_reader::TabletReader;
@@ -200,6 +201,8 @@ pub(crate) fn with_cell(
 /// Each look is one entry into one tablet.
 impl View for LiveReader {
     ghost bounds = { λ reader. reader.layout };
+
+    ghost most = { λ records. max records ENTRY_RECORDS };
 
     ghost looks = { LooksLive };
 

@@ -1,7 +1,8 @@
 //! Tablet readers: what a reader of a live region has of each tablet.
 
-ghost use Rattle.std.specs.Prelude.{◌≡◌, MatchResult, Option};
+ghost use Rattle.std.specs.Prelude.{◌≡◌, ◌≤◌, MatchResult, Option, IfOk};
 ghost use Rattle.pn_tablet.specs.Prelude.{TabletStateValue};
+ghost use Rattle.pn_scan.specs.Parts.{looked_in};
 ghost use Rattle.pn_scan.specs.Prelude.{rows_at, cell_at, part_at};
 ghost use Rattle.pn_live.specs.Copying.{IsOneCopy};
 ghost use Rattle.pn_live.specs.Counting.{IsOneCount};
@@ -119,7 +120,8 @@ impl TabletReader {
         room: usize,
         records: usize,
     ) -> PartResult
-        ensures { (found : Option TabletStateValue) × IsOneLook self.old self.new (part_at query.now) result (rows_at query.now room) tablet found }
+        ensures look { (found : Option TabletStateValue) × IsOneLook self.old self.new (part_at query.now) result (rows_at query.now room) tablet found }
+        ensures few { IfOk result (λ part. looked_in records part ≤ records) }
     {
         replace_with(
             self,
@@ -136,7 +138,8 @@ impl TabletReader {
         room: usize,
         records: usize,
     ) -> (TabletReader, PartResult)
-        ensures { (found : Option TabletStateValue) × IsOneLook self result.0 (part_at query.now) result.1 (rows_at query.now room) tablet found }
+        ensures look { (found : Option TabletStateValue) × IsOneLook self result.0 (part_at query.now) result.1 (rows_at query.now room) tablet found }
+        ensures few { IfOk result.1 (λ part. looked_in records part ≤ records) }
     {
         match self.enter() {
             Ok(guard) => {

@@ -1,6 +1,6 @@
 //! Reads of a region.
 
-ghost use Rattle.std.specs.Prelude.{◌≡◌, ◌<◌, ◌+◌, length, map, slice_get, option_map, Some, None, Err, IsOk, IsErrOf, if◌then◌else◌};
+ghost use Rattle.std.specs.Prelude.{◌≡◌, ◌<◌, ◌+◌, ◌-◌, ◌^◌, length, map, slice_get, option_map, Some, None, Err, IsOk, IsErrOf, if◌then◌else◌};
 ghost use Rattle.pn_json.specs.Prelude.{ShowsUnless};
 ghost use Rattle.pn_scan.specs.Pages.{refusal, first_refusal};
 ghost use Rattle.pn_scan.specs.Prelude.{AnswersAfter, cell_at};
@@ -18,6 +18,8 @@ use std::alloc::Global;
 /// A view of the region's own tablets, which do not change while it lasts. It never answers `NoEntry`.
 impl View for &Region {
     ghost bounds = { λ view. view.now.state.layout };
+
+    ghost most = { λ records. 2 ^ 64 - 1 };
 
     ghost looks = { λ old look new. (new ≡ old) × IsThere old.now.state look };
 

@@ -4,6 +4,7 @@ pub mod ConditionLists
 pub mod ConditionParts
 pub mod Continuing
 pub mod Copied
+pub mod Counted
 pub mod EachMet
 pub mod FieldWalk
 pub mod Gets

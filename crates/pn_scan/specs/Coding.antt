@@ -16,7 +16,7 @@ part_walk_code =
 -- a page as pairs
 abbrev pub page_walk_code : Coded PageWalkValue
 page_walk_code =
-    code_by ((Entries × Option PartWalkValue) × (ℕ × ℕ)) (coded× (coded× entries_code (coded_option part_walk_code)) (coded× coded_ℕ coded_ℕ))
-    (λ w. ((w.rows, w.part), (w.next, w.end)))
-    (λ p. record { rows = p.0.0; part = p.0.1; next = p.1.0; end = p.1.1 })
+    code_by ((Entries × Option PartWalkValue) × (ℕ × (ℕ × ℕ))) (coded× (coded× entries_code (coded_option part_walk_code)) (coded× coded_ℕ (coded× coded_ℕ coded_ℕ)))
+    (λ w. ((w.rows, w.part), (w.next, (w.end, w.looked))))
+    (λ p. record { rows = p.0.0; part = p.0.1; next = p.1.0; end = p.1.1.0; looked = p.1.1.1 })
     (λ _. refl)

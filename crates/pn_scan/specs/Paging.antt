@@ -1,5 +1,5 @@
 -- Pages that are gone on with, between whose looks the view may move.
-use Rattle.std.specs.Prelude.{◌≡◌, ◌⊎◌, ◌<◌, ℕ, suc, ◌+◌, ◌-◌, List, [], ◌∷◌, ◌++◌, length, map, take, Option, None, Some, IfSome, Result, Ok, Err, OnOk, OnErr}
+use Rattle.std.specs.Prelude.{◌≡◌, ◌⊎◌, ◌<◌, ◌≤◌, ℕ, suc, ◌+◌, ◌-◌, List, [], ◌∷◌, ◌++◌, length, map, take, max, Option, None, Some, IfSome, Result, Ok, Err, OnOk, OnErr}
 use Rattle.std.specs.List.{AllByRecursion, range_with_len}
 use Rattle.pn_record.specs.CellMap.{Entries}
 use Rattle.pn_tablet.specs.Layouts.{Bounds}
@@ -109,6 +109,12 @@ PagesTo {V} looks bounds query old new (Err fault) trace = (more : List (LookMad
 -- a page of which nothing was looked for
 abbrev pub IsNewWalk : Bounds → QueryValue → PageWalkValue → Type 0
 IsNewWalk bounds query walk = (walk.rows ≡ []) × (walk.part ≡ None) × (candidates bounds query ≡ range_with_len walk.next (walk.end - walk.next))
+
+-- of what a look had left no more records were looked at than are counted, which are at most the first of these numbers, or the second where a look was begun
+abbrev pub CountsRecords : ℕ → ℕ → PageWalkValue → PageStep → Type 0
+CountsRecords records first old (Done page) = Unit {0}
+CountsRecords records first old (Next walk) =
+    (walk.looked ≤ max records first) × ((records_left old.part ≤ records_left walk.part + walk.looked) ⊎ (walk.part ≡ None))
 
 -- fewer tablets are to come, or less is left of the one that is looked into
 abbrev pub IsNearer : PageWalkValue → PageStep → Type 0

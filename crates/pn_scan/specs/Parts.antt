@@ -30,6 +30,11 @@ abbrev pub IsDone : Part → Type 0
 IsDone (Done rows more looked) = Unit {0}
 IsDone (Rest walk) = ⊥
 
+-- how many records were looked at: as many as it says where it is done, and else this number
+abbrev pub looked_in : ℕ → Part → ℕ
+looked_in records (Done rows more looked) = looked
+looked_in records (Rest walk) = records
+
 -- of the records that were left, at most this number were looked at
 abbrev pub LooksAtMost : ℕ → ℕ → Part → Type 0
 LooksAtMost records left (Done rows more looked) = looked ≤ records

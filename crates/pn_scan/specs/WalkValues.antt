@@ -8,9 +8,10 @@ pub record PartWalkValue : Type 0 where
   pub rest : Entries
   pub room : ℕ
 
--- the rows of the tablets that were read, the look into the one that is, and the numbers that are still to be looked into
+-- the rows of the tablets that were read, the look into the one that is, the numbers that are still to be looked into, and how many records the last step looked at
 pub record PageWalkValue : Type 0 where
   pub rows : Entries
   pub part : Option PartWalkValue
   pub next : ℕ
   pub end : ℕ
+  pub looked : ℕ

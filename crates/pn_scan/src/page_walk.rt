@@ -1,12 +1,13 @@
 //! Pages that are gone on with.
 
-ghost use Rattle.std.specs.Prelude.{◌≡◌, ◌<◌, ◌≤◌, ◌+◌, ◌++◌, ◌⊎◌, true, false, List, length, None, IfOk};
+ghost use Rattle.std.specs.Prelude.{◌≡◌, ◌<◌, ◌≤◌, ◌+◌, ◌++◌, ◌⊎◌, true, false, List, length, max, None, IfOk};
 ghost use Rattle.pn_tablet.specs.Prelude.{IsLayout};
-ghost use Rattle.pn_scan.specs.Paging.{going_in, records_left, rows_to_come, IsNearer, IsNewWalk, IsOnPage, LookMade, OnlyLooks, PagesTo};
-ghost use Rattle.pn_scan.specs.Parts.{part_at};
+ghost use Rattle.pn_scan.specs.Paging.{CountsRecords, going_in, records_left, rows_to_come, IsNearer, IsNewWalk, IsOnPage, LookMade, OnlyLooks, PagesTo};
+ghost use Rattle.pn_scan.specs.Parts.{looked_in, part_at};
 ghost use Rattle.pn_scan.specs.Queries.{QueryValue};
+ghost use Rattle.pn_scan.specs.declared.pages.TheConstants.{LOOK_RECORDS};
 
-use crate::pages::{candidates, page_of, put_after};
+use crate::pages::{LOOK_RECORDS, candidates, page_of, put_after};
 use crate::{Page, Part, PartWalk, Query, Row, ScanFault, View};
 use pn_join::NoMemory;
 use pn_tablet::Layout;
@@ -44,7 +45,7 @@ impl Model for PageWalk {
 
     ghost coded = { page_walk_code };
 
-    ghost view = { λ walk. record { rows = walk.rows.items; part = walk.part; next = walk.tablet; end = walk.end } };
+    ghost view = { λ walk. record { rows = walk.rows.items; part = walk.part; next = walk.tablet; end = walk.end; looked = walk.looked } };
 }
 
 impl PageWalk {
@@ -62,8 +63,10 @@ impl PageWalk {
         }
     }
 
-    /// How many records the last step looked at; where its look is to be gone on with, as many as were asked for.
-    pub fn looked(&self) -> usize {
+    /// How many records the last step looked at; where its look is to be gone on with, as many as it was to look at.
+    pub fn looked(&self) -> usize
+        ensures { result ≡ self.now.looked }
+    {
         self.looked
     }
 
@@ -77,7 +80,7 @@ impl PageWalk {
         }
     }
 
-    /// Looks at at most `records` more records, or into the next tablet.
+    /// Looks at at most `records` more records, or into the next tablet, at as many or at those of a first look.
     pub fn go_on<V: View>(
         self,
         alloc: Global,
@@ -88,6 +91,7 @@ impl PageWalk {
         ensures goes { (trace : List (LookMade V)) → IsOnPage V.looks (V.bounds view.old) query.now self trace
             → PagesTo V.looks (V.bounds view.old) query.now view.old view.new result trace }
         ensures nearer { 0 < records → IfOk result (IsNearer self) }
+        ensures few { IfOk result (CountsRecords (max records LOOK_RECORDS) (V.most (max records LOOK_RECORDS)) self) }
         ensures looked { OnlyLooks V.looks view.old view.new }
         ensures layout { V.bounds view.new ≡ V.bounds view.old }
     {
@@ -126,6 +130,7 @@ impl PageWalk {
         ensures goes { (trace : List (LookMade V)) → IsOnPage V.looks (V.bounds view.old) query.now self trace
             → PagesTo V.looks (V.bounds view.old) query.now view.old view.new result trace }
         ensures nearer { IfOk result (IsNearer self) }
+        ensures few { IfOk result (CountsRecords (max records LOOK_RECORDS) (V.most (max records LOOK_RECORDS)) self) }
         ensures looked { OnlyLooks V.looks view.old view.new }
         ensures layout { V.bounds view.new ≡ V.bounds view.old }
     {
@@ -134,9 +139,10 @@ impl PageWalk {
         }
         let mut walk = self;
         let room = query.limit() + 1 - walk.rows.len();
-        let part = view.part(alloc, walk.tablet, query, room, records)?;
+        let most = records.max(LOOK_RECORDS);
+        let part = view.part(alloc, walk.tablet, query, room, most)?;
         walk.tablet += 1;
-        Ok(PageStep::Next(walk.with_part(part, records)?))
+        Ok(PageStep::Next(walk.with_part(part, most)?))
     }
 
     // Whether no tablet of the layout is left to look into, or no room in the page.
@@ -153,6 +159,7 @@ impl PageWalk {
         ensures rows { IfOk result (λ walk. (query : QueryValue) → walk.rows ++ rows_to_come query walk.part ≡ self.rows ++ (part_at query part).0) }
         ensures part { IfOk result (λ walk. walk.part ≡ going_in part) }
         ensures ends { IfOk result (λ walk. (walk.next ≡ self.next) × (walk.end ≡ self.end)) }
+        ensures looked { IfOk result (λ walk. walk.looked ≡ looked_in records part) }
     {
         let PageWalk {
             rows,

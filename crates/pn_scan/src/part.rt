@@ -1,18 +1,18 @@
 //! Reads of one tablet.
 
-ghost use Rattle.std.specs.Prelude.{◌≡◌, ◌≤◌, [], true, drop, length, count_by, Some, IfOk, IsTrue};
+ghost use Rattle.std.specs.Prelude.{◌≡◌, ◌≤◌, ℕ, [], true, drop, length, count_by, Some, IfOk, IsTrue};
 ghost use Rattle.std.specs.FinMap.{is_sorted};
 ghost use Rattle.std.specs.Option.{option_copied, option_map_or};
 ghost use Rattle.std.specs.List.{AllByRecursion};
 ghost use Rattle.std.specs.Ordering.{is_lt};
 ghost use Rattle.pn_scan.specs.Pages.{refusal, unless};
-ghost use Rattle.pn_scan.specs.Parts.{part_at, walk_answer};
+ghost use Rattle.pn_scan.specs.Parts.{looked_in, part_at, walk_answer};
 ghost use Rattle.pn_scan.specs.Views.{Answers, rows_at, cell_at};
 ghost use Rattle.pn_scan.specs.Shown.{shown_rows};
 ghost use Rattle.pn_record.specs.Prelude.{bytes_cmp};
 ghost use Rattle.pn_tablet.specs.Prelude.{is_from};
 
-use crate::walk::{PartWalk, Walked, walk_all, walk_some};
+use crate::walk::{PartWalk, Walked, walk_some};
 use crate::{Part, PartResult, Query, Row, ScanFault};
 use pn_join::{Dup, NoMemory};
 use pn_record::{Cell, Key, Records};
@@ -31,7 +31,8 @@ pub fn part_of(
     room: usize,
     records: usize,
 ) -> PartResult
-    ensures { Answers (part_at query.now) result (rows_at query.now room (tablet, Some state.now)) }
+    ensures answers { Answers (part_at query.now) result (rows_at query.now room (tablet, Some state.now)) }
+    ensures few { IfOk result (λ part. looked_in records part ≤ records) }
 {
     check_serving(state, tablet)?;
     Ok(begin_walk(alloc, state.cells(), query, room, records)?)
@@ -46,7 +47,8 @@ fn begin_walk(
     room: usize,
     records: usize,
 ) -> Result<Part, NoMemory>
-    ensures { IfOk result (λ part. part_at query.now part ≡ walk_answer query.now (record { rows = []; rest = cells.now; room = room })) }
+    ensures same { IfOk result (λ part. part_at query.now part ≡ walk_answer query.now (record { rows = []; rest = cells.now; room = room })) }
+    ensures few { IfOk result (λ part. looked_in records part ≤ records) }
 {
     let mut rows = Vec::with_capacity(alloc, room.min(cells.len()))?;
     let index = first_index(cells, query);
@@ -57,7 +59,7 @@ fn begin_walk(
     }
 }
 
-// Takes the records from an index on that may be shown. Where there is no memory to share them it looks at them at once.
+// Takes the records from an index on that may be shown, by sharing them.
 fn take_rest(
     cells: &Records,
     index: usize,
@@ -67,17 +69,11 @@ fn take_rest(
 ) -> Result<Part, NoMemory>
     requires index { index ≤ length cells.now }
     requires few { length rows.items ≤ room }
-    requires from { AllByRecursion (λ e. is_from query.now.from e.0 ≡ true) (drop index cells.now) }
-    ensures { IfOk result (λ part. part_at query.now part ≡ walk_answer query.now (record { rows = rows.items; rest = drop index cells.now; room = room })) }
+    ensures same { IfOk result (λ part. part_at query.now part ≡ walk_answer query.now (record { rows = rows.items; rest = drop index cells.now; room = room })) }
+    ensures rest { IfOk result (λ part. (records : ℕ) → looked_in records part ≡ records) }
 {
-    let mut rows = rows;
-    match cells.slice(index, end_of_range(cells, query).max(index)) {
-        Ok(rest) => Ok(Part::Rest(PartWalk::new(rest, rows, room))),
-        Err(_) => {
-            let more = walk_all(cells, index, query, room, &mut rows)?;
-            Ok(Part::Done(rows, more, cells.len() - index))
-        }
-    }
+    let rest = cells.slice(index, end_of_range(cells, query).max(index))?;
+    Ok(Part::Rest(PartWalk::new(rest, rows, room)))
 }
 
 // How many records are below the end of a query.

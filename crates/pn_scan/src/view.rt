@@ -1,9 +1,9 @@
 //! Views, through which tablets are read, and the rows and pages that they give.
 
-ghost use Rattle.std.specs.Prelude.{◌≡◌, ◌≤◌, Option, length};
+ghost use Rattle.std.specs.Prelude.{◌≡◌, ◌≤◌, ℕ, Option, length, IfOk};
 ghost use Rattle.pn_tablet.specs.Prelude.{Bounds, tablet_of, TabletStateValue};
 ghost use Rattle.pn_scan.specs.Candidates.{Look};
-ghost use Rattle.pn_scan.specs.Parts.{part_at};
+ghost use Rattle.pn_scan.specs.Parts.{looked_in, part_at};
 ghost use Rattle.pn_scan.specs.Views.{LooksOnce, rows_at, cell_at};
 
 use crate::{Part, Query, ScanFault};
@@ -49,6 +49,9 @@ pub trait View {
     // The bounds of its layout.
     ghost bounds: { Self → Bounds };
 
+    // How many records a look goes over at most, where it is to go over this number.
+    ghost most: { ℕ → ℕ };
+
     // One look into a tablet: the view before, the state that was found or none where refused, and the view after.
     ghost looks: { Self → Look → Self → Type 0 };
 
@@ -72,6 +75,7 @@ pub trait View {
         requires { tablet ≤ length (bounds self.old) }
         ensures look { (found : Option TabletStateValue) × LooksOnce looks (bounds self.old) self.old self.new (part_at query.now) result
             (rows_at query.now room) (tablet, found) }
+        ensures few { IfOk result (λ part. looked_in (most records) part ≤ most records) }
         ensures layout { bounds self.new ≡ bounds self.old };
 
     /// The cell of a key, if it has one, read in the key's own tablet. Errors are those of `part`.

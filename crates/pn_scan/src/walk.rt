@@ -194,8 +194,8 @@ pub(crate) fn walk_some(
     Ok(Walked::All(false, looked))
 }
 
-/// Adds the rows that a query shows of all records from an index on, as far as there is room. Whether there are more.
-pub(crate) fn walk_all(
+// Adds the rows that a query shows of all records from an index on, as far as there is room. Whether there are more.
+fn walk_all(
     cells: &Records,
     index: usize,
     query: &Query,

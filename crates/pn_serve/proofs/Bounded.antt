@@ -17,7 +17,8 @@ use Rattle.pn_serve.specs.declared.script.line_loop.state.Stage.{Stage}
 use Rattle.pn_serve.specs.declared.script.line_loop.state.Stage.TheVariants.{Reading, Looking, Ending}
 use Rattle.pn_serve.specs.declared.script.line_loop.steps.Step.{Step}
 use Rattle.pn_serve.specs.declared.script.line_loop.steps.Step.TheVariants.{Next, NoInput, NoRoom, Ends}
-use Rattle.pn_serve.specs.Lines.Bounds.{CanEndBy, CountsUnits, Foresees, ForeseesAt, ForeseesStep, HandsOnStep, IsIdleAt, IsOutAs}
+use Rattle.pn_serve.specs.Lines.Bounds.{CanEndBy, CountsNothing, CountsUnits, Foresees, ForeseesAt, ForeseesStep, HandsOnStep, IsIdleAt, IsOutAs, KeepsLine}
+use Rattle.pn_serve.specs.Lines.Made.{MakesAtMost}
 use Rattle.pn_serve.specs.Lines.States.{LineLoopValue, one_more, waits_in}
 use Rattle.pn_serve.specs.Lines.Stepping.{with_rest}
 use Rattle.pn_serve.specs.Lines.Taking.{EndsTo, HasKept, HasReply, IsSent, SendsTo, Takes, WaitsTo, stage_after}
@@ -47,12 +48,22 @@ module _ (old new : LineLoopValue) (before after : Option (List ℕ)) where
   sent_fewer sent made =
       omega (arith, ap length sent.sends.whole, length-append sent.sends.sent (waits_in new), length-append (waits_in old) [], length-append new.replies new.state.left, length-append old.replies old.state.left, ap length made)
 
-  pub sends_counted : (step : Step) → old.state.left ≡ [] → SendsTo old before new after step → CountsUnits old new step
-  sends_counted (Next units) made sent =
+  -- no line was answered, and no more replies wait
+  pub counts_nothing : (first : LineLoopValue) → first.line.count ≤ old.line.count → first.state.counts ≡ old.state.counts → length old.replies ≤ length first.replies → KeepsLine old new → MakesAtMost 0 before after old.replies new.replies → CountsNothing first new
+  counts_nothing first shorter counts fewer same makes = (
+    omega (arith, ap (λ (c : Counts). c.lines) same.counts, ap (λ (c : Counts). c.lines) counts),
+    omega (arith, makes.few, ap (λ (l : LineBufferValue). l.count) same.line, shorter, fewer),
+  )
+
+  counts_none : KeepsLine old new → MakesAtMost 0 before after old.replies new.replies → CountsNothing old new
+  counts_none same makes = counts_nothing old (omega arith) refl (omega arith) same makes
+
+  pub sends_counted : (step : Step) → old.state.left ≡ [] → SendsTo old before new after step → KeepsLine old new → MakesAtMost 0 before after old.replies new.replies → CountsUnits old new step
+  sends_counted (Next units) made sent same makes =
       (omega (arith, ap (λ (c : Counts). c.lines) sent.kept.counts), omega (arith, sent_fewer sent made, ap (λ (l : LineBufferValue). l.count) sent.kept.line))
-  sends_counted NoInput made sends = tt
-  sends_counted NoRoom made sends = tt
-  sends_counted (Ends ended) made sends = tt
+  sends_counted NoInput made sends same makes = counts_none same makes
+  sends_counted NoRoom made sends same makes = counts_none same makes
+  sends_counted (Ends ended) made sends same makes = counts_none same makes
 
   -- it does not wait for input
   pub sends_no_input : (step : Step) → SendsTo old before new after step → step ≡ NoInput → ⊥
@@ -81,11 +92,11 @@ module _ (old new : LineLoopValue) (before after : Option (List ℕ)) where
 
   -- ---- where no input is at hand
 
-  pub waits_counted : (step : Step) → WaitsTo old before new after step → CountsUnits old new step
-  waits_counted (Next units) waits = absurd waits
-  waits_counted NoInput waits = tt
-  waits_counted NoRoom waits = tt
-  waits_counted (Ends ended) waits = tt
+  pub waits_counted : (first : LineLoopValue) (step : Step) → WaitsTo old before new after step → CountsNothing first new → CountsUnits first new step
+  waits_counted first (Next units) waits nothing = absurd waits
+  waits_counted first NoInput waits nothing = nothing
+  waits_counted first NoRoom waits nothing = nothing
+  waits_counted first (Ends ended) waits nothing = nothing
 
   pub waits_idle : (step : Step) → old.state.stage ≡ Reading → old.line.count < ENDLESS → (step ≡ NoInput → new.state.out ≡ true) → WaitsTo old before new after step → IsIdleAt step new
   waits_idle (Next units) reading below out waits = tt
@@ -120,11 +131,11 @@ module _ (old new : LineLoopValue) (before after : Option (List ℕ)) where
     ends_idle NoRoom ends = tt
     ends_idle (Ends other) ends = tt
 
-    pub ends_counted : (first : LineLoopValue) (step : Step) → EndsTo ended old before new after step → CountsUnits first new step
-    ends_counted first (Next units) ends = absurd ends
-    ends_counted first NoInput ends = absurd ends
-    ends_counted first NoRoom ends = tt
-    ends_counted first (Ends other) ends = tt
+    pub ends_counted : (first : LineLoopValue) (step : Step) → EndsTo ended old before new after step → CountsNothing first new → CountsUnits first new step
+    ends_counted first (Next units) ends nothing = absurd ends
+    ends_counted first NoInput ends nothing = absurd ends
+    ends_counted first NoRoom ends nothing = nothing
+    ends_counted first (Ends other) ends nothing = nothing
 
     pub ends_foresees : (read write end : Type 0) (step : Step) → ((other : Result Counts RunFault) → step ≡ Ends other → (other ≡ ended) ⊎ write) → EndsTo ended old before new after step → CanEndBy read write end ended → ForeseesStep read write end new step
     ends_foresees read write end (Next units) fault ends can = absurd ends
@@ -217,6 +228,15 @@ end_foresees read write end old new was reading can some none = by (cases_eq old
     by (inr some_bytes) =
         let few : old.state.counts.lines < MAX_LINES = ⊎_elim (λ below. below) (λ all. absurd (some_bytes all.1)) at.0 in
         takes_foresees true (record old { line = so_far []; state = record old.state { last = true } }) new read write end (some some_bytes) few refl (λ _. can)
+
+-- and one line more was answered, or none
+pub end_lines : (old new : LineLoopValue) → (old.line.count ≢ 0 → Takes true (record old { line = so_far []; state = record old.state { last = true } }) new)
+    → (old.line.count ≡ 0 → (reply : Reply) × HasReply false (record old { line = so_far []; state = record old.state { last = true } }) reply new) → new.state.counts.lines ≤ old.state.counts.lines + 1
+end_lines old new some none = by (cases_eq old.line.count 0)
+  where
+    by : (old.line.count ≡ 0) ⊎ (old.line.count ≢ 0) → new.state.counts.lines ≤ old.state.counts.lines + 1
+    by (inl empty) = let (reply, takes) = none empty in omega (arith, ap (λ (c : Counts). c.lines) takes.counts)
+    by (inr bytes) = takes_lines true (record old { line = so_far []; state = record old.state { last = true } }) new (some bytes)
 
 -- and no reply waits unless it is still to be handed on
 pub end_out : (handed_on : Type 0) (old new : LineLoopValue)

@@ -157,3 +157,8 @@ module _ {S : Type 0} (left : S → Option (List ℕ)) where
       let at : new.position ≡ old.position = gives.2 in
       subst (λ (n : Option ℕ). EndsInput left before first (Fault fault position line) n new) (sym same)
       (gives.3 ∙ ap (λ (n : ℕ). n + 1) (sym at), gives.4)
+
+-- what holds of how an input ended, where it is answered
+pub on_end : (answer : Option WriterEnd) (end : WriterEnd) (P : WriterEnd → Type 0) → IfSome answer (λ ended. ended ≡ end) → P end → IfSome answer P
+on_end None end P same holds = tt
+on_end (Some ended) end P same holds = subst P (sym same) holds

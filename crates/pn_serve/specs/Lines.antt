@@ -4,6 +4,7 @@ pub mod Bounds
 pub mod Coding
 pub mod Ends
 pub mod Going
+pub mod Made
 pub mod Replies
 pub mod Sending
 pub mod Served

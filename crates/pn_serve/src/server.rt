@@ -21,6 +21,7 @@ mod fault_log;
 pub(crate) mod mailboxes;
 mod messages;
 mod opened;
+mod reporter;
 mod reporting;
 mod reports;
 mod rounds;

@@ -2,5 +2,6 @@ pub mod Buffers
 pub mod Coming
 pub mod Crossing
 pub mod Inputs
+pub mod Outputs
 pub mod Quarters
 pub mod Storing

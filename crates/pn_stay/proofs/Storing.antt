@@ -1,5 +1,5 @@
 -- A connection that is kept between two turns stands where it stood.
-use Rattle.std.proofs.Common.{◌≡◌, ◌≢◌, ◌≤◌, ℕ, Bool, true, false, Option, None, Some, List, [], ◌∷◌, ◌++◌, Contains, inl, inr, refl, sym, ap, ◌∙◌, subst, append_assoc}
+use Rattle.std.proofs.Common.{◌≡◌, ◌≢◌, ◌≤◌, ℕ, Bool, true, false, Option, None, Some, List, [], ◌∷◌, ◌++◌, Contains, inl, inr, refl, sym, ap, ◌∙◌, subst, arith, append_assoc}
 use Rattle.std.specs.Prelude.{Result, Err}
 use Rattle.std.specs.Io.KnownBytes.{prepend_known}
 use Rattle.std.proofs.KnownBytes.{Appends-nil}
@@ -21,7 +21,8 @@ use Rattle.pn_serve.specs.Lines.States.{LineStateValue, Start}
 use Rattle.pn_serve.specs.Lines.Stepping.{Handling, HasEnded, IsLooking, IsReading, Stands, StandsAt, StepsTo}
 use Rattle.pn_serve.proofs.Serving.{OnTold}
 use Rattle.pn_stay.specs.Connections.{ConnectionValue, IsKept, SameInput, loop_of}
-use Rattle.pn_stay.specs.Turns.{Continues, KeepsOr, Stores, TurnsTo}
+use Rattle.pn_stay.specs.Outputs.{AnswersAtMost}
+use Rattle.pn_stay.specs.Turns.{AnswersFew, Continues, KeepsOr, Stores, TurnsTo}
 use Rattle.pn_stay.specs.declared.connection_state.Pause.{Pause}
 use Rattle.pn_stay.specs.declared.connection_state.Pause.TheVariants.{Turn, Input, Output}
 use Rattle.pn_stay.specs.declared.connection_state.TurnOutcome.{TurnOutcome}
@@ -138,3 +139,17 @@ module _ {V : Type 0} (handling : Handling V) (start : Start V) (left written : 
 -- of what waits nothing was written
 pub AppendsPrefix-none : (written : Option (List ℕ)) (bs : List ℕ) → AppendsPrefix written written bs
 AppendsPrefix-none written bs = record { sent = []; back = bs; appends = Appends-nil written; whole = refl }
+
+-- ---- the lines that a turn answered
+
+module _ (most : ℕ) (before loaded after new : ConnectionValue) (same : loaded ≡ before) (answers : AnswersAtMost most loaded.state after.state) where
+  kept_answers : (pause : Pause) (outcome : TurnOutcome) → KeepsOr after pause new outcome → AnswersFew most before new outcome
+  kept_answers pause (Goes other) keeps = omega (arith, answers, ap (λ (k : ConnectionValue). k.state.counts.lines) same, ap (λ (s : LineStateValue). s.counts.lines) keeps.1.state)
+  kept_answers pause (Ended ended) keeps = tt
+
+  -- are as many after the connection is stored
+  pub answers_stored : (step : Step) (outcome : TurnOutcome) → Stores after step new outcome → AnswersFew most before new outcome
+  answers_stored (Next units) outcome stores = kept_answers Turn outcome stores
+  answers_stored NoInput outcome stores = kept_answers Input outcome stores
+  answers_stored NoRoom outcome stores = kept_answers Output outcome stores
+  answers_stored (Ends ended) outcome stores = subst (λ (o : TurnOutcome). AnswersFew most before new o) (sym stores) tt

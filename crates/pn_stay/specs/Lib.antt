@@ -4,6 +4,7 @@ pub mod IdleTimeouts
 pub mod Inputs
 pub mod Loops
 pub mod Messages
+pub mod Outputs
 pub mod Reasons
 pub mod Scripted
 pub mod Servers

@@ -2,10 +2,15 @@
 
 ghost use Rattle.std.specs.Prelude.{◌≡◌, ◌+◌, ◌-◌, ◌^◌, ◌≤◌, ℕ, List, Option, min};
 ghost use Rattle.pn_serve.specs.Lines.Stepping.{by, Stands, StepsTo};
+ghost use Rattle.pn_serve.specs.Lines.Bounds.{HandsOnAtMost, KeepsLine};
+ghost use Rattle.pn_serve.specs.Lines.Made.{AppendsAtMost, MakesAtMost};
 ghost use Rattle.pn_serve.specs.Lines.States.{Start};
+ghost use Rattle.pn_serve.specs.declared.script.line_loop.steps.TheConstants.{TURN_UNITS};
+ghost use Rattle.pn_serve.specs.declared.script.replies.TheConstants.{REPLY_CAPACITY};
 ghost use Rattle.pn_stay.specs.Connections.{new_connection};
-ghost use Rattle.pn_stay.specs.Turns.{in_buffers, Continues, PausesWell, StepsIn, StopsWell, TurnsTo};
+ghost use Rattle.pn_stay.specs.Turns.{in_buffers, AnswersFew, Continues, PausesWell, StepsIn, StopsWell, TurnsTo};
 ghost use Rattle.pn_stay.specs.Inputs.{most_taken, TakesAtMost};
+ghost use Rattle.pn_stay.specs.Outputs.{AnswersAtMost, most_made, most_written};
 ghost use Rattle.pn_serve.specs.Session.Knowing.{IsSteady, KnowsNoLess};
 
 mod storage;
@@ -122,7 +127,8 @@ impl ConnectionState {
         }
     }
 
-    /// One turn: goes on where the last one stopped, with a bounded number of lines, of records that are looked at, and of bytes.
+    /// One turn: goes on where the last one stopped, with a bounded number of lines, of records that are looked at, and of bytes
+    /// that are read, made and written.
     ///
     /// Where the socket leaves replies nothing is read: at most 128 KB of them wait.
     pub fn turn<M: LineHandler, R: Read, W: Sink>(
@@ -137,6 +143,8 @@ impl ConnectionState {
             → TurnsTo (by M.moves M.makes M.ends M.goes M.goes_last) start (R.remaining input.new) (W.contents output.new) machine.new self.new result }
         ensures pauses { PausesWell self.new result }
         ensures few { TakesAtMost most_taken (R.remaining input.old) (R.remaining input.new) }
+        ensures written { AppendsAtMost most_written (W.contents output.old) (W.contents output.new) }
+        ensures answers { AnswersFew TURN_UNITS self.old self.new result }
         ensures knows { KnowsNoLess (M.reader machine.old) (M.reader machine.new) }
     {
         self.load(buffers);
@@ -161,6 +169,8 @@ fn send_and_step<M: LineHandler, R: Read, W: Sink>(
         → StepsIn (by M.moves M.makes M.ends M.goes M.goes_last) start (R.remaining input.new) (W.contents output.new) machine.new buffers.new result }
     ensures stops { StopsWell (in_buffers buffers.new) result }
     ensures few { TakesAtMost most_taken (R.remaining input.old) (R.remaining input.new) }
+    ensures written { AppendsAtMost most_written (W.contents output.old) (W.contents output.new) }
+    ensures answers { AnswersAtMost TURN_UNITS buffers.old.lines.state buffers.new.lines.state }
     ensures knows { KnowsNoLess (M.reader machine.old) (M.reader machine.new) }
 {
     match send_waiting(buffers, &*machine, output) {
@@ -181,6 +191,8 @@ fn step_and_send<M: LineHandler, R: Read, W: Sink>(
         → StepsIn (by M.moves M.makes M.ends M.goes M.goes_last) start (R.remaining input.new) (W.contents output.new) machine.new buffers.new result }
     ensures stops { StopsWell (in_buffers buffers.new) result }
     ensures few { TakesAtMost most_taken (R.remaining input.old) (R.remaining input.new) }
+    ensures written { MakesAtMost most_made (W.contents output.old) (W.contents output.new) buffers.old.lines.replies buffers.new.lines.replies }
+    ensures answers { AnswersAtMost TURN_UNITS buffers.old.lines.state buffers.new.lines.state }
     ensures knows { KnowsNoLess (M.reader machine.old) (M.reader machine.new) }
 {
     match take_steps(buffers, machine, input, output) {
@@ -199,6 +211,9 @@ fn send_waiting<M: LineHandler, W: Sink>(
         → StepsTo (by M.moves M.makes M.ends M.goes M.goes_last) start left (W.contents output.new) machine.now buffers.new.lines result }
     ensures input { buffers.new.input ≡ buffers.old.input }
     ensures stops { StopsWell (in_buffers buffers.new) result }
+    ensures few { HandsOnAtMost REPLY_CAPACITY buffers.old.lines buffers.new.lines }
+    ensures written { MakesAtMost 0 (W.contents output.old) (W.contents output.new) buffers.old.lines.replies buffers.new.lines.replies }
+    ensures same { KeepsLine buffers.old.lines buffers.new.lines }
 {
     if buffers.lines.is_sent() {
         return Step::Next(0);

@@ -92,6 +92,8 @@ pub struct Counters {
     pub rounds: Arc<Counter>,
     /// At 1 while a round waits for memory, and else at 0.
     pub shortage: Arc<Counter>,
+    /// How many streams wait for memory.
+    pub waiting: Arc<Counter>,
     /// What was read from all clients, and how many of their lines were refused.
     pub clients: Arc<InputCounters>,
     pub refused: Counter,
@@ -107,10 +109,12 @@ impl Counters {
     pub fn new(alloc: Global, streams: Vec<StreamCounters>) -> Result<Counters, AllocError> {
         let rounds = Arc::new(alloc, Counter::new())?;
         let shortage = Arc::new(alloc, Counter::new())?;
+        let waiting = Arc::new(alloc, Counter::new())?;
         let clients = Arc::new(alloc, InputCounters::new())?;
         Ok(Counters {
             rounds,
             shortage,
+            waiting,
             clients,
             refused: Counter::new(),
             kinds: KindCounters::new(),

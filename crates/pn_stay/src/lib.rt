@@ -35,7 +35,7 @@ pub use input_buffer::{INPUT_CAPACITY, InputBuffer, READ_SIZE};
 pub use laws::{answer_in_turns, every_way_of_coming_and_going};
 pub use listener::{Listener, OWNER_ALONE};
 pub use memory::MemoryMeter;
-pub use messages::{MAX_WAITING, MessagePrinter, Messages, WaitingLines};
+pub use messages::{MAX_WAITING, MessagePrinter, Messages, Shortages, WaitingLines};
 pub use progress::{message_prefix, tell_progress};
 pub use reasons::{describe_error, format_after, format_failure, format_refusal, format_taken};
 pub use scripted::{ScriptedSink, ScriptedSource};

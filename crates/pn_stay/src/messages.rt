@@ -3,6 +3,7 @@
 ghost use Rattle.std.specs.Prelude.{◌≡◌, ◌<◌, ◌≤◌, ◌↔◌, ◌++◌, ◌∷◌, [], length, IfOk, IsTrue};
 ghost use Rattle.pn_stay.specs.Messages.{one_more};
 
+use crate::counters::Counters;
 use pn_serve::Counter;
 use std::alloc::{AllocError, Global};
 use std::marker::Model;
@@ -129,12 +130,27 @@ impl WaitingLines {
     }
 }
 
-/// Writes lines to standard error, also where a round begins to wait for memory, and where rounds go on.
+/// Who waits for memory. Each counter stands at zero where nobody does.
+#[derive(Drop)]
+pub struct Shortages {
+    rounds: Arc<Counter>,
+    streams: Arc<Counter>,
+}
+
+impl Shortages {
+    /// Those that these counters count.
+    pub fn of(counters: &Counters) -> Result<Shortages, AllocError> {
+        let rounds = Arc::try_clone(&counters.shortage)?;
+        let streams = Arc::try_clone(&counters.waiting)?;
+        Ok(Shortages { rounds, streams })
+    }
+}
+
+/// Writes lines to standard error, also where rounds or streams begin to wait for memory, and where they go on.
 #[derive(Drop)]
 pub struct MessagePrinter {
     messages: Arc<Messages>,
-    // At 1 while a round waits for memory.
-    shortage: Arc<Counter>,
+    shortages: Shortages,
     // What it exchanges for lines that wait.
     lines: WaitingLines,
     // What goes before each line.
@@ -146,13 +162,14 @@ impl MessagePrinter {
     pub fn new(
         alloc: Global,
         messages: Arc<Messages>,
-        shortage: Arc<Counter>,
+        shortages: Shortages,
         prefix: &'static str,
     ) -> Result<MessagePrinter, AllocError> {
+        let lines = WaitingLines::new(alloc)?;
         Ok(MessagePrinter {
             messages,
-            shortage,
-            lines: WaitingLines::new(alloc)?,
+            shortages,
+            lines,
             prefix,
         })
     }
@@ -161,29 +178,36 @@ impl MessagePrinter {
     pub fn run<R: Wait + Clock + Eprint>(self, rt: &R) {
         let MessagePrinter {
             messages,
-            shortage,
+            shortages,
             lines,
             prefix,
         } = self;
         let mut lines = lines;
-        let mut is_short = false;
+        let (mut rounds_wait, mut streams_wait) = (false, false);
         for _ in rt.forever() {
             messages.exchange(rt, &mut lines);
             print_lines(rt, &lines, prefix);
             lines.clear();
-            is_short = print_shortage(rt, &shortage, is_short, prefix);
+            rounds_wait = print_shortage(rt, &shortages.rounds, rounds_wait, prefix, "round");
+            streams_wait = print_shortage(rt, &shortages.streams, streams_wait, prefix, "stream");
         }
     }
 }
 
-// Tells where memory became short, or is no longer. Answers whether it is short.
-fn print_shortage<R: Eprint>(rt: &R, shortage: &Counter, was_short: bool, prefix: &str) -> bool {
+// Tells where one of these begins to wait for memory, or none waits any more. Answers whether one waits.
+fn print_shortage<R: Eprint>(
+    rt: &R,
+    shortage: &Counter,
+    was_short: bool,
+    prefix: &str,
+    what: &str,
+) -> bool {
     let is_short = shortage.get() > 0;
     if is_short && !was_short {
-        let _ = eprintln!(rt; "{prefix}pnuts: out of memory: a round waits");
+        let _ = eprintln!(rt; "{prefix}pnuts: out of memory: a {what} waits");
     }
     if was_short && !is_short {
-        let _ = eprintln!(rt; "{prefix}pnuts: rounds go on");
+        let _ = eprintln!(rt; "{prefix}pnuts: {what}s go on");
     }
     is_short
 }

@@ -209,6 +209,7 @@ where
         watchers: Watchers {
             rounds: kept.rounds,
             shortage: kept.shortage,
+            waiting: kept.waiting,
             controls: controls.mailboxes,
         },
         stopping: Stopping {
@@ -226,6 +227,7 @@ where
 struct KeptHandles {
     rounds: Option<Arc<Counter>>,
     shortage: Option<Arc<Counter>>,
+    waiting: Option<Arc<Counter>>,
     listener: Listener,
     counters: Arc<Counters>,
 }
@@ -233,11 +235,13 @@ struct KeptHandles {
 fn keep_handles(acceptor: &SocketAcceptor) -> io::Result<KeptHandles> {
     let rounds = acceptor.round_counter();
     let shortage = Some(Arc::try_clone(&acceptor.counters.shortage)?);
+    let waiting = Some(Arc::try_clone(&acceptor.counters.waiting)?);
     let listener = acceptor.listener.try_clone()?;
     let counters = Arc::try_clone(&acceptor.counters)?;
     Ok(KeptHandles {
         rounds,
         shortage,
+        waiting,
         listener,
         counters,
     })

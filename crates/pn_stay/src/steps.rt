@@ -2,11 +2,14 @@
 
 ghost use Rattle.std.specs.Prelude.{◌≡◌, ◌<◌, ◌≤◌, ◌+◌, ◌*◌, ℕ, List, [], length, Option};
 ghost use Rattle.pn_serve.specs.Lines.Bounds.{IsIdleAt};
+ghost use Rattle.pn_serve.specs.Lines.Made.{MakesAtMost, made_by};
 ghost use Rattle.pn_serve.specs.Lines.States.{Start};
+ghost use Rattle.pn_serve.specs.declared.script.line_loop.steps.TheConstants.{TURN_UNITS};
 ghost use Rattle.pn_serve.specs.Session.Knowing.{IsSteady, KnowsNoLess};
 ghost use Rattle.pn_serve.specs.Lines.Stepping.{by};
 ghost use Rattle.pn_stay.specs.Turns.{in_buffers, Continues, IsRead, StepsIn, WaitsWell};
 ghost use Rattle.pn_stay.specs.Inputs.{most_taken, ReadsOnce, TakesAtMost};
+ghost use Rattle.pn_stay.specs.Outputs.{AnswersAtMost, lines_by, most_made};
 ghost use Rattle.pn_stay.specs.declared.input_buffer.TheConstants.{READ_SIZE};
 
 use crate::connection_state::ThreadBuffers;
@@ -31,6 +34,8 @@ pub(crate) fn take_steps<M: LineHandler, R: Read, W: Sink>(
         → StepsIn (by M.moves M.makes M.ends M.goes M.goes_last) start (R.remaining input.new) (W.contents output.new) machine.new buffers.new result }
     ensures waits { WaitsWell (in_buffers buffers.new) result }
     ensures few { TakesAtMost most_taken (R.remaining input.old) (R.remaining input.new) }
+    ensures written { MakesAtMost most_made (W.contents output.old) (W.contents output.new) buffers.old.lines.replies buffers.new.lines.replies }
+    ensures answers { AnswersAtMost TURN_UNITS buffers.old.lines.state buffers.new.lines.state }
     ensures knows { KnowsNoLess (M.reader machine.old) (M.reader machine.new) }
 {
     let mut units = TURN_UNITS;
@@ -65,6 +70,8 @@ fn take_step<M: LineHandler, R: Read, W: Sink>(
         → StepsIn (by M.moves M.makes M.ends M.goes M.goes_last) start (R.remaining input.new) (W.contents output.new) machine.new buffers.new result }
     ensures waits { WaitsWell (in_buffers buffers.new) result }
     ensures few { ReadsOnce result (R.remaining input.old) (R.remaining input.new) }
+    ensures written { MakesAtMost (made_by result) (W.contents output.old) (W.contents output.new) buffers.old.lines.replies buffers.new.lines.replies }
+    ensures answers { AnswersAtMost (lines_by result) buffers.old.lines.state buffers.new.lines.state }
     ensures knows { KnowsNoLess (M.reader machine.old) (M.reader machine.new) }
 {
     let step = buffers
@@ -89,16 +96,15 @@ fn read_more<M: LineHandler, R: Read>(
         → StepsIn (by M.moves M.makes M.ends M.goes M.goes_last) start (R.remaining input.new) written machine.new buffers.new result }
     ensures waits { WaitsWell (in_buffers buffers.new) result }
     ensures few { ReadsOnce result (R.remaining input.old) (R.remaining input.new) }
+    ensures makes { length buffers.new.lines.replies ≤ length buffers.old.lines.replies + made_by result }
+    ensures answers { AnswersAtMost (lines_by result) buffers.old.lines.state buffers.new.lines.state }
     ensures knows { KnowsNoLess (M.reader machine.old) (M.reader machine.new) }
 {
     let read = buffers.input.read_from(input);
     match came_of(&read) {
         Came::Input => Step::Next(units_of(buffers.input.bytes())),
         Came::Nothing => Step::NoInput,
-        Came::End => {
-            buffers.lines.end_input(machine);
-            Step::Next(0)
-        }
+        Came::End => Step::Next(buffers.lines.end_input(machine)),
         Came::Fault => {
             buffers.lines.end_by(Err(RunFault::Read));
             Step::Next(0)

@@ -1,5 +1,6 @@
 -- What is read of lines in chunks is what is read of them in one go.
 use Rattle.std.proofs.Common.{◌≡◌, ◌≢◌, ℕ, suc, ◌+◌, ◌<◌, ◌≤◌, ◌^◌, All, List, [], ◌∷◌, ◌++◌, length, take, drop, get_or, Option, None, Some, IsSome, ◌⊎◌, inl, inr, refl, sym, ap, ◌∙◌, subst, arith, append_assoc, append-nil, length-append, take-append-drop, drop-cons}
+use Rattle.std.proofs.Math.Seq.{drop-append_seam}
 use Rattle.std.proofs.lemmas.List.{drop_all, take_more}
 use Rattle.std.proofs.lemmas.List.Elements.{All-get_or}
 use Rattle.pn_record.specs.declared.image.Image.{Image}
@@ -177,4 +178,21 @@ read_together position next lines low high one other all None second fault whole
     elim (follows refl) [
       | inl is ↦ rw (whole, is.0, is.1) (later_follow position low high one other second front later)
       | inr is ↦ rw (whole, is.0, is.1) (memory_between position low high one some front)
+    ]
+
+-- what is read from the line on that memory ran out for, put together with what was read before
+pub read_on : (position next count : ℕ) (lines left : List (List ℕ)) (one other all : List Image) (second fault : Option StreamFault)
+    → left ≡ drop count lines → count ≡ length one → next ≡ position + count → IsRead position lines one (Some Memory) → IsRead next left other second
+    → ((all ≡ one ++ other) × (fault ≡ second)) ⊎ ((all ≡ one) × (fault ≡ Some Memory)) → IsRead position lines all fault
+read_on position next count lines left one other all second fault cut is at first later both =
+    let same : count ≡ length first.front = is ∙ InStep-length position first.front one first.in_step in
+    let rest : left ≡ first.back = cut ∙ ap (λ n. drop n lines) same ∙ ap (λ ls. drop (length first.front) ls) first.lines_are ∙ drop-append_seam first.front first.back in
+    let front : IsRead position first.front one None = record { front = first.front; back = []; lines_are = sym (append-nil first.front); in_step = first.in_step; stops = tt } in
+    let numbers : next ≡ position + length first.front = omega (arith, at, same) in
+    let back : IsRead (position + length first.front) first.back other second =
+    subst (λ (n : ℕ). IsRead n first.back other second) numbers (subst (λ (ls : List (List ℕ)). IsRead next ls other second) rest later)
+    in
+    elim both [
+      | inl so ↦ rw (so.0, so.1) (subst (λ (ls : List (List ℕ)). IsRead position ls (one ++ other) second) (sym first.lines_are) (later_follow position first.front first.back one other second front back))
+      | inr so ↦ rw (so.0, so.1) first
     ]

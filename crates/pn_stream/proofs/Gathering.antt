@@ -185,6 +185,12 @@ pub no_failure : (position : ℕ) (lines : List (List ℕ)) (images : List Image
 no_failure position lines images None end read stays is = stays is
 no_failure position lines images (Some fault) end read stays is = (fault_of_line position lines images fault read).1 (some_same fault Failed is)
 
+-- memory ran out for one of the messages, or for a line
+pub gives_up : (fault end : Option StreamFault) (may_give_up : Type 0) → (fault ≡ Some Memory → may_give_up) → (end ≡ Some Memory → may_give_up)
+    → first_fault fault end ≡ Some Memory → may_give_up
+gives_up None end may_give_up read lines is = lines is
+gives_up (Some fault) end may_give_up read lines is = read is
+
 -- what is read of lines, as the batch of their text
 module _ (position : ℕ) (lines : List (List ℕ)) where
   taken_whole : Gathered (length lines) (length lines) (text_of lines) lines None [] (Some [])

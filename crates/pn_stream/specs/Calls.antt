@@ -1,12 +1,12 @@
 -- What a call for the next messages answers, and the reader after it.
-use Rattle.std.specs.Prelude.{◌≡◌, ◌≢◌, ℕ, ◌+◌, ◌≤◌, List, ◌++◌, length, min, Option, Some, None, Result, Err, IfOk, IfErr, IfSome}
+use Rattle.std.specs.Prelude.{◌≡◌, ◌≢◌, ℕ, ◌+◌, ◌≤◌, List, ◌++◌, length, min, Option, Some, None, Result, Err, IfOk, IfErr, IsErrOf, IfSome}
 use Rattle.pn_join.specs.declared.marks.TheConstants.{LAST_POSITION}
 use Rattle.pn_record.specs.Limits.{max_line_bytes}
 use Rattle.pn_stream.specs.Batches.{Stream, Batch}
 use Rattle.pn_stream.specs.Faults.{Stands}
 use Rattle.pn_stream.specs.Positions.{DeliveryValue}
 use Rattle.pn_stream.specs.declared.fault.StreamFault.{StreamFault}
-use Rattle.pn_stream.specs.declared.fault.StreamFault.TheVariants.{Read, Failed}
+use Rattle.pn_stream.specs.declared.fault.StreamFault.TheVariants.{Read, Memory, Failed}
 
 -- a delivery of the messages after the last position; a fault that follows some of them waits for the next call
 pub record Gives {S : Type 0} (left : S → Option (List ℕ)) (may_fail : Type 0) (least most : ℕ) (old new : Stream S) (delivery : DeliveryValue) : Type 0 where
@@ -33,3 +33,8 @@ pub record IsCall {S : Type 0} (left : S → Option (List ℕ)) (may_fail : Type
   pub waited : IfSome old.fault (λ fault. answer ≡ Err fault)
   pub name : new.name ≡ old.name
   pub part : length new.part ≤ max_line_bytes
+
+-- memory ran out only where it was not waited for any more: in this call, or for the message that the next call answers for
+pub record GivesUp {S : Type 0} (may_give_up : Type 0) (old : Stream S) (answer : Result DeliveryValue StreamFault) (new : Stream S) : Type 0 where
+  pub now : old.fault ≡ None → IsErrOf answer Memory → may_give_up
+  pub next : new.fault ≡ Some Memory → may_give_up

@@ -1,12 +1,13 @@
 //! Lines that several threads read, each a chunk of consecutive lines at the positions that its place gives.
 
-ghost use Rattle.std.specs.Prelude.{◌≡◌, ◌+◌, ◌<◌, ◌^◌, ◌⊎◌, [], ◌++◌, length, All, None, Some, IfOk, IfErr, OnOk, OnErr, IsSome};
+ghost use Rattle.std.specs.Prelude.{◌≡◌, ◌+◌, ◌<◌, ◌^◌, ◌⊎◌, ◌↔◌, [], ◌++◌, length, All, None, Some, IfOk, IfErr, OnOk, OnErr, IsSome, IsTrue};
 ghost use Rattle.pn_stream.specs.Faults.{Refuses};
 ghost use Rattle.pn_stream.specs.Lines.{AddsMessage, IsRead, IsWhole};
 ghost use Rattle.pn_stream.specs.MessageLines.{IsMessageLine};
 
 use crate::fault::StreamFault;
 use crate::lines::WholeLine;
+use crate::memory::{NoWait, ReaderMemory};
 use crate::next::{check_step, message_of_line, push_image};
 use pn_record::Image;
 use std::alloc::Global;
@@ -20,6 +21,15 @@ pub(crate) const MIN_LINES_PER_THREAD: usize = 128;
 pub(crate) struct ReadRun {
     pub(crate) images: Vec<Image>,
     pub(crate) fault: Option<StreamFault>,
+}
+
+impl ReadRun {
+    // Whether memory ran out for a message.
+    fn lacks_memory(&self) -> bool
+        ensures { IsTrue result ↔ (self.now.fault ≡ Some StreamFault.Memory) }
+    {
+        matches!(self.fault, Some(StreamFault::Memory))
+    }
 }
 
 /// How many of the workers get a chunk of this many lines.
@@ -57,6 +67,48 @@ pub(crate) fn read_chunks<R: Threads>(
     { read_chunks(rt, alloc, high, next, others) };
     let (earlier, later) = join(rt, front, back);
     put_together(earlier, later)
+}
+
+/// Reads the messages of the lines as `read_chunks` does. Where memory runs out, it goes on from the line that it ran out
+/// for, in one thread.
+pub(crate) fn read_in_memory<R: Threads, M: ReaderMemory>(
+    rt: &R,
+    memory: &M,
+    lines: &[WholeLine],
+    position: u64,
+    workers: usize,
+) -> ReadRun
+    requires whole { All IsWhole lines.now }
+    requires numbers { position + length lines.now < 2 ^ 64 }
+    ensures read { IsRead position lines.now result.images.items result.fault }
+    ensures gives_up { result.fault ≡ Some StreamFault.Memory → M.may_give_up }
+{
+    let mut run = read_chunks(rt, memory.alloc(), lines, position, workers);
+    for _ in 0..u64::MAX {
+        if !run.lacks_memory() || !memory.wait() {
+            return run;
+        }
+        run = read_on(memory.alloc(), lines, position, run);
+    }
+    memory.give_up();
+    run
+}
+
+// Reads on from the line that memory ran out for.
+fn read_on(alloc: Global, lines: &[WholeLine], position: u64, run: ReadRun) -> ReadRun
+    requires whole { All IsWhole lines.now }
+    requires numbers { position + length lines.now < 2 ^ 64 }
+    requires so_far { IsRead position lines.now run.images.items (Some StreamFault.Memory) }
+    ensures { IsRead position lines.now result.images.items result.fault }
+{
+    let count = run.images.len();
+    let (_, left) = lines.split_at(count);
+    let next = read_lines(alloc, left, position + count as u64);
+    let before = ReadRun {
+        images: run.images,
+        fault: None,
+    };
+    put_together(before, next)
 }
 
 // The images of a chunk and of what follows it; those of the chunk alone where a fault ended it.
@@ -132,7 +184,7 @@ fn push_message(
     ensures kept { OnErr result (images.new.items ≡ images.old.items) }
 {
     let image = image_in_step(alloc, line, wanted)?;
-    push_image(images, image)?;
+    push_image(&NoWait::new(alloc), images, image)?;
     Ok(())
 }
 

@@ -1,6 +1,6 @@
 //! The first message of a writer, which may come again.
 
-ghost use Rattle.std.specs.Prelude.{◌≡◌, ◌+◌, ◌<◌, ◌≤◌, pred, [], ◌∷◌, ◌++◌, length, IfOk, IfErr, IfSome, OnOk, IsErrOf, IsSome, IsTrue};
+ghost use Rattle.std.specs.Prelude.{◌≡◌, ◌+◌, ◌<◌, ◌≤◌, pred, [], ◌∷◌, ◌++◌, length, IfOk, IfErr, IfSome, OnOk, OnErr, IsErrOf, IsSome, IsTrue};
 ghost use Rattle.pn_join.specs.Prelude.{is_position};
 ghost use Rattle.pn_join.specs.declared.marks.TheConstants.{LAST_POSITION};
 ghost use Rattle.pn_stream.specs.Batches.{Batch, IsPart, IsNext, part_of};
@@ -8,16 +8,16 @@ ghost use Rattle.pn_stream.specs.Resuming.{StandsFirst};
 ghost use Rattle.pn_stream.specs.Streams.{NoLine, IsLeft};
 
 use crate::fault::{ResumeFault, StreamFault};
+use crate::memory::{ReaderMemory, reserve_one};
 use crate::next::{NextMessage, next_message, take_line};
 use pn_join::NoMemory;
 use pn_line::{LineBuffer, Source};
 use pn_record::Image;
-use std::alloc::Global;
 
 /// The position of the first message, from 1 to one past `position`, and its one image. None where no whole line is
 /// left. The part of a line that was read is kept.
-pub(crate) fn first_message<S: Source>(
-    alloc: Global,
+pub(crate) fn first_message<S: Source, M: ReaderMemory>(
+    memory: &M,
     held: &mut Option<LineBuffer>,
     source: &mut S,
     position: u64,
@@ -35,21 +35,22 @@ pub(crate) fn first_message<S: Source>(
         StandsFirst (position + 1) (part_of held.old ++ text) fault)) }
     ensures part { IfSome held.new IsPart }
     ensures read { IsErrOf result (ResumeFault.Stream StreamFault.Read) → S.may_fail }
+    ensures gives_up { IsErrOf result (ResumeFault.Stream StreamFault.Memory) → M.may_give_up }
     ensures not_failed { IsErrOf result (ResumeFault.Stream StreamFault.Failed) → ⊥ }
 {
-    let mut line = take_line(alloc, held)?;
-    let found = message_up_to(alloc, &mut line, source, position + 1)?;
+    let mut line = take_line(memory, held)?;
+    let found = message_up_to(memory, &mut line, source, position + 1)?;
     *held = Some(line);
     let Some(first) = found else {
         return Ok(None);
     };
-    let images = one_image(alloc, first.image)?;
+    let images = one_image(memory, first.image)?;
     Ok(Some((first.at, images)))
 }
 
 // The next message, of any position up to `wanted`. None where no whole line is left.
-fn message_up_to<S: Source>(
-    alloc: Global,
+fn message_up_to<S: Source, M: ReaderMemory>(
+    memory: &M,
     line: &mut LineBuffer,
     source: &mut S,
     wanted: u64,
@@ -64,9 +65,10 @@ fn message_up_to<S: Source>(
         StandsFirst wanted (line.old.bytes ++ text) fault)) }
     ensures part { OnOk result (IsPart line.new) }
     ensures read { IsErrOf result (ResumeFault.Stream StreamFault.Read) → S.may_fail }
+    ensures gives_up { IsErrOf result (ResumeFault.Stream StreamFault.Memory) → M.may_give_up }
     ensures not_failed { IsErrOf result (ResumeFault.Stream StreamFault.Failed) → ⊥ }
 {
-    let Some(next) = next_message(alloc, line, source, wanted)? else {
+    let Some(next) = next_message(memory, line, source, wanted)? else {
         return Ok(None);
     };
     check_no_gap(wanted, next.at)?;
@@ -86,10 +88,12 @@ fn check_no_gap(wanted: u64, at: u64) -> Result<(), ResumeFault>
 }
 
 // A list of one image.
-fn one_image(alloc: Global, image: Image) -> Result<Vec<Image>, NoMemory>
-    ensures { IfOk result (λ images. images.items ≡ image ∷ []) }
+fn one_image<M: ReaderMemory>(memory: &M, image: Image) -> Result<Vec<Image>, NoMemory>
+    ensures image { IfOk result (λ images. images.items ≡ image ∷ []) }
+    ensures gives_up { OnErr result M.may_give_up }
 {
-    let mut images = Vec::new(alloc);
-    images.push(image)?;
+    let mut images = Vec::new(memory.alloc());
+    reserve_one(memory, &mut images)?;
+    images.push_reserved(image);
     Ok(images)
 }

@@ -8,11 +8,13 @@ mod fault;
 mod first;
 pub mod laws;
 mod lines;
+mod memory;
 mod message;
 mod next;
 mod reader;
 
 pub use delivery::{Delivery, positions_fit};
 pub use fault::{ResumeFault, StreamFault};
+pub use memory::{NoWait, ReaderMemory};
 pub use message::read_message;
 pub use reader::{MAX_MESSAGES, StreamReader};

@@ -7,6 +7,7 @@ ghost use Rattle.pn_stream.specs.Faults.{Stands};
 ghost use Rattle.pn_stream.specs.Lines.{Gathered, IsNextLine, IsWhole};
 
 use crate::fault::StreamFault;
+use crate::memory::{ReaderMemory, reserve_one};
 use crate::next::{BatchSize, take_line, whole_line};
 use pn_join::NoMemory;
 use pn_line::{LineBuffer, Source, read_bounded_line};
@@ -54,8 +55,8 @@ pub(crate) struct NextLine {
 
 /// Adds the next lines, until there are enough, no whole line is left, or a fault comes. The part of a line that was
 /// read is kept.
-pub(crate) fn take_lines<S: Source>(
-    alloc: Global,
+pub(crate) fn take_lines<S: Source, M: ReaderMemory>(
+    memory: &M,
     held: &mut Option<LineBuffer>,
     source: &mut S,
     size: BatchSize,
@@ -73,15 +74,16 @@ pub(crate) fn take_lines<S: Source>(
         Gathered size.least size.most (part_of held.old ++ text) lines.new.items (Some fault) (part_of held.new) (S.left source.new))) }
     ensures part { IfSome held.new IsPart }
     ensures read { IsErrOf result StreamFault.Read → S.may_fail }
+    ensures gives_up { IsErrOf result StreamFault.Memory → M.may_give_up }
     ensures not_failed { IsErrOf result StreamFault.Failed → ⊥ }
 {
-    let mut line = take_line(alloc, held)?;
+    let mut line = take_line(memory, held)?;
     let mut more = false;
     'lines: while size.wants(lines.len(), more) {
-        match next_line(alloc, &mut line, source)? {
+        match next_line(memory, &mut line, source)? {
             Some(next) => {
                 more = next.more;
-                push_line(lines, next.line)?;
+                push_line(memory, lines, next.line)?;
             }
             None => {
                 *held = Some(line);
@@ -94,17 +96,40 @@ pub(crate) fn take_lines<S: Source>(
 }
 
 // Adds a line. An error leaves the lines as they were.
-fn push_line(lines: &mut Vec<WholeLine>, line: WholeLine) -> Result<(), NoMemory>
+fn push_line<M: ReaderMemory>(
+    memory: &M,
+    lines: &mut Vec<WholeLine>,
+    line: WholeLine,
+) -> Result<(), NoMemory>
     ensures ok { OnOk result (lines.new.items ≡ lines.old.items ++ line ∷ []) }
     ensures err { OnErr result (lines.new.items ≡ lines.old.items) }
+    ensures gives_up { OnErr result M.may_give_up }
 {
-    lines.push(line)?;
+    reserve_one(memory, lines)?;
+    lines.push_reserved(line);
     Ok(())
 }
 
+// A copy of these bytes. Where memory runs out, they are copied again.
+fn copy_in_memory<M: ReaderMemory>(memory: &M, bytes: &[u8]) -> Result<WholeLine, NoMemory>
+    ensures copy { IfOk result (λ line. line ≡ bytes.now) }
+    ensures gives_up { OnErr result M.may_give_up }
+{
+    for _ in 0..u64::MAX {
+        if let Ok(line) = WholeLine::copy_of(memory.alloc(), bytes) {
+            return Ok(line);
+        }
+        if !memory.wait() {
+            return Err(NoMemory);
+        }
+    }
+    memory.give_up();
+    Err(NoMemory)
+}
+
 // The next whole line. None where none is left.
-fn next_line<S: Source>(
-    alloc: Global,
+fn next_line<S: Source, M: ReaderMemory>(
+    memory: &M,
     line: &mut LineBuffer,
     source: &mut S,
 ) -> Result<Option<NextLine>, StreamFault>
@@ -119,12 +144,13 @@ fn next_line<S: Source>(
         (wanted : ℕ) → Stands wanted (line.old.bytes ++ text) fault)) }
     ensures part { OnOk result (IsPart line.new) }
     ensures read { IsErrOf result StreamFault.Read → S.may_fail }
+    ensures gives_up { IsErrOf result StreamFault.Memory → M.may_give_up }
     ensures not_failed { IsErrOf result StreamFault.Failed → ⊥ }
 {
     let Some(more) = whole_line(read_bounded_line(line, source))? else {
         return Ok(None);
     };
-    let copy = WholeLine::copy_of(alloc, line.bytes())?;
+    let copy = copy_in_memory(memory, line.bytes())?;
     line.start();
     Ok(Some(NextLine { line: copy, more }))
 }

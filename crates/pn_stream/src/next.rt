@@ -1,7 +1,7 @@
 //! The next messages of a stream, read from the lines of its source.
 
 ghost use Rattle.std.specs.Prelude.{◌≡◌, ◌≢◌, ℕ, ◌+◌, ◌<◌, ◌≤◌, false, [], ◌∷◌, ◌++◌, length, IfOk, IfErr, IfSome, OnOk, OnSome, OnErr, IsErrOf, IsSome, IsTrue};
-ghost use Rattle.pn_line.specs.Prelude.{so_far, HasShown};
+ghost use Rattle.pn_line.specs.Prelude.{HasShown};
 ghost use Rattle.pn_join.specs.Prelude.{is_position};
 ghost use Rattle.pn_join.specs.declared.marks.TheConstants.{LAST_POSITION};
 ghost use Rattle.pn_stream.specs.Steps.{line_ended, message_due};
@@ -10,6 +10,7 @@ ghost use Rattle.pn_stream.specs.Faults.{Refuses, Stands};
 ghost use Rattle.pn_stream.specs.Batches.{Batch, IsPart, IsNext, part_of};
 
 use crate::fault::StreamFault;
+use crate::memory::{ReaderMemory, new_line, reserve_one};
 use crate::message::read_message;
 use pn_join::NoMemory;
 use pn_line::{BoundedEnd, LineBuffer, Source, read_bounded_line};
@@ -47,8 +48,8 @@ pub(crate) struct NextMessage {
 
 /// Adds the images of the next messages, until there are enough, no whole line is left, or a fault comes. The part of
 /// a line that was read is kept.
-pub(crate) fn next_images<S: Source>(
-    alloc: Global,
+pub(crate) fn next_images<S: Source, M: ReaderMemory>(
+    memory: &M,
     held: &mut Option<LineBuffer>,
     source: &mut S,
     position: u64,
@@ -68,16 +69,17 @@ pub(crate) fn next_images<S: Source>(
         Batch size.least size.most position (part_of held.old ++ text) images.new.items (Some fault) (part_of held.new) (S.left source.new))) }
     ensures part { IfSome held.new IsPart }
     ensures read { IsErrOf result StreamFault.Read → S.may_fail }
+    ensures gives_up { IsErrOf result StreamFault.Memory → M.may_give_up }
     ensures not_failed { IsErrOf result StreamFault.Failed → ⊥ }
 {
-    let mut line = take_line(alloc, held)?;
+    let mut line = take_line(memory, held)?;
     let mut more = false;
     'images: while size.wants(images.len(), more) {
         let wanted = position + images.len() as u64 + 1;
-        match next_in_step(alloc, &mut line, source, wanted)? {
+        match next_in_step(memory, &mut line, source, wanted)? {
             Some(next) => {
                 more = next.more;
-                push_image(images, next.image)?;
+                push_image(memory, images, next.image)?;
             }
             None => {
                 *held = Some(line);
@@ -90,40 +92,41 @@ pub(crate) fn next_images<S: Source>(
 }
 
 /// The line whose part was kept, or a new one.
-pub(crate) fn take_line(
-    alloc: Global,
+pub(crate) fn take_line<M: ReaderMemory>(
+    memory: &M,
     held: &mut Option<LineBuffer>,
 ) -> Result<LineBuffer, StreamFault>
     requires { IfSome held.old IsPart }
     ensures part { IfOk result IsPart }
     ensures front { IfOk result (λ line. line.bytes ≡ part_of held.old) }
     ensures memory { IfErr result (λ fault. fault ≡ StreamFault.Memory) }
+    ensures gives_up { OnErr result M.may_give_up }
     ensures taken { held.new ≡ None }
 {
     match held.take() {
         Some(line) => Ok(line),
-        None => Ok(new_line(alloc)?),
+        None => Ok(new_line(memory)?),
     }
 }
 
-fn new_line(alloc: Global) -> Result<LineBuffer, NoMemory>
-    ensures { IfOk result (λ line. line ≡ so_far []) }
-{
-    Ok(LineBuffer::new(alloc)?)
-}
-
 /// Adds an image. An error leaves the images as they were.
-pub(crate) fn push_image(images: &mut Vec<Image>, image: Image) -> Result<(), NoMemory>
+pub(crate) fn push_image<M: ReaderMemory>(
+    memory: &M,
+    images: &mut Vec<Image>,
+    image: Image,
+) -> Result<(), NoMemory>
     ensures ok { OnOk result (images.new.items ≡ images.old.items ++ image ∷ []) }
     ensures err { OnErr result (images.new.items ≡ images.old.items) }
+    ensures gives_up { OnErr result M.may_give_up }
 {
-    images.push(image)?;
+    reserve_one(memory, images)?;
+    images.push_reserved(image);
     Ok(())
 }
 
 // The next message, which must have the position `wanted`. None where no whole line is left.
-fn next_in_step<S: Source>(
-    alloc: Global,
+fn next_in_step<S: Source, M: ReaderMemory>(
+    memory: &M,
     line: &mut LineBuffer,
     source: &mut S,
     wanted: u64,
@@ -140,9 +143,10 @@ fn next_in_step<S: Source>(
     ensures part { OnOk result (IsPart line.new) }
     ensures position { IfOk result (λ found. IsSome found → wanted ≤ LAST_POSITION) }
     ensures read { IsErrOf result StreamFault.Read → S.may_fail }
+    ensures gives_up { IsErrOf result StreamFault.Memory → M.may_give_up }
     ensures not_failed { IsErrOf result StreamFault.Failed → ⊥ }
 {
-    let Some(next) = next_message(alloc, line, source, wanted)? else {
+    let Some(next) = next_message(memory, line, source, wanted)? else {
         return Ok(None);
     };
     check_step(wanted, next.at)?;
@@ -163,8 +167,8 @@ pub(crate) fn check_step(wanted: u64, at: u64) -> Result<(), StreamFault>
 
 /// The next message, of any position, or why there is none where that of `wanted` is due. None where no whole line is
 /// left.
-pub(crate) fn next_message<S: Source>(
-    alloc: Global,
+pub(crate) fn next_message<S: Source, M: ReaderMemory>(
+    memory: &M,
     line: &mut LineBuffer,
     source: &mut S,
     wanted: u64,
@@ -181,14 +185,40 @@ pub(crate) fn next_message<S: Source>(
     ensures part { OnOk result (IsPart line.new) }
     ensures position { IfOk result (λ found. IfSome found (λ message. IsTrue (is_position message.at))) }
     ensures read { IsErrOf result StreamFault.Read → S.may_fail }
+    ensures gives_up { IsErrOf result StreamFault.Memory → M.may_give_up }
     ensures not_failed { IsErrOf result StreamFault.Failed → ⊥ }
 {
     let Some(more) = whole_line(read_bounded_line(line, source))? else {
         return Ok(None);
     };
-    let (at, image) = message_of_line(alloc, line.bytes(), wanted)?;
+    let (at, image) = message_in_memory(memory, line.bytes(), wanted)?;
     line.start();
     Ok(Some(NextMessage { at, image, more }))
+}
+
+// The message of a line, as `message_of_line` reads it. Where memory runs out, it is read again.
+fn message_in_memory<M: ReaderMemory>(
+    memory: &M,
+    line: &[u8],
+    wanted: u64,
+) -> Result<(u64, Image), StreamFault>
+    ensures ok { IfOk result (λ message. IsMessageLine line.now message) }
+    ensures err { IfErr result (λ fault. Refuses wanted line.now fault) }
+    ensures any_step { IfErr result (λ fault. (named got : ℕ) → fault ≢ StreamFault.OutOfStep named got) }
+    ensures gives_up { IsErrOf result StreamFault.Memory → M.may_give_up }
+{
+    for _ in 0..u64::MAX {
+        match message_of_line(memory.alloc(), line, wanted) {
+            Err(StreamFault::Memory) => {
+                if !memory.wait() {
+                    return Err(StreamFault::Memory);
+                }
+            }
+            read => return read,
+        }
+    }
+    memory.give_up();
+    Err(StreamFault::Memory)
 }
 
 /// Whether a further newline was seen after the line, if a whole one was read.

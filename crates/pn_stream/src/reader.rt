@@ -4,7 +4,7 @@ ghost use Rattle.std.specs.Prelude.{◌≡◌, ◌≢◌, ◌+◌, ◌≤◌, pr
 ghost use Rattle.pn_join.specs.Prelude.{is_position};
 ghost use Rattle.pn_record.specs.Prelude.{max_line_bytes};
 ghost use Rattle.pn_stream.specs.Batches.{Batch};
-ghost use Rattle.pn_stream.specs.Calls.{IsCall};
+ghost use Rattle.pn_stream.specs.Calls.{GivesUp, IsCall};
 ghost use Rattle.pn_stream.specs.Positions.{are_positions};
 ghost use Rattle.pn_stream.specs.Resuming.{IsResumed, StandsFirst};
 ghost use Rattle.pn_stream.specs.Streams.{NoLine, IsLeft};
@@ -12,6 +12,7 @@ ghost use Rattle.pn_stream.specs.Streams.{NoLine, IsLeft};
 use crate::delivery::Delivery;
 use crate::fault::{ResumeFault, StreamFault};
 use crate::first::first_message;
+use crate::memory::{NoWait, ReaderMemory};
 use crate::next::{BatchSize, next_images};
 use pn_join::{LAST_POSITION, StreamName};
 use pn_line::{LineBuffer, Source};
@@ -94,10 +95,11 @@ impl<S: Source + Drop> StreamReader<S> {
         requires few { max ≤ MAX_MESSAGES }
         ensures { IsCall S.left S.may_fail max max self.old result self.new }
     {
-        self.next_of_size(BatchSize {
+        let size = BatchSize {
             least: max,
             most: max,
-        })
+        };
+        self.next_of_size(&NoWait::new(self.alloc), size)
     }
 
     /// The images of the next messages that already arrived, at most `max`, from 1 to 1,000. It waits only for the
@@ -109,23 +111,26 @@ impl<S: Source + Drop> StreamReader<S> {
         requires few { max ≤ MAX_MESSAGES }
         ensures { IsCall S.left S.may_fail 1 max self.old result self.new }
     {
-        self.next_of_size(BatchSize {
+        let size = BatchSize {
             least: 1,
             most: max,
-        })
+        };
+        self.next_of_size(&NoWait::new(self.alloc), size)
     }
 
     /// The first message of a writer, for which it waits. It may have any position from 1 to one past `position`, and
     /// the reader goes on after it. Without a whole line there is none, and the part of one is kept.
     ///
-    /// Faults come as from `next_batch`, but that a message of a greater position is a gap.
-    pub fn resume(&mut self) -> Result<Option<Delivery>, ResumeFault>
-        ensures { IsResumed S.left S.may_fail self.old result self.new }
+    /// Faults come as from `next_batch`, but that a message of a greater position is a gap. A message that memory runs out
+    /// for is read again once it was waited for.
+    pub fn resume<M: ReaderMemory>(&mut self, memory: &M) -> Result<Option<Delivery>, ResumeFault>
+        ensures resumed { IsResumed S.left S.may_fail self.old result self.new }
+        ensures gives_up { self.old.fault ≡ None → IsErrOf result (ResumeFault.Stream StreamFault.Memory) → M.may_give_up }
     {
         if let Some(fault) = self.waiting_fault() {
             return Err(ResumeFault::Stream(self.fail(fault)));
         }
-        match self.take_first() {
+        match self.take_first(memory) {
             Ok(Some((at, images))) => Ok(Some(self.begin(at, images))),
             Ok(None) => Ok(None),
             Err(fault) => Err(self.fail_first(fault)),
@@ -141,7 +146,10 @@ impl<S: Source + Drop> StreamReader<S> {
     }
 
     // The position and the one image of the first message, if a whole line is there.
-    fn take_first(&mut self) -> Result<Option<(u64, Vec<Image>)>, ResumeFault>
+    fn take_first<M: ReaderMemory>(
+        &mut self,
+        memory: &M,
+    ) -> Result<Option<(u64, Vec<Image>)>, ResumeFault>
         ensures first { IfOk result (λ found. IfSome found (λ first. IfSome (S.left self.old.source) (λ text.
             Batch 1 1 (pred first.0) (self.old.part ++ text) first.1.items None self.new.part (S.left self.new.source)))) }
         ensures none { IfOk result (λ found. found ≡ None → IfSome (S.left self.old.source) (λ text.
@@ -152,13 +160,14 @@ impl<S: Source + Drop> StreamReader<S> {
         ensures stands { IfErr result (λ fault. IfSome (S.left self.old.source) (λ text.
             StandsFirst (self.old.position + 1) (self.old.part ++ text) fault)) }
         ensures read { IsErrOf result (ResumeFault.Stream StreamFault.Read) → S.may_fail }
+        ensures gives_up { IsErrOf result (ResumeFault.Stream StreamFault.Memory) → M.may_give_up }
         ensures not_failed { IsErrOf result (ResumeFault.Stream StreamFault.Failed) → ⊥ }
         ensures name { self.new.name ≡ self.old.name }
         ensures position { self.new.position ≡ self.old.position }
         ensures fault { self.new.fault ≡ self.old.fault }
         ensures part { length self.new.part ≤ max_line_bytes }
     {
-        first_message(self.alloc, &mut self.line, &mut self.source, self.position)
+        first_message(memory, &mut self.line, &mut self.source, self.position)
     }
 
     // A delivery of the image at the position `at`, after which the reader goes on.
@@ -181,15 +190,20 @@ impl<S: Source + Drop> StreamReader<S> {
     }
 
     // The images of the next messages, as many as the size says.
-    fn next_of_size(&mut self, size: BatchSize) -> Result<Delivery, StreamFault>
+    fn next_of_size<M: ReaderMemory>(
+        &mut self,
+        memory: &M,
+        size: BatchSize,
+    ) -> Result<Delivery, StreamFault>
         requires some { 1 ≤ size.least }
         requires few { size.least ≤ size.most }
-        ensures { IsCall S.left S.may_fail size.least size.most self.old result self.new }
+        ensures call { IsCall S.left S.may_fail size.least size.most self.old result self.new }
+        ensures gives_up { GivesUp M.may_give_up self.old result self.new }
     {
         if let Some(fault) = self.waiting_fault() {
             return Err(self.fail(fault));
         }
-        let (images, fault) = self.take_next(size);
+        let (images, fault) = self.take_next(memory, size);
         self.settle(fault, images.is_empty())?;
         Ok(self.deliver(images))
     }
@@ -212,7 +226,11 @@ impl<S: Source + Drop> StreamReader<S> {
     }
 
     // The images of the next messages, and the fault that follows them, if there is one.
-    fn take_next(&mut self, size: BatchSize) -> (Vec<Image>, Option<StreamFault>)
+    fn take_next<M: ReaderMemory>(
+        &mut self,
+        memory: &M,
+        size: BatchSize,
+    ) -> (Vec<Image>, Option<StreamFault>)
         requires some { 1 ≤ size.least }
         requires few { size.least ≤ size.most }
         ensures within { length result.0.items ≤ size.most }
@@ -220,15 +238,16 @@ impl<S: Source + Drop> StreamReader<S> {
         ensures run { IfSome (S.left self.old.source) (λ text.
             Batch size.least size.most self.old.position (self.old.part ++ text) result.0.items result.1 self.new.part (S.left self.new.source)) }
         ensures read { result.1 ≡ Some StreamFault.Read → S.may_fail }
+        ensures gives_up { result.1 ≡ Some StreamFault.Memory → M.may_give_up }
         ensures not_failed { result.1 ≢ Some StreamFault.Failed }
         ensures name { self.new.name ≡ self.old.name }
         ensures position { self.new.position ≡ self.old.position }
         ensures fault { self.new.fault ≡ self.old.fault }
         ensures part { length self.new.part ≤ max_line_bytes }
     {
-        let mut images = Vec::new(self.alloc);
+        let mut images = Vec::new(memory.alloc());
         let ended = next_images(
-            self.alloc,
+            memory,
             &mut self.line,
             &mut self.source,
             self.position,

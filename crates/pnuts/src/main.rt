@@ -19,7 +19,7 @@ use crate::sessions::serve_streams;
 use crate::staying::{answer_on, fail_to_stay, start_server};
 use pn_join::Name;
 use pn_serve::{Plan, PlanFault, RunFault, Service, Settings, StreamPath, plan, run_to_exit};
-use pn_stay::{MessagePrinter, SocketAcceptor, message_prefix, tell_progress};
+use pn_stay::{MessagePrinter, Shortages, SocketAcceptor, message_prefix, tell_progress};
 use std::env::Env;
 use std::fs::File;
 use std::io::BufReader;
@@ -64,7 +64,7 @@ fn main(rt: HostRuntime) -> ExitCode {
         sockets,
         ..
     } = notes;
-    let Ok(shortage) = Arc::try_clone(&counters.shortage) else {
+    let Ok(shortages) = Shortages::of(&counters) else {
         return close_copies(&rt, opened, refuse_start(&rt, &service, &sockets));
     };
     if service.is_progress_told {
@@ -75,7 +75,7 @@ fn main(rt: HostRuntime) -> ExitCode {
     }
     if let Some(messages) = messages {
         let prefix = message_prefix(service.is_progress_told);
-        let Ok(printer) = MessagePrinter::new(rt.alloc(), messages, shortage, prefix) else {
+        let Ok(printer) = MessagePrinter::new(rt.alloc(), messages, shortages, prefix) else {
             return close_copies(&rt, opened, refuse_start(&rt, &service, &sockets));
         };
         if thread::spawn(&rt, move || printer.run(&rt)).is_err() {

@@ -166,6 +166,7 @@ where
     let watchers = Watchers {
         rounds,
         shortage: None,
+        waiting: None,
         controls: None,
     };
     read_streams(rt, alloc, live, 1, streams, &watchers).is_ok()

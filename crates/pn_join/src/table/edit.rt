@@ -1,7 +1,7 @@
 //! Puts many contents into a list of leaves at once. All leaves are made ready first, so that nothing fails
 //! halfway.
 
-ghost use Rattle.std.specs.Prelude.{◌≡◌, ◌+◌, ◌^◌, ◌<◌, ◌≤◌, [], length, get_or, vec_capacity, IsTrue, IfOk, OnOk, OnErr};
+ghost use Rattle.std.specs.Prelude.{◌≡◌, ◌+◌, ◌^◌, ◌<◌, ◌≤◌, [], length, get_or, vec_capacity, IsTrue, IfOk, OnOk};
 ghost use Rattle.std.specs.List.{AllByRecursion};
 ghost use Rattle.std.specs.FinMap.{put, is_sorted};
 ghost use Rattle.pn_join.specs.Edits.{put_of, puts_in, put_all, changes_in, AreFew, FitLeaves, GoUp, IsReady, IsReadyAt};
@@ -83,31 +83,8 @@ fn entries_at<K, C>(leaves: &[Leaf<K, C>], index: usize) -> &[(K, C)]
     }
 }
 
-/// Puts all values into their leaves, which they fit. An error leaves all entries as they were.
-pub fn put_together<K: Ord + Dup, C: Dup>(
-    alloc: Global,
-    leaves: &mut Vec<Leaf<K, C>>,
-    entry_counts: &mut Vec<usize>,
-    edits: Vec<Edit<K, C>>,
-) -> Result<(), NoMemory>
-    requires few { AreFew (leaves_of leaves.old.items) }
-    requires fit { FitLeaves K.cmp (leaves_of leaves.old.items) edits.items }
-    requires rising { AllByRecursion (λ leaf. IsTrue (is_sorted K.cmp leaf)) (leaves_of leaves.old.items) }
-    requires entry_counts { AreEntryCounts (leaves_of leaves.old.items) entry_counts.old.items }
-    requires count { length (all_entries (leaves_of leaves.old.items)) + length edits.items < 2 ^ 64 }
-    ensures ok { OnOk result (leaves_of leaves.new.items ≡ put_all K.cmp (leaves_of leaves.old.items) edits.items) }
-    ensures err { OnErr result (leaves_of leaves.new.items ≡ leaves_of leaves.old.items) }
-    ensures entry_counts { AreEntryCounts (leaves_of leaves.new.items) entry_counts.new.items }
-{
-    let indices = leaf_indices(alloc, &edits)?;
-    open_leaves(alloc, leaves, &edits)?;
-    put_changes(leaves, entry_counts, edits);
-    close_leaves(alloc, leaves, &indices);
-    Ok(())
-}
-
 /// Makes the leaves of the edits ready to change. Entries stay the same, also on an error.
-fn open_leaves<K: Dup, C: Dup>(
+pub fn open_leaves<K: Dup, C: Dup>(
     alloc: Global,
     leaves: &mut Vec<Leaf<K, C>>,
     edits: &[Edit<K, C>],
@@ -124,7 +101,7 @@ fn open_leaves<K: Dup, C: Dup>(
 }
 
 /// Puts all values into leaves that are ready, and adds up the entry counts.
-fn put_changes<K: Ord + Dup, C: Dup>(
+pub fn put_changes<K: Ord + Dup, C: Dup>(
     leaves: &mut Vec<Leaf<K, C>>,
     entry_counts: &mut Vec<usize>,
     edits: Vec<Edit<K, C>>,
@@ -186,7 +163,7 @@ fn put_entry<K: Ord + Dup, C: Dup>(entries: &mut Vec<(K, C)>, key: K, value: C) 
 }
 
 /// The leaf indices of the edits.
-fn leaf_indices<K, C>(alloc: Global, edits: &[Edit<K, C>]) -> Result<Vec<usize>, NoMemory> {
+pub fn leaf_indices<K, C>(alloc: Global, edits: &[Edit<K, C>]) -> Result<Vec<usize>, NoMemory> {
     let mut indices = Vec::with_capacity(alloc, edits.len())?;
     for edit in edits {
         indices.push(edit.leaf)?;
@@ -195,7 +172,7 @@ fn leaf_indices<K, C>(alloc: Global, edits: &[Edit<K, C>]) -> Result<Vec<usize>,
 }
 
 /// Makes these leaves shareable again.
-fn close_leaves<K: Dup, C: Dup>(alloc: Global, leaves: &mut Vec<Leaf<K, C>>, indices: &[usize])
+pub fn close_leaves<K: Dup, C: Dup>(alloc: Global, leaves: &mut Vec<Leaf<K, C>>, indices: &[usize])
     ensures { leaves_of leaves.new.items ≡ leaves_of leaves.old.items }
 {
     for index in indices {

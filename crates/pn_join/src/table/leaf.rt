@@ -1,6 +1,6 @@
 //! Leaves: short lists of entries that copies of a table share.
 
-ghost use Rattle.std.specs.Prelude.{◌≡◌, ◌≤◌, [], length, IfOk, OnOk, OnErr};
+ghost use Rattle.std.specs.Prelude.{◌≡◌, ◌≤◌, length, IfOk, OnOk, OnErr};
 ghost use Rattle.pn_join.specs.Edits.{IsReady};
 ghost use Rattle.pn_join.specs.LeafEntries.{leaf_entries, leaves_of};
 ghost use Rattle.pn_join.specs.Leaves.{begins_below, ends_below};

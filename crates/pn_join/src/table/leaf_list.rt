@@ -1,43 +1,24 @@
-//! Lists of leaves: the entries of a table, where a search looks into one leaf.
+//! Lists of leaves: the entries of a table, one leaf after another, in blocks.
 
-ghost use Rattle.std.specs.Prelude.{◌≡◌, ℕ, ◌+◌, ◌^◌, ◌<◌, ◌≤◌, leb, [], ◌∷◌, ◌++◌, length, vec_len, vec_capacity, take, drop, get_or, option_map, slice_get, IfOk, IfSome, OnOk, OnErr};
+ghost use Rattle.std.specs.Prelude.{◌≡◌, ◌≤◌, false, [], ◌++◌, length, drop, option_map, slice_get, slice_range, IsTrue, IfOk, IfSome, OnOk, OnErr};
 ghost use Rattle.std.specs.FinMap.{find};
-ghost use Rattle.std.specs.List.{prefix_len};
 ghost use Rattle.std.specs.Option.{option_copied};
-ghost use Rattle.pn_join.specs.LeafEntries.{leaf_entries, leaves_of};
-ghost use Rattle.pn_join.specs.Leaves.{all_entries, counts_after, leaf_for, IsLeaf, IsLeafList};
 ghost use Rattle.pn_join.specs.Indices.{index_of};
+ghost use Rattle.pn_join.specs.Leaves.{all_entries, IsLeafList};
 ghost use Rattle.pn_join.specs.PutInLeaves.{IsPutOf, ChangesOneLeaf};
-ghost use Rattle.pn_join.specs.LeafListChanges.{with_back};
-ghost use Rattle.pn_join.specs.Tables.{IsTable};
+ghost use Rattle.pn_join.specs.TableChanges.{AreChanges};
+ghost use Rattle.pn_join.specs.Tables.{contents_at, key_by_key, IsTable};
 
-mod appending;
-mod bulk_join;
-mod search;
-mod slices;
-mod splits;
-
+use crate::table::block_list::{BlockList, Told};
 use crate::table::entries::Entries;
-use crate::table::entry_counts::{add_to_counts, copy_counts};
-use crate::table::leaf::{Leaf, share_leaves};
-use crate::table::leaf_join::{binary_search, join_in_leaf};
-use crate::table::leaf_list::search::{copy_keys, insert_last_key};
 use crate::{Dup, Join, NoMemory};
 use std::alloc::Global;
 use std::marker::Model;
 
-/// The capacity that a table's first leaf begins with, in entries.
-const FIRST_CAPACITY: usize = 4;
-
 /// The leaves of a table, in key order: 1 to 64 entries each, whose keys rise from leaf to leaf.
 #[derive(Drop)]
 pub struct LeafList<K: Ord + Dup, C: Join> {
-    leaves: Vec<Leaf<K, C>>,
-    // How many entries there are up to the end of each leaf.
-    entry_counts: Vec<usize>,
-    // The last keys of all leaves but the last, where a search looks first. They are hints: a wrong or missing
-    // one only costs time.
-    last_keys: Vec<K>,
+    blocks: BlockList<K, C>,
 }
 
 impl<K: Ord + Dup, C: Join> Model for LeafList<K, C> {
@@ -45,13 +26,9 @@ impl<K: Ord + Dup, C: Join> Model for LeafList<K, C> {
 
     ghost Value = { List (List (K × C)) };
 
-    ghost use Rattle.pn_join.specs.Leaves.{IsLeafList, AreEntryCounts};
-    ghost use Rattle.pn_join.specs.LeafEntries.{leaves_of};
+    ghost use Rattle.pn_join.specs.Leaves.{all_entries};
 
-    ghost view = { λ leaf_list. leaves_of leaf_list.leaves.items };
-
-    ghost invariant = { λ leaf_list. IsLeafList K.cmp C.valid (leaves_of leaf_list.leaves.items)
-        × AreEntryCounts (leaves_of leaf_list.leaves.items) leaf_list.entry_counts.items };
+    ghost view = { λ leaf_list. all_entries leaf_list.blocks };
 }
 
 impl<K: Ord + Dup, C: Join> LeafList<K, C> {
@@ -60,15 +37,13 @@ impl<K: Ord + Dup, C: Join> LeafList<K, C> {
         ensures { result ≡ [] }
     {
         LeafList {
-            leaves: Vec::new(alloc),
-            entry_counts: Vec::new(alloc),
-            last_keys: Vec::new(alloc),
+            blocks: BlockList::new(alloc),
         }
     }
 
     /// Where the leaves take memory.
     pub(crate) fn alloc(&self) -> Global {
-        *self.leaves.allocator()
+        self.blocks.alloc()
     }
 
     /// How many entries there are.
@@ -76,7 +51,7 @@ impl<K: Ord + Dup, C: Join> LeafList<K, C> {
         ensures count { result ≡ length (all_entries self.now) }
         ensures leaf_list { IsLeafList K.cmp C.valid self.now }
     {
-        self.start(self.leaves.len())
+        self.blocks.len()
     }
 
     /// How many leaves there are.
@@ -84,14 +59,14 @@ impl<K: Ord + Dup, C: Join> LeafList<K, C> {
         ensures count { result ≡ length self.now }
         ensures leaf_list { IsLeafList K.cmp C.valid self.now }
     {
-        self.leaves.len()
+        self.blocks.count()
     }
 
     /// Recalls for the prover that these are the leaves of a table.
     pub(crate) fn recall_leaf_list(&self)
         ensures { IsLeafList K.cmp C.valid self.now }
     {
-        let _ = self.leaves.len();
+        self.blocks.recall_blocks();
     }
 
     /// The entries of the leaf at an index. `None` past the last.
@@ -99,42 +74,15 @@ impl<K: Ord + Dup, C: Join> LeafList<K, C> {
         ensures leaf { option_map (λ leaf. leaf.now) result ≡ slice_get self.now index }
         ensures leaf_list { IsLeafList K.cmp C.valid self.now }
     {
-        let leaf = self.leaves.get(index)?;
-        Some(leaf.entries())
+        self.blocks.leaf(index)
     }
 
-    /// The entries of the leaf at an index, none past the last.
-    fn entries_of(&self, index: usize) -> &[(K, C)]
-        ensures entries { result.now ≡ get_or self.now index [] }
-        ensures leaf_list { IsLeafList K.cmp C.valid self.now }
+    /// The content at a key.
+    pub(crate) fn get(&self, key: &K) -> Option<&C>
+        ensures found { option_copied result ≡ find K.cmp key.now (all_entries self.now) }
+        ensures is_valid { IfSome result (λ content. C.valid content.now) }
     {
-        match self.leaves.get(index) {
-            Some(leaf) => leaf.entries(),
-            None => &[],
-        }
-    }
-
-    /// How many entries come before a leaf.
-    fn start(&self, index: usize) -> usize
-        requires { index ≤ length self.now }
-        ensures start { result ≡ length (all_entries (take index self.now)) }
-        ensures fits { length (all_entries self.now) < 2 ^ 64 }
-        ensures leaf_list { IsLeafList K.cmp C.valid self.now }
-    {
-        if index == 0 {
-            0
-        } else {
-            self.entry_counts[index - 1]
-        }
-    }
-
-    /// The leaf with the entry at an index among all entries.
-    fn leaf_at(&self, index: usize) -> usize
-        ensures leaf { result ≡ prefix_len (λ end. leb end index) (counts_after 0 self.now) }
-        ensures within { result ≤ length self.now }
-        ensures leaf_list { IsLeafList K.cmp C.valid self.now }
-    {
-        self.entry_counts.partition_point(|end| *end <= index)
+        self.blocks.get(key)
     }
 
     /// The index of a key among all entries.
@@ -142,46 +90,7 @@ impl<K: Ord + Dup, C: Join> LeafList<K, C> {
         ensures index { result ≡ index_of K.cmp key.now (all_entries self.now) }
         ensures leaf_list { IsLeafList K.cmp C.valid self.now }
     {
-        let leaf = self.leaf_for(key);
-        let start = self.start(leaf);
-        match binary_search(self.entries_of(leaf), key) {
-            Ok(index) => Ok(start + index),
-            Err(index) => Err(start + index),
-        }
-    }
-
-    /// All entries.
-    pub(crate) fn iter(&self) -> Entries<'_, K, C>
-        ensures all { result ≡ all_entries self.now }
-        ensures leaf_list { IsLeafList K.cmp C.valid self.now }
-    {
-        Entries::new(&[], &self.leaves)
-    }
-
-    /// The entries from an index on.
-    pub(crate) fn iter_from(&self, index: usize) -> Entries<'_, K, C>
-        ensures rest { result ≡ drop index (all_entries self.now) }
-        ensures leaf_list { IsLeafList K.cmp C.valid self.now }
-    {
-        let leaf = self.leaf_at(index);
-        let first = self.entries_of(leaf);
-        let before = self.start(leaf);
-        Entries::new(
-            from_on(first, index.saturating_sub(before)),
-            from_on(from_on(&self.leaves, leaf), 1),
-        )
-    }
-
-    /// An equal list. Leaves are shared where possible.
-    pub(crate) fn share(&self) -> Result<Self, NoMemory>
-        ensures { IfOk result (λ copy. copy ≡ self.now) }
-    {
-        let alloc = self.alloc();
-        Ok(LeafList {
-            leaves: share_leaves(alloc, &self.leaves)?,
-            entry_counts: copy_counts(alloc, &self.entry_counts)?,
-            last_keys: copy_keys(alloc, &self.last_keys)?,
-        })
+        self.blocks.binary_search(key)
     }
 
     /// The entry at an index among all entries.
@@ -189,28 +98,32 @@ impl<K: Ord + Dup, C: Join> LeafList<K, C> {
         ensures entry { option_map (λ e. e.now) result ≡ slice_get (all_entries self.now) index }
         ensures leaf_list { IsLeafList K.cmp C.valid self.now }
     {
-        let leaf = self.leaf_at(index);
-        entry_of(
-            self.entries_of(leaf),
-            index.saturating_sub(self.start(leaf)),
-        )
+        self.blocks.entry_at(index)
     }
 
-    /// Adds a leaf after all others. An error leaves the list as it was.
-    fn push(&mut self, leaf: Leaf<K, C>) -> Result<(), NoMemory>
-        requires table { IsTable K.cmp C.valid (all_entries self.old ++ leaf_entries leaf) }
-        requires size { IsLeaf (leaf_entries leaf) }
-        ensures ok { OnOk result (self.new ≡ self.old ++ leaf_entries leaf ∷ []) }
-        ensures err { OnErr result (self.new ≡ self.old) }
+    /// All entries.
+    pub(crate) fn iter(&self) -> Entries<'_, K, C>
+        ensures all { result ≡ all_entries self.now }
+        ensures leaf_list { IsLeafList K.cmp C.valid self.now }
     {
-        let Some(end) = self.len().checked_add(leaf.entries().len()) else {
-            return Err(NoMemory);
-        };
-        self.leaves.reserve(1)?;
-        self.entry_counts.reserve(1)?;
-        self.leaves.push_reserved(leaf);
-        self.entry_counts.push_reserved(end);
-        Ok(())
+        self.blocks.iter()
+    }
+
+    /// The entries from an index on.
+    pub(crate) fn iter_from(&self, index: usize) -> Entries<'_, K, C>
+        ensures rest { result ≡ drop index (all_entries self.now) }
+        ensures leaf_list { IsLeafList K.cmp C.valid self.now }
+    {
+        self.blocks.iter_from(index)
+    }
+
+    /// An equal list. Blocks are shared where possible.
+    pub(crate) fn share(&self) -> Result<Self, NoMemory>
+        ensures { IfOk result (λ copy. copy ≡ self.now) }
+    {
+        Ok(LeafList {
+            blocks: self.blocks.share()?,
+        })
     }
 
     /// Joins a content into that at the key. One leaf is changed or cut in two, or the first is made; all others
@@ -223,78 +136,45 @@ impl<K: Ord + Dup, C: Join> LeafList<K, C> {
         ensures err { OnErr result (self.new ≡ self.old) }
         ensures leaf_list { IsLeafList K.cmp C.valid self.old × IsLeafList K.cmp C.valid self.new }
     {
-        if self.leaves.is_empty() {
-            return self.push_first(key, content);
-        }
-        self.join_in_list(key, content)
+        self.blocks.join_entry(key, content)
     }
 
-    fn push_first(&mut self, key: K, content: C) -> Result<(), NoMemory>
-        requires valid { C.valid content }
-        requires none { self.old ≡ [] }
-        ensures ok { OnOk result (self.new ≡ ((key, content) ∷ []) ∷ []) }
-        ensures err { OnErr result (self.new ≡ self.old) }
+    /// Adds the other's entries from index `from` to before index `to` after all others.
+    pub(crate) fn push_slice(
+        &mut self,
+        other: &Self,
+        from: usize,
+        to: usize,
+    ) -> Result<(), NoMemory>
+        requires order { from ≤ to }
+        requires within { to ≤ length (all_entries other.now) }
+        requires table { IsTable K.cmp C.valid (all_entries self.old ++ slice_range (all_entries other.now) from to) }
+        ensures { OnOk result (all_entries self.new ≡ all_entries self.old ++ slice_range (all_entries other.now) from to) }
+    {
+        self.blocks.push_slice(&other.blocks, from, to)
+    }
+
+    /// Joins all entries of the other and returns true. If no more than one split of each full leaf makes room for
+    /// them, no entry changes, and it returns false.
+    pub(crate) fn join_all(&mut self, other: &Self) -> Result<bool, NoMemory>
+        ensures done { IfOk result (λ done. IsTrue done → contents_at K.cmp C.meaning (all_entries self.new)
+            ≡ key_by_key C.joined (contents_at K.cmp C.meaning (all_entries self.old)) (contents_at K.cmp C.meaning (all_entries other.now))) }
+        ensures undone { IfOk result (λ done. done ≡ false → all_entries self.new ≡ all_entries self.old) }
+        ensures err { OnErr result (all_entries self.new ≡ all_entries self.old) }
         ensures leaf_list { IsLeafList K.cmp C.valid self.new }
     {
-        let mut entries = Vec::with_capacity(self.alloc(), FIRST_CAPACITY)?;
-        entries.push_reserved((key, content));
-        self.push(Leaf::Own(entries))
+        self.blocks.join_all(&other.blocks)
     }
 
-    fn join_in_list(&mut self, key: K, content: C) -> Result<(), NoMemory>
-        requires valid { C.valid content }
-        requires some { 0 < length self.old }
-        ensures ok { OnOk result (IsPutOf K.cmp C.meaning C.joined C.valid key content
-            (all_entries self.old) (all_entries self.new)) }
-        ensures one { OnOk result (ChangesOneLeaf self.old self.new) }
-        ensures err { OnErr result (self.new ≡ self.old) }
+    /// Does the same, and returns what the other's entries change.
+    pub(crate) fn join_and_tell(&mut self, other: &Self) -> Result<Told<K, C>, NoMemory>
+        ensures changes { IfOk result (λ told. AreChanges K.cmp C.meaning C.joined C.valid (all_entries self.old) (all_entries other.now) told.changes.items) }
+        ensures done { IfOk result (λ told. IsTrue told.is_done → contents_at K.cmp C.meaning (all_entries self.new)
+            ≡ key_by_key C.joined (contents_at K.cmp C.meaning (all_entries self.old)) (contents_at K.cmp C.meaning (all_entries other.now))) }
+        ensures undone { IfOk result (λ told. told.is_done ≡ false → all_entries self.new ≡ all_entries self.old) }
+        ensures err { OnErr result (all_entries self.new ≡ all_entries self.old) }
         ensures leaf_list { IsLeafList K.cmp C.valid self.new }
     {
-        let alloc = self.alloc();
-        let index = self.leaf_for(&key);
-        let start = self.start(index);
-        let before = self.entries_of(index).len();
-        if self.len() == usize::MAX {
-            return Err(NoMemory);
-        }
-        self.leaves.reserve(1)?;
-        self.entry_counts.reserve(1)?;
-        let leaf = &mut self.leaves[index];
-        let back = join_in_leaf(alloc, leaf, key, content)?;
-        let front = leaf.entries().len();
-        let more = front + back.len() - before;
-        add_to_counts(&mut self.entry_counts, index, more, start + front, &back);
-        add_back(alloc, &mut self.leaves, index, back);
-        insert_last_key(&mut self.last_keys, &self.leaves, index);
-        Ok(())
+        self.blocks.join_and_tell(&other.blocks)
     }
-}
-
-/// The items from an index on.
-fn from_on<T>(items: &[T], index: usize) -> &[T]
-    ensures { result.now ≡ drop index items.now }
-{
-    items.get(index..).unwrap_or_default()
-}
-
-/// Adds the entries that were split off a leaf as a leaf after it.
-fn add_back<K: Dup, C: Dup>(
-    alloc: Global,
-    leaves: &mut Vec<Leaf<K, C>>,
-    index: usize,
-    back: Vec<(K, C)>,
-)
-    requires within { index < vec_len leaves.old }
-    requires capacity { vec_len leaves.old < vec_capacity leaves.old }
-    ensures { leaves_of leaves.new.items ≡ with_back index back.items (leaves_of leaves.old.items) }
-{
-    if !back.is_empty() {
-        leaves.insert(index + 1, Leaf::seal(alloc, back)).unwrap();
-    }
-}
-
-fn entry_of<T>(entries: &[T], index: usize) -> Option<&T>
-    ensures { option_map (λ e. e.now) result ≡ slice_get entries.now index }
-{
-    entries.get(index)
 }

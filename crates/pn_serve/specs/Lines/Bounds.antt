@@ -50,10 +50,21 @@ records_at (Ending ended) = 0
 abbrev pub LooksAtMost : ℕ → LineLoopValue → LineLoopValue → Type 0
 LooksAtMost most old new = records_at old.state.stage ≤ records_at new.state.stage + most
 
--- what a step did is counted: a line, the bytes of a line or of replies, and records that were looked at
+-- the line that is read and the counts are as they were
+pub record KeepsLine (old new : LineLoopValue) : Type 0 where
+  pub line : new.line ≡ old.line
+  pub counts : new.state.counts ≡ old.state.counts
+
+-- no line was answered, and no byte of a line or of replies was taken or made
+abbrev pub CountsNothing : LineLoopValue → LineLoopValue → Type 0
+CountsNothing old new = (new.state.counts.lines ≤ old.state.counts.lines) × (old.line.count + length new.replies ≤ new.line.count + length old.replies)
+
+-- what a step did is counted: a line, the bytes of a line or of replies, and records that were looked at; where it waits or ends it did nothing of that
 abbrev pub CountsUnits : LineLoopValue → LineLoopValue → Step → Type 0
 CountsUnits old new (Next units) = (new.state.counts.lines ≤ old.state.counts.lines + 1) × (old.line.count + length new.replies ≤ new.line.count + length old.replies + 1024 * (units + 1) + 65536)
-CountsUnits old new step = Unit {0}
+CountsUnits old new NoInput = CountsNothing old new
+CountsUnits old new NoRoom = CountsNothing old new
+CountsUnits old new (Ends ended) = CountsNothing old new
 
 -- how much is still to be written and made
 abbrev pub work_in : LineLoopValue → ℕ

@@ -1,11 +1,12 @@
 //! The line loop: a machine that takes what its input has at hand, answers it line by line, and writes as much as its output
 //! takes. It waits for neither.
 
-ghost use Rattle.std.specs.Prelude.{◌≡◌, ◌⊎◌, ◌+◌, ◌<◌, ◌≤◌, ℕ, List, [], Option, Some, true, false, ◌≢◌, IfOk, IfSome, IsFalse, IsTrue, OnSome};
+ghost use Rattle.std.specs.Prelude.{◌≡◌, ◌⊎◌, ◌+◌, ◌<◌, ◌≤◌, ℕ, List, [], length, Option, Some, true, false, ◌≢◌, IfOk, IfSome, IsFalse, IsTrue, OnSome};
 ghost use Rattle.std.specs.Io.KnownBytes.{IsAtEnd};
 ghost use Rattle.pn_line.specs.Prelude.{so_far};
 ghost use Rattle.pn_line.specs.declared.line_buffer.TheConstants.{ENDLESS};
 ghost use Rattle.pn_serve.specs.Lines.Bounds.{CountsUnits, Foresees, ForeseesStep, HandsOnAtMost, HandsOnStep, IsIdleAt, IsOutAs, IsSettled, ReadsOn, WorksOn};
+ghost use Rattle.pn_serve.specs.Lines.Made.{MakesAtMost, made_by, made_in};
 ghost use Rattle.pn_serve.specs.Lines.States.{Start, new_loop, waits_in};
 ghost use Rattle.pn_serve.specs.Lines.Stepping.{by, with_rest, Stands, StepsTo};
 ghost use Rattle.pn_serve.specs.Lines.Taking.{HasReply, Takes};
@@ -85,6 +86,7 @@ impl LineLoop {
         ensures out { IsOutAs self.old (W.is_handed_on output.old) → IsOutAs self.new (W.is_handed_on output.new) }
         ensures handed_on { HandsOnStep result (W.is_handed_on output.new) }
         ensures few { HandsOnAtMost REPLY_CAPACITY self.old self.new }
+        ensures written { MakesAtMost (made_by result) (W.contents output.old) (W.contents output.new) self.old.replies self.new.replies }
         ensures counted { CountsUnits self.old self.new result }
         ensures works { self.old.state.left ≢ [] → WorksOn self.old self.new result }
         ensures waits { self.old.state.more ≡ false → self.old.state.out ≡ false → input.new ≡ input.old }
@@ -107,8 +109,9 @@ impl LineLoop {
         }
     }
 
-    /// The input is at its end: a last part of a line is answered, and the loop ends once its replies are written.
-    pub fn end_input<M: LineHandler>(&mut self, machine: &mut M)
+    /// The input is at its end: a last part of a line is answered, and the loop ends once its replies are written. How many units
+    /// that took.
+    pub fn end_input<M: LineHandler>(&mut self, machine: &mut M) -> u32
         requires ready { M.ready }
         requires reading { self.old.state.stage ≡ Stage.Reading }
         requires idle { waits_in self.old ≡ [] }
@@ -117,13 +120,14 @@ impl LineLoop {
             → Stands (by M.moves M.makes M.ends M.goes M.goes_last) start left written machine.new self.new }
         ensures some { self.old.line.count ≢ 0 → Takes true (record self.old { line = so_far []; state = record self.old.state { last = true } }) self.new }
         ensures none { self.old.line.count ≡ 0 → (reply : Reply) × HasReply false (record self.old { line = so_far []; state = record self.old.state { last = true } }) reply self.new }
+        ensures makes { length self.new.replies ≤ length self.old.replies + made_in result }
         ensures knows { KnowsNoLess (M.reader machine.old) (M.reader machine.new) }
     {
         let is_line = self.has_part();
         self.state.set_last();
         let answer = machine.answer_end(self.alloc, &self.line);
         self.line.start();
-        let _ = self.take_answer(&*machine, answer, is_line);
+        self.take_answer(&*machine, answer, is_line)
     }
 
     /// The loop ends so, once its replies are written.

@@ -3,6 +3,7 @@
 ghost use Rattle.std.specs.Prelude.{◌≡◌, ◌≢◌, ◌+◌, ◌<◌, ◌≤◌, ◌↔◌, ◌++◌, [], length, drop, vec_len, vec_capacity, IfOk, IfErr, IsTrue, OnErr, MatchBool};
 ghost use Rattle.std.specs.Io.KnownBytes.{Keeps};
 ghost use Rattle.pn_line.specs.Prelude.{Sends, AppendsPrefix};
+ghost use Rattle.pn_serve.specs.Lines.Made.{MakesAtMost};
 ghost use Rattle.pn_serve.specs.Lines.Sending.{WouldBlock, text_left};
 
 use pn_line::{Sink, WriteFault};
@@ -122,6 +123,7 @@ impl ReplyBuffer {
         ensures some { IfOk result (λ sent. sent ≡ SendOutcome.All → self.old ≢ [] → length self.new < length self.old) }
         ensures waits { IfOk result (λ sent. sent ≡ SendOutcome.Waits → (self.new ≢ []) × W.may_fail) }
         ensures few { length self.old ≤ length self.new + BLOCK }
+        ensures written { MakesAtMost 0 (W.contents writer.old) (W.contents writer.new) self.old self.new }
         ensures err { OnErr result (AppendsPrefix (W.contents writer.old) (W.contents writer.new) self.old) }
         ensures fault { OnErr result W.may_fail }
         ensures stops { IfErr result (λ fault. ¬ (WouldBlock fault)) }
@@ -137,6 +139,7 @@ impl ReplyBuffer {
         ensures waits { IfOk result (λ sent. sent ≡ SendOutcome.Waits → W.may_fail) }
         ensures handed_on { IfOk result (λ sent. sent ≡ SendOutcome.All → W.is_handed_on writer.new) }
         ensures few { length self.old ≤ length self.new + REPLY_CAPACITY }
+        ensures written { MakesAtMost 0 (W.contents writer.old) (W.contents writer.new) self.old self.new }
         ensures err { OnErr result (AppendsPrefix (W.contents writer.old) (W.contents writer.new) self.old) }
         ensures fault { OnErr result W.may_fail }
     {
@@ -157,6 +160,7 @@ impl ReplyBuffer {
         ensures all { IfOk result (λ sent. sent ≡ SendOutcome.All → length self.new + most ≡ length self.old) }
         ensures waits { IfOk result (λ sent. sent ≡ SendOutcome.Waits → (length self.old < length self.new + most) × W.may_fail) }
         ensures few { length self.old ≤ length self.new + most }
+        ensures written { MakesAtMost 0 (W.contents writer.old) (W.contents writer.new) self.old self.new }
         ensures err { OnErr result (AppendsPrefix (W.contents writer.old) (W.contents writer.new) self.old) }
         ensures fault { OnErr result W.may_fail }
         ensures stops { IfErr result (λ fault. ¬ (WouldBlock fault)) }

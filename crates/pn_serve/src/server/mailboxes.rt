@@ -5,16 +5,17 @@ ghost use Rattle.pn_serve.specs.Server.Reports.{name_in};
 ghost use Rattle.pn_serve.specs.declared.server.mailboxes.Held.TheVariants.{Nothing, Left, Closed};
 
 use crate::server::counter::Counter;
+use crate::server::reporter::Reporter;
 use crate::server::reports::Report;
 use crate::server::wakeup::Wakeup;
 use pn_join::{Marks, StreamName};
 use std::alloc::{AllocError, Global};
 use std::mem;
-use std::sync::{Arc, Condvar, Mutex, Wait};
+use std::sync::{Arc, Condvar, CondvarTimeouts, Mutex, Wait};
 use std::time::{Clock, Duration};
 
 /// The mailboxes of the streams that are read, what wakes the thread that takes their reports, and the count of its rounds
-/// and whether memory is short, where somebody looks at them.
+/// and who waits for memory, where somebody looks at them.
 #[derive(Drop)]
 pub(crate) struct StreamMailboxes {
     pub(crate) streams: Vec<StreamMailbox>,
@@ -22,6 +23,7 @@ pub(crate) struct StreamMailboxes {
     pub(crate) wakeup: Arc<Wakeup>,
     pub(crate) rounds: Option<Arc<Counter>>,
     pub(crate) shortage: Option<Arc<Counter>>,
+    pub(crate) waiting: Option<Arc<Counter>>,
 }
 
 /// What follows from a stream's fault.
@@ -60,14 +62,6 @@ impl StreamMailbox {
     }
 }
 
-/// Where the thread of a stream leaves its reports.
-#[derive(Drop)]
-pub(crate) struct Reporter {
-    pub(crate) name: StreamName,
-    mailbox: Arc<Mailbox>,
-    wakeup: Arc<Wakeup>,
-}
-
 impl StreamMailboxes {
     /// No mailbox, with capacity for those of this many streams.
     pub(crate) fn new(
@@ -87,6 +81,7 @@ impl StreamMailboxes {
             wakeup,
             rounds,
             shortage: None,
+            waiting: None,
         })
     }
 
@@ -106,6 +101,9 @@ impl StreamMailboxes {
             name,
             mailbox: Arc::try_clone(&mailbox)?,
             wakeup: Arc::try_clone(&self.wakeup)?,
+            at_fault: self.at_fault,
+            waiting: share(&self.waiting)?,
+            waits: Counter::new(),
         };
         self.streams.push(StreamMailbox {
             name,
@@ -165,12 +163,11 @@ impl StreamMailboxes {
     }
 }
 
-impl Reporter {
-    /// Leaves a report once the last one is taken, and wakes the thread that takes it. False if no more are taken.
-    pub(crate) fn leave<R: Wait>(&self, rt: &R, report: Report) -> bool {
-        let is_wanted = self.mailbox.put(rt, report);
-        self.wakeup.notify(rt);
-        is_wanted
+/// The same counter, where there is one.
+pub(crate) fn share(counter: &Option<Arc<Counter>>) -> Result<Option<Arc<Counter>>, AllocError> {
+    match counter {
+        Some(counter) => Ok(Some(Arc::try_clone(counter)?)),
+        None => Ok(None),
     }
 }
 
@@ -221,6 +218,21 @@ impl Mailbox {
         report
     }
 
+    /// Waits for a second, or until it is closed. False if it is closed.
+    pub(crate) fn wait_for_memory<R: Wait + Clock>(&self, rt: &R) -> bool {
+        let guard = self.held.lock(rt);
+        let most = Duration::from_secs(1);
+        let (held, _) = self
+            .emptied
+            .wait_timeout_while(rt, guard, most, |held| !held.is_closed());
+        !held.is_closed()
+    }
+
+    /// Whether it is closed.
+    pub(crate) fn is_closed<R: Wait>(&self, rt: &R) -> bool {
+        self.held.lock(rt).is_closed()
+    }
+
     /// Closes the mailbox, and wakes the thread that waits there.
     pub(crate) fn close<R: Wait>(&self, rt: &R) {
         self.held.lock(rt).close();
@@ -231,6 +243,10 @@ impl Mailbox {
 impl Held {
     fn is_left(&self) -> bool {
         matches!(self, Held::Left(_))
+    }
+
+    fn is_closed(&self) -> bool {
+        matches!(self, Held::Closed)
     }
 
     // Puts a report into an empty mailbox. False if it is not empty.

@@ -6,7 +6,7 @@ ghost use Rattle.pn_serve.specs.Server.Whole.{EndsStream};
 ghost use Rattle.pn_serve.specs.Server.Writers.{EndsInput, IsReaderFrom};
 ghost use Rattle.pn_serve.specs.declared.server.writers.WriterEnd.TheVariants.{End};
 
-use crate::server::mailboxes::Reporter;
+use crate::server::reporter::{Reporter, StreamMemory};
 use crate::server::reports::Report;
 use crate::server::writer_input::{Given, WriterInput};
 use crate::server::writers::{Origin, WriterEnd};
@@ -15,6 +15,7 @@ use pn_line::Source;
 use std::alloc::Global;
 use std::sync::Wait;
 use std::thread::Threads;
+use std::time::Clock;
 
 /// The end of a stream: its name, and the position of its last message.
 #[derive(Drop)]
@@ -25,7 +26,7 @@ pub(crate) struct StreamEnd {
 
 /// Reports a stream from this input on, from one writer after another, until there is none, or until the mailbox is closed.
 /// The error is the stream's name.
-pub(crate) fn report_stream<R: Threads + Wait, S: Source + Drop, O: Origin<S> + Drop>(
+pub(crate) fn report_stream<R: Threads + Wait + Clock, S: Source + Drop, O: Origin<S> + Drop>(
     rt: &R,
     alloc: Global,
     input: WriterInput<S>,
@@ -37,7 +38,7 @@ pub(crate) fn report_stream<R: Threads + Wait, S: Source + Drop, O: Origin<S> + 
     let mut input = input;
     let mut origin = origin;
     for _ in rt.forever() {
-        let Some(end) = read_writer(rt, &mut input, &mut origin, reporter) else {
+        let Some(end) = read_writer(rt, alloc, &mut input, &mut origin, reporter) else {
             return Err(stop_reading(input, &mut origin));
         };
         let ended = end_of(&input, &end);
@@ -62,8 +63,9 @@ fn stop_reading<S: Source + Drop, O: Origin<S>>(input: WriterInput<S>, origin: &
 }
 
 // Reports the messages of a writer. Answers how its input ended, or None where the mailbox takes nothing more.
-fn read_writer<R: Threads + Wait, S: Source + Drop, O: Origin<S>>(
+fn read_writer<R: Threads + Wait + Clock, S: Source + Drop, O: Origin<S>>(
     rt: &R,
+    alloc: Global,
     input: &mut WriterInput<S>,
     origin: &mut O,
     reporter: &Reporter,
@@ -72,19 +74,38 @@ fn read_writer<R: Threads + Wait, S: Source + Drop, O: Origin<S>>(
     ensures last { input.old.reader.position ≤ input.old.last → IsSome result → input.new.last ≡ max input.old.last input.new.reader.position }
     ensures name { input.new.reader.name ≡ input.old.reader.name }
 {
+    let memory = StreamMemory {
+        rt,
+        alloc,
+        reporter,
+    };
     for _ in rt.forever() {
-        match input.next(rt) {
+        match input.next(rt, &memory) {
             Given::Messages(messages) => {
+                reporter.show_shortage(false);
                 if !reporter.leave(rt, Report::Messages(messages)) {
                     return None;
                 }
                 input.hand_on();
                 origin.hand_on(input.last);
             }
-            Given::Ended(end) => return Some(end),
+            Given::Ended(end) => {
+                reporter.show_shortage(false);
+                return unless_stopped(rt, reporter, end);
+            }
         }
     }
     unreachable!()
+}
+
+// How a writer's input ended, unless memory ran out for it and the mailbox takes nothing more.
+fn unless_stopped<R: Wait>(rt: &R, reporter: &Reporter, end: WriterEnd) -> Option<WriterEnd>
+    ensures { IfSome result (λ ended. ended ≡ end) }
+{
+    if reporter.is_stopped(rt, &end) {
+        return None;
+    }
+    Some(end)
 }
 
 // How a stream ends if no writer follows this one.

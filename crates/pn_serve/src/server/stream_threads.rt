@@ -9,7 +9,8 @@ ghost use Rattle.pn_serve.specs.declared.server.mailboxes.AtFault.TheVariants.{S
 use crate::ServeFault;
 use crate::server::counter::Counter;
 use crate::server::fault_log::{FaultLog, OneWriter};
-use crate::server::mailboxes::{AtFault, Reporter, StreamMailboxes};
+use crate::server::mailboxes::{AtFault, StreamMailboxes};
+use crate::server::reporter::Reporter;
 use crate::server::reporting::{StreamEnd, report_stream};
 use crate::server::wakeup::Wakeup;
 use crate::server::writer_input::WriterInput;
@@ -21,6 +22,7 @@ use std::snapshot::Snapshot;
 use std::sync::{Arc, Wait};
 use std::thread;
 use std::thread::{Promise, PromisedHandle, Threads};
+use std::time::Clock;
 
 /// Promises that `Ok` means the whole stream was read. An error is the stream's name.
 #[derive(Drop)]
@@ -80,7 +82,7 @@ pub(crate) fn start_streams<R, S>(
     faults: Option<Arc<FaultLog>>,
 ) -> Result<StartedStreams<S>, ServeFault>
 where
-    R: Threads + Wait + Copy + Send + 'static,
+    R: Threads + Wait + Clock + Copy + Send + 'static,
     S: Source + Drop + Send + 'static,
     ensures fault { IfErr result (λ fault. fault ≡ ServeFault.Start) }
     ensures threads { IfOk result (λ started. map (λ thread. thread.promise.0.value) started.threads.items ≡ streams.items) }
@@ -108,7 +110,7 @@ fn start_stream<R, S>(
     faults: &Option<Arc<FaultLog>>,
 ) -> Result<(), AllocError>
 where
-    R: Threads + Wait + Copy + Send + 'static,
+    R: Threads + Wait + Clock + Copy + Send + 'static,
     S: Source + Drop + Send + 'static,
     ensures threads { OnOk result (map (λ thread. thread.promise.0.value) started.new.threads.items
         ≡ map (λ thread. thread.promise.0.value) started.old.threads.items ++ stream ∷ []) }
@@ -141,7 +143,7 @@ fn share(faults: &Option<Arc<FaultLog>>) -> Result<Option<Arc<FaultLog>>, AllocE
 }
 
 // Reports a stream to its end, or until the mailbox is closed. The error is the stream's name.
-fn report_to_end<R: Threads + Wait + Copy, S: Source + Drop>(
+fn report_to_end<R: Threads + Wait + Clock + Copy, S: Source + Drop>(
     rt: &R,
     alloc: Global,
     stream: StreamReader<S>,

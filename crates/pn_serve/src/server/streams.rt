@@ -11,7 +11,8 @@ use crate::ServeFault;
 use crate::control::mailboxes::ControlMailboxes;
 use crate::server::counter::Counter;
 use crate::server::events::run_rounds;
-use crate::server::mailboxes::{AtFault, Reporter, StreamMailboxes};
+use crate::server::mailboxes::{AtFault, StreamMailboxes, share};
+use crate::server::reporter::Reporter;
 use crate::server::reporting::{next_input, report_stream};
 use crate::server::reports::Report;
 use crate::server::wakeup::Wakeup;
@@ -33,13 +34,15 @@ pub struct Watchers {
     pub rounds: Option<Arc<Counter>>,
     /// Stands at 1 while a round waits for memory, and else at 0, where somebody looks at that.
     pub shortage: Option<Arc<Counter>>,
+    /// Counts the streams that wait for memory, where somebody looks at that.
+    pub waiting: Option<Arc<Counter>>,
     /// The mailboxes of control sessions, where there may be some.
     pub controls: Option<Arc<ControlMailboxes>>,
 }
 
 /// Reads streams into a live region, each after its mark, until all have ended, or a control session asks the server to stop, at most 1,000 messages
 /// of each a round. Between two rounds it does what control sessions ask for. A stream's fault ends that stream alone. Where
-/// memory runs out, a round waits, and is tried again after a second. The fault is `Start`, or `Round` where there are too many
+/// memory runs out, a round waits, or a stream's message, and is tried again after a second. The fault is `Start`, or `Round` where there are too many
 /// streams, after which no stream is read. Rounds are counted where somebody looks at the count.
 pub fn read_streams<R, S, O>(
     rt: &R,
@@ -76,7 +79,7 @@ fn start_threads<R, S, O>(
     watchers: &Watchers,
 ) -> Result<StreamMailboxes, ServeFault>
 where
-    R: Threads + Wait + Copy + Send + 'static,
+    R: Threads + Wait + Clock + Copy + Send + 'static,
     S: Source + Drop + Send + 'static,
     O: Origin<S> + Drop + Send + 'static,
     ensures names { IfOk result (λ mailboxes. map (λ stream. stream.name) mailboxes.streams.items ≡ map (λ stream. stream.name) streams.items) }
@@ -112,15 +115,8 @@ fn new_mailboxes(
     let rounds = share(&watchers.rounds)?;
     let mut mailboxes = StreamMailboxes::new(alloc, streams, AtFault::GoOn, rounds, wakeup)?;
     mailboxes.shortage = share(&watchers.shortage)?;
+    mailboxes.waiting = share(&watchers.waiting)?;
     Ok(mailboxes)
-}
-
-// The same counter, where there is one.
-fn share(counter: &Option<Arc<Counter>>) -> Result<Option<Arc<Counter>>, AllocError> {
-    match counter {
-        Some(counter) => Ok(Some(Arc::try_clone(counter)?)),
-        None => Ok(None),
-    }
 }
 
 fn start_thread<R, S, O>(
@@ -132,7 +128,7 @@ fn start_thread<R, S, O>(
     workers: usize,
 ) -> Result<(), AllocError>
 where
-    R: Threads + Wait + Copy + Send + 'static,
+    R: Threads + Wait + Clock + Copy + Send + 'static,
     S: Source + Drop + Send + 'static,
     O: Origin<S> + Drop + Send + 'static,
     ensures names { OnOk result (map (λ stream. stream.name) mailboxes.new.streams.items
@@ -154,7 +150,7 @@ where
 }
 
 // Reports a stream from its first writer on, of which all up to this position was taken before.
-fn report_writers<R: Threads + Wait, S: Source + Drop, O: Origin<S> + Drop>(
+fn report_writers<R: Threads + Wait + Clock, S: Source + Drop, O: Origin<S> + Drop>(
     rt: &R,
     alloc: Global,
     after: u64,

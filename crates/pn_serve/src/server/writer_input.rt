@@ -8,7 +8,7 @@ use crate::server::messages::{MAX_MESSAGES, Messages};
 use crate::server::writers::WriterEnd;
 use pn_join::{LAST_POSITION, StreamName};
 use pn_line::Source;
-use pn_stream::{ResumeFault, StreamReader};
+use pn_stream::{ReaderMemory, ResumeFault, StreamReader};
 use std::alloc::Global;
 use std::thread::Threads;
 
@@ -81,25 +81,28 @@ impl<S: Source + Drop> WriterInput<S> {
     }
 
     /// Waits for the next message, and gives it with those at hand, or says how the input ended.
-    pub(crate) fn next<R: Threads>(&mut self, rt: &R) -> Given
+    pub(crate) fn next<R: Threads, M: ReaderMemory>(&mut self, rt: &R, memory: &M) -> Given
         ensures gives { Gives S.left self.old.before self.old.reader result self.new.before self.new.reader }
         ensures name { self.new.reader.name ≡ self.old.reader.name }
         ensures last { self.new.last ≡ self.old.last }
     {
         match self.before {
-            Some(_) => self.next_messages(rt),
-            None => self.first_message(),
+            Some(_) => self.next_messages(rt, memory),
+            None => self.first_message(memory),
         }
     }
 
     // The next messages after those before.
-    fn next_messages<R: Threads>(&mut self, rt: &R) -> Given
+    fn next_messages<R: Threads, M: ReaderMemory>(&mut self, rt: &R, memory: &M) -> Given
         requires { IsSome self.old.before }
         ensures gives { Gives S.left self.old.before self.old.reader result self.new.before self.new.reader }
         ensures name { self.new.reader.name ≡ self.old.reader.name }
         ensures last { self.new.last ≡ self.old.last }
     {
-        match self.reader.next_ready_by(rt, self.workers, MAX_MESSAGES) {
+        match self
+            .reader
+            .next_ready_by(rt, memory, self.workers, MAX_MESSAGES)
+        {
             Ok(delivery) if delivery.images().is_empty() => Given::Ended(WriterEnd::End),
             Ok(delivery) => Given::Messages(Messages { delivery }),
             Err(fault) => Given::Ended(self.fault(ResumeFault::Stream(fault))),
@@ -107,13 +110,13 @@ impl<S: Source + Drop> WriterInput<S> {
     }
 
     // The first message of the writer.
-    fn first_message(&mut self) -> Given
+    fn first_message<M: ReaderMemory>(&mut self, memory: &M) -> Given
         requires { self.old.before ≡ None }
         ensures gives { Gives S.left self.old.before self.old.reader result self.new.before self.new.reader }
         ensures name { self.new.reader.name ≡ self.old.reader.name }
         ensures last { self.new.last ≡ self.old.last }
     {
-        match self.reader.resume() {
+        match self.reader.resume(memory) {
             Ok(Some(delivery)) => {
                 self.before = Some(self.reader.position().saturating_sub(1));
                 Given::Messages(Messages { delivery })

@@ -1,10 +1,10 @@
 //! A view of two lists of tablets that take turns from one read to the next.
 
-ghost use Rattle.std.specs.Prelude.{◌≡◌, Option, IfSome, IsTrue};
+ghost use Rattle.std.specs.Prelude.{◌≡◌, ◌≤◌, Option, IfOk, IfSome, IsTrue};
 ghost use Rattle.std.specs.Option.{option_copied};
 ghost use Rattle.pn_tablet.specs.Laws.{IsSpelled};
 ghost use Rattle.pn_tablet.specs.Tablets.{TabletStateValue, lie_in};
-ghost use Rattle.pn_scan.specs.Parts.{part_at};
+ghost use Rattle.pn_scan.specs.Parts.{looked_in, part_at};
 ghost use Rattle.pn_scan.specs.Views.{IsStateOf, IsFoundIn, Answers, rows_at, cell_at};
 
 use pn_record::{Cell, Key};
@@ -57,9 +57,10 @@ impl TakesTurns {
         room: usize,
         records: usize,
     ) -> PartResult
-        ensures { (found : Option TabletStateValue)
+        ensures look { (found : Option TabletStateValue)
             × IsFoundIn self.now.layout (tablet, found)
             × Answers (part_at query.now) result (rows_at query.now room (tablet, found)) }
+        ensures few { IfOk result (λ part. looked_in records part ≤ records) }
     {
         match self.state(tablet) {
             Some(state) => part_of(alloc, state, tablet, query, room, records),
@@ -102,6 +103,8 @@ fn has_ends(state: &TabletState, from: Option<&Key>, to: Option<&Key>) -> bool
 
 impl View for TakesTurns {
     ghost bounds = { λ view. view.layout };
+
+    ghost most = { λ records. records };
 
     // What a read finds is left open.
     ghost looks = { λ old look new. Unit {0} };

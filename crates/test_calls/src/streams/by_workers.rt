@@ -6,7 +6,7 @@ ghost use Rattle.pn_stream.specs.declared.reader.TheConstants.{MAX_MESSAGES};
 use crate::streams::case::Case;
 use crate::streams::reading::{most_of, new_reader};
 use pn_line::{InMemory, Source};
-use pn_stream::{Delivery, StreamFault, StreamReader};
+use pn_stream::{Delivery, ReaderMemory, StreamFault, StreamReader};
 use std::alloc::Global;
 use std::test::Fail;
 use std::thread::Threads;
@@ -14,6 +14,26 @@ use test_kit::ReplyRuns;
 
 /// The most workers that are tried.
 const MOST_WORKERS: usize = 9;
+
+// Memory that is asked for again at once.
+#[derive(Drop)]
+struct AskedAgain {
+    alloc: Global,
+}
+
+impl ReaderMemory for AskedAgain {
+    ghost may_give_up = { Unit {0} };
+
+    fn alloc(&self) -> Global {
+        self.alloc
+    }
+
+    fn wait(&self) -> bool {
+        true
+    }
+
+    fn give_up(&self) {}
+}
 
 /// What readers give of a stream in memory, for each number of workers: how many images, and how many of these have the key
 /// of their position.
@@ -67,7 +87,7 @@ fn push_answer<R: Threads, S: Source + Drop>(
     workers: usize,
 ) -> Result<(), Fail> {
     let most = most_of(case)?;
-    match next_by(rt, reader, workers, most) {
+    match next_by(rt, &AskedAgain { alloc }, reader, workers, most) {
         Ok(delivery) => push_counts(alloc, text, &delivery),
         Err(fault) => Ok(write!(text, "{fault}; ")?),
     }
@@ -76,13 +96,14 @@ fn push_answer<R: Threads, S: Source + Drop>(
 // What one call gives.
 fn next_by<R: Threads, S: Source + Drop>(
     rt: &R,
+    memory: &AskedAgain,
     reader: &mut StreamReader<S>,
     workers: usize,
     most: usize,
 ) -> Result<Delivery, StreamFault>
     requires { (1 ≤ most) × (most ≤ MAX_MESSAGES) }
 {
-    reader.next_ready_by(rt, workers, most)
+    reader.next_ready_by(rt, memory, workers, most)
 }
 
 // How many images have the key of their position.

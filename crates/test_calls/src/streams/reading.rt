@@ -8,7 +8,7 @@ use crate::streams::pipe::{Pipe, PipeBuffer};
 use pn_join::{LAST_POSITION, Name};
 use pn_line::{InMemory, Source};
 use pn_record::Image;
-use pn_stream::{Delivery, MAX_MESSAGES, StreamFault, StreamReader};
+use pn_stream::{Delivery, MAX_MESSAGES, NoWait, StreamFault, StreamReader};
 use std::alloc::Global;
 use std::test::Fail;
 use test_kit::{PiecewiseReader, ReplyRuns};
@@ -81,7 +81,7 @@ pub(crate) fn push_first<S: Source + Drop>(
     text: &mut String,
     reader: &mut StreamReader<S>,
 ) -> Result<(), Fail> {
-    match reader.resume() {
+    match reader.resume(&NoWait::new(*text.allocator())) {
         Ok(Some(delivery)) => push_delivery(text, &delivery),
         Ok(None) => Ok(text.push_str("none; ")?),
         Err(fault) => Ok(write!(text, "{fault}; ")?),

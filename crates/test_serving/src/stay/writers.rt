@@ -9,7 +9,7 @@ use pn_stay::{
     Messages, OWNER_ALONE, StreamOrigin, StreamSetting, StreamSource, WaitingLines, open_origins,
     remove_sockets,
 };
-use pn_stream::{ResumeFault, StreamReader};
+use pn_stream::{NoWait, ResumeFault, StreamReader};
 use std::alloc::{AllocError, Global};
 use std::fs::{File, Files, OpenOptions};
 use std::io::{BufRead, BufReader, Read, Write};
@@ -91,20 +91,21 @@ where
     let last = last.min(LAST_POSITION);
     let source = stream.origin.next_writer(last)?;
     let mut reader = StreamReader::new(alloc, stream.name, last, source);
-    let end = read_to_end(stream, &mut reader);
+    let end = read_to_end(alloc, stream, &mut reader);
     let last = last.max(reader.position());
     stream.origin.end_writer(reader.into_source(), &end, last);
     Some(last)
 }
 
 fn read_to_end<R>(
+    alloc: Global,
     stream: &mut Stream<StreamOrigin<R>>,
     reader: &mut StreamReader<StreamSource<R>>,
 ) -> WriterEnd
 where
     R: Files<File = File> + Net + Wait + Clock + Copy + Drop,
 {
-    match reader.resume() {
+    match reader.resume(&NoWait::new(alloc)) {
         Ok(Some(_)) => note(stream, reader.position()),
         Ok(None) => return WriterEnd::End,
         Err(fault) => return end_of(fault, reader.position(), 1),

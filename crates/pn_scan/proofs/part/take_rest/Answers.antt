@@ -4,8 +4,8 @@ use Rattle.pn_scan.specs.Parts.{walk_answer}
 use Rattle.pn_scan.proofs.Looking.{slice_answer}
 use Rattle.pn_scan.proofs.part.take_rest.Goals as goal
 
-pub returns-in-Ok : goal.returns-in-Ok
-returns-in-Ok c =
+pub returns-clause-same : goal.returns-clause-same
+returns-clause-same c =
     let query = c.args.query.now in
     ap (walk_answer query) c.new.ensures
-    ∙ slice_answer query c.args.cells.now c.in-Ok.rest c.args.index c.end_of_range.result c.max.result c.args.room c.args.rows.items c.in-Ok.ensures c.end_of_range.ensures.shown c.max.ensures
+    ∙ slice_answer query c.args.cells.now c.in_ok-rest.rest c.args.index c.end_of_range.result c.max.result c.args.room c.args.rows.items c.in_ok-rest.ensures c.end_of_range.ensures.shown c.max.ensures

@@ -4,6 +4,7 @@ ghost use Rattle.std.specs.Prelude.{◌≡◌, ◌≢◌, ◌+◌, ◌*◌, ◌�
 ghost use Rattle.pn_line.specs.Prelude.{so_far};
 ghost use Rattle.pn_serve.specs.Lines.Bounds.{stage_left};
 ghost use Rattle.pn_serve.specs.Lines.Going.{AnswersLast, AnswersWith, answer_left};
+ghost use Rattle.pn_serve.specs.Lines.Made.{made_in};
 ghost use Rattle.pn_serve.specs.Lines.States.{waits_in};
 ghost use Rattle.pn_serve.specs.Lines.Taking.{HasReply, Takes, TakesLine};
 ghost use Rattle.pn_serve.specs.declared.script.replies.TheConstants.{BLOCK};
@@ -27,6 +28,7 @@ impl LineLoop {
             → TakesLine (AnswersWith M.makes M.goes) true machine.old text machine.new (record self.old { line = so_far [] }) self.new }
         ensures takes { Takes true (record self.old { line = so_far [] }) self.new }
         ensures units { self.old.line.count + length self.new.replies ≤ length self.old.replies + 1024 * (result + 1) + 65536 }
+        ensures makes { length self.new.replies ≤ length self.old.replies + made_in result }
         ensures knows { KnowsNoLess (M.reader machine.old) (M.reader machine.new) }
     {
         let parsed = units_of(self.line.len());
@@ -52,6 +54,7 @@ impl LineLoop {
         ensures takes { Takes true self.old self.new }
         ensures nearer { 0 < units → stage_left self.new.state.stage ≤ going_left going }
         ensures units { length self.new.replies < length self.old.replies + 1024 * (result + 1) }
+        ensures makes { length self.new.replies ≤ length self.old.replies + made_in result }
         ensures knows { KnowsNoLess (M.reader machine.old) (M.reader machine.new) }
     {
         let (answer, looked) = machine.go_on(self.alloc, going, records_of(units));

@@ -2,7 +2,8 @@
 
 ghost use Rattle.std.specs.Prelude.{◌≡◌, ◌≢◌, ◌⊎◌, ℕ, List, [], true, Option, Result, Err, IfOk, OnErr};
 ghost use Rattle.pn_line.specs.Prelude.{AppendsPrefix};
-ghost use Rattle.pn_serve.specs.Lines.Bounds.{CountsUnits, HandsOnAtMost, HandsOnStep, IsOutAs, WorksOn};
+ghost use Rattle.pn_serve.specs.Lines.Bounds.{CountsUnits, HandsOnAtMost, HandsOnStep, IsOutAs, KeepsLine, WorksOn};
+ghost use Rattle.pn_serve.specs.Lines.Made.{MakesAtMost, made_by};
 ghost use Rattle.pn_serve.specs.Lines.States.{Start, waits_in};
 ghost use Rattle.pn_serve.specs.Lines.Stepping.{by, HasEnded, Stands};
 ghost use Rattle.pn_serve.specs.Lines.Taking.{EndsTo, IsSent, SendsTo, WaitsTo};
@@ -23,6 +24,8 @@ impl LineLoop {
         requires { self.old.state.left ≢ [] }
         ensures sends { SendsTo self.old (W.contents output.old) self.new (W.contents output.new) result }
         ensures few { HandsOnAtMost BLOCK self.old self.new }
+        ensures written { MakesAtMost (made_by result) (W.contents output.old) (W.contents output.new) self.old.replies self.new.replies }
+        ensures same { KeepsLine self.old self.new }
         ensures counted { CountsUnits self.old self.new result }
         ensures works { WorksOn self.old self.new result }
         ensures out { self.new.state.out ≡ self.old.state.out }
@@ -44,6 +47,8 @@ impl LineLoop {
         ensures out { IsOutAs self.old (W.is_handed_on output.old) → IsOutAs self.new (W.is_handed_on output.new) }
         ensures idle { result ≡ Step.NoInput → self.new.state.out ≡ true }
         ensures few { HandsOnAtMost REPLY_CAPACITY self.old self.new }
+        ensures written { MakesAtMost 0 (W.contents output.old) (W.contents output.new) self.old.replies self.new.replies }
+        ensures same { KeepsLine self.old self.new }
         ensures held { result ≡ Step.NoRoom → self.new.replies ≢ [] }
         ensures room { result ≡ Step.NoRoom → W.may_fail }
         ensures fault { result ≡ Step.Ends (Err RunFault.Write) → W.may_fail }
@@ -64,6 +69,8 @@ impl LineLoop {
         ensures out { self.new.state.out ≡ true → (waits_in self.new ≡ []) × W.is_handed_on output.new }
         ensures all { (units : ℕ) → result ≡ Step.Next units → self.new.state.out ≡ true }
         ensures few { HandsOnAtMost REPLY_CAPACITY self.old self.new }
+        ensures written { MakesAtMost 0 (W.contents output.old) (W.contents output.new) self.old.replies self.new.replies }
+        ensures same { KeepsLine self.old self.new }
         ensures held { result ≡ Step.NoRoom → self.new.replies ≢ [] }
         ensures room { result ≡ Step.NoRoom → W.may_fail }
         ensures fault { result ≡ Step.Ends (Err RunFault.Write) → W.may_fail }
@@ -86,6 +93,8 @@ impl LineLoop {
         ensures out { self.new.state.out ≡ true → (waits_in self.new ≡ []) × W.is_handed_on output.new }
         ensures handed_on { HandsOnStep result (W.is_handed_on output.new) }
         ensures few { HandsOnAtMost REPLY_CAPACITY self.old self.new }
+        ensures written { MakesAtMost 0 (W.contents output.old) (W.contents output.new) self.old.replies self.new.replies }
+        ensures same { KeepsLine self.old self.new }
         ensures held { result ≡ Step.NoRoom → self.new.replies ≢ [] }
         ensures room { result ≡ Step.NoRoom → W.may_fail }
         ensures fault { (other : Result Counts RunFault) → result ≡ Step.Ends other → (other ≡ ended) ⊎ W.may_fail }
@@ -108,6 +117,8 @@ impl LineLoop {
         ensures handed_on { IfOk result (λ sent. sent ≡ SendOutcome.All → W.is_handed_on output.new) }
         ensures out { self.new.state.out ≡ true → (waits_in self.new ≡ []) × W.is_handed_on output.new }
         ensures few { HandsOnAtMost REPLY_CAPACITY self.old self.new }
+        ensures written { MakesAtMost 0 (W.contents output.old) (W.contents output.new) self.old.replies self.new.replies }
+        ensures same { KeepsLine self.old self.new }
         ensures once { IfOk result (λ sent. sent ≡ SendOutcome.All → self.old.state.left ≡ [] → self.new.state.out ≡ true) }
         ensures err { OnErr result (AppendsPrefix (W.contents output.old) (W.contents output.new) (waits_in self.old)) }
         ensures fault { OnErr result W.may_fail }

@@ -1,9 +1,13 @@
 -- What waits is sent first.
-use Rattle.std.proofs.Common.{ℕ, List, sym, subst}
+use Rattle.std.proofs.Common.{ℕ, List, length, sym, ap, subst, arith}
 use Rattle.std.specs.Io.KnownBytes.{prepend_known}
+use Rattle.pn_serve.specs.declared.script.Counts.{Counts}
+use Rattle.pn_serve.specs.Lines.Made.{MakesAtMost}
 use Rattle.pn_serve.specs.Lines.Stepping.{Stands, StepsTo, by}
 use Rattle.pn_serve.proofs.Knowing.{knows_itself}
+use Rattle.pn_stay.specs.Outputs.{most_made}
 use Rattle.pn_stay.proofs.Inputs.{takes_nothing}
+use Rattle.pn_stay.proofs.Outputs.{writes_held, writes_on}
 use Rattle.pn_stay.proofs.connection_state.send_and_step.Goals as goal
 
 pub returns-in-Next-clause-steps : goal.returns-in-Next-clause-steps
@@ -14,6 +18,16 @@ returns-in-Next-clause-steps g c = λ start steady stands.
     c.step_and_send.ensures.steps start steady
     (subst (λ (h : List ℕ). Stands H start (prepend_known h left) (g.W.Sink.contents c.send_waiting.new.output) c.args.machine.now c.send_waiting.new.buffers.lines) (sym c.send_waiting.ensures.input) sent)
 
+pub returns-in-Next-clause-written : goal.returns-in-Next-clause-written
+returns-in-Next-clause-written g c =
+    let none = c.in-Next.ensures.stops in
+    writes_on _ _ _ _ _ (omega (arith, c.in-Next.ensures.few, ap length none))
+    (subst (λ (ys : List ℕ). MakesAtMost 0 (g.W.Sink.contents c.args.output.now) (g.W.Sink.contents c.send_waiting.new.output) c.args.buffers.now.lines.replies ys) none c.in-Next.ensures.written)
+    (subst (λ (ys : List ℕ). MakesAtMost most_made (g.W.Sink.contents c.send_waiting.new.output) (g.W.Sink.contents c.step_and_send.new.output) ys c.step_and_send.new.buffers.lines.replies) none c.step_and_send.ensures.written)
+
+pub returns-in-Next-clause-answers : goal.returns-in-Next-clause-answers
+returns-in-Next-clause-answers g c = omega (arith, ap (λ (n : Counts). n.lines) c.in-Next.ensures.same.counts, c.step_and_send.ensures.answers)
+
 pub returns-in_default : goal.returns-in_default
 returns-in_default g c = record {
   steps = λ start steady stands.
@@ -23,5 +37,7 @@ returns-in_default g c = record {
       subst (λ (h : List ℕ). StepsTo H start (prepend_known h left) (g.W.Sink.contents c.send_waiting.new.output) c.args.machine.now c.send_waiting.new.buffers.lines c.send_waiting.result) (sym c.send_waiting.ensures.input) sent;
   stops = c.send_waiting.ensures.stops;
   few = takes_nothing _ _;
+  written = writes_held _ _ _ _ c.send_waiting.ensures.few c.send_waiting.ensures.written;
+  answers = omega (arith, ap (λ (n : Counts). n.lines) c.send_waiting.ensures.same.counts);
   knows = knows_itself _;
 }

@@ -23,3 +23,7 @@ returns-in-Ok-Waits-clause-steps g c = λ start left steady stands.
       some_waits new.replies new.state.left (c.in-Ok-Waits.ensures.waits c.in-Ok-Waits.field-0-is).0,
       c.recall_cut.ensures start left before after steady stands (AppendsPrefix-sends before after (waits_in old) (waits_in new) sent.sends),
     )
+
+pub returns-in-Err-clause-steps : goal.returns-in-Err-clause-steps
+returns-in-Err-clause-steps g c = λ start left steady stands.
+    c.recall_cut.ensures start left (g.W.Sink.contents c.args.output.now) (g.W.Sink.contents c.flush.new.output) steady stands c.in-Err.ensures.err

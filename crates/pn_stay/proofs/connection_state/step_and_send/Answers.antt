@@ -1,7 +1,9 @@
 -- What the steps left is sent.
-use Rattle.std.proofs.Common.{ℕ, List, sym, subst}
+use Rattle.std.proofs.Common.{ℕ, List, sym, ap, subst, arith}
 use Rattle.std.specs.Io.KnownBytes.{prepend_known}
+use Rattle.pn_serve.specs.declared.script.Counts.{Counts}
 use Rattle.pn_serve.specs.Lines.Stepping.{StepsTo, by}
+use Rattle.pn_stay.proofs.Outputs.{makes_then}
 use Rattle.pn_stay.proofs.connection_state.step_and_send.Goals as goal
 
 pub returns-in-Next-clause-steps : goal.returns-in-Next-clause-steps
@@ -10,3 +12,9 @@ returns-in-Next-clause-steps g c = λ start steady stands.
     let left = g.R.Read.remaining c.take_steps.new.input in
     let sent = c.send_waiting.ensures.steps start (prepend_known c.take_steps.new.buffers.input left) steady (c.in-Next.ensures.steps start steady stands) in
     subst (λ (h : List ℕ). StepsTo H start (prepend_known h left) (g.W.Sink.contents c.send_waiting.new.output) c.take_steps.new.machine c.send_waiting.new.buffers.lines c.send_waiting.result) (sym c.send_waiting.ensures.input) sent
+
+pub returns-in-Next-clause-written : goal.returns-in-Next-clause-written
+returns-in-Next-clause-written g c = makes_then _ _ _ _ _ _ _ c.in-Next.ensures.written c.send_waiting.ensures.written
+
+pub returns-in-Next-clause-answers : goal.returns-in-Next-clause-answers
+returns-in-Next-clause-answers g c = omega (arith, c.in-Next.ensures.answers, ap (λ (n : Counts). n.lines) c.send_waiting.ensures.same.counts)

@@ -3,6 +3,7 @@ use Rattle.std.proofs.Common.{◌≡◌, Bool, false, ℕ, List, [], length, ari
 use Rattle.std.specs.Io.KnownBytes.{Consumes, IsAtEnd, Keeps, prepend_known}
 use Rattle.pn_serve.specs.Lines.States.{LineLoopValue}
 use Rattle.pn_serve.specs.Lines.Stepping.{Stands, by}
+use Rattle.pn_serve.proofs.Bounded.{end_lines}
 use Rattle.pn_serve.proofs.Knowing.{knows_itself}
 use Rattle.pn_serve.proofs.Steps.{Steps-read_fault}
 use Rattle.pn_stay.proofs.Coming.{Consumes-nothing, Ends-known, Keeps-front, Stands-came, at_end, at_fault, at_input, at_nothing}
@@ -91,3 +92,6 @@ returns-in-End-clause-few g c =
 
 pub returns-in-Fault-clause-few : goal.returns-in-Fault-clause-few
 returns-in-Fault-clause-few g c = reads_nothing _ _ _ (Consumes-nothing _ _ (at_fault c.read_from-read.result _ c.in-Fault.ensures c.read_from-read.ensures.kept))
+
+pub returns-in-End-clause-answers : goal.returns-in-End-clause-answers
+returns-in-End-clause-answers g c = end_lines c.args.buffers.now.lines c.end_input.new.self c.end_input.ensures.some c.end_input.ensures.none

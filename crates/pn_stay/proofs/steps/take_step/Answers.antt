@@ -1,7 +1,9 @@
 -- The loop steps, and reads where no input is at hand.
+use Rattle.std.proofs.Common.{arith}
 use Rattle.pn_serve.proofs.Knowing.{knows_on}
 use Rattle.pn_stay.proofs.Coming.{waits_well}
 use Rattle.pn_stay.proofs.Inputs.{reads_none}
+use Rattle.pn_stay.proofs.Outputs.{answers_counted, makes_more}
 use Rattle.pn_stay.proofs.steps.take_step.Goals as goal
 
 pub returns-in-NoInput-clause-steps : goal.returns-in-NoInput-clause-steps
@@ -11,10 +13,18 @@ returns-in-NoInput-clause-steps g c = λ start steady stands.
 pub returns-in-NoInput-clause-knows : goal.returns-in-NoInput-clause-knows
 returns-in-NoInput-clause-knows g c = knows_on _ _ _ c.step-step.ensures.knows c.read_more.ensures.knows
 
+pub returns-in-NoInput-clause-written : goal.returns-in-NoInput-clause-written
+returns-in-NoInput-clause-written g c = makes_more _ _ _ _ _ _ c.in-NoInput.ensures.written c.read_more.ensures.makes
+
+pub returns-in-NoInput-clause-answers : goal.returns-in-NoInput-clause-answers
+returns-in-NoInput-clause-answers g c = omega (arith, c.in-NoInput.ensures.counted.0, c.read_more.ensures.answers)
+
 pub returns-in_default : goal.returns-in_default
 returns-in_default g c = record {
   steps = λ start steady stands. c.step-step.ensures.steps start (g.R.Read.remaining c.args.input.now) steady stands;
   waits = waits_well (record { line = c.step-step.new.self.line; held = c.step-step.new.input; replies = c.step-step.new.self.replies; state = c.step-step.new.self.state }) c.step-step.result c.in_default.not-NoInput c.step-step.ensures.held;
   few = reads_none _ _;
+  written = c.step-step.ensures.written;
+  answers = answers_counted c.args.buffers.now.lines c.step-step.new.self c.step-step.result c.step-step.ensures.counted;
   knows = c.step-step.ensures.knows;
 }

@@ -1,10 +1,15 @@
 -- The connection goes on as its session does.
+use Rattle.std.proofs.Common.{◌≤◌, ◌+◌}
+use Rattle.pn_serve.specs.declared.script.line_loop.steps.TheConstants.{TURN_UNITS}
+use Rattle.pn_serve.specs.Lines.Made.{MakesAtMost}
 use Rattle.pn_serve.specs.Lines.States.{Start}
 use Rattle.pn_serve.specs.Lines.Stepping.{by}
 use Rattle.pn_serve.specs.Session.Knowing.{IsSteady, KnowsNoLess}
 use Rattle.pn_stay.specs.Inputs.{most_taken, TakesAtMost}
 use Rattle.pn_stay.specs.Turns.{Continues, in_buffers}
 use Rattle.pn_stay.proofs.Inputs.{TakesWithin}
+use Rattle.pn_stay.specs.Outputs.{AnswersAtMost, most_made}
+use Rattle.pn_stay.proofs.Outputs.{MakesWithin}
 use Rattle.pn_stay.proofs.steps.take_steps.Given as goal
 
 abbrev pub invariant-steps : goal.invariant-steps
@@ -14,6 +19,10 @@ invariant-steps g l = record {
       → Continues (by g.M.LineHandler.moves g.M.LineHandler.makes g.M.LineHandler.ends g.M.LineHandler.goes g.M.LineHandler.goes_last) start (g.R.Read.remaining l.input) (g.W.Sink.contents l.output) l.machine (in_buffers l.buffers);
   within : TakesWithin l.units (g.R.Read.remaining l.initial.input) (g.R.Read.remaining l.input);
   few : TakesAtMost most_taken (g.R.Read.remaining l.initial.input) (g.R.Read.remaining l.input);
+  makes : MakesWithin l.units (g.W.Sink.contents l.initial.output) (g.W.Sink.contents l.output) l.initial.buffers.lines.replies l.buffers.lines.replies;
+  written : MakesAtMost most_made (g.W.Sink.contents l.initial.output) (g.W.Sink.contents l.output) l.initial.buffers.lines.replies l.buffers.lines.replies;
+  lines : l.buffers.lines.state.counts.lines + l.units ≤ l.initial.buffers.lines.state.counts.lines + TURN_UNITS;
+  answers : AnswersAtMost TURN_UNITS l.initial.buffers.lines.state l.buffers.lines.state;
   knows : KnowsNoLess (g.M.LineHandler.reader l.initial.machine) (g.M.LineHandler.reader l.machine);
 }
 

@@ -5,5 +5,5 @@ use Rattle.pn_stream.proofs.first.first_message.Goals as goal
 
 pub returns-clause-first : goal.returns-clause-first
 returns-clause-first g c =
-    rw (sym c.in_ok-line.ensures.front) (Batch-first _ _ c.in-Some.first _ _ _ c.in_ok-images.ensures ((rw c.in-Some.is at c.in_ok-found.ensures.taken) refl)
+    rw (sym c.in_ok-line.ensures.front) (Batch-first _ _ c.in-Some.first _ _ _ c.in_ok-images.ensures.image ((rw c.in-Some.is at c.in_ok-found.ensures.taken) refl)
     (rw c.in-Some.is at c.in_ok-found.ensures.in_range) (rw c.in-Some.is at c.in_ok-found.ensures.next))

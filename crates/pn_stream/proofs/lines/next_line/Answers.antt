@@ -30,13 +30,13 @@ pub returns-clause-next : goal.returns-clause-next
 returns-clause-next g c =
     let whole = sym c.in_ok-more.ensures ∙ ap Ok c.in-Some.is in
     let takes = next_line _ _ _ _ _ c.requires (newline_read c.read_bounded_line.result c.in-Some.more (λ end. ReadsTo end c.args.line.now c.read_bounded_line.new.line _ _) whole c.read_bounded_line.ensures.takes) in
-    line_taken _ _ _ (record { line = c.in_ok-copy.copy; more = c.in-Some.more }) _ _ takes (c.in_ok-copy.ensures ∙ c.bytes.ensures) (part-none _ c.start.ensures)
+    line_taken _ _ _ (record { line = c.in_ok-copy.copy; more = c.in-Some.more }) _ _ takes (c.in_ok-copy.ensures.copy ∙ c.bytes.ensures) (part-none _ c.start.ensures)
 
 pub returns-clause-whole : goal.returns-clause-whole
 returns-clause-whole g c =
     let whole = sym c.in_ok-more.ensures ∙ ap Ok c.in-Some.is in
     let read = newline_read c.read_bounded_line.result c.in-Some.more (λ end. ReadsTo end c.args.line.now c.read_bounded_line.new.line _ _) whole c.read_bounded_line.ensures.takes in
-    rw (c.in_ok-copy.ensures, c.bytes.ensures) (whole_line c.in-Some.more _ _ _ _ c.requires read)
+    rw (c.in_ok-copy.ensures.copy, c.bytes.ensures) (whole_line c.in-Some.more _ _ _ _ c.requires read)
 
 pub returns-clause-taken : goal.returns-clause-taken
 returns-clause-taken g c = λ found. part-none _ c.start.ensures

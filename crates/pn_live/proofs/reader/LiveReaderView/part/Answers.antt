@@ -1,6 +1,7 @@
 -- The tablet was looked into.
-use Rattle.std.proofs.Common.{length, ◌≤◌, ap, arith}
-use Rattle.pn_scan.specs.Parts.{part_at}
+use Rattle.std.proofs.Common.{ℕ, length, ◌≤◌, ap, subst, arith}
+use Rattle.std.specs.Prelude.{IfOk}
+use Rattle.pn_scan.specs.Parts.{looked_in, part_at}
 use Rattle.pn_scan.specs.Views.{rows_at}
 use Rattle.pn_live.specs.Readers.{LiveReaderValue}
 use Rattle.pn_live.proofs.Entering.{reader_within, still_tablet_readers, looked_once}
@@ -16,14 +17,17 @@ pub invariant_of-self : goal.invariant_of-self
 invariant_of-self c =
     let inside = c.self.inside in
     let few : c.args.tablet ≤ length inside.layout = omega (arith, ap (λ (r : LiveReaderValue). length r.layout) c.self.view_is, c.requires) in
-    still_tablet_readers inside.layout inside.tablet_readers.items c.args.tablet c.index_mut.result.now c.part.new.self c.self.invariant few c.index_mut.ensures.value c.part.ensures.0 c.part.ensures.1.sees
+    still_tablet_readers inside.layout inside.tablet_readers.items c.args.tablet c.index_mut.result.now c.part.new.self c.self.invariant few c.index_mut.ensures.value c.part.ensures.look.0 c.part.ensures.look.1.sees
 
 pub returns-clause-look : goal.returns-clause-look
 returns-clause-look c =
     let inside = c.self.inside in
     let few : c.args.tablet ≤ length inside.layout = omega (arith, ap (λ (r : LiveReaderValue). length r.layout) c.self.view_is, c.requires) in (
-      c.part.ensures.0,
+      c.part.ensures.look.0,
       rw (← c.self.view_is)
           (looked_once inside.layout inside.tablet_readers.items c.args.tablet c.index_mut.result.now c.part.new.self c.self.invariant few c.index_mut.ensures.value
-          (part_at c.args.query.now) c.part.result (rows_at c.args.query.now c.args.room) c.part.ensures.0 c.part.ensures.1),
+          (part_at c.args.query.now) c.part.result (rows_at c.args.query.now c.args.room) c.part.ensures.look.0 c.part.ensures.look.1),
     )
+
+pub returns-clause-few : goal.returns-clause-few
+returns-clause-few c = subst (λ (n : ℕ). IfOk c.part.result (λ part. looked_in n part ≤ n)) c.max-records.ensures c.part.ensures.few

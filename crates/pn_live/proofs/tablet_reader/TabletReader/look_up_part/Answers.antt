@@ -3,12 +3,12 @@ use Rattle.std.proofs.Common.{Some}
 use Rattle.pn_live.proofs.Entering.{finds_left}
 use Rattle.pn_live.proofs.tablet_reader.TabletReader.look_up_part.Goals as goal
 
-pub returns-in-Ok : goal.returns-in-Ok
-returns-in-Ok c = (
+pub returns-in-Ok-clause-look : goal.returns-in-Ok-clause-look
+returns-in-Ok-clause-look c = (
   Some c.state.result.now,
   record {
     sees = finds_left c.args.self c.in-Ok.guard c.in-Ok.ensures c.state.result.now c.leave.result c.state.ensures.found c.leave.ensures;
     sound = c.state.ensures.sound;
-    answers = c.part_of-answer.ensures;
+    answers = c.part_of-answer.ensures.answers;
   },
 )

@@ -8,6 +8,6 @@ returns-clause-look c = (
   record {
     looked = (refl, record { stands = c.state.ensures.there; entered = refl });
     found = c.state.ensures.of;
-    answers = c.part_of.ensures;
+    answers = c.part_of.ensures.answers;
   },
 )

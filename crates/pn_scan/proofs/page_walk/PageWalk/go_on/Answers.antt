@@ -2,11 +2,12 @@
 use Rattle.std.proofs.Common.{◌<◌, [], ◌++◌, length, Option, Result, Err, refl, sym, ap, ◌∙◌, subst}
 use Rattle.std.specs.Prelude.{IfSome}
 use Rattle.std.proofs.lemmas.Result.{err_from_is_err_and}
-use Rattle.pn_scan.specs.Paging.{rows_to_come, IsOnPage, PagesTo}
+use Rattle.pn_scan.specs.Paging.{records_left, rows_to_come, IsOnPage, PagesTo}
 use Rattle.pn_scan.specs.Parts.{PartValue}
 use Rattle.pn_scan.specs.WalkValues.{PageWalkValue, PartWalkValue}
 use Rattle.pn_scan.specs.declared.fault.ScanFault.{ScanFault}
 use Rattle.pn_scan.specs.declared.page_walk.PageStep.{PageStep}
+use Rattle.pn_scan.proofs.Counted.{counted_on}
 use Rattle.pn_scan.proofs.Paging.{held, gone_on, page_without_memory}
 use Rattle.pn_scan.proofs.page_walk.PageWalk.go_on.Goals as goal
 
@@ -36,3 +37,8 @@ returns-in_ok-with_part-in-Some-clause-goes g c = λ trace on.
     ∙ ap (λ (o : Option PartWalkValue). c.self.inside.rows.items ++ rows_to_come query o) (sym c.in-Some.is) in
     let was = c.self.view_is in
     ([], refl, gone_on (subst (λ (w : PageWalkValue). IsOnPage g.V.View.looks (g.V.View.bounds c.args.view.now) query w trace) (sym was) on) _ rows next.ends.0 next.ends.1 (held _ begun))
+
+pub returns-in_ok-with_part-in-Some-clause-few : goal.returns-in_ok-with_part-in-Some-clause-few
+returns-in_ok-with_part-in-Some-clause-few g c =
+    let next = c.in_ok-with_part-in-Some.ensures in
+    counted_on c.args.records _ _ _ _ _ _ c.in_ok-part-in-Some.part (ap records_left (sym (ap (λ (w : PageWalkValue). w.part) c.self.view_is) ∙ c.in-Some.is)) c.in_ok-part-in-Some.ensures.few next.part next.looked

@@ -1,13 +1,15 @@
 -- The next tablet is looked into, unless the page is whole.
-use Rattle.std.proofs.Common.{◌≡◌, ◌<◌, ◌≤◌, ◌⊎◌, ◌+◌, ◌-◌, ℕ, [], ◌∷◌, length, Result, Ok, Err, refl, sym, ap, ◌∙◌, subst, arith}
+use Rattle.std.proofs.Common.{◌≡◌, ◌<◌, ◌≤◌, ◌⊎◌, ◌+◌, ◌-◌, ℕ, [], ◌∷◌, length, max, Result, Ok, Err, refl, sym, ap, ◌∙◌, subst, arith}
 use Rattle.std.proofs.lemmas.Result.{err_from_is_err_and}
 use Rattle.pn_tablet.specs.Layouts.{Bounds, IsLayout}
-use Rattle.pn_scan.specs.Paging.{IsOnPage, LookMade, PagesTo}
-use Rattle.pn_scan.specs.Parts.{part_at}
+use Rattle.pn_scan.specs.Paging.{IsOnPage, LookMade, PagesTo, records_left}
+use Rattle.pn_scan.specs.Parts.{looked_in, part_at}
 use Rattle.pn_scan.specs.Views.{LooksOnce, rows_at}
 use Rattle.pn_scan.specs.WalkValues.{PageWalkValue}
 use Rattle.pn_scan.specs.declared.fault.ScanFault.{ScanFault}
 use Rattle.pn_scan.specs.declared.page_walk.PageStep.{PageStep}
+use Rattle.pn_scan.specs.declared.pages.TheConstants.{LOOK_RECORDS}
+use Rattle.pn_scan.proofs.Counted.{counted_first}
 use Rattle.pn_scan.proofs.Paging.{page_ends, full_without_memory, look_fails, looked_on, looked_without_memory}
 use Rattle.pn_scan.proofs.page_walk.PageWalk.look_further.Goals as goal
 
@@ -96,3 +98,10 @@ returns-in_err-with_part-clause-looked g c = let look = c.in_ok-part.ensures.loo
 
 pub returns-clause-looked : goal.returns-clause-looked
 returns-clause-looked g c = let look = c.in_ok-part.ensures.look in let made : LookMade g.row.V.Denot = record { old = c.args.view.now; look = (_, look.0); new = c.part.new.self } in (made ∷ [], (refl, refl), (look.1.looked, tt))
+
+pub returns-clause-few : goal.returns-clause-few
+returns-clause-few g c =
+    let most = max c.args.records LOOK_RECORDS in
+    let part = c.in_ok-part.part in
+    let few : looked_in (g.V.View.most most) part ≤ g.V.View.most most = subst (λ (n : ℕ). looked_in (g.V.View.most n) part ≤ g.V.View.most n) c.max-most.ensures c.in_ok-part.ensures.few in
+    counted_first most _ _ _ _ part (ap records_left c.requires) (c.in_ok-with_part.ensures.looked ∙ ap (λ (n : ℕ). looked_in n part) c.max-most.ensures) few

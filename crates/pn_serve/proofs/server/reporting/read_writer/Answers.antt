@@ -1,7 +1,9 @@
 -- Messages that were handed on go on from what was read.
 use Rattle.std.proofs.Common.{ℕ, Option, refl, sym, ap, ◌∙◌, subst, arith}
 use Rattle.pn_stream.specs.Batches.{Stream}
-use Rattle.pn_serve.proofs.WritersRead.{WasReadBy, read_none, read_on, last_more, ends_input}
+use Rattle.pn_serve.specs.Server.Writers.{EndsInput}
+use Rattle.pn_serve.specs.declared.server.writers.WriterEnd.{WriterEnd}
+use Rattle.pn_serve.proofs.WritersRead.{WasReadBy, read_none, read_on, last_more, ends_input, on_end}
 use Rattle.pn_serve.proofs.server.reporting.read_writer.Goals as goal
 
 pub loop-init : goal.loop-init
@@ -32,4 +34,5 @@ returns-in-Ended-clause-ends g c =
     let first = c.args.input.now in
     let old = c.loop.input in
     let new = c.next-in-loop.new.self in
-    ends_input g.S.Source.left first.before first.reader old.reader new.reader c.in-Ended.end old.before new.before c.loop.invariant.read c.in-Ended.ensures.gives
+    on_end c.unless_stopped.result c.in-Ended.end (λ (end : WriterEnd). EndsInput g.S.Source.left first.before first.reader end new.before new.reader) c.unless_stopped.ensures
+    (ends_input g.S.Source.left first.before first.reader old.reader new.reader c.in-Ended.end old.before new.before c.loop.invariant.read c.in-Ended.ensures.gives)

@@ -1,11 +1,12 @@
 -- A turn begins with what the connection keeps, and ends with what it keeps then.
 use Rattle.std.proofs.Common.{sym, subst}
 use Rattle.std.specs.Io.KnownBytes.{prepend_known}
+use Rattle.pn_serve.specs.declared.script.line_loop.steps.TheConstants.{TURN_UNITS}
 use Rattle.pn_serve.specs.Lines.States.{waits_in}
 use Rattle.pn_serve.specs.Lines.Stepping.{by}
 use Rattle.pn_stay.specs.Connections.{ConnectionValue, loop_of}
 use Rattle.pn_stay.specs.Turns.{Continues, in_buffers}
-use Rattle.pn_stay.proofs.Storing.{AppendsPrefix-none, Turns-stored}
+use Rattle.pn_stay.proofs.Storing.{AppendsPrefix-none, Turns-stored, answers_stored}
 use Rattle.pn_stay.proofs.connection_state.ConnectionState.turn.Goals as goal
 
 pub returns-clause-turns : goal.returns-clause-turns
@@ -23,3 +24,10 @@ returns-clause-pauses g c = c.store.ensures.pauses c.send_and_step-step.ensures.
 
 pub returns-clause-few : goal.returns-clause-few
 returns-clause-few g c = c.send_and_step-step.ensures.few
+
+pub returns-clause-written : goal.returns-clause-written
+returns-clause-written g c = c.send_and_step-step.ensures.written
+
+pub returns-clause-answers : goal.returns-clause-answers
+returns-clause-answers g c =
+    answers_stored TURN_UNITS c.args.self.now (in_buffers c.load.new.buffers) (in_buffers c.send_and_step-step.new.buffers) c.store.new.self c.load.ensures c.send_and_step-step.ensures.answers c.send_and_step-step.result c.store.result c.store.ensures.stores

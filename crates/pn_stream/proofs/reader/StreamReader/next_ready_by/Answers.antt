@@ -4,8 +4,8 @@ use Rattle.std.proofs.lemmas.Result.{err_from_is_err_and}
 use Rattle.pn_stream.proofs.Runs.{Stands-first}
 use Rattle.pn_stream.proofs.reader.StreamReader.next_ready_by.Goals as goal
 
-pub returns-in_err-settle : goal.returns-in_err-settle
-returns-in_err-settle g c =
+pub returns-in_err-settle-clause-call : goal.returns-in_err-settle-clause-call
+returns-in_err-settle-clause-call g c =
     let empty : length c.take_by-images.result.0.items ≡ 0 = search rules in
     let p = err_from_is_err_and c.from_residual.result c.from_residual.ensures.1 in
     rw (p.1, p.2) (record {

@@ -1,13 +1,11 @@
--- Going on to the next leaf leaves the remaining entries the same.
+-- Going on to the next block leaves the remaining entries the same.
 use Rattle.std.proofs.Common.{◌≡◌, ◌++◌, length}
 use Rattle.std.specs.Slice.Iter.{iter_rest}
-use Rattle.pn_join.specs.LeafEntries.{leaves_of}
-use Rattle.pn_join.specs.Leaves.{all_entries}
+use Rattle.pn_join.specs.Blocks.{entries_in}
 use Rattle.pn_join.proofs.table.entries.EntriesIterator.next.Given as goal
 
 abbrev pub invariant-loop-key : goal.invariant-loop-key
-invariant-loop-key g l =
-    iter_rest l.self-inside.left ++ all_entries (leaves_of (iter_rest l.self-inside.leaves)) ≡ l.fn.self
+invariant-loop-key g l = l.self-inside.left ++ entries_in (iter_rest l.self-inside.blocks) ≡ l.fn.self
 
 abbrev pub decreases-loop-key : goal.decreases-loop-key
-decreases-loop-key g l = length (iter_rest l.self-inside.leaves)
+decreases-loop-key g l = length (iter_rest l.self-inside.blocks)

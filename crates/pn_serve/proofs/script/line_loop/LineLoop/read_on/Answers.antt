@@ -1,15 +1,17 @@
 -- Replies are handed on, or there is too much, or the source has more, no more, or failed.
-use Rattle.std.proofs.Common.{◌≡◌, true, false, sym, ap, ◌∙◌, subst, arith}
+use Rattle.std.proofs.Common.{◌≡◌, length, true, false, refl, sym, ap, ◌∙◌, subst, arith}
 use Rattle.std.specs.Prelude.{Ok}
 use Rattle.pn_serve.specs.declared.script.Counts.{Counts}
 use Rattle.pn_serve.specs.declared.script.RunFault.TheVariants.{Read, TooManyTurns}
 use Rattle.pn_serve.specs.declared.script.line_loop.steps.Step.{Step}
 use Rattle.pn_serve.specs.declared.script.line_loop.steps.Step.TheVariants.{Next}
 use Rattle.pn_serve.specs.Lines.Bounds.{ReadsOn}
+use Rattle.pn_serve.specs.Lines.Made.{made_by}
 use Rattle.pn_serve.specs.Lines.States.{LineLoopValue}
 use Rattle.pn_serve.specs.Lines.Stepping.{Stands, StepsTo, by, with_rest}
 use Rattle.pn_serve.proofs.Knowing.{knows_itself}
-use Rattle.pn_serve.proofs.Bounded.{some_rest}
+use Rattle.pn_serve.proofs.Bounded.{counts_nothing, sends_counted, some_rest, waits_counted}
+use Rattle.pn_serve.proofs.Made.{makes_none, makes_unwritten}
 use Rattle.pn_serve.proofs.Measured.{fault_nearer, out_nearer, waits_nearer}
 use Rattle.pn_serve.proofs.Standing.{Keeps-rest, Steps-put_out, Steps-waited}
 use Rattle.pn_serve.proofs.Steps.{Steps-endless, Steps-kept, Steps-many, Steps-read_fault}
@@ -148,3 +150,33 @@ returns-in-Err-clause-waits g c = λ more out. elim c.else-not-has_more.branch [
   | else-not-has_more-via-then-not-has_more+else-not-is_out w ↦ let no : true ≡ false = sym w.if-not-is_out.false ∙ w.is_out.ensures ∙ ap (λ (r : LineLoopValue). r.state.out) c.self.view_is ∙ out in cc
   | else-not-has_more-via-else-not-has_more w ↦ let no : true ≡ false = sym w.if-not-has_more.false ∙ c.has_more.ensures ∙ ap (λ (r : LineLoopValue). r.state.more) c.self.view_is ∙ more in cc
 ]
+
+pub returns-then-not-is_out-clause-written : goal.returns-then-not-is_out-clause-written
+returns-then-not-is_out-clause-written g c = makes_none (made_by c.put_out.result) _ _ _ _ c.put_out.ensures.written
+
+pub returns-then-len-ge-ENDLESS-clause-written : goal.returns-then-len-ge-ENDLESS-clause-written
+returns-then-len-ge-ENDLESS-clause-written g c = makes_unwritten (made_by c.end_reading.result) _ _ _ (omega (arith, ap (λ (r : LineLoopValue). length r.replies) c.end_reading.ensures.ends))
+
+pub returns-in-Ok-true-clause-written : goal.returns-in-Ok-true-clause-written
+returns-in-Ok-true-clause-written g c = makes_unwritten (made_by c.end_reading-in-Ok-true.result) _ _ _ (omega (arith, ap (λ (r : LineLoopValue). length r.replies) c.end_reading-in-Ok-true.ensures.ends))
+
+pub returns-in-Err-clause-written : goal.returns-in-Err-clause-written
+returns-in-Err-clause-written g c = makes_unwritten (made_by c.end_reading-in-Err.result) _ _ _ (omega (arith, ap (λ (r : LineLoopValue). length r.replies) c.end_reading-in-Err.ensures.ends))
+
+pub returns-in-Ok-false-clause-written : goal.returns-in-Ok-false-clause-written
+returns-in-Ok-false-clause-written g c = makes_none (made_by c.wait_for_input.result) _ _ _ _ c.wait_for_input.ensures.written
+
+pub returns-then-not-is_out-clause-counted : goal.returns-then-not-is_out-clause-counted
+returns-then-not-is_out-clause-counted g c =
+    let before = g.W.Sink.contents c.args.output.now in
+    let after = g.W.Sink.contents c.put_out.new.output in
+    sends_counted c.args.self.now c.put_out.new.self before after c.put_out.result c.requires.made c.put_out.ensures.sends c.put_out.ensures.same c.put_out.ensures.written
+
+pub returns-in-Ok-false-clause-counted : goal.returns-in-Ok-false-clause-counted
+returns-in-Ok-false-clause-counted g c =
+    let old = c.args.self.now in
+    let new = c.wait_for_input.new.self in
+    let before = g.W.Sink.contents c.args.output.now in
+    let after = g.W.Sink.contents c.wait_for_input.new.output in
+    waits_counted old new before after old c.wait_for_input.result c.wait_for_input.ensures.waits
+    (counts_nothing old new before after old (omega arith) refl (omega arith) c.wait_for_input.ensures.same c.wait_for_input.ensures.written)

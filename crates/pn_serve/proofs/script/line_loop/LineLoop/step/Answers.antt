@@ -1,16 +1,18 @@
 -- A step writes, reads, goes on with a look, or ends.
-use Rattle.std.proofs.Common.{◌≡◌, ◌≢◌, ◌+◌, ◌*◌, ◌<◌, length, true, [], inr, sym, ap, ◌∙◌, subst, arith}
+use Rattle.std.proofs.Common.{◌≡◌, ◌≢◌, ◌+◌, ◌*◌, ◌<◌, ◌≤◌, length, true, [], inr, refl, sym, ap, ◌∙◌, subst, arith}
 use Rattle.pn_line.specs.Line.{LineBufferValue}
 use Rattle.pn_serve.specs.declared.script.replies.TheConstants.{REPLY_CAPACITY}
 use Rattle.pn_serve.specs.declared.script.line_loop.state.Stage.{Stage}
 use Rattle.pn_serve.specs.declared.script.line_loop.state.Stage.TheVariants.{Reading, Looking, Ending}
-use Rattle.pn_serve.specs.Lines.Bounds.{CountsUnits, Foresees, ForeseesAt, HandsOnAtMost, IsLookingAt, IsOutAs, ReadsOn}
+use Rattle.pn_serve.specs.Lines.Bounds.{CountsUnits, Foresees, ForeseesAt, HandsOnAtMost, IsLookingAt, IsOutAs, KeepsLine, ReadsOn}
 use Rattle.pn_serve.specs.Lines.Going.{AnswersLast, AnswersWith}
+use Rattle.pn_serve.specs.Lines.Made.{MakesAtMost, made_by, made_in}
 use Rattle.pn_serve.specs.Lines.States.{LineLoopValue, LineStateValue}
 use Rattle.pn_serve.specs.Lines.Stepping.{Stands, StandsAt, by, with_rest}
 use Rattle.pn_serve.specs.Lines.Taking.{EndsTo, Takes, TakesLine}
-use Rattle.pn_serve.proofs.Bounded.{ends_counted, ends_foresees, ends_idle, ends_no_input, sends_foresees, takes_foresees, takes_grows, takes_line, takes_lines, takes_out}
+use Rattle.pn_serve.proofs.Bounded.{counts_nothing, ends_counted, ends_foresees, ends_idle, ends_no_input, sends_foresees, takes_foresees, takes_grows, takes_line, takes_lines, takes_out}
 use Rattle.pn_serve.proofs.Knowing.{knows_itself}
+use Rattle.pn_serve.proofs.Made.{makes_none, makes_unwritten}
 use Rattle.pn_serve.proofs.Measured.{ends_nearer}
 use Rattle.pn_serve.proofs.Stages.{taken_as_was, taken_reads}
 use Rattle.pn_serve.proofs.Standing.{Steps-ended, Steps-written}
@@ -203,7 +205,9 @@ returns-in-Ending-clause-counted g c =
     let mid : LineLoopValue = record old { state = record old.state { stage = Reading } } in
     let mid_is = taken_reads c.self.inside.line c.self.inside.replies c.self.inside.state c.take_stage.new.self old c.take_stage.ensures.reads c.self.view_is in
     let ends : EndsTo ended mid before new after c.end_once_out.result = subst (λ (r : LineLoopValue). EndsTo ended r before new after c.end_once_out.result) mid_is c.end_once_out.ensures.ends in
-    ends_counted mid new before after ended old c.end_once_out.result ends
+    let same = subst (λ (r : LineLoopValue). KeepsLine r new) mid_is c.end_once_out.ensures.same in
+    let makes = subst (λ (r : LineLoopValue). MakesAtMost 0 before after r.replies new.replies) mid_is c.end_once_out.ensures.written in
+    ends_counted mid new before after ended old c.end_once_out.result ends (counts_nothing mid new before after old (omega arith) refl (omega arith) same makes)
 
 pub returns-in-Ending-clause-reads : goal.returns-in-Ending-clause-reads
 returns-in-Ending-clause-reads g c =
@@ -268,3 +272,26 @@ returns-in-Ending-clause-knows g c = knows_itself _
 
 pub read_on-requires-clause-made : goal.read_on-requires-clause-made
 read_on-requires-clause-made g c = ap (λ (s : LineStateValue). s.left) c.take_stage.ensures.reads ∙ (no_text c.has_text.result c.self.inside.state.left c.has_text.ensures).0 c.if-has_text.false
+
+pub returns-in-Reading-clause-written : goal.returns-in-Reading-clause-written
+returns-in-Reading-clause-written g c =
+    let before = g.W.Sink.contents c.args.output.now in
+    let after = g.W.Sink.contents c.read_on.new.output in
+    let back = taken_as_was c.self.inside.line c.self.inside.replies c.self.inside.state c.take_stage.new.self c.args.self.now c.take_stage.ensures.reads (sym c.take_stage.ensures.stage ∙ c.in-Reading.is) c.self.view_is in
+    subst (λ (r : LineLoopValue). MakesAtMost (made_by c.read_on.result) before after r.replies c.read_on.new.self.replies) back c.read_on.ensures.written
+
+pub returns-in-Looking-clause-written : goal.returns-in-Looking-clause-written
+returns-in-Looking-clause-written g c =
+    let old = c.args.self.now in
+    let new = c.look_on.new.self in
+    let mid_is = taken_reads c.self.inside.line c.self.inside.replies c.self.inside.state c.take_stage.new.self old c.take_stage.ensures.reads c.self.view_is in
+    makes_unwritten (made_in c.look_on.result) (g.W.Sink.contents c.args.output.now) old.replies new.replies (subst (λ (r : LineLoopValue). length new.replies ≤ length r.replies + made_in c.look_on.result) mid_is c.look_on.ensures.makes)
+
+pub returns-in-Ending-clause-written : goal.returns-in-Ending-clause-written
+returns-in-Ending-clause-written g c =
+    let old = c.args.self.now in
+    let new = c.end_once_out.new.self in
+    let before = g.W.Sink.contents c.args.output.now in
+    let after = g.W.Sink.contents c.end_once_out.new.output in
+    let mid_is = taken_reads c.self.inside.line c.self.inside.replies c.self.inside.state c.take_stage.new.self old c.take_stage.ensures.reads c.self.view_is in
+    makes_none (made_by c.end_once_out.result) before after old.replies new.replies (subst (λ (r : LineLoopValue). MakesAtMost 0 before after r.replies new.replies) mid_is c.end_once_out.ensures.written)

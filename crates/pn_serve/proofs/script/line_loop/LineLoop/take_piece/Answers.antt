@@ -1,5 +1,5 @@
 -- A piece of a line was read, the line was answered, no input is at hand, or the source failed.
-use Rattle.std.proofs.Common.{◌≡◌, ◌<◌, ◌≤◌, true, [], ◌∷◌, OnSome, refl, sym, ap, ◌∙◌, subst, arith}
+use Rattle.std.proofs.Common.{◌≡◌, ◌<◌, ◌≤◌, length, true, [], ◌∷◌, OnSome, refl, sym, ap, ◌∙◌, subst, arith}
 use Rattle.std.specs.Prelude.{Ok, Err}
 use Rattle.pn_line.specs.declared.line_buffer.TheConstants.{ENDLESS}
 use Rattle.pn_line.specs.declared.piece.Piece.{Piece}
@@ -10,13 +10,15 @@ use Rattle.pn_serve.specs.declared.script.RunFault.TheVariants.{Read}
 use Rattle.pn_serve.specs.declared.script.line_loop.state.Stage.TheVariants.{Ending}
 use Rattle.pn_serve.specs.declared.script.line_loop.steps.Step.{Step}
 use Rattle.pn_serve.specs.declared.script.line_loop.steps.Step.TheVariants.{Next}
-use Rattle.pn_serve.specs.Lines.Bounds.{ReadsOn}
+use Rattle.pn_serve.specs.Lines.Bounds.{KeepsLine, ReadsOn}
 use Rattle.pn_serve.specs.Lines.Going.{AnswersWith}
+use Rattle.pn_serve.specs.Lines.Made.{MakesAtMost, made_by, made_in}
 use Rattle.pn_serve.specs.Lines.States.{LineLoopValue, LineStateValue}
 use Rattle.pn_serve.specs.Lines.Stepping.{Stands, StepsTo, by, with_rest}
 use Rattle.pn_serve.specs.Lines.Taking.{Takes, TakesLine, WaitsTo}
 use Rattle.pn_serve.proofs.Knowing.{knows_itself}
-use Rattle.pn_serve.proofs.Bounded.{shown_rest}
+use Rattle.pn_serve.proofs.Bounded.{counts_nothing, shown_rest, waits_counted}
+use Rattle.pn_serve.proofs.Made.{makes_none, makes_unwritten}
 use Rattle.pn_serve.proofs.Measured.{answer_nearer, fault_nearer, part_nearer, waits_nearer}
 use Rattle.pn_serve.proofs.Standing.{Keeps-rest, Steps-waited, Takes-rest}
 use Rattle.pn_serve.proofs.Steps.{Steps-line, Steps-part, Steps-read_fault}
@@ -153,3 +155,34 @@ returns-in-Ok-NoMore-clause-knows g c = knows_itself _
 
 pub returns-in-Err-clause-knows : goal.returns-in-Err-clause-knows
 returns-in-Err-clause-knows g c = knows_itself _
+
+pub returns-in-Ok-Part-clause-written : goal.returns-in-Ok-Part-clause-written
+returns-in-Ok-Part-clause-written g c = makes_unwritten (made_in c.units_of.result) _ _ _ (omega (arith, ap (λ (r : LineLoopValue). length r.replies) c.self.view_is))
+
+pub returns-in-Ok-Ended-clause-written : goal.returns-in-Ok-Ended-clause-written
+returns-in-Ok-Ended-clause-written g c = makes_unwritten (made_in c.answer.result) _ _ _ (omega (arith, c.answer.ensures.makes, ap (λ (r : LineLoopValue). length r.replies) c.self.view_is))
+
+pub returns-in-Ok-NoMore-clause-written : goal.returns-in-Ok-NoMore-clause-written
+returns-in-Ok-NoMore-clause-written g c =
+    let before = g.W.Sink.contents c.args.output.now in
+    let after = g.W.Sink.contents c.wait_for_input.new.output in
+    let new = c.wait_for_input.new.self in
+    makes_none (made_by c.wait_for_input.result) before after c.args.self.now.replies new.replies
+    (subst (λ (r : LineLoopValue). MakesAtMost 0 before after r.replies new.replies) c.self.view_is c.wait_for_input.ensures.written)
+
+pub returns-in-Err-clause-written : goal.returns-in-Err-clause-written
+returns-in-Err-clause-written g c = makes_unwritten (made_by c.end_reading.result) _ _ _ (omega (arith, ap (λ (r : LineLoopValue). length r.replies) c.end_reading.ensures.ends, ap (λ (r : LineLoopValue). length r.replies) c.self.view_is))
+
+pub returns-in-Ok-NoMore-clause-counted : goal.returns-in-Ok-NoMore-clause-counted
+returns-in-Ok-NoMore-clause-counted g c =
+    let before = g.W.Sink.contents c.args.output.now in
+    let after = g.W.Sink.contents c.wait_for_input.new.output in
+    let old = c.args.self.now in
+    let new = c.wait_for_input.new.self in
+    let line = c.take_some.new.line in
+    let mid : LineLoopValue = record old { line = line } in
+    let longer : old.line.count ≤ line.count = omega (arith, ap (λ (l : LineBufferValue). l.count) c.in-Ok-NoMore.ensures.takes.line, ap (λ (r : LineLoopValue). r.line.count) c.self.view_is) in
+    let waits = subst (λ (r : LineLoopValue). WaitsTo (let m : LineLoopValue = record r { line = line } in m) before new after c.wait_for_input.result) c.self.view_is c.wait_for_input.ensures.waits in
+    let same = subst (λ (r : LineLoopValue). KeepsLine (let m : LineLoopValue = record r { line = line } in m) new) c.self.view_is c.wait_for_input.ensures.same in
+    let makes = subst (λ (r : LineLoopValue). MakesAtMost 0 before after r.replies new.replies) c.self.view_is c.wait_for_input.ensures.written in
+    waits_counted mid new before after old c.wait_for_input.result waits (counts_nothing mid new before after old longer refl (omega arith) same makes)

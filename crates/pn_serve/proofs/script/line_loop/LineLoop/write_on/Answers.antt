@@ -1,8 +1,9 @@
 -- A block was written, and text was made where there was room.
-use Rattle.std.proofs.Common.{subst}
-use Rattle.pn_serve.specs.Lines.States.{LineLoopValue}
+use Rattle.std.proofs.Common.{length, refl, ap, subst, arith}
+use Rattle.pn_line.specs.Sent.{AppendsPrefix}
+use Rattle.pn_serve.specs.Lines.States.{LineLoopValue, waits_in}
 use Rattle.pn_serve.specs.Lines.Taking.{IsSent}
-use Rattle.pn_serve.proofs.Writing.{Sent-made, Sent-only, Sent-some}
+use Rattle.pn_serve.proofs.Writing.{Sent-cut, Sent-made, Sent-only, Sent-some}
 use Rattle.pn_serve.proofs.script.line_loop.LineLoop.write_on.Goals as goal
 
 pub returns-in-Ok-All-clause-sends : goal.returns-in-Ok-All-clause-sends
@@ -22,3 +23,23 @@ returns-in-Ok-Waits-clause-sends g c =
       subst (λ (r : LineLoopValue). IsSent r before new after) c.self.view_is (Sent-only old c.send_block.new.self c.self.inside.state.out before after c.in-Ok-Waits.ensures.ok),
       Sent-some c.send_block.new.self c.self.inside.state.left (c.in-Ok-Waits.ensures.waits c.in-Ok-Waits.field-0-is).0,
     )
+
+pub returns-in-Err-clause-sends : goal.returns-in-Err-clause-sends
+returns-in-Err-clause-sends g c =
+    let before = g.W.Sink.contents c.args.output.now in
+    let after = g.W.Sink.contents c.send_block.new.writer in (
+      refl,
+      subst (λ (r : LineLoopValue). AppendsPrefix before after (waits_in r)) c.self.view_is (Sent-cut before after c.self.inside.replies c.self.inside.state.left c.in-Err.ensures.err),
+    )
+
+pub returns-in-Ok-Waits-clause-counted : goal.returns-in-Ok-Waits-clause-counted
+returns-in-Ok-Waits-clause-counted g c = (
+  omega (arith, ap (λ (r : LineLoopValue). r.state.counts.lines) c.self.view_is),
+  omega (arith, c.send_block.ensures.written.few, ap (λ (r : LineLoopValue). r.line.count) c.self.view_is, ap (λ (r : LineLoopValue). length r.replies) c.self.view_is),
+)
+
+pub returns-in-Err-clause-counted : goal.returns-in-Err-clause-counted
+returns-in-Err-clause-counted g c = (
+  omega (arith, ap (λ (r : LineLoopValue). r.state.counts.lines) c.self.view_is),
+  omega (arith, c.send_block.ensures.written.few, ap (λ (r : LineLoopValue). r.line.count) c.self.view_is, ap (λ (r : LineLoopValue). length r.replies) c.self.view_is),
+)

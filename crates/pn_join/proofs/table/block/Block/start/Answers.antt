@@ -1,0 +1,19 @@
+use Rattle.std.proofs.Common.{◌-◌, length, take, get_or, ap, ◌∙◌, arith}
+use Rattle.pn_join.specs.LeafEntries.{leaves_of}
+use Rattle.pn_join.specs.Leaves.{all_entries}
+use Rattle.pn_join.proofs.LeafListFacts.{start_at}
+use Rattle.pn_join.proofs.LeafListIndices.{length-counts}
+use Rattle.pn_join.proofs.table.block.Block.start.Goals as goal
+
+pub index-requires : goal.index-requires
+index-requires g c =
+    let list = leaves_of c.self.inside.leaves.items in
+    omega (arith, c.requires, c.if-index-eq0.false, ap length c.self.invariant.1.each, length-counts 0 list, ap length c.self.view_is, c.self.inside.entry_counts.ok.0)
+
+pub returns-else-index-eq0-clause-start : goal.returns-else-index-eq0-clause-start
+returns-else-index-eq0-clause-start g c =
+    let list = leaves_of c.self.inside.leaves.items in
+    let index = c.args.index in
+    c.index.ensures ∙ ap (λ es. get_or es (index - 1) c.index.result.now) c.self.invariant.1.each
+    ∙ start_at list index c.index.result.now c.if-index-eq0.false (omega (arith, c.requires, ap length c.self.view_is))
+    ∙ ap (λ ls. length (all_entries (take index ls))) c.self.view_is

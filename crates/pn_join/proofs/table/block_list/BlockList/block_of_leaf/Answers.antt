@@ -1,0 +1,24 @@
+use Rattle.std.proofs.Common.{length, ap, ◌∙◌, arith, rules}
+use Rattle.std.specs.List.{prefix_len}
+use Rattle.std.proofs.lemmas.List.Sorted.{IsPartitionPoint-from_clause, IsPartitionedBy-leb}
+use Rattle.pn_join.specs.Leaves.{counts_after}
+use Rattle.pn_join.proofs.Partitions.{prefix_at}
+use Rattle.pn_join.proofs.LeafListFacts.{counts_by}
+use Rattle.pn_join.proofs.LeafListIndices.{counts_rise, length-counts}
+use Rattle.pn_join.proofs.table.block_list.BlockList.block_of_leaf.Goals as goal
+
+pub returns-clause-block : goal.returns-clause-block
+returns-clause-block g c =
+    let list = c.self.inside.blocks.items in
+    let index = c.args.index in
+    let leaf_counts = c.deref.ensures.value ∙ c.self.invariant.2.each in
+    let point = IsPartitionPoint-from_clause (counts_by index) c.deref.result.now c.partition_point.result c.partition_point.ensures.partitioned
+    (rw leaf_counts (IsPartitionedBy-leb (λ n. n) (counts_after 0 list) index (counts_rise 0 list)))
+    (λ a r f' called. search rules) in
+    prefix_at (counts_by index) c.deref.result.now c.partition_point.result c.partition_point.ensures.bound point
+    ∙ ap (prefix_len (counts_by index)) (leaf_counts ∙ ap (counts_after 0) c.self.view_is)
+
+pub returns-clause-within : goal.returns-clause-within
+returns-clause-within g c =
+    let blocks = c.self.inside.blocks.items in
+    omega (arith, c.partition_point.ensures.bound, ap length (c.deref.ensures.value ∙ c.self.invariant.2.each), length-counts 0 blocks, ap length c.self.view_is)

@@ -1,0 +1,18 @@
+use Rattle.std.proofs.Common.{◌-◌, length, take, get_or, ap, ◌∙◌, arith}
+use Rattle.pn_join.specs.Leaves.{all_entries}
+use Rattle.pn_join.proofs.LeafListFacts.{start_at}
+use Rattle.pn_join.proofs.LeafListIndices.{length-counts}
+use Rattle.pn_join.proofs.table.block_list.BlockList.leaves_before.Goals as goal
+
+pub index-requires : goal.index-requires
+index-requires g c =
+    let blocks = c.self.inside.blocks.items in
+    omega (arith, c.requires, c.if-index-eq0.false, ap length c.self.invariant.2.each, length-counts 0 blocks, ap length c.self.view_is, c.self.inside.leaf_counts.ok.0)
+
+pub returns-else-index-eq0-clause-start : goal.returns-else-index-eq0-clause-start
+returns-else-index-eq0-clause-start g c =
+    let blocks = c.self.inside.blocks.items in
+    let index = c.args.index in
+    c.index.ensures ∙ ap (λ es. get_or es (index - 1) c.index.result.now) c.self.invariant.2.each
+    ∙ start_at blocks index c.index.result.now c.if-index-eq0.false (omega (arith, c.requires, ap length c.self.view_is))
+    ∙ ap (λ bs. length (all_entries (take index bs))) c.self.view_is

@@ -1,0 +1,93 @@
+//! Where the thread of a stream leaves its reports, and how it waits for memory.
+
+use crate::server::counter::Counter;
+use crate::server::mailboxes::{AtFault, Mailbox};
+use crate::server::reports::Report;
+use crate::server::wakeup::Wakeup;
+use crate::server::writers::WriterEnd;
+use pn_join::StreamName;
+use pn_stream::{ReaderMemory, ResumeFault, StreamFault};
+use std::alloc::Global;
+use std::sync::{Arc, Wait};
+use std::time::Clock;
+
+/// Where the thread of a stream leaves its reports, and what is to follow from its fault.
+#[derive(Drop)]
+pub(crate) struct Reporter {
+    pub(crate) name: StreamName,
+    pub(crate) mailbox: Arc<Mailbox>,
+    pub(crate) wakeup: Arc<Wakeup>,
+    pub(crate) at_fault: AtFault,
+    /// How many streams wait for memory, where somebody looks at that.
+    pub(crate) waiting: Option<Arc<Counter>>,
+    /// At 1 while this stream waits for memory, and else at 0.
+    pub(crate) waits: Counter,
+}
+
+impl Reporter {
+    /// Leaves a report once the last one is taken, and wakes the thread that takes it. False if no more are taken.
+    pub(crate) fn leave<R: Wait>(&self, rt: &R, report: Report) -> bool {
+        let is_wanted = self.mailbox.put(rt, report);
+        self.wakeup.notify(rt);
+        is_wanted
+    }
+
+    /// Shows whether the stream waits for memory.
+    pub(crate) fn show_shortage(&self, is_short: bool) {
+        if is_short == (self.waits.get() > 0) {
+            return;
+        }
+        self.waits.set(if is_short { 1 } else { 0 });
+        match &self.waiting {
+            Some(waiting) if is_short => waiting.add(1),
+            Some(waiting) => waiting.subtract(1),
+            None => {}
+        }
+    }
+
+    /// Whether the stream ended since memory ran out and it is read no more.
+    pub(crate) fn is_stopped<R: Wait>(&self, rt: &R, end: &WriterEnd) -> bool {
+        self.at_fault == AtFault::GoOn && lacks_memory(end) && self.mailbox.is_closed(rt)
+    }
+
+    // Waits for a second where a fault ends this stream alone. False where no more reports are taken, or where it does not wait.
+    fn wait_for_memory<R: Wait + Clock>(&self, rt: &R) -> bool {
+        if self.at_fault == AtFault::Stop {
+            return false;
+        }
+        self.show_shortage(true);
+        self.mailbox.wait_for_memory(rt)
+    }
+}
+
+fn lacks_memory(end: &WriterEnd) -> bool {
+    matches!(
+        end,
+        WriterEnd::Fault {
+            fault: ResumeFault::Stream(StreamFault::Memory),
+            ..
+        }
+    )
+}
+
+/// The memory of the thread of a stream.
+#[derive(Drop)]
+pub(crate) struct StreamMemory<'a, R: Wait + Clock> {
+    pub(crate) rt: &'a R,
+    pub(crate) alloc: Global,
+    pub(crate) reporter: &'a Reporter,
+}
+
+impl<'a, R: Wait + Clock> ReaderMemory for StreamMemory<'a, R> {
+    ghost may_give_up = { Unit {0} };
+
+    fn alloc(&self) -> Global {
+        self.alloc
+    }
+
+    fn wait(&self) -> bool {
+        self.reporter.wait_for_memory(self.rt)
+    }
+
+    fn give_up(&self) {}
+}
