@@ -59,7 +59,7 @@ pub(super) fn begin_accepting(
 }
 
 /// Starts the thread that accepts connections for the threads of these mailboxes.
-pub(super) fn accept_into<R>(
+pub(super) fn start_accepting<R>(
     rt: &R,
     accepting: Accepting,
     mailboxes: Vec<Arc<SocketMailbox>>,
@@ -68,11 +68,12 @@ where
     R: Threads + Wait + Clock + Copy + Send + 'static,
 {
     let mailboxes = Arc::new(accepting.shared.alloc, mailboxes)?;
-    accept_for(rt, accepting, &mailboxes)?;
+    prepare_threads(rt, accepting, &mailboxes)?;
     Ok(mailboxes)
 }
 
-fn accept_for<R>(
+// Gives the threads handles of what they share.
+fn prepare_threads<R>(
     rt: &R,
     accepting: Accepting,
     mailboxes: &Arc<Vec<Arc<SocketMailbox>>>,
@@ -88,11 +89,11 @@ where
         messages,
     } = accepting;
     let notes = AcceptNotes::new(shared.alloc, counters, messages);
-    start_accepting(rt, shared, listener, mailboxes, notes)
+    spawn_threads(rt, shared, listener, mailboxes, notes)
 }
 
 // Starts the thread that accepts connections, and where clients may not be idle for long the one that notes each quarter.
-fn start_accepting<R>(
+fn spawn_threads<R>(
     rt: &R,
     shared: Shared,
     listener: Listener,

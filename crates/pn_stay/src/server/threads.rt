@@ -8,7 +8,7 @@ ghost use Rattle.pn_serve.specs.Session.Knowing.{KnowsNoLess};
 use crate::acceptor::SocketAcceptor;
 use crate::counters::Counters;
 use crate::event_loop::{EventLoop, MAILBOX};
-use crate::server::accepting::{Shared, accept_into, begin_accepting};
+use crate::server::accepting::{Shared, begin_accepting, start_accepting};
 use crate::socket_mailbox::{Closed, SocketMailbox};
 use mio::{Poll, Waker};
 use pn_live::{LiveReader, LiveRegion};
@@ -48,7 +48,7 @@ where
     let accepting = begin_accepting(alloc, acceptor, connections)?;
     let mut mailboxes = Vec::new(alloc);
     let running = start_threads(rt, &accepting.shared, &mut mailboxes, live, readers)?;
-    let mailboxes = accept_into(rt, accepting, mailboxes)?;
+    let mailboxes = start_accepting(rt, accepting, mailboxes)?;
     Ok(Answering { running, mailboxes })
 }
 

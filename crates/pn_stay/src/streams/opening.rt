@@ -120,7 +120,7 @@ fn add_counters<R: Drop>(
 ) -> Result<Arc<Counter>, AllocError> {
     let notes = &origin.notes;
     if let Some(input) = share(&notes.counters)? {
-        let told = told_to(notes, &origin.writers)?;
+        let told = share_told(notes, &origin.writers)?;
         let taken = Some(Arc::try_clone(&notes.progress.taken)?);
         let status = share(&notes.status)?;
         counters.push(StreamCounters {
@@ -135,8 +135,8 @@ fn add_counters<R: Drop>(
     Arc::try_clone(&notes.progress.taken)
 }
 
-// The position that a writer was sent last, where writers are sent positions.
-fn told_to<R: Drop>(
+// Shares the position that a writer was sent last, where writers are sent positions.
+fn share_told<R: Drop>(
     notes: &StreamNotes<R>,
     writers: &Writers<R>,
 ) -> Result<Option<Arc<Counter>>, AllocError> {
