@@ -37,8 +37,6 @@ pub(super) fn begin_accepting(
     acceptor: SocketAcceptor,
     connections: usize,
 ) -> io::Result<Accepting> {
-    check_descriptors(connections)?;
-    let limit = Arc::new(alloc, ConnectionLimit::new(connections))?;
     let SocketAcceptor {
         listener,
         idle,
@@ -46,6 +44,8 @@ pub(super) fn begin_accepting(
         messages,
         ..
     } = acceptor;
+    check_descriptors(connections)?;
+    let limit = Arc::new(alloc, ConnectionLimit::new(connections))?;
     Ok(Accepting {
         shared: Shared {
             alloc,
@@ -81,13 +81,13 @@ fn prepare_threads<R>(
 where
     R: Threads + Wait + Clock + Copy + Send + 'static,
 {
-    let counters = Arc::try_clone(&accepting.shared.counters)?;
-    let mailboxes = Arc::try_clone(mailboxes)?;
     let Accepting {
         shared,
         listener,
         messages,
     } = accepting;
+    let counters = Arc::try_clone(&shared.counters)?;
+    let mailboxes = Arc::try_clone(mailboxes)?;
     let notes = AcceptNotes::new(shared.alloc, counters, messages);
     spawn_threads(rt, shared, listener, mailboxes, notes)
 }
