@@ -163,6 +163,10 @@ module _ (line : Bool) (old new : LineLoopValue) where
   takes_lines (Done reply, takes) = omega (arith, ap (λ (c : Counts). c.lines) takes.counts, one_more_at_most line old.state.counts.lines)
   takes_lines (Begun going, is) = omega (arith, ap (λ (r : LineLoopValue). r.state.counts.lines) is)
 
+  pub takes_looked : Takes line old new → new.state.looked ≡ old.state.looked
+  takes_looked (Done reply, takes) = takes.looked
+  takes_looked (Begun going, is) = ap (λ (r : LineLoopValue). r.state.looked) is
+
   pub takes_grows : Takes line old new → length old.replies ≤ length new.replies
   takes_grows (Done reply, takes) = takes.grows
   takes_grows (Begun going, is) = omega (arith, ap (λ (r : LineLoopValue). length r.replies) is)
@@ -237,6 +241,15 @@ end_lines old new some none = by (cases_eq old.line.count 0)
     by : (old.line.count ≡ 0) ⊎ (old.line.count ≢ 0) → new.state.counts.lines ≤ old.state.counts.lines + 1
     by (inl empty) = let (reply, takes) = none empty in omega (arith, ap (λ (c : Counts). c.lines) takes.counts)
     by (inr bytes) = takes_lines true (record old { line = so_far []; state = record old.state { last = true } }) new (some bytes)
+
+-- and no record was looked at
+pub end_looked : (old new : LineLoopValue) → (old.line.count ≢ 0 → Takes true (record old { line = so_far []; state = record old.state { last = true } }) new)
+    → (old.line.count ≡ 0 → (reply : Reply) × HasReply false (record old { line = so_far []; state = record old.state { last = true } }) reply new) → new.state.looked ≡ old.state.looked
+end_looked old new some none = by (cases_eq old.line.count 0)
+  where
+    by : (old.line.count ≡ 0) ⊎ (old.line.count ≢ 0) → new.state.looked ≡ old.state.looked
+    by (inl empty) = let (reply, takes) = none empty in takes.looked
+    by (inr bytes) = takes_looked true (record old { line = so_far []; state = record old.state { last = true } }) new (some bytes)
 
 -- and no reply waits unless it is still to be handed on
 pub end_out : (handed_on : Type 0) (old new : LineLoopValue)

@@ -198,16 +198,16 @@ module _ {V : Type 0} (handling : Handling V) (pre : IsPreorder handling.moves) 
           (record { between = was; moved = moved; done = subst (λ (t : List ℕ). handling.goes_last was t now going) same (subst (λ (t : List ℕ). AnswersLast handling.ends handling.goes_last was t now (Begun going)) (sym same) begun) }) (pre.stays now)
 
   -- a look was gone on with
-  pub Steps-look : (left written : Option (List ℕ)) (was now : V) (old new : LineLoopValue) (going : Going) → StandsAt handling (Looking going) start left written was old → Takes true (record old { state = record old.state { stage = Reading } }) new
-      → ((begun between : V) (text : List ℕ) → handling.goes begun text between going → handling.moves between was → TakesLine (AnswersWith handling.makes handling.goes) true begun text now (record old { state = record old.state { stage = Reading } }) new)
-      → ((begun between : V) (text : List ℕ) → handling.goes_last begun text between going → handling.moves between was → TakesLine (AnswersLast handling.ends handling.goes_last) true begun text now (record old { state = record old.state { stage = Reading } }) new)
+  pub Steps-look : (left written : Option (List ℕ)) (was now : V) (old new : LineLoopValue) (going : Going) → StandsAt handling (Looking going) start left written was old → Takes true (record old { state = record old.state { stage = Reading; looked = new.state.looked } }) new
+      → ((begun between : V) (text : List ℕ) → handling.goes begun text between going → handling.moves between was → TakesLine (AnswersWith handling.makes handling.goes) true begun text now (record old { state = record old.state { stage = Reading; looked = new.state.looked } }) new)
+      → ((begun between : V) (text : List ℕ) → handling.goes_last begun text between going → handling.moves between was → TakesLine (AnswersLast handling.ends handling.goes_last) true begun text now (record old { state = record old.state { stage = Reading; looked = new.state.looked } }) new)
       → Stands handling start left written now new
   Steps-look left written was now old new going stands shape line last =
       told_or start.left _ _ stands (λ none. Stands-untold left written now true _ new none shape)
       (λ script told is. by script told is is.begun)
     where
       mid : LineLoopValue
-      mid = record old { state = record old.state { stage = Reading } }
+      mid = record old { state = record old.state { stage = Reading; looked = new.state.looked } }
 
       by : (script : List ℕ) → start.left ≡ Some script → (is : IsLooking handling start script left written was old going)
           → BeginsLine handling script left is.lines is.reached is.text is.between going old.state.last ⊎ BeginsLast handling script left is.lines is.reached is.text is.between going old.state.last → Stands handling start left written now new

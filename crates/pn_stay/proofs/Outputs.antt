@@ -1,16 +1,16 @@
--- How many lines are answered, and how many bytes made and written, by one step of a turn after another.
+-- How many lines are answered, how many records looked at, and how many bytes made and written, by one step of a turn after another.
 use Rattle.std.proofs.Common.{◌≤◌, ◌<◌, ◌+◌, ◌*◌, ℕ, Option, List, [], ◌++◌, length, arith, length-append}
 use Rattle.std.specs.Io.KnownBytes.{Appends}
 use Rattle.std.proofs.KnownBytes.{Appends-nil, Appends-trans}
 use Rattle.pn_serve.specs.declared.script.line_loop.steps.Step.{Step}
 use Rattle.pn_serve.specs.declared.script.line_loop.steps.Step.TheVariants.{Next, NoInput, NoRoom, Ends}
-use Rattle.pn_serve.specs.declared.script.line_loop.steps.TheConstants.{TURN_UNITS}
+use Rattle.pn_serve.specs.declared.script.line_loop.steps.TheConstants.{TURN_UNITS, UNIT_RECORDS}
 use Rattle.pn_serve.specs.declared.script.replies.TheConstants.{REPLY_CAPACITY}
-use Rattle.pn_serve.specs.Lines.Bounds.{CountsUnits}
+use Rattle.pn_serve.specs.Lines.Bounds.{CountsUnits, records_by, records_in}
 use Rattle.pn_serve.specs.Lines.Made.{AppendsAtMost, MakesAtMost, made_by}
-use Rattle.pn_serve.specs.Lines.States.{LineLoopValue}
+use Rattle.pn_serve.specs.Lines.States.{LineLoopValue, LineStateValue}
 use Rattle.pn_stay.specs.declared.steps.TheConstants.{UNIT_BYTES}
-use Rattle.pn_stay.specs.Outputs.{AnswersAtMost, lines_by, most_made, most_written}
+use Rattle.pn_stay.specs.Outputs.{AnswersAtMost, LooksFew, lines_by, most_looked, most_made, most_written}
 
 -- nothing was made, and then more was
 pub makes_more : (most : ℕ) (before after : Option (List ℕ)) (waited waits now : List ℕ) → MakesAtMost 0 before after waited waits → length now ≤ length waits + most → MakesAtMost most before after waited now
@@ -93,3 +93,24 @@ one_line (Next units) = omega arith
 one_line NoInput = omega arith
 one_line NoRoom = omega arith
 one_line (Ends ended) = omega arith
+
+-- ---- records
+
+-- what a turn has looked at where so many of its units are left
+pub record LooksOn (units : ℕ) (old new : LineStateValue) : Type 0 where
+  pub counted : 0 < units → new.looked + 2 * UNIT_RECORDS * units ≤ old.looked + 2 * UNIT_RECORDS * TURN_UNITS
+  pub few : LooksFew most_looked old new
+
+pub looks_all : (state : LineStateValue) → LooksOn TURN_UNITS state state
+looks_all state = record { counted = λ more. omega arith; few = omega arith }
+
+-- one step more
+pub looks_after : (units used after : ℕ) (a b c : LineStateValue) → 0 < units → after < units → (0 < after → after + used ≤ units) → LooksOn units a b → LooksFew (records_in units) b c → LooksFew (records_by (Next used)) b c → LooksOn after a c
+looks_after units used after a b c more fewer counted on most looks = record {
+  counted = λ still. omega (arith, on.counted more, looks, fewer, counted still);
+  few = omega (arith, on.counted more, most, more);
+}
+
+-- the last step of a turn
+pub looks_last : (units : ℕ) (a b c : LineStateValue) → 0 < units → LooksOn units a b → LooksFew (records_in units) b c → LooksFew most_looked a c
+looks_last units a b c more on most = omega (arith, on.counted more, most, more)

@@ -21,8 +21,8 @@ use Rattle.pn_serve.specs.Lines.States.{LineStateValue, Start}
 use Rattle.pn_serve.specs.Lines.Stepping.{Handling, HasEnded, IsLooking, IsReading, Stands, StandsAt, StepsTo}
 use Rattle.pn_serve.proofs.Serving.{OnTold}
 use Rattle.pn_stay.specs.Connections.{ConnectionValue, IsKept, SameInput, loop_of}
-use Rattle.pn_stay.specs.Outputs.{AnswersAtMost}
-use Rattle.pn_stay.specs.Turns.{AnswersFew, Continues, KeepsOr, Stores, TurnsTo}
+use Rattle.pn_stay.specs.Outputs.{AnswersAtMost, LooksFew}
+use Rattle.pn_stay.specs.Turns.{AnswersFew, Continues, KeepsOr, LooksWithin, Stores, TurnsTo}
 use Rattle.pn_stay.specs.declared.connection_state.Pause.{Pause}
 use Rattle.pn_stay.specs.declared.connection_state.Pause.TheVariants.{Turn, Input, Output}
 use Rattle.pn_stay.specs.declared.connection_state.TurnOutcome.{TurnOutcome}
@@ -153,3 +153,17 @@ module _ (most : ℕ) (before loaded after new : ConnectionValue) (same : loaded
   answers_stored NoInput outcome stores = kept_answers Input outcome stores
   answers_stored NoRoom outcome stores = kept_answers Output outcome stores
   answers_stored (Ends ended) outcome stores = subst (λ (o : TurnOutcome). AnswersFew most before new o) (sym stores) tt
+
+-- ---- the records that it looked at
+
+module _ (most : ℕ) (before loaded after new : ConnectionValue) (same : loaded ≡ before) (looks : LooksFew most loaded.state after.state) where
+  kept_looked : (pause : Pause) (outcome : TurnOutcome) → KeepsOr after pause new outcome → LooksWithin most before new outcome
+  kept_looked pause (Goes other) keeps = omega (arith, looks, ap (λ (k : ConnectionValue). k.state.looked) same, ap (λ (s : LineStateValue). s.looked) keeps.1.state)
+  kept_looked pause (Ended ended) keeps = tt
+
+  -- are as many after the connection is stored
+  pub looked_stored : (step : Step) (outcome : TurnOutcome) → Stores after step new outcome → LooksWithin most before new outcome
+  looked_stored (Next units) outcome stores = kept_looked Turn outcome stores
+  looked_stored NoInput outcome stores = kept_looked Input outcome stores
+  looked_stored NoRoom outcome stores = kept_looked Output outcome stores
+  looked_stored (Ends ended) outcome stores = subst (λ (o : TurnOutcome). LooksWithin most before new o) (sym stores) tt

@@ -11,7 +11,7 @@ use Rattle.pn_serve.specs.declared.script.line_loop.steps.Step.TheVariants.{Next
 use Rattle.pn_serve.specs.Lines.States.{Start, waits_in}
 use Rattle.pn_serve.specs.Lines.Stepping.{Handling, HasEnded, Stands, StepsTo as LoopStepsTo}
 use Rattle.pn_stay.specs.Connections.{ConnectionValue, IsKept, loop_of}
-use Rattle.pn_stay.specs.Outputs.{AnswersAtMost}
+use Rattle.pn_stay.specs.Outputs.{AnswersAtMost, LooksFew}
 use Rattle.pn_stay.specs.declared.connection_state.ThreadBuffers.{ThreadBuffers}
 use Rattle.pn_stay.specs.declared.connection_state.Pause.{Pause}
 use Rattle.pn_stay.specs.declared.connection_state.Pause.TheVariants.{Turn, Input, Output}
@@ -59,6 +59,11 @@ StopsWell kept (Ends ended) = Unit {0}
 abbrev pub AnswersFew : ℕ → ConnectionValue → ConnectionValue → TurnOutcome → Type 0
 AnswersFew most old new (Goes pause) = AnswersAtMost most old.state new.state
 AnswersFew most old new (Ended ended) = Unit {0}
+
+-- and has looked at at most this number of records
+abbrev pub LooksWithin : ℕ → ConnectionValue → ConnectionValue → TurnOutcome → Type 0
+LooksWithin most old new (Goes pause) = LooksFew most old.state new.state
+LooksWithin most old new (Ended ended) = Unit {0}
 
 -- the connection is kept in a pause, or there was no memory for that
 abbrev pub KeepsOr : ConnectionValue → Pause → ConnectionValue → TurnOutcome → Type 0

@@ -8,9 +8,9 @@ ghost use Rattle.pn_serve.specs.Lines.States.{Start};
 ghost use Rattle.pn_serve.specs.declared.script.line_loop.steps.TheConstants.{TURN_UNITS};
 ghost use Rattle.pn_serve.specs.declared.script.replies.TheConstants.{REPLY_CAPACITY};
 ghost use Rattle.pn_stay.specs.Connections.{new_connection};
-ghost use Rattle.pn_stay.specs.Turns.{in_buffers, AnswersFew, Continues, PausesWell, StepsIn, StopsWell, TurnsTo};
+ghost use Rattle.pn_stay.specs.Turns.{in_buffers, AnswersFew, Continues, LooksWithin, PausesWell, StepsIn, StopsWell, TurnsTo};
 ghost use Rattle.pn_stay.specs.Inputs.{most_taken, TakesAtMost};
-ghost use Rattle.pn_stay.specs.Outputs.{AnswersAtMost, most_made, most_written};
+ghost use Rattle.pn_stay.specs.Outputs.{AnswersAtMost, LooksFew, most_looked, most_made, most_written};
 ghost use Rattle.pn_serve.specs.Session.Knowing.{IsSteady, KnowsNoLess};
 
 mod storage;
@@ -145,6 +145,7 @@ impl ConnectionState {
         ensures few { TakesAtMost most_taken (R.remaining input.old) (R.remaining input.new) }
         ensures written { AppendsAtMost most_written (W.contents output.old) (W.contents output.new) }
         ensures answers { AnswersFew TURN_UNITS self.old self.new result }
+        ensures looked { LooksWithin most_looked self.old self.new result }
         ensures knows { KnowsNoLess (M.reader machine.old) (M.reader machine.new) }
     {
         self.load(buffers);
@@ -171,6 +172,7 @@ fn send_and_step<M: LineHandler, R: Read, W: Sink>(
     ensures few { TakesAtMost most_taken (R.remaining input.old) (R.remaining input.new) }
     ensures written { AppendsAtMost most_written (W.contents output.old) (W.contents output.new) }
     ensures answers { AnswersAtMost TURN_UNITS buffers.old.lines.state buffers.new.lines.state }
+    ensures looked { LooksFew most_looked buffers.old.lines.state buffers.new.lines.state }
     ensures knows { KnowsNoLess (M.reader machine.old) (M.reader machine.new) }
 {
     match send_waiting(buffers, &*machine, output) {
@@ -193,6 +195,7 @@ fn step_and_send<M: LineHandler, R: Read, W: Sink>(
     ensures few { TakesAtMost most_taken (R.remaining input.old) (R.remaining input.new) }
     ensures written { MakesAtMost most_made (W.contents output.old) (W.contents output.new) buffers.old.lines.replies buffers.new.lines.replies }
     ensures answers { AnswersAtMost TURN_UNITS buffers.old.lines.state buffers.new.lines.state }
+    ensures looked { LooksFew most_looked buffers.old.lines.state buffers.new.lines.state }
     ensures knows { KnowsNoLess (M.reader machine.old) (M.reader machine.new) }
 {
     match take_steps(buffers, machine, input, output) {

@@ -1,7 +1,7 @@
 //! The steps of a connection's turn: those of its line loop, and reads where no more input is at hand.
 
 ghost use Rattle.std.specs.Prelude.{◌≡◌, ◌<◌, ◌≤◌, ◌+◌, ◌*◌, ℕ, List, [], length, Option};
-ghost use Rattle.pn_serve.specs.Lines.Bounds.{IsIdleAt};
+ghost use Rattle.pn_serve.specs.Lines.Bounds.{IsIdleAt, records_by, records_in};
 ghost use Rattle.pn_serve.specs.Lines.Made.{MakesAtMost, made_by};
 ghost use Rattle.pn_serve.specs.Lines.States.{Start};
 ghost use Rattle.pn_serve.specs.declared.script.line_loop.steps.TheConstants.{TURN_UNITS};
@@ -9,7 +9,7 @@ ghost use Rattle.pn_serve.specs.Session.Knowing.{IsSteady, KnowsNoLess};
 ghost use Rattle.pn_serve.specs.Lines.Stepping.{by};
 ghost use Rattle.pn_stay.specs.Turns.{in_buffers, Continues, IsRead, StepsIn, WaitsWell};
 ghost use Rattle.pn_stay.specs.Inputs.{most_taken, ReadsOnce, TakesAtMost};
-ghost use Rattle.pn_stay.specs.Outputs.{AnswersAtMost, lines_by, most_made};
+ghost use Rattle.pn_stay.specs.Outputs.{AnswersAtMost, LooksFew, lines_by, most_looked, most_made};
 ghost use Rattle.pn_stay.specs.declared.input_buffer.TheConstants.{READ_SIZE};
 
 use crate::connection_state::ThreadBuffers;
@@ -36,6 +36,7 @@ pub(crate) fn take_steps<M: LineHandler, R: Read, W: Sink>(
     ensures few { TakesAtMost most_taken (R.remaining input.old) (R.remaining input.new) }
     ensures written { MakesAtMost most_made (W.contents output.old) (W.contents output.new) buffers.old.lines.replies buffers.new.lines.replies }
     ensures answers { AnswersAtMost TURN_UNITS buffers.old.lines.state buffers.new.lines.state }
+    ensures looked { LooksFew most_looked buffers.old.lines.state buffers.new.lines.state }
     ensures knows { KnowsNoLess (M.reader machine.old) (M.reader machine.new) }
 {
     let mut units = TURN_UNITS;
@@ -72,6 +73,8 @@ fn take_step<M: LineHandler, R: Read, W: Sink>(
     ensures few { ReadsOnce result (R.remaining input.old) (R.remaining input.new) }
     ensures written { MakesAtMost (made_by result) (W.contents output.old) (W.contents output.new) buffers.old.lines.replies buffers.new.lines.replies }
     ensures answers { AnswersAtMost (lines_by result) buffers.old.lines.state buffers.new.lines.state }
+    ensures looked { LooksFew (records_in units) buffers.old.lines.state buffers.new.lines.state }
+    ensures records { LooksFew (records_by result) buffers.old.lines.state buffers.new.lines.state }
     ensures knows { KnowsNoLess (M.reader machine.old) (M.reader machine.new) }
 {
     let step = buffers
@@ -98,6 +101,7 @@ fn read_more<M: LineHandler, R: Read>(
     ensures few { ReadsOnce result (R.remaining input.old) (R.remaining input.new) }
     ensures makes { length buffers.new.lines.replies ≤ length buffers.old.lines.replies + made_by result }
     ensures answers { AnswersAtMost (lines_by result) buffers.old.lines.state buffers.new.lines.state }
+    ensures looked { buffers.new.lines.state.looked ≡ buffers.old.lines.state.looked }
     ensures knows { KnowsNoLess (M.reader machine.old) (M.reader machine.new) }
 {
     let read = buffers.input.read_from(input);

@@ -1,6 +1,7 @@
 -- How much a step does, what it leaves to be handed on, and by what faults a loop may end.
-use Rattle.std.specs.Prelude.{◌≡◌, ◌⊎◌, ◌<◌, ◌≤◌, ℕ, ◌+◌, ◌-◌, ◌*◌, Bool, true, false, if◌then◌else◌, [], length, Option, None, Some, Result, Ok, Err}
+use Rattle.std.specs.Prelude.{◌≡◌, ◌⊎◌, ◌<◌, ◌≤◌, ℕ, ◌+◌, ◌-◌, ◌*◌, Bool, true, false, if◌then◌else◌, [], length, max, Option, None, Some, Result, Ok, Err}
 use Rattle.pn_line.specs.declared.line_buffer.TheConstants.{ENDLESS}
+use Rattle.pn_live.specs.declared.reader.TheConstants.{ENTRY_RECORDS}
 use Rattle.pn_serve.specs.declared.script.Counts.{Counts}
 use Rattle.pn_serve.specs.declared.script.RunFault.{RunFault}
 use Rattle.pn_serve.specs.declared.script.RunFault.TheVariants.{Read, Write, TooManyTurns, Memory}
@@ -8,10 +9,11 @@ use Rattle.pn_serve.specs.declared.script.TheConstants.{MAX_LINES}
 use Rattle.pn_serve.specs.declared.script.line_loop.state.Stage.{Stage}
 use Rattle.pn_serve.specs.declared.script.line_loop.state.Stage.TheVariants.{Reading, Looking, Ending}
 use Rattle.pn_serve.specs.declared.script.line_loop.steps.Step.{Step}
+use Rattle.pn_serve.specs.declared.script.line_loop.steps.TheConstants.{UNIT_RECORDS}
 use Rattle.pn_serve.specs.declared.script.line_loop.steps.Step.TheVariants.{Next, NoInput, NoRoom, Ends}
 use Rattle.pn_serve.specs.Lines.States.{LineLoopValue, waits_in}
 use Rattle.pn_serve.specs.Lines.Waiting.{HandsOn}
-use Rattle.pn_serve.specs.Session.Looking.{going_left, left_of}
+use Rattle.pn_serve.specs.Session.Looking.{going_left}
 
 -- where no input is at hand the loop reads a line that may go on, nothing waits, and all was handed on
 abbrev pub IsIdleAt : Step → LineLoopValue → Type 0
@@ -40,26 +42,32 @@ abbrev pub one_unless : Bool → ℕ
 one_unless true = 0
 one_unless false = 1
 
--- how many records a stage has still to look at before its next look
-abbrev pub records_at : Stage → ℕ
-records_at Reading = 0
-records_at (Looking going) = left_of going
-records_at (Ending ended) = 0
-
--- no more records than this were looked at of those that were left; those that a look begins with are as many at most
+-- at most this number of records was looked at
 abbrev pub LooksAtMost : ℕ → LineLoopValue → LineLoopValue → Type 0
-LooksAtMost most old new = records_at old.state.stage ≤ records_at new.state.stage + most
+LooksAtMost most old new = new.state.looked ≤ old.state.looked + most
 
--- the line that is read and the counts are as they were
+-- the most records that a step looks at which may use so many units: as many as these count, or as one entry goes over
+abbrev pub records_in : ℕ → ℕ
+records_in units = max (UNIT_RECORDS * units) ENTRY_RECORDS
+
+-- the most records that a step looked at: less than one unit more than its own, and none where it waits or ends
+abbrev pub records_by : Step → ℕ
+records_by (Next units) = UNIT_RECORDS * (units + 1)
+records_by NoInput = 0
+records_by NoRoom = 0
+records_by (Ends ended) = 0
+
+-- the line that is read, the counts, and how many records were looked at are as they were
 pub record KeepsLine (old new : LineLoopValue) : Type 0 where
   pub line : new.line ≡ old.line
   pub counts : new.state.counts ≡ old.state.counts
+  pub looked : new.state.looked ≡ old.state.looked
 
 -- no line was answered, and no byte of a line or of replies was taken or made
 abbrev pub CountsNothing : LineLoopValue → LineLoopValue → Type 0
 CountsNothing old new = (new.state.counts.lines ≤ old.state.counts.lines) × (old.line.count + length new.replies ≤ new.line.count + length old.replies)
 
--- what a step did is counted: a line, the bytes of a line or of replies, and records that were looked at; where it waits or ends it did nothing of that
+-- what a step did is counted: a line, and the bytes of a line or of replies; where it waits or ends it did nothing of that
 abbrev pub CountsUnits : LineLoopValue → LineLoopValue → Step → Type 0
 CountsUnits old new (Next units) = (new.state.counts.lines ≤ old.state.counts.lines + 1) × (old.line.count + length new.replies ≤ new.line.count + length old.replies + 1024 * (units + 1) + 65536)
 CountsUnits old new NoInput = CountsNothing old new

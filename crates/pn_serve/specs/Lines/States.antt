@@ -6,7 +6,7 @@ use Rattle.pn_serve.specs.declared.script.line_loop.state.Stage.{Stage}
 use Rattle.pn_serve.specs.declared.script.line_loop.state.Stage.TheVariants as stages
 
 -- what is done next, the text of the last reply that is still to be made, whether a further line was seen, whether all was handed
--- on, whether the input is at its end, and the counts
+-- on, whether the input is at its end, the counts, and how many records were looked at
 pub record LineStateValue : Type 0 where
   pub stage : Stage
   pub left : List ℕ
@@ -14,6 +14,7 @@ pub record LineStateValue : Type 0 where
   pub out : Bool
   pub last : Bool
   pub counts : Counts
+  pub looked : ℕ
 
 -- one more, as far as that has 64 bits
 abbrev pub one_more : Bool → ℕ → ℕ
@@ -26,13 +27,17 @@ counted line refused counts = record { lines = one_more line counts.lines; refus
 
 -- that of a loop that has answered no line
 abbrev pub new_state : LineStateValue
-new_state = record { stage = stages.Reading; left = []; more = false; out = true; last = false; counts = record { lines = 0; refused = 0 } }
+new_state = record { stage = stages.Reading; left = []; more = false; out = true; last = false; counts = record { lines = 0; refused = 0 }; looked = 0 }
 
 -- the line that is read, the bytes that wait, and the rest of the state
 pub record LineLoopValue : Type 0 where
   pub line : LineBufferValue
   pub replies : List ℕ
   pub state : LineStateValue
+
+-- a loop that has looked at this number of records
+abbrev pub with_looked : LineLoopValue → ℕ → LineLoopValue
+with_looked run looked = record run { state = record run.state { looked = looked } }
 
 -- a loop that has answered no line
 abbrev pub new_loop : LineLoopValue

@@ -65,6 +65,7 @@ pub record HasReply (line : Bool) (old : LineLoopValue) (reply : Reply) (new : L
   pub counts : new.state.counts ≡ counted line (is_refusal reply) old.state.counts
   pub waits : waits_in new ≡ waits_in old ++ reply_text reply
   pub grows : length old.replies ≤ length new.replies
+  pub looked : new.state.looked ≡ old.state.looked
 
 -- a line has its reply, or a look for it is to be gone on with
 abbrev pub TakesAnswer : Bool → LineLoopValue → Answer → LineLoopValue → Type 0

@@ -1,5 +1,5 @@
 -- Lookups of a session that are gone on with.
-use Rattle.std.specs.Prelude.{◌≡◌, ◌≤◌, ◌+◌, ◌-◌, ◌*◌, ◌^◌, ℕ, List, [], ◌∷◌, length, false, Option, Result, Ok, Err}
+use Rattle.std.specs.Prelude.{◌≡◌, ◌⊎◌, ◌≤◌, ◌+◌, ◌-◌, ◌*◌, ◌^◌, ℕ, List, [], ◌∷◌, length, false, Option, None, Result, Ok, Err}
 use Rattle.pn_join.specs.Marks.{Positions}
 use Rattle.pn_live.specs.Copying.{IsCopied}
 use Rattle.pn_join.specs.declared.memory.NoMemory.{NoMemory}
@@ -30,6 +30,7 @@ use Rattle.pn_serve.specs.declared.machine.line_handler.Answer.{Answer}
 use Rattle.pn_serve.specs.declared.machine.line_handler.Answer.TheVariants.{Done, Going as Begun}
 use Rattle.pn_serve.specs.declared.sessions.going.Going.{Going}
 use Rattle.pn_serve.specs.declared.sessions.going.Going.TheVariants.{Page, Keys, Copy}
+use Rattle.pn_serve.specs.declared.sessions.going.TheConstants.{RECORDS_OF_KEY}
 use Rattle.pn_serve.specs.Session.Lines.{LooksUp}
 
 -- a copy was taken by one look, after which the reader may move, and is what is counted
@@ -84,11 +85,19 @@ abbrev pub LooksForLast : Moving LiveReaderValue → LiveReaderValue → List �
 LooksForLast moves was [] now going = ⊥
 LooksForLast moves was (b ∷ part) now going = LooksFor moves was (b ∷ part) now going
 
--- how many records are left to look at before the next look
-abbrev pub left_of : Going → ℕ
-left_of (Page query walk) = records_left walk.part
-left_of (Keys walk) = 0
-left_of (Copy count) = length count.copy.cells - count.index
+-- how many records a step of a page looked at; where there was a fault, at most this number
+abbrev pub CountsStep : ℕ → Result PageStep ScanFault → ℕ → Type 0
+CountsStep records (Ok (pages.Done page)) looked = looked ≡ 0
+CountsStep records (Ok (pages.Next walk)) looked = looked ≡ walk.looked
+CountsStep records (Err fault) looked = looked ≤ records
+
+-- of what a lookup had left, as many records were looked at as are counted; a key counts for some
+abbrev pub CountsLooks : Answer → Going → ℕ → Type 0
+CountsLooks (Done reply) going looked = Unit {0}
+CountsLooks (Begun (Page asked next)) (Page query walk) looked = (records_left walk.part ≤ records_left next.part + looked) ⊎ (next.part ≡ None)
+CountsLooks (Begun (Keys next)) (Keys walk) looked = RECORDS_OF_KEY * next.read ≤ RECORDS_OF_KEY * walk.read + looked
+CountsLooks (Begun (Copy next)) (Copy count) looked = next.index ≤ count.index + looked
+CountsLooks answer going looked = Unit {0}
 
 -- how much of a lookup is left: its tablets, then the records of the one that is looked into; its keys; or its cells
 abbrev pub going_left : Going → ℕ

@@ -1,15 +1,16 @@
 //! Handlers of lines: the region of a script, or a reader of a live region.
 
-ghost use Rattle.std.specs.Prelude.{◌≡◌, ◌<◌, ◌≤◌, ◌+◌, ℕ, List};
+ghost use Rattle.std.specs.Prelude.{◌≡◌, ◌<◌, ◌≤◌, ◌+◌, ℕ, max, List};
 ghost use Rattle.pn_line.specs.Prelude.{so_far};
 ghost use Rattle.pn_live.specs.Prelude.{LiveReaderValue};
+ghost use Rattle.pn_live.specs.declared.reader.TheConstants.{ENTRY_RECORDS};
 ghost use Rattle.pn_protocol.specs.Prelude.{is_refusal as refuses};
 ghost use Rattle.pn_protocol.specs.declared.refusal.Refusal.TheVariants.{Memory};
 ghost use Rattle.pn_protocol.specs.declared.reply.Reply.TheVariants.{Refused};
 ghost use Rattle.pn_serve.specs.Lines.After.{After};
 ghost use Rattle.pn_serve.specs.Lines.Going.{AnswersLast, AnswersWith, answer_left};
 ghost use Rattle.pn_serve.specs.Session.Knowing.{IsSteady, KnowsNoLess};
-ghost use Rattle.pn_serve.specs.Session.Looking.{going_left};
+ghost use Rattle.pn_serve.specs.Session.Looking.{CountsLooks, going_left};
 
 use crate::sessions::going::Going;
 use crate::sessions::kinds::NO_LINES;
@@ -72,6 +73,8 @@ pub trait LineHandler {
         ensures last { (was between : Self) (text : List ℕ) → goes_last was text between going → moves between self.old
             → AnswersLast ends goes_last was text self.new result.0 }
         ensures nearer { 0 < records → answer_left result.0 ≤ going_left going }
+        ensures few { result.1 ≤ max records ENTRY_RECORDS }
+        ensures counted { CountsLooks result.0 going result.1 }
         ensures knows { KnowsNoLess (reader self.old) (reader self.new) };
 
     // It may stay as it is between two looks, what may become of it twice may become of it once, and its reader reads the same tablets.

@@ -5,7 +5,7 @@ ghost use Rattle.std.specs.Prelude.{◌≡◌, ◌⊎◌, ◌+◌, ◌<◌, ◌�
 ghost use Rattle.std.specs.Io.KnownBytes.{IsAtEnd};
 ghost use Rattle.pn_line.specs.Prelude.{so_far};
 ghost use Rattle.pn_line.specs.declared.line_buffer.TheConstants.{ENDLESS};
-ghost use Rattle.pn_serve.specs.Lines.Bounds.{CountsUnits, Foresees, ForeseesStep, HandsOnAtMost, HandsOnStep, IsIdleAt, IsOutAs, IsSettled, ReadsOn, WorksOn};
+ghost use Rattle.pn_serve.specs.Lines.Bounds.{CountsUnits, Foresees, ForeseesStep, HandsOnAtMost, HandsOnStep, IsIdleAt, IsOutAs, IsSettled, LooksAtMost, ReadsOn, WorksOn, records_by, records_in};
 ghost use Rattle.pn_serve.specs.Lines.Made.{MakesAtMost, made_by, made_in};
 ghost use Rattle.pn_serve.specs.Lines.States.{Start, new_loop, waits_in};
 ghost use Rattle.pn_serve.specs.Lines.Stepping.{by, with_rest, Stands, StepsTo};
@@ -88,6 +88,8 @@ impl LineLoop {
         ensures few { HandsOnAtMost REPLY_CAPACITY self.old self.new }
         ensures written { MakesAtMost (made_by result) (W.contents output.old) (W.contents output.new) self.old.replies self.new.replies }
         ensures counted { CountsUnits self.old self.new result }
+        ensures looked { LooksAtMost (records_in units) self.old self.new }
+        ensures records { LooksAtMost (records_by result) self.old self.new }
         ensures works { self.old.state.left ≢ [] → WorksOn self.old self.new result }
         ensures waits { self.old.state.more ≡ false → self.old.state.out ≡ false → input.new ≡ input.old }
         ensures looks { S.looks input.new ≤ S.looks input.old + 1 }

@@ -1,15 +1,16 @@
 //! Lookups of a session that are gone on with: a page, the records of keys, or a copy.
 
-ghost use Rattle.std.specs.Prelude.{◌≡◌, ◌<◌, ◌≤◌, ℕ, List, length, IfErr, IfOk};
+ghost use Rattle.std.specs.Prelude.{◌≡◌, ◌<◌, ◌≤◌, ℕ, max, List, length, IfErr, IfOk};
 ghost use Rattle.pn_live.specs.Getting.{IsOnGet};
 ghost use Rattle.pn_live.specs.Prelude.{LiveReaderValue};
+ghost use Rattle.pn_live.specs.declared.reader.TheConstants.{ENTRY_RECORDS};
 ghost use Rattle.pn_protocol.specs.Command.Meaning.{CommandValue};
 ghost use Rattle.pn_scan.specs.Paging.{LookMade};
 ghost use Rattle.pn_scan.specs.Prelude.{Stays};
 ghost use Rattle.pn_serve.specs.Lines.Going.{answer_left};
 ghost use Rattle.pn_serve.specs.declared.sessions.going.Going.{Going as GoingOn};
 ghost use Rattle.pn_serve.specs.Session.Knowing.{KnowsNoLess};
-ghost use Rattle.pn_serve.specs.Session.Looking.{AreNewKeys, CopyAnswer, HasFew, IsNewPage, KeysAnswer, LooksOn, LooksTo, PageAnswer, going_left, kind_of};
+ghost use Rattle.pn_serve.specs.Session.Looking.{AreNewKeys, CopyAnswer, CountsLooks, CountsStep, HasFew, IsNewPage, KeysAnswer, LooksOn, LooksTo, PageAnswer, going_left, kind_of};
 ghost use Rattle.pn_tablet.specs.CopyCounts.{CountsOn};
 ghost use Rattle.pn_tablet.specs.CopyMaking.{CopyCountValue};
 ghost use Rattle.pn_tablet.specs.Layouts.{Bounds};
@@ -81,13 +82,15 @@ impl Going {
         ensures alone { (was between : LiveReaderValue) (command : CommandValue) → LooksOn Stays was command between self → Stays between reader.old → LooksTo Stays was command reader.new result.0 }
         ensures shared { (was between : LiveReaderValue) (command : CommandValue) → LooksOn KnowsNoLess was command between self → KnowsNoLess between reader.old → LooksTo KnowsNoLess was command reader.new result.0 }
         ensures nearer { 0 < records → answer_left result.0 ≤ going_left self }
+        ensures few { result.1 ≤ max records ENTRY_RECORDS }
+        ensures counted { CountsLooks result.0 self result.1 }
         ensures knows { KnowsNoLess reader.old reader.new }
     {
         match self {
             Going::Page(query, walk) => {
                 let step = walk.go_on(alloc, reader, &query, records);
                 recall_few(&step);
-                let looked = looked_by(&step);
+                let looked = looked_by(&step, records);
                 (page_answer(alloc, query, step), looked)
             }
             Going::Keys(walk) => {
@@ -101,11 +104,15 @@ impl Going {
     }
 }
 
-// How many records a step of a page looked at.
-fn looked_by(step: &Result<PageStep, ScanFault>) -> usize {
+// How many records a step of a page looked at. Where memory ran out, all counts as looked at.
+fn looked_by(step: &Result<PageStep, ScanFault>, records: usize) -> usize
+    ensures { CountsStep records step.now result }
+{
     match step {
+        Ok(PageStep::Done(_)) => 0,
         Ok(PageStep::Next(walk)) => walk.looked(),
-        _ => 0,
+        Err(ScanFault::Memory) => records,
+        Err(_) => 0,
     }
 }
 

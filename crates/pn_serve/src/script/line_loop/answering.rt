@@ -2,11 +2,12 @@
 
 ghost use Rattle.std.specs.Prelude.{◌≡◌, ◌≢◌, ◌+◌, ◌*◌, ◌≤◌, ◌<◌, ℕ, List, [], length, true};
 ghost use Rattle.pn_line.specs.Prelude.{so_far};
-ghost use Rattle.pn_serve.specs.Lines.Bounds.{stage_left};
+ghost use Rattle.pn_serve.specs.Lines.Bounds.{LooksAtMost, records_in, stage_left};
 ghost use Rattle.pn_serve.specs.Lines.Going.{AnswersLast, AnswersWith, answer_left};
 ghost use Rattle.pn_serve.specs.Lines.Made.{made_in};
-ghost use Rattle.pn_serve.specs.Lines.States.{waits_in};
+ghost use Rattle.pn_serve.specs.Lines.States.{waits_in, with_looked};
 ghost use Rattle.pn_serve.specs.Lines.Taking.{HasReply, Takes, TakesLine};
+ghost use Rattle.pn_serve.specs.declared.script.line_loop.steps.TheConstants.{UNIT_RECORDS};
 ghost use Rattle.pn_serve.specs.declared.script.replies.TheConstants.{BLOCK};
 ghost use Rattle.pn_serve.specs.Session.Knowing.{KnowsNoLess};
 ghost use Rattle.pn_serve.specs.Session.Looking.{going_left};
@@ -48,16 +49,19 @@ impl LineLoop {
         requires reading { self.old.state.stage ≡ Stage.Reading }
         requires made { self.old.state.left ≡ [] }
         ensures line { (was between : M) (text : List ℕ) → M.goes was text between going → M.moves between machine.old
-            → TakesLine (AnswersWith M.makes M.goes) true was text machine.new self.old self.new }
+            → TakesLine (AnswersWith M.makes M.goes) true was text machine.new (with_looked self.old self.new.state.looked) self.new }
         ensures last { (was between : M) (text : List ℕ) → M.goes_last was text between going → M.moves between machine.old
-            → TakesLine (AnswersLast M.ends M.goes_last) true was text machine.new self.old self.new }
-        ensures takes { Takes true self.old self.new }
+            → TakesLine (AnswersLast M.ends M.goes_last) true was text machine.new (with_looked self.old self.new.state.looked) self.new }
+        ensures takes { Takes true (with_looked self.old self.new.state.looked) self.new }
+        ensures looked { LooksAtMost (records_in units) self.old self.new }
+        ensures records { LooksAtMost (UNIT_RECORDS * (result + 1)) self.old self.new }
         ensures nearer { 0 < units → stage_left self.new.state.stage ≤ going_left going }
         ensures units { length self.new.replies < length self.old.replies + 1024 * (result + 1) }
         ensures makes { length self.new.replies ≤ length self.old.replies + made_in result }
         ensures knows { KnowsNoLess (M.reader machine.old) (M.reader machine.new) }
     {
         let (answer, looked) = machine.go_on(self.alloc, going, records_of(units));
+        self.state.count_records(looked);
         self.take_answer(&*machine, answer, true)
             .max(units_of_records(looked))
     }

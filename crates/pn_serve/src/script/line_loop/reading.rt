@@ -37,6 +37,7 @@ impl LineLoop {
         ensures few { HandsOnAtMost REPLY_CAPACITY self.old self.new }
         ensures written { MakesAtMost (made_by result) (W.contents output.old) (W.contents output.new) self.old.replies self.new.replies }
         ensures counted { CountsUnits self.old self.new result }
+        ensures looked { self.new.state.looked ≡ self.old.state.looked }
         ensures waits { self.old.state.more ≡ false → self.old.state.out ≡ false → input.new ≡ input.old }
         ensures looks { S.looks input.new ≤ S.looks input.old + 1 }
         ensures reads { ReadsOn (S.looks input.old) (S.looks input.new) self.old self.new result }
@@ -83,6 +84,7 @@ impl LineLoop {
         ensures few { HandsOnAtMost REPLY_CAPACITY self.old self.new }
         ensures written { MakesAtMost (made_by result) (W.contents output.old) (W.contents output.new) self.old.replies self.new.replies }
         ensures counted { CountsUnits self.old self.new result }
+        ensures looked { self.new.state.looked ≡ self.old.state.looked }
         ensures looks { S.looks input.new ≤ S.looks input.old + 1 }
         ensures reads { ReadsOn (S.looks input.old) (S.looks input.new) self.old self.new result }
         ensures end { result ≡ Step.NoInput → S.may_end }

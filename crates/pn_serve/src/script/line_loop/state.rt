@@ -1,6 +1,6 @@
 //! Where a line loop is between two steps, and how it is put aside while its buffers serve another.
 
-ghost use Rattle.std.specs.Prelude.{ℕ, List, ◌≡◌, ◌≢◌, ◌↔◌, false, true, IsFalse, IsTrue, []};
+ghost use Rattle.std.specs.Prelude.{ℕ, ◌+◌, ◌-◌, ◌^◌, min, List, ◌≡◌, ◌≢◌, ◌↔◌, false, true, IsFalse, IsTrue, []};
 ghost use Rattle.pn_line.specs.Prelude.{so_far};
 ghost use Rattle.pn_protocol.specs.Prelude.{is_refusal as refuses};
 ghost use Rattle.pn_protocol.specs.declared.refusal.Refusal.TheVariants.{Memory};
@@ -34,6 +34,8 @@ pub struct LineState {
     // Whether the input is at its end.
     is_last: bool,
     counts: Counts,
+    // How many records were looked at by lookups that were gone on with, as far as that has 64 bits.
+    looked: u64,
 }
 
 /// What is done next.
@@ -58,7 +60,7 @@ impl Model for LineState {
 
     ghost coded = { Prim.hlevel (codes, stages.the_row.coded) };
 
-    ghost view = { λ state. record { stage = state.stage; left = text_left state.text; more = state.more; out = state.is_out; last = state.is_last; counts = state.counts } };
+    ghost view = { λ state. record { stage = state.stage; left = text_left state.text; more = state.more; out = state.is_out; last = state.is_last; counts = state.counts; looked = state.looked } };
 }
 
 impl LineState {
@@ -76,6 +78,7 @@ impl LineState {
                 lines: 0,
                 refused: 0,
             },
+            looked: 0,
         }
     }
 
@@ -179,6 +182,13 @@ impl LineState {
         ensures { result ≡ self.now.counts }
     {
         self.counts
+    }
+
+    /// So many records more were looked at.
+    pub(super) fn count_records(&mut self, looked: usize)
+        ensures { self.new ≡ record self.old { looked = min (self.old.looked + looked) (2 ^ 64 - 1) } }
+    {
+        self.looked = self.looked.saturating_add(looked as u64);
     }
 
     /// A reply is counted, and the line that it answers, if it answers one. After the end of the input the loop ends then.

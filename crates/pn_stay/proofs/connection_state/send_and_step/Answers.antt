@@ -39,5 +39,9 @@ returns-in_default g c = record {
   few = takes_nothing _ _;
   written = writes_held _ _ _ _ c.send_waiting.ensures.few c.send_waiting.ensures.written;
   answers = omega (arith, ap (λ (n : Counts). n.lines) c.send_waiting.ensures.same.counts);
+  looked = omega (arith, c.send_waiting.ensures.same.looked);
   knows = knows_itself _;
 }
+
+pub returns-in-Next-clause-looked : goal.returns-in-Next-clause-looked
+returns-in-Next-clause-looked g c = omega (arith, c.in-Next.ensures.same.looked, c.step_and_send.ensures.looked)

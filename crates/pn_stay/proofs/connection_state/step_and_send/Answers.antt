@@ -18,3 +18,6 @@ returns-in-Next-clause-written g c = makes_then _ _ _ _ _ _ _ c.in-Next.ensures.
 
 pub returns-in-Next-clause-answers : goal.returns-in-Next-clause-answers
 returns-in-Next-clause-answers g c = omega (arith, c.in-Next.ensures.answers, ap (λ (n : Counts). n.lines) c.send_waiting.ensures.same.counts)
+
+pub returns-in-Next-clause-looked : goal.returns-in-Next-clause-looked
+returns-in-Next-clause-looked g c = omega (arith, c.in-Next.ensures.looked, c.send_waiting.ensures.same.looked)

@@ -3,7 +3,7 @@ use Rattle.std.proofs.Common.{◌≡◌, Bool, false, ℕ, List, [], length, ari
 use Rattle.std.specs.Io.KnownBytes.{Consumes, IsAtEnd, Keeps, prepend_known}
 use Rattle.pn_serve.specs.Lines.States.{LineLoopValue}
 use Rattle.pn_serve.specs.Lines.Stepping.{Stands, by}
-use Rattle.pn_serve.proofs.Bounded.{end_lines}
+use Rattle.pn_serve.proofs.Bounded.{end_lines, end_looked}
 use Rattle.pn_serve.proofs.Knowing.{knows_itself}
 use Rattle.pn_serve.proofs.Steps.{Steps-read_fault}
 use Rattle.pn_stay.proofs.Coming.{Consumes-nothing, Ends-known, Keeps-front, Stands-came, at_end, at_fault, at_input, at_nothing}
@@ -95,3 +95,6 @@ returns-in-Fault-clause-few g c = reads_nothing _ _ _ (Consumes-nothing _ _ (at_
 
 pub returns-in-End-clause-answers : goal.returns-in-End-clause-answers
 returns-in-End-clause-answers g c = end_lines c.args.buffers.now.lines c.end_input.new.self c.end_input.ensures.some c.end_input.ensures.none
+
+pub returns-in-End-clause-looked : goal.returns-in-End-clause-looked
+returns-in-End-clause-looked g c = end_looked c.args.buffers.now.lines c.end_input.new.self c.end_input.ensures.some c.end_input.ensures.none

@@ -26,5 +26,13 @@ returns-in_default g c = record {
   few = reads_none _ _;
   written = c.step-step.ensures.written;
   answers = answers_counted c.args.buffers.now.lines c.step-step.new.self c.step-step.result c.step-step.ensures.counted;
+  looked = c.step-step.ensures.looked;
+  records = c.step-step.ensures.records;
   knows = c.step-step.ensures.knows;
 }
+
+pub returns-in-NoInput-clause-looked : goal.returns-in-NoInput-clause-looked
+returns-in-NoInput-clause-looked g c = omega (arith, c.in-NoInput.ensures.looked, c.read_more.ensures.looked)
+
+pub returns-in-NoInput-clause-records : goal.returns-in-NoInput-clause-records
+returns-in-NoInput-clause-records g c = omega (arith, c.in-NoInput.ensures.records, c.read_more.ensures.looked)

@@ -2,15 +2,16 @@
 use Rattle.std.proofs.Common.{arith}
 use Rattle.pn_serve.proofs.Knowing.{knows_itself, knows_on}
 use Rattle.pn_stay.proofs.Inputs.{within_after, within_all, within_last, within_turn}
-use Rattle.pn_stay.proofs.Outputs.{makes_after, makes_all, makes_last, makes_turn, one_line}
+use Rattle.pn_stay.proofs.Outputs.{looks_after, looks_all, looks_last, makes_after, makes_all, makes_last, makes_turn, one_line}
 use Rattle.pn_stay.proofs.steps.take_steps.Goals as goal
 
 pub steps-init : goal.steps-init
-steps-init g c = record { stands = λ start steady stands. stands; within = within_all _; few = within_turn _ _ _ (within_all _); makes = makes_all _ _; written = makes_turn _ _ _ _ _ (makes_all _ _); lines = omega arith; answers = omega arith; knows = knows_itself _ }
+steps-init g c = record { stands = λ start steady stands. stands; within = within_all _; few = within_turn _ _ _ (within_all _); makes = makes_all _ _; written = makes_turn _ _ _ _ _ (makes_all _ _); lines = omega arith; answers = omega arith; looks = looks_all _; looked = (looks_all _).few; knows = knows_itself _ }
 
 pub steps-preserved : goal.steps-preserved
 steps-preserved g c = let within = within_after _ _ _ _ _ _ c.steps-test.true c.units_after-units.ensures.fewer c.units_after-units.ensures.counted c.steps.invariant.within c.in-Next.ensures.few in
-    let makes = makes_after _ _ _ _ _ _ _ _ _ c.steps-test.true c.units_after-units.ensures.fewer c.units_after-units.ensures.counted c.steps.invariant.makes c.in-Next.ensures.written in record {
+    let makes = makes_after _ _ _ _ _ _ _ _ _ c.steps-test.true c.units_after-units.ensures.fewer c.units_after-units.ensures.counted c.steps.invariant.makes c.in-Next.ensures.written in
+    let looks = looks_after _ _ _ _ _ _ c.steps-test.true c.units_after-units.ensures.fewer c.units_after-units.ensures.counted c.steps.invariant.looks c.in-Next.ensures.looked c.in-Next.ensures.records in record {
       stands = λ start steady stands. c.in-Next.ensures.steps start steady (c.steps.invariant.stands start steady stands);
       within = within;
       few = within_turn _ _ _ within;
@@ -18,6 +19,8 @@ steps-preserved g c = let within = within_after _ _ _ _ _ _ c.steps-test.true c.
       written = makes_turn _ _ _ _ _ makes;
       lines = omega (arith, c.steps.invariant.lines, c.in-Next.ensures.answers, c.units_after-units.ensures.fewer);
       answers = omega (arith, c.steps.invariant.lines, c.in-Next.ensures.answers, c.steps-test.true);
+      looks = looks;
+      looked = looks.few;
       knows = knows_on _ _ _ c.steps.invariant.knows c.take_step.ensures.knows;
     }
 
@@ -28,5 +31,6 @@ returns-in_default g c = record {
   few = within_last _ _ _ _ _ c.steps-test.true c.steps.invariant.within c.take_step.ensures.few;
   written = makes_last _ _ _ _ _ _ _ _ c.steps-test.true c.steps.invariant.makes c.take_step.ensures.written;
   answers = omega (arith, c.steps.invariant.lines, c.take_step.ensures.answers, one_line c.take_step.result, c.steps-test.true);
+  looked = looks_last _ _ _ _ c.steps-test.true c.steps.invariant.looks c.take_step.ensures.looked;
   knows = knows_on _ _ _ c.steps.invariant.knows c.take_step.ensures.knows;
 }

@@ -8,8 +8,8 @@ use Rattle.pn_serve.specs.Session.Knowing.{IsSteady, KnowsNoLess}
 use Rattle.pn_stay.specs.Inputs.{most_taken, TakesAtMost}
 use Rattle.pn_stay.specs.Turns.{Continues, in_buffers}
 use Rattle.pn_stay.proofs.Inputs.{TakesWithin}
-use Rattle.pn_stay.specs.Outputs.{AnswersAtMost, most_made}
-use Rattle.pn_stay.proofs.Outputs.{MakesWithin}
+use Rattle.pn_stay.specs.Outputs.{AnswersAtMost, LooksFew, most_looked, most_made}
+use Rattle.pn_stay.proofs.Outputs.{LooksOn, MakesWithin}
 use Rattle.pn_stay.proofs.steps.take_steps.Given as goal
 
 abbrev pub invariant-steps : goal.invariant-steps
@@ -23,6 +23,8 @@ invariant-steps g l = record {
   written : MakesAtMost most_made (g.W.Sink.contents l.initial.output) (g.W.Sink.contents l.output) l.initial.buffers.lines.replies l.buffers.lines.replies;
   lines : l.buffers.lines.state.counts.lines + l.units ≤ l.initial.buffers.lines.state.counts.lines + TURN_UNITS;
   answers : AnswersAtMost TURN_UNITS l.initial.buffers.lines.state l.buffers.lines.state;
+  looks : LooksOn l.units l.initial.buffers.lines.state l.buffers.lines.state;
+  looked : LooksFew most_looked l.initial.buffers.lines.state l.buffers.lines.state;
   knows : KnowsNoLess (g.M.LineHandler.reader l.initial.machine) (g.M.LineHandler.reader l.machine);
 }
 

@@ -5,8 +5,9 @@ use Rattle.pn_serve.specs.declared.script.line_loop.steps.TheConstants.{TURN_UNI
 use Rattle.pn_serve.specs.Lines.States.{waits_in}
 use Rattle.pn_serve.specs.Lines.Stepping.{by}
 use Rattle.pn_stay.specs.Connections.{ConnectionValue, loop_of}
+use Rattle.pn_stay.specs.Outputs.{most_looked}
 use Rattle.pn_stay.specs.Turns.{Continues, in_buffers}
-use Rattle.pn_stay.proofs.Storing.{AppendsPrefix-none, Turns-stored, answers_stored}
+use Rattle.pn_stay.proofs.Storing.{AppendsPrefix-none, Turns-stored, answers_stored, looked_stored}
 use Rattle.pn_stay.proofs.connection_state.ConnectionState.turn.Goals as goal
 
 pub returns-clause-turns : goal.returns-clause-turns
@@ -31,3 +32,7 @@ returns-clause-written g c = c.send_and_step-step.ensures.written
 pub returns-clause-answers : goal.returns-clause-answers
 returns-clause-answers g c =
     answers_stored TURN_UNITS c.args.self.now (in_buffers c.load.new.buffers) (in_buffers c.send_and_step-step.new.buffers) c.store.new.self c.load.ensures c.send_and_step-step.ensures.answers c.send_and_step-step.result c.store.result c.store.ensures.stores
+
+pub returns-clause-looked : goal.returns-clause-looked
+returns-clause-looked g c =
+    looked_stored most_looked c.args.self.now (in_buffers c.load.new.buffers) (in_buffers c.send_and_step-step.new.buffers) c.store.new.self c.load.ensures c.send_and_step-step.ensures.looked c.send_and_step-step.result c.store.result c.store.ensures.stores

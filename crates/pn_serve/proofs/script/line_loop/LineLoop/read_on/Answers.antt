@@ -180,3 +180,18 @@ returns-in-Ok-false-clause-counted g c =
     let after = g.W.Sink.contents c.wait_for_input.new.output in
     waits_counted old new before after old c.wait_for_input.result c.wait_for_input.ensures.waits
     (counts_nothing old new before after old (omega arith) refl (omega arith) c.wait_for_input.ensures.same c.wait_for_input.ensures.written)
+
+pub returns-then-not-is_out-clause-looked : goal.returns-then-not-is_out-clause-looked
+returns-then-not-is_out-clause-looked g c = c.put_out.ensures.same.looked
+
+pub returns-then-len-ge-ENDLESS-clause-looked : goal.returns-then-len-ge-ENDLESS-clause-looked
+returns-then-len-ge-ENDLESS-clause-looked g c = ap (λ (r : LineLoopValue). r.state.looked) c.end_reading.ensures.ends
+
+pub returns-in-Ok-false-clause-looked : goal.returns-in-Ok-false-clause-looked
+returns-in-Ok-false-clause-looked g c = c.wait_for_input.ensures.same.looked
+
+pub returns-in-Ok-true-clause-looked : goal.returns-in-Ok-true-clause-looked
+returns-in-Ok-true-clause-looked g c = ap (λ (r : LineLoopValue). r.state.looked) c.end_reading-in-Ok-true.ensures.ends
+
+pub returns-in-Err-clause-looked : goal.returns-in-Err-clause-looked
+returns-in-Err-clause-looked g c = ap (λ (r : LineLoopValue). r.state.looked) c.end_reading-in-Err.ensures.ends

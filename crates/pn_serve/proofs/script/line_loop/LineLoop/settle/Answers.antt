@@ -7,7 +7,7 @@ use Rattle.pn_serve.specs.declared.script.line_loop.state.Stage.{Stage}
 use Rattle.pn_serve.specs.declared.script.line_loop.state.Stage.TheVariants.{Reading, Looking}
 use Rattle.pn_serve.specs.Lines.Bounds.{Foresees, ForeseesAt, IsFreshAt, IsNoFarther, IsOutAs, IsSettled, reads_at, reads_left, looks_left, looks_left_at, stage_left}
 use Rattle.pn_serve.specs.Lines.Going.{AnswersLast, AnswersWith}
-use Rattle.pn_serve.specs.Lines.States.{LineLoopValue, LineStateValue}
+use Rattle.pn_serve.specs.Lines.States.{LineLoopValue, LineStateValue, with_looked}
 use Rattle.pn_serve.specs.Lines.Stepping.{HasEnded, Stands, StandsAt, by}
 use Rattle.pn_serve.specs.Lines.Taking.{Takes, TakesLine}
 use Rattle.pn_serve.proofs.Bounded.{kept_foresees, takes_foresees, takes_out}
@@ -106,10 +106,10 @@ looks-preserved g c =
     let kept = kept_no_farther c.looks.self whole sent.kept c.in-Ok.ensures.same in
     let new = c.look_on.new.self in
     let going = c.in-Looking.going in
-    let mid : LineLoopValue = record whole { state = record whole.state { stage = Reading } } in
+    let mid : LineLoopValue = record whole { state = record whole.state { stage = Reading; looked = new.state.looked } } in
     let mid_is =
-    ap (λ (s : LineStateValue). let r : LineLoopValue = record { line = c.self.inside.line; replies = c.self.inside.replies; state = s } in r) c.take_stage.ensures.reads
-    ∙ ap (λ (r : LineLoopValue). let m : LineLoopValue = record r { state = record r.state { stage = Reading } } in m) c.self.view_is in
+    ap (λ (s : LineStateValue). with_looked (let r : LineLoopValue = record { line = c.self.inside.line; replies = c.self.inside.replies; state = s } in r) new.state.looked) c.take_stage.ensures.reads
+    ∙ ap (λ (r : LineLoopValue). let m : LineLoopValue = record r { state = record r.state { stage = Reading; looked = new.state.looked } } in m) c.self.view_is in
     let looking : whole.state.stage ≡ Looking going = sym (ap (λ (r : LineLoopValue). r.state.stage) c.self.view_is) ∙ sym c.take_stage.ensures.stage ∙ c.in-Looking.is in
     let takes : Takes true mid new = subst (λ (r : LineLoopValue). Takes true r new) mid_is c.look_on.ensures.takes in
     let reads : reads_left whole ≡ reads_at (Looking going) whole = ap (λ (s : Stage). reads_at s whole) looking in

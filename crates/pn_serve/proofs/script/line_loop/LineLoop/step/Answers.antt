@@ -7,7 +7,7 @@ use Rattle.pn_serve.specs.declared.script.line_loop.state.Stage.TheVariants.{Rea
 use Rattle.pn_serve.specs.Lines.Bounds.{CountsUnits, Foresees, ForeseesAt, HandsOnAtMost, IsLookingAt, IsOutAs, KeepsLine, ReadsOn}
 use Rattle.pn_serve.specs.Lines.Going.{AnswersLast, AnswersWith}
 use Rattle.pn_serve.specs.Lines.Made.{MakesAtMost, made_by, made_in}
-use Rattle.pn_serve.specs.Lines.States.{LineLoopValue, LineStateValue}
+use Rattle.pn_serve.specs.Lines.States.{LineLoopValue, LineStateValue, with_looked}
 use Rattle.pn_serve.specs.Lines.Stepping.{Stands, StandsAt, by, with_rest}
 use Rattle.pn_serve.specs.Lines.Taking.{EndsTo, Takes, TakesLine}
 use Rattle.pn_serve.proofs.Bounded.{counts_nothing, ends_counted, ends_foresees, ends_idle, ends_no_input, sends_foresees, takes_foresees, takes_grows, takes_line, takes_lines, takes_out}
@@ -98,8 +98,8 @@ returns-in-Looking-clause-steps g c =
     let old = c.args.self.now in
     let new = c.look_on.new.self in
     let going = c.in-Looking.going in
-    let mid : LineLoopValue = record old { state = record old.state { stage = Reading } } in
-    let mid_is = taken_reads c.self.inside.line c.self.inside.replies c.self.inside.state c.take_stage.new.self old c.take_stage.ensures.reads c.self.view_is in
+    let mid : LineLoopValue = record old { state = record old.state { stage = Reading; looked = new.state.looked } } in
+    let mid_is = ap (λ (r : LineLoopValue). with_looked r new.state.looked) (taken_reads c.self.inside.line c.self.inside.replies c.self.inside.state c.take_stage.new.self old c.take_stage.ensures.reads c.self.view_is) in
     let looking : old.state.stage ≡ Looking going = sym (ap (λ (r : LineLoopValue). r.state.stage) c.self.view_is) ∙ sym c.take_stage.ensures.stage ∙ c.in-Looking.is in
     let takes : Takes true mid new = subst (λ (r : LineLoopValue). Takes true r new) mid_is c.look_on.ensures.takes in
     λ start rest steady stands.
@@ -112,8 +112,8 @@ pub returns-in-Looking-clause-out : goal.returns-in-Looking-clause-out
 returns-in-Looking-clause-out g c =
     let old = c.args.self.now in
     let new = c.look_on.new.self in
-    let mid : LineLoopValue = record old { state = record old.state { stage = Reading } } in
-    let mid_is = taken_reads c.self.inside.line c.self.inside.replies c.self.inside.state c.take_stage.new.self old c.take_stage.ensures.reads c.self.view_is in
+    let mid : LineLoopValue = record old { state = record old.state { stage = Reading; looked = new.state.looked } } in
+    let mid_is = ap (λ (r : LineLoopValue). with_looked r new.state.looked) (taken_reads c.self.inside.line c.self.inside.replies c.self.inside.state c.take_stage.new.self old c.take_stage.ensures.reads c.self.view_is) in
     let takes : Takes true mid new = subst (λ (r : LineLoopValue). Takes true r new) mid_is c.look_on.ensures.takes in
     λ is. takes_out true mid new (g.W.Sink.is_handed_on c.args.output.now) takes is
 
@@ -121,8 +121,8 @@ pub returns-in-Looking-clause-few : goal.returns-in-Looking-clause-few
 returns-in-Looking-clause-few g c =
     let old = c.args.self.now in
     let new = c.look_on.new.self in
-    let mid : LineLoopValue = record old { state = record old.state { stage = Reading } } in
-    let mid_is = taken_reads c.self.inside.line c.self.inside.replies c.self.inside.state c.take_stage.new.self old c.take_stage.ensures.reads c.self.view_is in
+    let mid : LineLoopValue = record old { state = record old.state { stage = Reading; looked = new.state.looked } } in
+    let mid_is = ap (λ (r : LineLoopValue). with_looked r new.state.looked) (taken_reads c.self.inside.line c.self.inside.replies c.self.inside.state c.take_stage.new.self old c.take_stage.ensures.reads c.self.view_is) in
     let takes : Takes true mid new = subst (λ (r : LineLoopValue). Takes true r new) mid_is c.look_on.ensures.takes in
     omega (arith, takes_grows true mid new takes)
 
@@ -130,8 +130,8 @@ pub returns-in-Looking-clause-counted : goal.returns-in-Looking-clause-counted
 returns-in-Looking-clause-counted g c =
     let old = c.args.self.now in
     let new = c.look_on.new.self in
-    let mid : LineLoopValue = record old { state = record old.state { stage = Reading } } in
-    let mid_is = taken_reads c.self.inside.line c.self.inside.replies c.self.inside.state c.take_stage.new.self old c.take_stage.ensures.reads c.self.view_is in
+    let mid : LineLoopValue = record old { state = record old.state { stage = Reading; looked = new.state.looked } } in
+    let mid_is = ap (λ (r : LineLoopValue). with_looked r new.state.looked) (taken_reads c.self.inside.line c.self.inside.replies c.self.inside.state c.take_stage.new.self old c.take_stage.ensures.reads c.self.view_is) in
     let takes : Takes true mid new = subst (λ (r : LineLoopValue). Takes true r new) mid_is c.look_on.ensures.takes in
     (takes_lines true mid new takes, omega (arith, subst (λ (r : LineLoopValue). length new.replies < length r.replies + 1024 * (c.look_on.result + 1)) mid_is c.look_on.ensures.units, ap (λ (l : LineBufferValue). l.count) (takes_line true mid new takes)))
 
@@ -147,8 +147,8 @@ returns-in-Looking-clause-foresees g c =
     let old = c.args.self.now in
     let new = c.look_on.new.self in
     let going = c.in-Looking.going in
-    let mid : LineLoopValue = record old { state = record old.state { stage = Reading } } in
-    let mid_is = taken_reads c.self.inside.line c.self.inside.replies c.self.inside.state c.take_stage.new.self old c.take_stage.ensures.reads c.self.view_is in
+    let mid : LineLoopValue = record old { state = record old.state { stage = Reading; looked = new.state.looked } } in
+    let mid_is = ap (λ (r : LineLoopValue). with_looked r new.state.looked) (taken_reads c.self.inside.line c.self.inside.replies c.self.inside.state c.take_stage.new.self old c.take_stage.ensures.reads c.self.view_is) in
     let looking : old.state.stage ≡ Looking going = sym (ap (λ (r : LineLoopValue). r.state.stage) c.self.view_is) ∙ sym c.take_stage.ensures.stage ∙ c.in-Looking.is in
     let takes : Takes true mid new = subst (λ (r : LineLoopValue). Takes true r new) mid_is c.look_on.ensures.takes in
     λ was.
@@ -295,3 +295,35 @@ returns-in-Ending-clause-written g c =
     let after = g.W.Sink.contents c.end_once_out.new.output in
     let mid_is = taken_reads c.self.inside.line c.self.inside.replies c.self.inside.state c.take_stage.new.self old c.take_stage.ensures.reads c.self.view_is in
     makes_none (made_by c.end_once_out.result) before after old.replies new.replies (subst (λ (r : LineLoopValue). MakesAtMost 0 before after r.replies new.replies) mid_is c.end_once_out.ensures.written)
+
+pub returns-then-has_text-clause-looked : goal.returns-then-has_text-clause-looked
+returns-then-has_text-clause-looked g c = omega (arith, c.write_on.ensures.same.looked)
+
+pub returns-then-has_text-clause-records : goal.returns-then-has_text-clause-records
+returns-then-has_text-clause-records g c = omega (arith, c.write_on.ensures.same.looked)
+
+pub returns-in-Reading-clause-looked : goal.returns-in-Reading-clause-looked
+returns-in-Reading-clause-looked g c =
+    let back = taken_as_was c.self.inside.line c.self.inside.replies c.self.inside.state c.take_stage.new.self c.args.self.now c.take_stage.ensures.reads (sym c.take_stage.ensures.stage ∙ c.in-Reading.is) c.self.view_is in
+    omega (arith, c.read_on.ensures.looked, ap (λ (r : LineLoopValue). r.state.looked) back)
+
+pub returns-in-Reading-clause-records : goal.returns-in-Reading-clause-records
+returns-in-Reading-clause-records g c =
+    let back = taken_as_was c.self.inside.line c.self.inside.replies c.self.inside.state c.take_stage.new.self c.args.self.now c.take_stage.ensures.reads (sym c.take_stage.ensures.stage ∙ c.in-Reading.is) c.self.view_is in
+    omega (arith, c.read_on.ensures.looked, ap (λ (r : LineLoopValue). r.state.looked) back)
+
+pub returns-in-Looking-clause-looked : goal.returns-in-Looking-clause-looked
+returns-in-Looking-clause-looked g c =
+    omega (arith, c.look_on.ensures.looked, ap (λ (s : LineStateValue). s.looked) c.take_stage.ensures.reads, ap (λ (r : LineLoopValue). r.state.looked) c.self.view_is)
+
+pub returns-in-Looking-clause-records : goal.returns-in-Looking-clause-records
+returns-in-Looking-clause-records g c =
+    omega (arith, c.look_on.ensures.records, ap (λ (s : LineStateValue). s.looked) c.take_stage.ensures.reads, ap (λ (r : LineLoopValue). r.state.looked) c.self.view_is)
+
+pub returns-in-Ending-clause-looked : goal.returns-in-Ending-clause-looked
+returns-in-Ending-clause-looked g c =
+    omega (arith, c.end_once_out.ensures.same.looked, ap (λ (s : LineStateValue). s.looked) c.take_stage.ensures.reads, ap (λ (r : LineLoopValue). r.state.looked) c.self.view_is)
+
+pub returns-in-Ending-clause-records : goal.returns-in-Ending-clause-records
+returns-in-Ending-clause-records g c =
+    omega (arith, c.end_once_out.ensures.same.looked, ap (λ (s : LineStateValue). s.looked) c.take_stage.ensures.reads, ap (λ (r : LineLoopValue). r.state.looked) c.self.view_is)

@@ -17,7 +17,7 @@ use Rattle.pn_serve.specs.Lines.States.{LineLoopValue, LineStateValue}
 use Rattle.pn_serve.specs.Lines.Stepping.{Stands, StepsTo, by, with_rest}
 use Rattle.pn_serve.specs.Lines.Taking.{Takes, TakesLine, WaitsTo}
 use Rattle.pn_serve.proofs.Knowing.{knows_itself}
-use Rattle.pn_serve.proofs.Bounded.{counts_nothing, shown_rest, waits_counted}
+use Rattle.pn_serve.proofs.Bounded.{counts_nothing, shown_rest, takes_looked, waits_counted}
 use Rattle.pn_serve.proofs.Made.{makes_none, makes_unwritten}
 use Rattle.pn_serve.proofs.Measured.{answer_nearer, fault_nearer, part_nearer, waits_nearer}
 use Rattle.pn_serve.proofs.Standing.{Keeps-rest, Steps-waited, Takes-rest}
@@ -186,3 +186,15 @@ returns-in-Ok-NoMore-clause-counted g c =
     let same = subst (λ (r : LineLoopValue). KeepsLine (let m : LineLoopValue = record r { line = line } in m) new) c.self.view_is c.wait_for_input.ensures.same in
     let makes = subst (λ (r : LineLoopValue). MakesAtMost 0 before after r.replies new.replies) c.self.view_is c.wait_for_input.ensures.written in
     waits_counted mid new before after old c.wait_for_input.result waits (counts_nothing mid new before after old longer refl (omega arith) same makes)
+
+pub returns-in-Ok-Part-clause-looked : goal.returns-in-Ok-Part-clause-looked
+returns-in-Ok-Part-clause-looked g c = ap (λ (r : LineLoopValue). r.state.looked) c.self.view_is
+
+pub returns-in-Ok-Ended-clause-looked : goal.returns-in-Ok-Ended-clause-looked
+returns-in-Ok-Ended-clause-looked g c = takes_looked _ _ _ c.answer.ensures.takes ∙ ap (λ (s : LineStateValue). s.looked) c.set_more.ensures ∙ ap (λ (r : LineLoopValue). r.state.looked) c.self.view_is
+
+pub returns-in-Ok-NoMore-clause-looked : goal.returns-in-Ok-NoMore-clause-looked
+returns-in-Ok-NoMore-clause-looked g c = c.wait_for_input.ensures.same.looked ∙ ap (λ (r : LineLoopValue). r.state.looked) c.self.view_is
+
+pub returns-in-Err-clause-looked : goal.returns-in-Err-clause-looked
+returns-in-Err-clause-looked g c = ap (λ (r : LineLoopValue). r.state.looked) c.end_reading.ensures.ends ∙ ap (λ (r : LineLoopValue). r.state.looked) c.self.view_is

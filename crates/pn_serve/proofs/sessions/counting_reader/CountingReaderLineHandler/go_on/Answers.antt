@@ -5,7 +5,7 @@ use Rattle.pn_serve.specs.declared.machine.line_handler.Answer.{Answer}
 use Rattle.pn_serve.specs.Lines.Going.{AnswersLast, AnswersWith, answer_left}
 use Rattle.pn_serve.specs.Session.Knowing.{KnowsNoLess}
 use Rattle.pn_serve.specs.Session.Lines.{AnswersLine, EndsLines}
-use Rattle.pn_serve.specs.Session.Looking.{LooksFor, LooksForLast, going_left}
+use Rattle.pn_serve.specs.Session.Looking.{CountsLooks, LooksFor, LooksForLast, going_left}
 use Rattle.pn_serve.proofs.Lookups.{answers_said, last_on}
 use Rattle.pn_serve.proofs.sessions.counting_reader.CountingReaderLineHandler.go_on.Goals as goal
 
@@ -28,3 +28,6 @@ returns-clause-nearer c = λ some. subst (λ (a : Answer). answer_left a ≤ goi
 
 pub returns-clause-knows : goal.returns-clause-knows
 returns-clause-knows c = subst (λ (r : LiveReaderValue). KnowsNoLess c.args.self.now r) (sym c.count.ensures.kept) (subst (λ (r : LiveReaderValue). KnowsNoLess r c.go_on-answer.new.reader) c.self.view_is c.go_on-answer.ensures.knows)
+
+pub returns-clause-counted : goal.returns-clause-counted
+returns-clause-counted c = subst (λ (a : Answer). CountsLooks a c.args.going c.go_on-answer.result.1) (sym c.count.ensures.same) c.go_on-answer.ensures.counted

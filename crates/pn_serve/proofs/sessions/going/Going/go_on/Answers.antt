@@ -1,12 +1,14 @@
 -- A page, a get and a copy that are gone on with.
-use Rattle.std.proofs.Common.{◌≤◌, sym, subst, arith}
+use Rattle.std.proofs.Common.{◌≤◌, ◌*◌, refl, sym, subst, arith}
 use Rattle.pn_scan.specs.Paging.{Stays}
 use Rattle.pn_serve.specs.declared.sessions.going.Going.{Going}
+use Rattle.pn_serve.specs.declared.sessions.going.TheConstants.{RECORDS_OF_KEY}
 use Rattle.pn_serve.specs.Lines.Going.{answer_left}
 use Rattle.pn_serve.specs.Session.Knowing.{KnowsNoLess}
-use Rattle.pn_serve.specs.Session.Looking.{LooksOn, going_left}
+use Rattle.pn_serve.specs.Session.Looking.{CountsLooks, LooksOn, going_left}
 use Rattle.pn_serve.proofs.GoingOn.{copy_nearer, copy_on, keys_nearer, keys_on, only_looks_know, page_nearer, page_on}
 use Rattle.pn_serve.proofs.Knowing.{knows_itself, knows_preorder, moves_knows, stays_knows}
+use Rattle.pn_serve.proofs.Looked.{copy_counted, keys_counted, page_counted, page_few}
 use Rattle.pn_serve.proofs.Running.{stays_preorder}
 use Rattle.pn_serve.proofs.sessions.going.Going.go_on.Goals as goal
 
@@ -69,3 +71,27 @@ returns-in-Copy-clause-nearer c = λ some.
 
 pub returns-in-Copy-clause-knows : goal.returns-in-Copy-clause-knows
 returns-in-Copy-clause-knows c = knows_itself c.args.reader.now
+
+pub returns-in-Page-clause-few : goal.returns-in-Page-clause-few
+returns-in-Page-clause-few c = page_few c.args.records c.looked_by-looked.result c.in-Page.walk c.go_on-step.result c.looked_by-looked.ensures c.go_on-step.ensures.few
+
+pub returns-in-Page-clause-counted : goal.returns-in-Page-clause-counted
+returns-in-Page-clause-counted c =
+    subst (λ (going : Going). CountsLooks c.page_answer.result going c.looked_by-looked.result) (sym c.in-Page.is)
+    (page_counted c.args.records c.looked_by-looked.result _ _ c.in-Page.query c.in-Page.walk c.go_on-step.result c.page_answer.result c.page_answer.ensures c.looked_by-looked.ensures c.go_on-step.ensures.few)
+
+pub returns-in-Keys-clause-few : goal.returns-in-Keys-clause-few
+returns-in-Keys-clause-few c = omega (arith, c.min-count.ensures, c.max-most.ensures)
+
+pub returns-in-Keys-clause-counted : goal.returns-in-Keys-clause-counted
+returns-in-Keys-clause-counted c =
+    subst (λ (going : Going). CountsLooks c.keys_answer.result going (c.min-count.result * RECORDS_OF_KEY)) (sym c.in-Keys.is)
+    (keys_counted c.in-Keys.walk c.max-most.result c.min-count.result _ c.go_on-walk.result c.keys_answer.result (omega (arith, c.min-count.ensures, c.left.ensures.left)) refl c.go_on-walk.ensures.few c.go_on-walk.ensures.left c.keys_answer.ensures.some c.keys_answer.ensures.fault)
+
+pub returns-in-Copy-clause-few : goal.returns-in-Copy-clause-few
+returns-in-Copy-clause-few c = omega arith
+
+pub returns-in-Copy-clause-counted : goal.returns-in-Copy-clause-counted
+returns-in-Copy-clause-counted c =
+    subst (λ (going : Going). CountsLooks c.copy_answer.result going c.args.records) (sym c.in-Copy.is)
+    (copy_counted c.in-Copy.count c.args.records c.go_on.result c.copy_answer.result c.go_on.ensures (c.copy_answer.ensures c.args.records c.in-Copy.count c.go_on.ensures))

@@ -1,0 +1,71 @@
+-- How many records a step looks at.
+use Rattle.std.proofs.Common.{◌≡◌, ◌≤◌, ◌+◌, ◌*◌, ◌-◌, ◌<◌, ℕ, List, length, max, min, refl, sym, ap, ◌∙◌, subst, inl, inr, arith}
+use Rattle.std.specs.Prelude.{Result, Ok, Err, IfOk, IfErr}
+use Rattle.pn_join.specs.declared.memory.NoMemory.{NoMemory}
+use Rattle.pn_line.specs.Line.{LineBufferValue}
+use Rattle.pn_live.specs.Getting.{GetWalkValue}
+use Rattle.pn_live.specs.declared.reader.TheConstants.{ENTRY_RECORDS}
+use Rattle.pn_scan.specs.Paging.{CountsRecords}
+use Rattle.pn_scan.specs.Queries.{QueryValue}
+use Rattle.pn_scan.specs.WalkValues.{PageWalkValue}
+use Rattle.pn_scan.specs.declared.fault.ScanFault.{ScanFault}
+use Rattle.pn_scan.specs.declared.page_walk.PageStep.{PageStep}
+use Rattle.pn_scan.specs.declared.page_walk.PageStep.TheVariants as pages
+use Rattle.pn_scan.specs.declared.pages.TheConstants.{LOOK_RECORDS}
+use Rattle.pn_tablet.specs.CopyCounts.{CountsOn}
+use Rattle.pn_tablet.specs.CopyMaking.{CopyCountValue}
+use Rattle.pn_tablet.specs.declared.copy_count.CopyStep.{CopyStep}
+use Rattle.pn_tablet.specs.declared.copy_count.CopyStep.TheVariants as copies
+use Rattle.pn_serve.specs.declared.machine.line_handler.Answer.{Answer}
+use Rattle.pn_serve.specs.declared.machine.line_handler.Answer.TheVariants.{Done, Going as Begun}
+use Rattle.pn_serve.specs.declared.sessions.going.Going.{Going}
+use Rattle.pn_serve.specs.declared.sessions.going.Going.TheVariants.{Page, Keys, Copy}
+use Rattle.pn_serve.specs.declared.sessions.going.TheConstants.{RECORDS_OF_KEY}
+use Rattle.pn_serve.specs.Lines.Going.{answer_left}
+use Rattle.pn_serve.specs.Lines.States.{LineLoopValue, LineStateValue, with_looked}
+use Rattle.pn_serve.specs.Session.Looking.{CopyAnswer, CountsLooks, CountsStep, PageAnswer}
+
+-- a page looked at no more records than it may
+pub page_few : (records looked : ℕ) (old : PageWalkValue) (step : Result PageStep ScanFault) → CountsStep records step looked → IfOk step (CountsRecords (max records LOOK_RECORDS) (max (max records LOOK_RECORDS) ENTRY_RECORDS) old) → looked ≤ max records ENTRY_RECORDS
+page_few records looked old (Ok (pages.Done page)) counts few = omega (arith, counts)
+page_few records looked old (Ok (pages.Next next)) counts few = omega (arith, counts, few.0)
+page_few records looked old (Err fault) counts few = omega (arith, counts)
+
+-- and counts them
+pub page_counted : (records looked most first : ℕ) (query : QueryValue) (walk : PageWalkValue) (step : Result PageStep ScanFault) (answer : Answer) → PageAnswer query step answer → CountsStep records step looked → IfOk step (CountsRecords most first walk)
+    → CountsLooks answer (Page query walk) looked
+page_counted records looked most first query walk (Ok (pages.Done page)) (Done reply) shows counts few = tt
+page_counted records looked most first query walk (Ok (pages.Done page)) (Begun going) shows counts few = absurd shows
+page_counted records looked most first query walk (Ok (pages.Next next)) (Done reply) shows counts few = absurd shows
+page_counted records looked most first query walk (Ok (pages.Next next)) (Begun going) is counts few =
+    subst (λ (g : Going). CountsLooks (Begun g) (Page query walk) looked) (sym is) (elim few.1 [
+      | inl left ↦ inl (omega (arith, left, counts))
+      | inr none ↦ inr none
+    ])
+page_counted records looked most first query walk (Err fault) (Done reply) shows counts few = tt
+page_counted records looked most first query walk (Err fault) (Begun going) shows counts few = absurd shows
+
+-- keys are counted
+pub keys_counted : (walk : GetWalkValue) (most count looked : ℕ) (result : Result GetWalkValue ScanFault) (answer : Answer) → count ≡ min (length walk.keys - walk.read) most → looked ≡ count * RECORDS_OF_KEY
+    → IfOk result (λ next. next.read ≤ walk.read + most) → IfOk result (λ next. length next.keys - next.read ≡ length walk.keys - walk.read - most)
+    → IfOk result (λ next. (going : Going) → answer ≡ Begun going → (going ≡ Keys next) × (next.read < length next.keys)) → IfErr result (λ _. answer_left answer ≡ 0) → CountsLooks answer (Keys walk) looked
+keys_counted walk most count looked result (Done reply) counts made few left begun fault = tt
+keys_counted walk most count looked (Ok next) (Begun going) counts made few left begun fault =
+    let (is, more) = begun going refl in
+    subst (λ (g : Going). CountsLooks (Begun g) (Keys walk) looked) (sym is) (omega (arith, few, left, more, counts, made))
+keys_counted walk most count looked (Err other) (Begun going) counts made few left begun fault = absurd (omega (arith, fault))
+
+-- lines of a copy are counted
+pub copy_counted : (count : CopyCountValue) (records : ℕ) (step : Result CopyStep NoMemory) (answer : Answer) → CountsOn records count step → CopyAnswer step answer → CountsLooks answer (Copy count) records
+copy_counted count records step (Done reply) to shows = tt
+copy_counted count records (Ok (copies.Done text)) (Begun going) to shows = absurd shows
+copy_counted count records (Ok (copies.Next more)) (Begun going) to is = subst (λ (g : Going). CountsLooks (Begun g) (Copy count) records) (sym is) (omega (arith, to.1))
+copy_counted count records (Err fault) (Begun going) to shows = absurd shows
+
+-- a loop that has looked at more records is as it was but for these
+pub looked_mid : (line : LineBufferValue) (replies : List ℕ) (was now : LineStateValue) (looked : ℕ) (old new : LineLoopValue) → now ≡ record was { looked = looked } → (let r : LineLoopValue = record { line = line; replies = replies; state = was } in r) ≡ old
+    → new.state.looked ≡ now.looked → (let r : LineLoopValue = record { line = line; replies = replies; state = now } in r) ≡ with_looked old new.state.looked
+looked_mid line replies was now looked old new counted view same =
+    ap (λ (s : LineStateValue). let r : LineLoopValue = record { line = line; replies = replies; state = s } in r) (subst (λ (s : LineStateValue). s ≡ record was { looked = s.looked }) (sym counted) refl)
+    ∙ ap (λ (r : LineLoopValue). with_looked r now.looked) view
+    ∙ ap (λ (n : ℕ). with_looked old n) (sym same)
