@@ -17,9 +17,9 @@ AT_FAULT = 3_000
 DROPPED = re.compile(rb"pnuts: (\d+) lines were dropped")
 MEGABYTE = 1_000_000
 # How much memory a region is left with, and a message that takes some of it.
-LITTLE, TEXT = 20 * MEGABYTE, b"y" * 4_000
+LITTLE, TEXT = MEGABYTE, b"y" * 4_000
 # How many of these are more than there is memory for.
-FILLED = 2 * LITTLE // len(TEXT)
+FILLED = 10 * LITTLE // len(TEXT)
 BIG = b'{"at":%d,"image":{"fields":{"a":"%b","b":"%b"},"key":"big%d","master":"w","version":[1,0]}}\n'
 # How long a region is looked at, and how often a second it may wake up while nothing comes.
 LOOKED, WAKE_UPS = 3.0, 30
@@ -64,14 +64,14 @@ def check_many_words(program: str, folder: str) -> None:
 def little_memory(region: Staying) -> Iterator[None]:
     """A region has little more memory than it has now, until the block ends."""
     process = region.process.pid
-    with open(f"/proc/{process}/statm") as file:
-        now = int(file.read().split()[0]) * resource.getpagesize()
-    before = resource.prlimit(process, resource.RLIMIT_AS)
-    resource.prlimit(process, resource.RLIMIT_AS, (now + LITTLE, before[1]))
+    with open(f"/proc/{process}/status") as file:
+        now = next(int(line.split()[1]) for line in file if line.startswith("VmData")) * 1_024
+    before = resource.prlimit(process, resource.RLIMIT_DATA)
+    resource.prlimit(process, resource.RLIMIT_DATA, (now + LITTLE, before[1]))
     try:
         yield
     finally:
-        resource.prlimit(process, resource.RLIMIT_AS, before)
+        resource.prlimit(process, resource.RLIMIT_DATA, before)
 
 
 def fill(writer: Writer) -> None:
@@ -98,12 +98,12 @@ def check_little_memory(program: str, folder: str) -> None:
             filling = threading.Thread(target=fill, args=(writer,), daemon=True)
             with little_memory(region):
                 filling.start()
-                region.wait_for_words(b"pnuts: out of memory: ")
+                region.wait_for_words(b"pnuts: out of memory: a stream waits\n")
                 same("a record that is there", client.read(key_of(1)), {"row": row_of(key_of(1), 0, "x")})
                 time.sleep(LOOKED)
                 same("whether the writer still waits", filling.is_alive(), True)
-            filling.join(SECONDS)
             take_up_to(writer, FILLED)
+            region.wait_for_words(b"pnuts: streams go on\n")
         with open(path, "wb", buffering=0) as pipe:
             pipe.write(messages(2, 1))
         client.wait_for(key_of(2), row_of(key_of(2), 0, "x"))

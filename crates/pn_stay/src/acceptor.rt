@@ -69,13 +69,17 @@ impl SocketAcceptor {
 
 impl Acceptor for SocketAcceptor {
     fn try_clone(&self) -> io::Result<SocketAcceptor> {
+        let listener = self.listener.try_clone()?;
+        let counters = Arc::try_clone(&self.counters)?;
+        let faults = share(&self.faults)?;
+        let messages = share(&self.messages)?;
         Ok(SocketAcceptor {
-            listener: self.listener.try_clone()?,
+            listener,
             control: None,
             idle: self.idle,
-            counters: Arc::try_clone(&self.counters)?,
-            faults: share(&self.faults)?,
-            messages: share(&self.messages)?,
+            counters,
+            faults,
+            messages,
         })
     }
 

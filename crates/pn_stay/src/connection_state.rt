@@ -46,10 +46,13 @@ pub struct ThreadBuffers {
 impl ThreadBuffers {
     /// Empty buffers.
     pub fn new(alloc: Global) -> Result<ThreadBuffers, NoMemory> {
+        let lines = LineLoop::new(alloc)?;
+        let input = InputBuffer::new(alloc)?;
+        let spare = ReplyBuffer::new(alloc)?;
         Ok(ThreadBuffers {
-            lines: LineLoop::new(alloc)?,
-            input: InputBuffer::new(alloc)?,
-            spare: Some(ReplyBuffer::new(alloc)?),
+            lines,
+            input,
+            spare: Some(spare),
             answered: NO_LINES,
         })
     }

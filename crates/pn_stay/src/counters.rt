@@ -107,11 +107,15 @@ pub struct Counters {
 impl Counters {
     /// The counters of a server that has done nothing so far.
     pub fn new(alloc: Global, streams: Vec<StreamCounters>) -> Result<Counters, AllocError> {
+        let rounds = Arc::new(alloc, Counter::new())?;
+        let shortage = Arc::new(alloc, Counter::new())?;
+        let waiting = Arc::new(alloc, Counter::new())?;
+        let clients = Arc::new(alloc, InputCounters::new())?;
         Ok(Counters {
-            rounds: Arc::new(alloc, Counter::new())?,
-            shortage: Arc::new(alloc, Counter::new())?,
-            waiting: Arc::new(alloc, Counter::new())?,
-            clients: Arc::new(alloc, InputCounters::new())?,
+            rounds,
+            shortage,
+            waiting,
+            clients,
             refused: Counter::new(),
             kinds: KindCounters::new(),
             connections: ConnectionCounters::new(),

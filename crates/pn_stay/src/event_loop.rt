@@ -58,10 +58,11 @@ impl EventLoop {
         let Ok(buffers) = ThreadBuffers::new(alloc) else {
             return Err(io::Error::from(io::ErrorKind::OutOfMemory));
         };
+        let events = Events::with_capacity(alloc, EVENTS)?;
         Ok(EventLoop {
             alloc,
             poll,
-            events: Events::with_capacity(alloc, EVENTS)?,
+            events,
             buffers,
             connections: Slab::new(alloc),
             idle: match idle {

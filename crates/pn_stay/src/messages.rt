@@ -140,10 +140,9 @@ pub struct Shortages {
 impl Shortages {
     /// Those that these counters count.
     pub fn of(counters: &Counters) -> Result<Shortages, AllocError> {
-        Ok(Shortages {
-            rounds: Arc::try_clone(&counters.shortage)?,
-            streams: Arc::try_clone(&counters.waiting)?,
-        })
+        let rounds = Arc::try_clone(&counters.shortage)?;
+        let streams = Arc::try_clone(&counters.waiting)?;
+        Ok(Shortages { rounds, streams })
     }
 }
 
@@ -166,10 +165,11 @@ impl MessagePrinter {
         shortages: Shortages,
         prefix: &'static str,
     ) -> Result<MessagePrinter, AllocError> {
+        let lines = WaitingLines::new(alloc)?;
         Ok(MessagePrinter {
             messages,
             shortages,
-            lines: WaitingLines::new(alloc)?,
+            lines,
             prefix,
         })
     }

@@ -8,6 +8,7 @@ ghost use Rattle.pn_serve.specs.Server.Events.{ReadsBesides};
 ghost use Rattle.pn_serve.specs.Server.Reading.{ReadsStreams};
 ghost use Rattle.pn_serve.specs.Server.Sessions.{AllRead};
 
+mod accepting;
 mod control_client;
 mod control_threads;
 pub(crate) mod starting;
@@ -16,6 +17,7 @@ mod threads;
 
 use crate::acceptor::SocketAcceptor;
 use crate::counters::Counters;
+use crate::listener::Listener;
 use crate::server::control_threads::start_controls;
 use crate::server::starting::ServerSizes;
 use crate::server::stopping::Stopping;
@@ -198,35 +200,51 @@ where
 {
     let mut acceptor = acceptor;
     let beside = take_beside(alloc, live, readers, sizes.threads)?;
-    let rounds = acceptor.round_counter();
-    let (shortage, waiting) = share_waits(&acceptor.counters)?;
-    let listener = acceptor.listener.try_clone()?;
-    let counters = Arc::try_clone(&acceptor.counters)?;
-    let controls = start_controls(rt, alloc, acceptor.control.take(), &counters, beside)?;
+    let kept = keep_handles(&acceptor)?;
+    let control = acceptor.control.take();
+    let controls = start_controls(rt, alloc, control, &kept.counters, beside)?;
     let answering = start_answering(rt, alloc, acceptor, sizes.connections, live, readers)?;
     Ok(Started {
         running: answering.running,
         watchers: Watchers {
-            rounds,
-            shortage: Some(shortage),
-            waiting: Some(waiting),
+            rounds: kept.rounds,
+            shortage: kept.shortage,
+            waiting: kept.waiting,
             controls: controls.mailboxes,
         },
         stopping: Stopping {
-            listener,
+            listener: kept.listener,
             control: controls.listener,
             mailboxes: answering.mailboxes,
             clients: controls.clients,
-            counters,
+            counters: kept.counters,
         },
     })
 }
 
-// The counters of rounds and of streams that wait for memory.
-fn share_waits(counters: &Counters) -> Result<(Arc<Counter>, Arc<Counter>), AllocError> {
-    let shortage = Arc::try_clone(&counters.shortage)?;
-    let waiting = Arc::try_clone(&counters.waiting)?;
-    Ok((shortage, waiting))
+// What a server keeps of its acceptor.
+#[derive(Drop)]
+struct KeptHandles {
+    rounds: Option<Arc<Counter>>,
+    shortage: Option<Arc<Counter>>,
+    waiting: Option<Arc<Counter>>,
+    listener: Listener,
+    counters: Arc<Counters>,
+}
+
+fn keep_handles(acceptor: &SocketAcceptor) -> io::Result<KeptHandles> {
+    let rounds = acceptor.round_counter();
+    let shortage = Some(Arc::try_clone(&acceptor.counters.shortage)?);
+    let waiting = Some(Arc::try_clone(&acceptor.counters.waiting)?);
+    let listener = acceptor.listener.try_clone()?;
+    let counters = Arc::try_clone(&acceptor.counters)?;
+    Ok(KeptHandles {
+        rounds,
+        shortage,
+        waiting,
+        listener,
+        counters,
+    })
 }
 
 // Takes out the readers that are left over once each of the threads has one.

@@ -50,11 +50,14 @@ where
             clients: Vec::new(alloc),
         });
     };
+    let mailboxes = ControlMailboxes::new(alloc, MAX_CONTROLS)?;
+    let mailboxes = Arc::new(alloc, mailboxes)?;
+    let counters = Arc::try_clone(counters)?;
     let setting = ControlSetting {
         alloc,
         listener,
-        mailboxes: Arc::new(alloc, ControlMailboxes::new(alloc, MAX_CONTROLS)?)?,
-        counters: Arc::try_clone(counters)?,
+        mailboxes,
+        counters,
         started: Instant::now(rt).ok(),
     };
     let clients = start_threads(rt, &setting, readers)?;
@@ -77,11 +80,14 @@ struct ControlSetting {
 
 impl ControlSetting {
     fn try_clone(&self) -> io::Result<ControlSetting> {
+        let listener = self.listener.try_clone()?;
+        let mailboxes = Arc::try_clone(&self.mailboxes)?;
+        let counters = Arc::try_clone(&self.counters)?;
         Ok(ControlSetting {
             alloc: self.alloc,
-            listener: self.listener.try_clone()?,
-            mailboxes: Arc::try_clone(&self.mailboxes)?,
-            counters: Arc::try_clone(&self.counters)?,
+            listener,
+            mailboxes,
+            counters,
             started: self.started,
         })
     }
@@ -98,16 +104,41 @@ where
     let mut clients = Vec::with_capacity(setting.alloc, readers.len())?;
     for reader in readers {
         let client = Arc::new(setting.alloc, ControlClient::new())?;
-        let thread = ControlThread {
-            setting: setting.try_clone()?,
-            number: clients.len(),
-            client: Arc::try_clone(&client)?,
-        };
-        let host = *rt;
-        thread::spawn(rt, move || answer_clients(&host, &thread, reader))?;
+        start_thread(rt, setting, clients.len(), &client, reader)?;
         clients.push(client)?;
     }
     Ok(clients)
+}
+
+// Starts the thread of a reader, and of the clients that it answers.
+fn start_thread<R>(
+    rt: &R,
+    setting: &ControlSetting,
+    number: usize,
+    client: &Arc<ControlClient>,
+    reader: LiveReader,
+) -> io::Result<()>
+where
+    R: Threads + Wait + Clock + Copy + Send + Drop + 'static,
+{
+    let thread = new_thread(setting, number, client)?;
+    let host = *rt;
+    thread::spawn(rt, move || answer_clients(&host, &thread, reader))?;
+    Ok(())
+}
+
+fn new_thread(
+    setting: &ControlSetting,
+    number: usize,
+    client: &Arc<ControlClient>,
+) -> io::Result<ControlThread> {
+    let setting = setting.try_clone()?;
+    let client = Arc::try_clone(client)?;
+    Ok(ControlThread {
+        setting,
+        number,
+        client,
+    })
 }
 
 // What a control thread begins with, beside its reader.

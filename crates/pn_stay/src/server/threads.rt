@@ -1,19 +1,15 @@
-//! The threads of a server that stays: those that answer connections, one that accepts them, and one that notes each quarter of
-//! a second.
+//! The threads of a server that stays that answer connections.
 
 ghost use Rattle.std.specs.Prelude.{◌≡◌, ◌+◌, ◌≤◌, vec_len, vec_capacity, All, IfOk};
 ghost use Rattle.pn_live.specs.Prelude.{tablets_in, tablets_of};
 ghost use Rattle.pn_serve.specs.Server.Sessions.{AllRead};
 ghost use Rattle.pn_serve.specs.Session.Knowing.{KnowsNoLess};
 
-use crate::acceptor::{AcceptNotes, SocketAcceptor, accept_all, tell_quarters};
-use crate::connection_limit::ConnectionLimit;
+use crate::acceptor::SocketAcceptor;
 use crate::counters::Counters;
 use crate::event_loop::{EventLoop, MAILBOX};
-use crate::listener::Listener;
+use crate::server::accepting::{Shared, begin_accepting, start_accepting};
 use crate::socket_mailbox::{Closed, SocketMailbox};
-use libc::types::rlimit;
-use libc::{EMFILE, RLIMIT_NOFILE, getrlimit};
 use mio::{Poll, Waker};
 use pn_live::{LiveReader, LiveRegion};
 use pn_serve::{ComesBack, CountingReader, SessionThread};
@@ -49,72 +45,11 @@ where
     ensures capacity { IfOk result (λ answering. vec_len answering.running + vec_len readers.new ≤ vec_capacity readers.new) }
     ensures all { IfOk result (λ answering. vec_len answering.running ≡ vec_len readers.old) }
 {
-    let SocketAcceptor {
-        listener,
-        idle,
-        counters,
-        messages,
-        ..
-    } = acceptor;
-    check_descriptors(connections)?;
-    let shared = Shared {
-        alloc,
-        limit: Arc::new(alloc, ConnectionLimit::new(connections))?,
-        idle,
-        counters,
-    };
+    let accepting = begin_accepting(alloc, acceptor, connections)?;
     let mut mailboxes = Vec::new(alloc);
-    let running = start_threads(rt, &shared, &mut mailboxes, live, readers)?;
-    let notes = AcceptNotes::new(alloc, Arc::try_clone(&shared.counters)?, messages);
-    let mailboxes = Arc::new(alloc, mailboxes)?;
-    start_accepting(rt, shared, listener, Arc::try_clone(&mailboxes)?, notes)?;
+    let running = start_threads(rt, &accepting.shared, &mut mailboxes, live, readers)?;
+    let mailboxes = start_accepting(rt, accepting, mailboxes)?;
     Ok(Answering { running, mailboxes })
-}
-
-// As many connections may not be open as descriptors are refused.
-fn check_descriptors(connections: usize) -> io::Result<()> {
-    let mut limit = rlimit {
-        rlim_cur: 0,
-        rlim_max: 0,
-    };
-    let asked = getrlimit(RLIMIT_NOFILE, &mut limit);
-    if asked == 0 && limit.rlim_cur < connections as u64 {
-        return Err(io::Error::from_raw_os_error(EMFILE));
-    }
-    Ok(())
-}
-
-// What the threads share.
-#[derive(Drop)]
-struct Shared {
-    alloc: Global,
-    limit: Arc<ConnectionLimit>,
-    idle: Option<u32>,
-    counters: Arc<Counters>,
-}
-
-// Starts the thread that accepts connections, and where clients may not be idle for long the one that notes each quarter.
-fn start_accepting<R>(
-    rt: &R,
-    shared: Shared,
-    listener: Listener,
-    mailboxes: Arc<Vec<Arc<SocketMailbox>>>,
-    notes: AcceptNotes,
-) -> io::Result<()>
-where
-    R: Threads + Wait + Clock + Copy + Send + 'static,
-{
-    if shared.idle.is_some() {
-        let told = Arc::try_clone(&mailboxes)?;
-        let host = *rt;
-        thread::spawn(rt, move || tell_quarters(&host, &told))?;
-    }
-    let limit = shared.limit;
-    let host = *rt;
-    thread::spawn(rt, move || {
-        accept_all(&host, &listener, &limit, &mailboxes, notes)
-    })?;
-    Ok(())
 }
 
 // Starts a thread for each reader, until one is refused. Its reader is dropped.
@@ -155,12 +90,13 @@ where
     let poll = Poll::new(rt)?;
     let mailbox = new_mailbox(shared, &poll)?;
     mailboxes.push(Arc::try_clone(&mailbox)?)?;
+    let counters = Arc::try_clone(&shared.counters)?;
     let promise = ComesBack(Snapshot::of(&reader));
     let body = LoopThread {
         alloc: shared.alloc,
         poll,
         idle: shared.idle,
-        counters: Arc::try_clone(&shared.counters)?,
+        counters,
         mailbox,
         reader,
     };

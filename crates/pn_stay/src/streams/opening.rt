@@ -15,7 +15,7 @@ use crate::streams::sockets::SocketWriters;
 use crate::streams::status::StreamStatus;
 use crate::streams::writer::Progress;
 use pn_join::Name;
-use pn_serve::{Stream, StreamPath};
+use pn_serve::{Counter, Stream, StreamPath};
 use std::alloc::{AllocError, Global};
 use std::fs::{File, Files};
 use std::net::Net;
@@ -89,38 +89,61 @@ where
 {
     let notes = new_notes(setting, name, &path)?;
     let (writers, size) = open_writers(setting, &notes, path, &mut opened.sockets)?;
-    let taken = Arc::try_clone(&notes.progress.taken)?;
-    add_counters(&mut opened.counters, &notes, &writers, size)?;
+    add_origin(opened, name, StreamOrigin { notes, writers }, size)
+}
+
+// Adds a stream and its counters.
+fn add_origin<R>(
+    opened: &mut OpenedStreams<R>,
+    name: Name,
+    origin: StreamOrigin<R>,
+    size: Option<u64>,
+) -> Result<(), OpenFault>
+where
+    R: Files<File = File> + Net + Wait + Clock + Copy + Drop,
+    ensures names { OnOk result (map (λ stream. stream.name) opened.new.streams.items ≡ map (λ stream. stream.name) opened.old.streams.items ++ name ∷ []) }
+{
+    let taken = Some(add_counters(&mut opened.counters, &origin, size)?);
     opened.streams.push(Stream {
         name,
-        origin: StreamOrigin { notes, writers },
-        taken: Some(taken),
+        origin,
+        taken,
     })?;
     Ok(())
 }
 
-// Adds the counters of a stream that is counted.
+// Adds the counters of a stream that is counted. Answers the position up to which rounds have taken it.
 fn add_counters<R: Drop>(
     counters: &mut Vec<StreamCounters>,
-    notes: &StreamNotes<R>,
-    writers: &Writers<R>,
+    origin: &StreamOrigin<R>,
     size: Option<u64>,
-) -> Result<(), AllocError> {
+) -> Result<Arc<Counter>, AllocError> {
+    let notes = &origin.notes;
     if let Some(input) = share(&notes.counters)? {
-        let told = match writers {
-            Writers::Socket(_) => Some(Arc::try_clone(&notes.progress.told)?),
-            Writers::File(_) | Writers::Fifo(_) => None,
-        };
+        let told = share_told(notes, &origin.writers)?;
+        let taken = Some(Arc::try_clone(&notes.progress.taken)?);
+        let status = share(&notes.status)?;
         counters.push(StreamCounters {
             name: notes.name,
             input,
-            taken: Some(Arc::try_clone(&notes.progress.taken)?),
+            taken,
             told,
-            status: share(&notes.status)?,
+            status,
             size,
         })?;
     }
-    Ok(())
+    Arc::try_clone(&notes.progress.taken)
+}
+
+// Shares the position that a writer was sent last, where writers are sent positions.
+fn share_told<R: Drop>(
+    notes: &StreamNotes<R>,
+    writers: &Writers<R>,
+) -> Result<Option<Arc<Counter>>, AllocError> {
+    match writers {
+        Writers::Socket(_) => Ok(Some(Arc::try_clone(&notes.progress.told)?)),
+        Writers::File(_) | Writers::Fifo(_) => Ok(None),
+    }
 }
 
 fn new_notes<R: Copy>(
@@ -129,14 +152,18 @@ fn new_notes<R: Copy>(
     path: &StreamPath,
 ) -> Result<StreamNotes<R>, AllocError> {
     let alloc = setting.alloc;
+    let messages = Arc::try_clone(&setting.messages)?;
+    let counters = new_counters(alloc, setting.is_counted)?;
+    let status = new_status(alloc, path, setting.is_counted)?;
+    let progress = Progress::new(alloc)?;
     Ok(StreamNotes {
         rt: setting.rt,
         alloc,
         name,
-        messages: Arc::try_clone(&setting.messages)?,
-        counters: new_counters(alloc, setting.is_counted)?,
-        status: new_status(alloc, path, setting.is_counted)?,
-        progress: Progress::new(alloc)?,
+        messages,
+        counters,
+        status,
+        progress,
     })
 }
 

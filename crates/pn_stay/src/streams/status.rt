@@ -66,14 +66,12 @@ impl StreamStatus {
     pub(crate) fn read<R: Wait>(&self, rt: &R, alloc: Global) -> Result<StatusThen, AllocError> {
         let path = String::from_str(alloc, self.path.as_str())?;
         let now = self.now.lock(rt);
+        let fault = copy_last(alloc, &now.fault)?;
         Ok(StatusThen {
             path,
             state: now.state,
             came: now.came,
-            fault: match &now.fault {
-                Some(fault) => Some(copy_fault(alloc, fault)?),
-                None => None,
-            },
+            fault,
         })
     }
 }
@@ -103,12 +101,24 @@ impl StatusNow {
     }
 }
 
+// A copy of the last fault, if there was one.
+fn copy_last(
+    alloc: Global,
+    last: &Option<StreamFaultStats>,
+) -> Result<Option<StreamFaultStats>, AllocError> {
+    match last {
+        Some(fault) => Ok(Some(copy_fault(alloc, fault)?)),
+        None => Ok(None),
+    }
+}
+
 fn copy_fault(alloc: Global, fault: &StreamFaultStats) -> Result<StreamFaultStats, AllocError>
     ensures line { IfOk result (λ copy. copy.line ≡ fault.now.line) }
     ensures reason { IfOk result (λ copy. string_bytes copy.reason ≡ string_bytes fault.now.reason) }
 {
+    let reason = String::from_str(alloc, fault.reason.as_str())?;
     Ok(StreamFaultStats {
         line: fault.line,
-        reason: String::from_str(alloc, fault.reason.as_str())?,
+        reason,
     })
 }

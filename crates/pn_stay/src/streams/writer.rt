@@ -32,19 +32,25 @@ pub(crate) struct Progress {
 impl Progress {
     /// The progress of a stream of which nothing was handed to rounds.
     pub(crate) fn new(alloc: Global) -> Result<Progress, AllocError> {
+        let handed = Arc::new(alloc, Counter::new())?;
+        let taken = Arc::new(alloc, Counter::new())?;
+        let told = Arc::new(alloc, Counter::new())?;
         Ok(Progress {
-            handed: Arc::new(alloc, Counter::new())?,
-            taken: Arc::new(alloc, Counter::new())?,
-            told: Arc::new(alloc, Counter::new())?,
+            handed,
+            taken,
+            told,
         })
     }
 
     /// Another handle of the same progress.
     pub(crate) fn try_clone(&self) -> Result<Progress, AllocError> {
+        let handed = Arc::try_clone(&self.handed)?;
+        let taken = Arc::try_clone(&self.taken)?;
+        let told = Arc::try_clone(&self.told)?;
         Ok(Progress {
-            handed: Arc::try_clone(&self.handed)?,
-            taken: Arc::try_clone(&self.taken)?,
-            told: Arc::try_clone(&self.told)?,
+            handed,
+            taken,
+            told,
         })
     }
 }

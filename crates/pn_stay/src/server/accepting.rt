@@ -1,0 +1,143 @@
+//! The thread that accepts connections of a server that stays, and one that notes each quarter of a second.
+
+use crate::acceptor::{AcceptNotes, SocketAcceptor, accept_all, tell_quarters};
+use crate::connection_limit::ConnectionLimit;
+use crate::counters::Counters;
+use crate::listener::Listener;
+use crate::messages::Messages;
+use crate::socket_mailbox::SocketMailbox;
+use libc::types::rlimit;
+use libc::{EMFILE, RLIMIT_NOFILE, getrlimit};
+use std::alloc::Global;
+use std::sync::{Arc, Wait};
+use std::thread::Threads;
+use std::time::Clock;
+use std::{io, thread};
+
+/// What the threads share.
+#[derive(Drop)]
+pub(super) struct Shared {
+    pub(super) alloc: Global,
+    pub(super) limit: Arc<ConnectionLimit>,
+    pub(super) idle: Option<u32>,
+    pub(super) counters: Arc<Counters>,
+}
+
+/// What clients are accepted from.
+#[derive(Drop)]
+pub(super) struct Accepting {
+    pub(super) shared: Shared,
+    listener: Listener,
+    messages: Option<Arc<Messages>>,
+}
+
+/// What clients of an acceptor are accepted from, of whose connections at most `connections` are open at once.
+pub(super) fn begin_accepting(
+    alloc: Global,
+    acceptor: SocketAcceptor,
+    connections: usize,
+) -> io::Result<Accepting> {
+    let SocketAcceptor {
+        listener,
+        idle,
+        counters,
+        messages,
+        ..
+    } = acceptor;
+    check_descriptors(connections)?;
+    let limit = Arc::new(alloc, ConnectionLimit::new(connections))?;
+    Ok(Accepting {
+        shared: Shared {
+            alloc,
+            limit,
+            idle,
+            counters,
+        },
+        listener,
+        messages,
+    })
+}
+
+/// Starts the thread that accepts connections for the threads of these mailboxes.
+pub(super) fn start_accepting<R>(
+    rt: &R,
+    accepting: Accepting,
+    mailboxes: Vec<Arc<SocketMailbox>>,
+) -> io::Result<Arc<Vec<Arc<SocketMailbox>>>>
+where
+    R: Threads + Wait + Clock + Copy + Send + 'static,
+{
+    let mailboxes = Arc::new(accepting.shared.alloc, mailboxes)?;
+    prepare_threads(rt, accepting, &mailboxes)?;
+    Ok(mailboxes)
+}
+
+// Gives the threads handles of what they share.
+fn prepare_threads<R>(
+    rt: &R,
+    accepting: Accepting,
+    mailboxes: &Arc<Vec<Arc<SocketMailbox>>>,
+) -> io::Result<()>
+where
+    R: Threads + Wait + Clock + Copy + Send + 'static,
+{
+    let Accepting {
+        shared,
+        listener,
+        messages,
+    } = accepting;
+    let counters = Arc::try_clone(&shared.counters)?;
+    let mailboxes = Arc::try_clone(mailboxes)?;
+    let notes = AcceptNotes::new(shared.alloc, counters, messages);
+    spawn_threads(rt, shared, listener, mailboxes, notes)
+}
+
+// Starts the thread that accepts connections, and where clients may not be idle for long the one that notes each quarter.
+fn spawn_threads<R>(
+    rt: &R,
+    shared: Shared,
+    listener: Listener,
+    mailboxes: Arc<Vec<Arc<SocketMailbox>>>,
+    notes: AcceptNotes,
+) -> io::Result<()>
+where
+    R: Threads + Wait + Clock + Copy + Send + 'static,
+{
+    start_quarters(rt, &shared, &mailboxes)?;
+    let limit = shared.limit;
+    let host = *rt;
+    thread::spawn(rt, move || {
+        accept_all(&host, &listener, &limit, &mailboxes, notes)
+    })?;
+    Ok(())
+}
+
+// Starts the thread that notes each quarter of a second, where clients may not be idle for long.
+fn start_quarters<R>(
+    rt: &R,
+    shared: &Shared,
+    mailboxes: &Arc<Vec<Arc<SocketMailbox>>>,
+) -> io::Result<()>
+where
+    R: Threads + Wait + Clock + Copy + Send + 'static,
+{
+    if shared.idle.is_some() {
+        let told = Arc::try_clone(mailboxes)?;
+        let host = *rt;
+        thread::spawn(rt, move || tell_quarters(&host, &told))?;
+    }
+    Ok(())
+}
+
+// As many connections may not be open as descriptors are refused.
+fn check_descriptors(connections: usize) -> io::Result<()> {
+    let mut limit = rlimit {
+        rlim_cur: 0,
+        rlim_max: 0,
+    };
+    let asked = getrlimit(RLIMIT_NOFILE, &mut limit);
+    if asked == 0 && limit.rlim_cur < connections as u64 {
+        return Err(io::Error::from_raw_os_error(EMFILE));
+    }
+    Ok(())
+}
