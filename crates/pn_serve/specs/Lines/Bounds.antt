@@ -1,5 +1,5 @@
 -- How much a step does, what it leaves to be handed on, and by what faults a loop may end.
-use Rattle.std.specs.Prelude.{◌≡◌, ◌⊎◌, ◌<◌, ◌≤◌, ℕ, ◌+◌, ◌-◌, ◌*◌, Bool, true, false, if◌then◌else◌, [], length, max, Option, None, Some, Result, Ok, Err}
+use Rattle.std.specs.Prelude.{◌≡◌, ◌⊎◌, ◌<◌, ◌≤◌, ℕ, ◌+◌, ◌-◌, ◌*◌, ◌^◌, Bool, true, false, if◌then◌else◌, [], length, max, min, Option, None, Some, Result, Ok, Err}
 use Rattle.pn_line.specs.declared.line_buffer.TheConstants.{ENDLESS}
 use Rattle.pn_live.specs.declared.reader.TheConstants.{ENTRY_RECORDS}
 use Rattle.pn_serve.specs.declared.script.Counts.{Counts}
@@ -13,7 +13,10 @@ use Rattle.pn_serve.specs.declared.script.line_loop.steps.TheConstants.{UNIT_REC
 use Rattle.pn_serve.specs.declared.script.line_loop.steps.Step.TheVariants.{Next, NoInput, NoRoom, Ends}
 use Rattle.pn_serve.specs.Lines.States.{LineLoopValue, waits_in}
 use Rattle.pn_serve.specs.Lines.Waiting.{HandsOn}
-use Rattle.pn_serve.specs.Session.Looking.{going_left}
+use Rattle.pn_serve.specs.declared.machine.line_handler.Answer.{Answer}
+use Rattle.pn_serve.specs.declared.machine.line_handler.Answer.TheVariants.{Done, Going as Begun}
+use Rattle.pn_serve.specs.declared.sessions.going.Going.{Going}
+use Rattle.pn_serve.specs.Session.Looking.{CountsLooks, going_left}
 
 -- where no input is at hand the loop reads a line that may go on, nothing waits, and all was handed on
 abbrev pub IsIdleAt : Step → LineLoopValue → Type 0
@@ -124,6 +127,17 @@ abbrev pub IsLookingAt : Stage → Type 0
 IsLookingAt Reading = ⊥
 IsLookingAt (Looking going) = Unit {0}
 IsLookingAt (Ending ended) = ⊥
+
+-- after an answer a look is gone on with exactly where it is to be
+abbrev pub TakesStage : Answer → Stage → Type 0
+TakesStage (Done reply) stage = IsLookingAt stage → ⊥
+TakesStage (Begun going) stage = stage ≡ Looking going
+
+-- of what a look had left that is to be gone on with, as many records were looked at as were counted
+abbrev pub CountsStages : Going → Stage → ℕ → ℕ → Type 0
+CountsStages going Reading was now = Unit {0}
+CountsStages going (Looking next) was now = (looked : ℕ) × CountsLooks (Begun next) going looked × (now ≡ min (was + looked) (2 ^ 64 - 1))
+CountsStages going (Ending ended) was now = Unit {0}
 
 -- no look is to be gone on with, and no text is to be made
 abbrev pub IsSettled : LineLoopValue → Type 0

@@ -5,7 +5,7 @@ ghost use Rattle.std.specs.Prelude.{◌≡◌, ◌⊎◌, ◌+◌, ◌<◌, ◌�
 ghost use Rattle.std.specs.Io.KnownBytes.{IsAtEnd};
 ghost use Rattle.pn_line.specs.Prelude.{so_far};
 ghost use Rattle.pn_line.specs.declared.line_buffer.TheConstants.{ENDLESS};
-ghost use Rattle.pn_serve.specs.Lines.Bounds.{CountsUnits, Foresees, ForeseesStep, HandsOnAtMost, HandsOnStep, IsIdleAt, IsOutAs, IsSettled, LooksAtMost, ReadsOn, WorksOn, records_by, records_in};
+ghost use Rattle.pn_serve.specs.Lines.Bounds.{CountsStages, CountsUnits, Foresees, ForeseesStep, HandsOnAtMost, HandsOnStep, IsIdleAt, IsOutAs, IsSettled, LooksAtMost, ReadsOn, WorksOn, records_by, records_in};
 ghost use Rattle.pn_serve.specs.Lines.Made.{MakesAtMost, made_by, made_in};
 ghost use Rattle.pn_serve.specs.Lines.States.{Start, new_loop, waits_in};
 ghost use Rattle.pn_serve.specs.Lines.Stepping.{by, with_rest, Stands, StepsTo};
@@ -13,6 +13,7 @@ ghost use Rattle.pn_serve.specs.Lines.Taking.{HasReply, Takes};
 ghost use Rattle.pn_protocol.specs.declared.reply.Reply.{Reply};
 ghost use Rattle.pn_serve.specs.declared.script.replies.TheConstants.{REPLY_CAPACITY};
 ghost use Rattle.pn_serve.specs.Session.Knowing.{IsSteady, KnowsNoLess};
+ghost use Rattle.pn_serve.specs.declared.sessions.going.Going.{Going};
 
 mod answering;
 mod reading;
@@ -90,6 +91,7 @@ impl LineLoop {
         ensures counted { CountsUnits self.old self.new result }
         ensures looked { LooksAtMost (records_in units) self.old self.new }
         ensures records { LooksAtMost (records_by result) self.old self.new }
+        ensures counts { (going : Going) → self.old.state.stage ≡ Stage.Looking going → self.old.state.left ≡ [] → CountsStages going self.new.state.stage self.old.state.looked self.new.state.looked }
         ensures works { self.old.state.left ≢ [] → WorksOn self.old self.new result }
         ensures waits { self.old.state.more ≡ false → self.old.state.out ≡ false → input.new ≡ input.old }
         ensures looks { S.looks input.new ≤ S.looks input.old + 1 }

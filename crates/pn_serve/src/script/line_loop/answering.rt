@@ -2,7 +2,7 @@
 
 ghost use Rattle.std.specs.Prelude.{◌≡◌, ◌≢◌, ◌+◌, ◌*◌, ◌≤◌, ◌<◌, ℕ, List, [], length, true};
 ghost use Rattle.pn_line.specs.Prelude.{so_far};
-ghost use Rattle.pn_serve.specs.Lines.Bounds.{LooksAtMost, records_in, stage_left};
+ghost use Rattle.pn_serve.specs.Lines.Bounds.{CountsStages, LooksAtMost, TakesStage, records_in, stage_left};
 ghost use Rattle.pn_serve.specs.Lines.Going.{AnswersLast, AnswersWith, answer_left};
 ghost use Rattle.pn_serve.specs.Lines.Made.{made_in};
 ghost use Rattle.pn_serve.specs.Lines.States.{waits_in, with_looked};
@@ -55,6 +55,7 @@ impl LineLoop {
         ensures takes { Takes true (with_looked self.old self.new.state.looked) self.new }
         ensures looked { LooksAtMost (records_in units) self.old self.new }
         ensures records { LooksAtMost (UNIT_RECORDS * (result + 1)) self.old self.new }
+        ensures counted { CountsStages going self.new.state.stage self.old.state.looked self.new.state.looked }
         ensures nearer { 0 < units → stage_left self.new.state.stage ≤ going_left going }
         ensures units { length self.new.replies < length self.old.replies + 1024 * (result + 1) }
         ensures makes { length self.new.replies ≤ length self.old.replies + made_in result }
@@ -81,6 +82,7 @@ impl LineLoop {
             → TakesLine (AnswersLast M.ends M.goes_last) is_line was text now self.old self.new }
         ensures takes { Takes is_line self.old self.new }
         ensures left { stage_left self.new.state.stage ≡ answer_left answer }
+        ensures stage { TakesStage answer self.new.state.stage }
         ensures units { length self.new.replies < length self.old.replies + 1024 * (result + 1) }
         ensures few { result ≤ 128 }
     {

@@ -1,10 +1,10 @@
 -- A look was gone on with, and what it looked at is counted.
-use Rattle.std.proofs.Common.{length, true, ap, ◌∙◌, subst, arith}
+use Rattle.std.proofs.Common.{◌+◌, ◌-◌, ◌^◌, length, min, true, ap, ◌∙◌, subst, arith}
 use Rattle.pn_serve.specs.Lines.Going.{AnswersLast, AnswersWith}
 use Rattle.pn_serve.specs.Lines.States.{LineLoopValue, LineStateValue}
 use Rattle.pn_serve.specs.Lines.Taking.{Takes, TakesLine}
 use Rattle.pn_serve.proofs.Bounded.{takes_looked}
-use Rattle.pn_serve.proofs.Looked.{looked_mid}
+use Rattle.pn_serve.proofs.Looked.{counts_on, looked_mid}
 use Rattle.pn_serve.proofs.script.line_loop.LineLoop.look_on.Goals as goal
 
 pub take_answer-requires-clause-reading : goal.take_answer-requires-clause-reading
@@ -59,3 +59,10 @@ returns-clause-units g c = omega (arith, c.take_answer.ensures.units, c.max.ensu
 
 pub returns-clause-makes : goal.returns-clause-makes
 returns-clause-makes g c = omega (arith, c.take_answer.ensures.units, c.take_answer.ensures.few, c.max.ensures, ap (λ (r : LineLoopValue). length r.replies) c.self.view_is)
+
+pub returns-clause-counted : goal.returns-clause-counted
+returns-clause-counted g c =
+    let looked = c.go_on-answer.result.1 in
+    let same = takes_looked true _ _ c.take_answer.ensures.takes in
+    counts_on c.go_on-answer.result.0 c.args.going c.take_answer.new.self.state.stage looked _ _ c.take_answer.ensures.stage c.go_on-answer.ensures.counted
+    (same ∙ ap (λ (s : LineStateValue). s.looked) c.count_records.ensures ∙ ap (λ (r : LineLoopValue). min (r.state.looked + looked) (2 ^ 64 - 1)) c.self.view_is)

@@ -1,10 +1,11 @@
 -- A step writes, reads, goes on with a look, or ends.
-use Rattle.std.proofs.Common.{◌≡◌, ◌≢◌, ◌+◌, ◌*◌, ◌<◌, ◌≤◌, length, true, [], inr, refl, sym, ap, ◌∙◌, subst, arith}
+use Rattle.std.proofs.Common.{◌≡◌, ◌≢◌, ◌+◌, ◌*◌, ◌<◌, ◌≤◌, ℕ, length, true, [], inr, refl, sym, ap, ◌∙◌, subst, arith}
 use Rattle.pn_line.specs.Line.{LineBufferValue}
 use Rattle.pn_serve.specs.declared.script.replies.TheConstants.{REPLY_CAPACITY}
 use Rattle.pn_serve.specs.declared.script.line_loop.state.Stage.{Stage}
 use Rattle.pn_serve.specs.declared.script.line_loop.state.Stage.TheVariants.{Reading, Looking, Ending}
-use Rattle.pn_serve.specs.Lines.Bounds.{CountsUnits, Foresees, ForeseesAt, HandsOnAtMost, IsLookingAt, IsOutAs, KeepsLine, ReadsOn}
+use Rattle.pn_serve.specs.Lines.Bounds.{CountsStages, CountsUnits, Foresees, ForeseesAt, HandsOnAtMost, IsLookingAt, IsOutAs, KeepsLine, ReadsOn}
+use Rattle.pn_serve.specs.declared.sessions.going.Going.{Going}
 use Rattle.pn_serve.specs.Lines.Going.{AnswersLast, AnswersWith}
 use Rattle.pn_serve.specs.Lines.Made.{MakesAtMost, made_by, made_in}
 use Rattle.pn_serve.specs.Lines.States.{LineLoopValue, LineStateValue, with_looked}
@@ -12,6 +13,7 @@ use Rattle.pn_serve.specs.Lines.Stepping.{Stands, StandsAt, by, with_rest}
 use Rattle.pn_serve.specs.Lines.Taking.{EndsTo, Takes, TakesLine}
 use Rattle.pn_serve.proofs.Bounded.{counts_nothing, ends_counted, ends_foresees, ends_idle, ends_no_input, sends_foresees, takes_foresees, takes_grows, takes_line, takes_lines, takes_out}
 use Rattle.pn_serve.proofs.Knowing.{knows_itself}
+use Rattle.pn_serve.proofs.Looked.{same_look}
 use Rattle.pn_serve.proofs.Made.{makes_none, makes_unwritten}
 use Rattle.pn_serve.proofs.Measured.{ends_nearer}
 use Rattle.pn_serve.proofs.Stages.{taken_as_was, taken_reads}
@@ -327,3 +329,27 @@ returns-in-Ending-clause-looked g c =
 pub returns-in-Ending-clause-records : goal.returns-in-Ending-clause-records
 returns-in-Ending-clause-records g c =
     omega (arith, c.end_once_out.ensures.same.looked, ap (λ (s : LineStateValue). s.looked) c.take_stage.ensures.reads, ap (λ (r : LineLoopValue). r.state.looked) c.self.view_is)
+
+pub returns-then-has_text-clause-counts : goal.returns-then-has_text-clause-counts
+returns-then-has_text-clause-counts g c =
+    let some : c.args.self.now.state.left ≢ [] = subst (λ (r : LineLoopValue). r.state.left ≢ []) c.self.view_is (c.has_text.ensures.0 c.if-has_text.true) in
+    λ going is made. absurd (some made)
+
+pub returns-in-Reading-clause-counts : goal.returns-in-Reading-clause-counts
+returns-in-Reading-clause-counts g c =
+    let ending = sym (ap (λ (r : LineLoopValue). r.state.stage) c.self.view_is) ∙ sym c.take_stage.ensures.stage ∙ c.in-Reading.is in
+    λ going is made. absurd (subst IsLookingAt (sym is ∙ ending) tt)
+
+pub returns-in-Looking-clause-counts : goal.returns-in-Looking-clause-counts
+returns-in-Looking-clause-counts g c =
+    let new = c.look_on.new.self in
+    let looking = sym (ap (λ (r : LineLoopValue). r.state.stage) c.self.view_is) ∙ sym c.take_stage.ensures.stage ∙ c.in-Looking.is in
+    let was = ap (λ (s : LineStateValue). s.looked) c.take_stage.ensures.reads ∙ ap (λ (r : LineLoopValue). r.state.looked) c.self.view_is in
+    λ going is made.
+    subst (λ (n : ℕ). CountsStages going new.state.stage n new.state.looked) was
+    (subst (λ (look : Going). CountsStages look new.state.stage c.take_stage.new.self.looked new.state.looked) (same_look c.in-Looking.going going (sym looking ∙ is)) c.look_on.ensures.counted)
+
+pub returns-in-Ending-clause-counts : goal.returns-in-Ending-clause-counts
+returns-in-Ending-clause-counts g c =
+    let ending = sym (ap (λ (r : LineLoopValue). r.state.stage) c.self.view_is) ∙ sym c.take_stage.ensures.stage ∙ c.in-Ending.is in
+    λ going is made. absurd (subst IsLookingAt (sym is ∙ ending) tt)

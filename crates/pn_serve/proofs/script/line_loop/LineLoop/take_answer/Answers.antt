@@ -3,9 +3,10 @@ use Rattle.std.proofs.Common.{ap, sym, ◌∙◌, subst}
 use Rattle.pn_serve.specs.declared.machine.line_handler.Answer.{Answer}
 use Rattle.pn_serve.specs.declared.machine.line_handler.Answer.TheVariants.{Done, Going as Begun}
 use Rattle.pn_serve.specs.declared.script.line_loop.state.Stage.TheVariants.{Looking}
-use Rattle.pn_serve.specs.Lines.Bounds.{stage_left}
+use Rattle.pn_serve.specs.Lines.Bounds.{TakesStage, stage_left}
 use Rattle.pn_serve.specs.Lines.Going.{AnswersLast, AnswersWith, answer_left}
 use Rattle.pn_serve.specs.Lines.States.{LineLoopValue, LineStateValue}
+use Rattle.pn_serve.proofs.Looked.{taken_reply}
 use Rattle.pn_serve.proofs.Measured.{nothing_left}
 use Rattle.pn_serve.proofs.script.line_loop.LineLoop.take_answer.Goals as goal
 
@@ -51,3 +52,14 @@ returns-else-self-clause-left g c =
 
 pub returns-in-Going-clause-left : goal.returns-in-Going-clause-left
 returns-in-Going-clause-left g c = ap (λ (s : LineStateValue). stage_left s.stage) c.set_stage.ensures ∙ sym (ap answer_left c.in-Going.is)
+
+pub returns-then-self-clause-stage : goal.returns-then-self-clause-stage
+returns-then-self-clause-stage g c =
+    subst (λ (a : Answer). TakesStage a c.reply.new.self.state.stage) (sym c.in-Done.is) (taken_reply c.args.self.now.state.last c.reply.new.self.state.counts _ c.reply.ensures.takes.stage)
+
+pub returns-else-self-clause-stage : goal.returns-else-self-clause-stage
+returns-else-self-clause-stage g c =
+    subst (λ (a : Answer). TakesStage a c.reply-in-Done.new.self.state.stage) (sym c.in-Done.is) (taken_reply c.args.self.now.state.last c.reply-in-Done.new.self.state.counts _ c.reply-in-Done.ensures.takes.stage)
+
+pub returns-in-Going-clause-stage : goal.returns-in-Going-clause-stage
+returns-in-Going-clause-stage g c = subst (λ (a : Answer). TakesStage a c.set_stage.new.self.stage) (sym c.in-Going.is) (ap (λ (s : LineStateValue). s.stage) c.set_stage.ensures)
