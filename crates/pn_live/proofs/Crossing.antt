@@ -1,4 +1,4 @@
 -- What may go to another thread.
-mod Records
+pub mod Records
 pub mod Readers
 pub mod Fronts

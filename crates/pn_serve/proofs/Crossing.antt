@@ -4,11 +4,8 @@ use denote.Param.Send.{IsSend, IsSync, sendable}
 use denote.Param.SendFields.{declared_send, variants_send}
 use denote.Struct.Record.{declared}
 use Rattle.std.proofs.Crossing.{crosses}
+use Rattle.pn_live.proofs.Crossing.Records.{cell_send, key_send, record_table_send, mark_table_send}
 use Rattle.pn_join.specs.contracts.marks.name.Name as name
-use Rattle.pn_record.specs.contracts.content.Content as content
-use Rattle.pn_record.specs.contracts.held_contents.HeldContents as held
-use Rattle.pn_record.specs.contracts.cell.Cell as cell
-use Rattle.pn_record.specs.contracts.key.Key as key
 use Rattle.pn_tablet.specs.contracts.copy.TabletCopy as copy
 use Rattle.pn_tablet.specs.contracts.copy_text.CopyText as copy_text
 use Rattle.pn_scan.specs.contracts.view.Row as row
@@ -32,32 +29,8 @@ name_send = search (sendable, crosses) depth 40
 pub name_sync : IsSync name.the_row
 name_sync = search (sendable, crosses) depth 40
 
-content_send : IsSend content.the_row
-content_send = search (sendable, crosses) depth 40
-
-content_sync : IsSync content.the_row
-content_sync = search (sendable, crosses) depth 40
-
-held_send : IsSend held.the_row
-held_send = search (sendable, crosses, content_send) depth 40
-
-held_sync : IsSync held.the_row
-held_sync = search (sendable, crosses, content_sync) depth 40
-
-cell_send : IsSend cell.the_row
-cell_send = search (sendable, crosses, held_send, held_sync) depth 40
-
-cell_sync : IsSync cell.the_row
-cell_sync = search (sendable, crosses, held_send, held_sync) depth 40
-
-key_send : IsSend key.the_row
-key_send = search (sendable, crosses) depth 40
-
-key_sync : IsSync key.the_row
-key_sync = search (sendable, crosses) depth 40
-
 copy_send : IsSend copy.the_row
-copy_send = search (sendable, crosses, key_send, key_sync, cell_send, cell_sync, name_send, name_sync) depth 40 fits 20000
+copy_send = search (sendable, crosses, key_send, record_table_send, mark_table_send) depth 40 fits 20000
 
 command_send : IsSend command.the_row
 command_send = search (sendable, crosses, copy_send) depth 60 fits 20000

@@ -21,7 +21,7 @@ use Rattle.pn_record.specs.contracts.key.KeyPartialEq as key_eq
 use Rattle.pn_record.specs.contracts.key.KeyPartialOrd as key_order
 use Rattle.pn_tablet.specs.contracts.state.TabletState as state
 
-name_send : IsSend name.the_row
+pub name_send : IsSend name.the_row
 name_send = search (sendable, crosses) depth 40
 
 pub name_sync : IsSync name.the_row
@@ -72,7 +72,13 @@ record_block_sync = search (sendable, crosses, record_leaf_sync, key_sync) depth
 record_block_ref_sync : IsSync (block_ref.the_row key.the_row cell.the_row key_ord.TheImpl.ghosts key_eq.TheImpl.ghosts key_order.TheImpl.ghosts cell_join.TheImpl.ghosts)
 record_block_ref_sync = search (sendable, crosses, record_block_send, record_block_sync) depth 40 fits 20000
 
-record_table_sync : IsSync (table.the_row key.the_row cell.the_row key_ord.TheImpl.ghosts key_eq.TheImpl.ghosts key_order.TheImpl.ghosts cell_join.TheImpl.ghosts)
+record_block_ref_send : IsSend (block_ref.the_row key.the_row cell.the_row key_ord.TheImpl.ghosts key_eq.TheImpl.ghosts key_order.TheImpl.ghosts cell_join.TheImpl.ghosts)
+record_block_ref_send = search (sendable, crosses, record_block_send, record_block_sync) depth 40 fits 20000
+
+pub record_table_send : IsSend (table.the_row key.the_row cell.the_row key_ord.TheImpl.ghosts key_eq.TheImpl.ghosts key_order.TheImpl.ghosts cell_join.TheImpl.ghosts)
+record_table_send = search (sendable, crosses, record_block_ref_send, key_send) depth 40 fits 20000
+
+pub record_table_sync : IsSync (table.the_row key.the_row cell.the_row key_ord.TheImpl.ghosts key_eq.TheImpl.ghosts key_order.TheImpl.ghosts cell_join.TheImpl.ghosts)
 record_table_sync = search (sendable, crosses, record_block_ref_sync, key_sync) depth 40 fits 20000
 
 mark_leaf_send : IsSend (leaf.the_row name.the_row highest.the_row)
@@ -90,7 +96,13 @@ mark_block_sync = search (sendable, crosses, mark_leaf_sync, name_sync) depth 40
 mark_block_ref_sync : IsSync (block_ref.the_row name.the_row highest.the_row name_ord.TheImpl.ghosts name_eq.TheImpl.ghosts name_order.TheImpl.ghosts highest_join.TheImpl.ghosts)
 mark_block_ref_sync = search (sendable, crosses, mark_block_send, mark_block_sync) depth 40 fits 20000
 
-mark_table_sync : IsSync (table.the_row name.the_row highest.the_row name_ord.TheImpl.ghosts name_eq.TheImpl.ghosts name_order.TheImpl.ghosts highest_join.TheImpl.ghosts)
+mark_block_ref_send : IsSend (block_ref.the_row name.the_row highest.the_row name_ord.TheImpl.ghosts name_eq.TheImpl.ghosts name_order.TheImpl.ghosts highest_join.TheImpl.ghosts)
+mark_block_ref_send = search (sendable, crosses, mark_block_send, mark_block_sync) depth 40 fits 20000
+
+pub mark_table_send : IsSend (table.the_row name.the_row highest.the_row name_ord.TheImpl.ghosts name_eq.TheImpl.ghosts name_order.TheImpl.ghosts highest_join.TheImpl.ghosts)
+mark_table_send = search (sendable, crosses, mark_block_ref_send, name_send) depth 40 fits 20000
+
+pub mark_table_sync : IsSync (table.the_row name.the_row highest.the_row name_ord.TheImpl.ghosts name_eq.TheImpl.ghosts name_order.TheImpl.ghosts highest_join.TheImpl.ghosts)
 mark_table_sync = search (sendable, crosses, mark_block_ref_sync, name_sync) depth 40 fits 20000
 
 pub state_sync : IsSync state.the_row
