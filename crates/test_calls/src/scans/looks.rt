@@ -28,7 +28,8 @@ pub(crate) fn page_reply(
     Ok(text)
 }
 
-/// The keys of a page that is looked for record by record, and in how many steps it was found; or why there is no page.
+/// The keys of a page that is gone on with record by record after a first look, and in how many steps it was found; or why
+/// there is no page.
 pub(crate) fn walk_reply(
     alloc: Global,
     view: &mut TakesTurns,
