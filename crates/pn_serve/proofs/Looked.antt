@@ -11,7 +11,6 @@ use Rattle.pn_scan.specs.WalkValues.{PageWalkValue}
 use Rattle.pn_scan.specs.declared.fault.ScanFault.{ScanFault}
 use Rattle.pn_scan.specs.declared.page_walk.PageStep.{PageStep}
 use Rattle.pn_scan.specs.declared.page_walk.PageStep.TheVariants as pages
-use Rattle.pn_scan.specs.declared.pages.TheConstants.{LOOK_RECORDS}
 use Rattle.pn_tablet.specs.CopyCounts.{CountsOn}
 use Rattle.pn_tablet.specs.CopyMaking.{CopyCountValue}
 use Rattle.pn_tablet.specs.declared.copy_count.CopyStep.{CopyStep}
@@ -31,7 +30,7 @@ use Rattle.pn_serve.specs.Lines.Taking.{stage_after}
 use Rattle.pn_serve.specs.Session.Looking.{CopyAnswer, CountsLooks, CountsStep, PageAnswer}
 
 -- a page looked at no more records than it may
-pub page_few : (records looked : ℕ) (old : PageWalkValue) (step : Result PageStep ScanFault) → CountsStep records step looked → IfOk step (CountsRecords (max records LOOK_RECORDS) (max (max records LOOK_RECORDS) ENTRY_RECORDS) old) → looked ≤ max records ENTRY_RECORDS
+pub page_few : (records looked : ℕ) (old : PageWalkValue) (step : Result PageStep ScanFault) → CountsStep records step looked → IfOk step (CountsRecords (max records 1024) (max (max records 1024) ENTRY_RECORDS) old) → looked ≤ max records ENTRY_RECORDS
 page_few records looked old (Ok (pages.Done page)) counts few = omega (arith, counts)
 page_few records looked old (Ok (pages.Next next)) counts few = omega (arith, counts, few.0)
 page_few records looked old (Err fault) counts few = omega (arith, counts)

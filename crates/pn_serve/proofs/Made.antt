@@ -1,6 +1,5 @@
 -- How many bytes were made and written by a call that only writes, or only makes.
 use Rattle.std.proofs.Common.{ℕ, ◌+◌, ◌≤◌, Option, List, [], length, arith}
-use Rattle.std.specs.Io.KnownBytes.{Appends}
 use Rattle.std.proofs.KnownBytes.{Appends-nil}
 use Rattle.pn_serve.specs.Lines.Made.{MakesAtMost}
 
