@@ -6,12 +6,12 @@ use Rattle.pn_stay.proofs.Outputs.{looks_after, looks_all, looks_last, makes_aft
 use Rattle.pn_stay.proofs.steps.take_steps.Goals as goal
 
 pub steps-init : goal.steps-init
-steps-init g c = record { stands = λ start steady stands. stands; within = within_all _; few = within_turn _ _ _ (within_all _); makes = makes_all _ _; written = makes_turn _ _ _ _ _ (makes_all _ _); lines = omega arith; answers = omega arith; looks = looks_all _; looked = (looks_all _).few; knows = knows_itself _ }
+steps-init g c = record { stands = λ start steady stands. stands; within = within_all _; few = within_turn _ _ _ (within_all _); makes = makes_all _ _; written = makes_turn _ _ _ _ _ (makes_all _ _); lines = omega arith; answers = omega arith; looks = looks_all _; looked = omega arith; knows = knows_itself _ }
 
 pub steps-preserved : goal.steps-preserved
 steps-preserved g c = let within = within_after _ _ _ _ _ _ c.steps-test.true c.units_after-units.ensures.fewer c.units_after-units.ensures.counted c.steps.invariant.within c.in-Next.ensures.few in
     let makes = makes_after _ _ _ _ _ _ _ _ _ c.steps-test.true c.units_after-units.ensures.fewer c.units_after-units.ensures.counted c.steps.invariant.makes c.in-Next.ensures.written in
-    let looks = looks_after _ _ _ _ _ _ c.steps-test.true c.units_after-units.ensures.fewer c.units_after-units.ensures.counted c.steps.invariant.looks c.in-Next.ensures.looked c.in-Next.ensures.records in record {
+    let looks = looks_after _ _ _ _ _ c.take_step.new.buffers.lines.state c.steps-test.true c.units_after-units.ensures.fewer c.units_after-units.ensures.counted c.steps.invariant.looks c.in-Next.ensures.looked c.in-Next.ensures.records in record {
       stands = λ start steady stands. c.in-Next.ensures.steps start steady (c.steps.invariant.stands start steady stands);
       within = within;
       few = within_turn _ _ _ within;
@@ -31,6 +31,6 @@ returns-in_default g c = record {
   few = within_last _ _ _ _ _ c.steps-test.true c.steps.invariant.within c.take_step.ensures.few;
   written = makes_last _ _ _ _ _ _ _ _ c.steps-test.true c.steps.invariant.makes c.take_step.ensures.written;
   answers = omega (arith, c.steps.invariant.lines, c.take_step.ensures.answers, one_line c.take_step.result, c.steps-test.true);
-  looked = looks_last _ _ _ _ c.steps-test.true c.steps.invariant.looks c.take_step.ensures.looked;
+  looked = looks_last _ _ _ c.take_step.new.buffers.lines.state c.steps-test.true c.steps.invariant.looks c.take_step.ensures.looked;
   knows = knows_on _ _ _ c.steps.invariant.knows c.take_step.ensures.knows;
 }
