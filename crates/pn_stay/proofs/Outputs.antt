@@ -4,7 +4,7 @@ use Rattle.std.specs.Io.KnownBytes.{Appends}
 use Rattle.std.proofs.KnownBytes.{Appends-nil, Appends-trans}
 use Rattle.pn_serve.specs.declared.script.line_loop.steps.Step.{Step}
 use Rattle.pn_serve.specs.declared.script.line_loop.steps.Step.TheVariants.{Next, NoInput, NoRoom, Ends}
-use Rattle.pn_serve.specs.declared.script.line_loop.steps.TheConstants.{TURN_UNITS, UNIT_RECORDS}
+use Rattle.pn_serve.specs.declared.script.line_loop.steps.TheConstants.{TURN_UNITS}
 use Rattle.pn_serve.specs.declared.script.replies.TheConstants.{REPLY_CAPACITY}
 use Rattle.pn_serve.specs.Lines.Bounds.{CountsUnits, records_by, records_in}
 use Rattle.pn_serve.specs.Lines.Made.{AppendsAtMost, MakesAtMost, made_by}
@@ -96,9 +96,9 @@ one_line (Ends ended) = omega arith
 
 -- ---- records
 
--- what a turn has looked at where so many of its units are left
+-- what a turn has looked at where so many of its units are left: twice the records of a unit for each that was used
 pub record LooksOn (units : ℕ) (old new : LineStateValue) : Type 0 where
-  pub counted : 0 < units → new.looked + 2 * UNIT_RECORDS * units ≤ old.looked + 2 * UNIT_RECORDS * TURN_UNITS
+  pub counted : 0 < units → new.looked + 32 * units ≤ old.looked + 32 * TURN_UNITS
   pub few : LooksFew most_looked old new
 
 pub looks_all : (state : LineStateValue) → LooksOn TURN_UNITS state state

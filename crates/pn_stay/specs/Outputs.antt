@@ -3,8 +3,9 @@ use Rattle.std.specs.Prelude.{◌≤◌, ◌+◌, ◌*◌, ℕ}
 use Rattle.pn_live.specs.declared.reader.TheConstants.{ENTRY_RECORDS}
 use Rattle.pn_serve.specs.declared.script.line_loop.steps.Step.{Step}
 use Rattle.pn_serve.specs.declared.script.line_loop.steps.Step.TheVariants.{Next, NoInput, NoRoom, Ends}
-use Rattle.pn_serve.specs.declared.script.line_loop.steps.TheConstants.{TURN_UNITS, UNIT_RECORDS}
+use Rattle.pn_serve.specs.declared.script.line_loop.steps.TheConstants.{TURN_UNITS}
 use Rattle.pn_serve.specs.declared.script.replies.TheConstants.{REPLY_CAPACITY}
+use Rattle.pn_serve.specs.Lines.Bounds.{records_in}
 use Rattle.pn_serve.specs.Lines.States.{LineStateValue}
 use Rattle.pn_stay.specs.declared.steps.TheConstants.{UNIT_BYTES}
 
@@ -22,7 +23,7 @@ AnswersAtMost most old new = new.counts.lines ≤ old.counts.lines + most
 
 -- the steps of a turn look at most at twice the records of its units, and at those that one entry goes over
 abbrev pub most_looked : ℕ
-most_looked = 2 * UNIT_RECORDS * TURN_UNITS + ENTRY_RECORDS
+most_looked = 2 * records_in TURN_UNITS + ENTRY_RECORDS
 
 -- at most this number of records was looked at
 abbrev pub LooksFew : ℕ → LineStateValue → LineStateValue → Type 0
