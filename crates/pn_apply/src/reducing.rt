@@ -17,7 +17,7 @@ use crate::share::{copy_deliveries, images_by_tablet};
 use pn_join::{Dup, Marks, NoMemory};
 use pn_record::{Image, Records, add_image};
 use pn_stream::Delivery;
-use pn_tablet::{Layout, TabletOp};
+use pn_tablet::{Layout, SharedMarks, TabletOp};
 use std::alloc::Global;
 use std::marker::Sync;
 use std::mem;
@@ -80,11 +80,12 @@ fn joins_of_shares<R: Threads + Sync, G: Gate + Sync>(
     ensures { IfOk result (λ operations. operations.items ≡ map (λ own. Join (table_of own) marks.now) (lists shares.items)) }
 {
     let cells = work_all(rt, alloc, gate, workers, shares.as_mut_slice())?;
-    joins(alloc, cells, marks)
+    let shared = SharedMarks::of(alloc, marks.dup()?)?;
+    joins(alloc, cells, &shared)
 }
 
-// A join of each tablet's cells, with the marks.
-fn joins(alloc: Global, cells: Vec<Records>, marks: &Marks) -> Result<Vec<TabletOp>, NoMemory>
+// A join of each tablet's cells, with the marks, which all joins share.
+fn joins(alloc: Global, cells: Vec<Records>, marks: &SharedMarks) -> Result<Vec<TabletOp>, NoMemory>
     ensures { IfOk result (λ operations. operations.items ≡ map (λ own. Join own marks.now) cells.items) }
 {
     let mut operations = Vec::with_capacity(alloc, cells.len())?;

@@ -5,7 +5,7 @@ use Rattle.std.proofs.lemmas.Bool.Decides.{nat_tests}
 use Rattle.std.specs.FinMap.{find}
 use Rattle.std.specs.Ordering.{eq_by_cmp}
 use Rattle.pn_join.specs.Marks.{Positions, Reaches, are_positions, is_position, name_cmp, raised_marks}
-use Rattle.pn_join.proofs.MarksFacts.{are_positions-raised_marks, position_of-raised_marks, same_marks}
+use Rattle.pn_join.proofs.MarksFacts.{are_positions-raised_marks, is_sorted-raised_marks, position_of-raised_marks, same_marks}
 use Rattle.pn_tablet.specs.Laws.{Rise}
 use Rattle.pn_tablet.specs.Tablets.{IsCoverage}
 
@@ -42,3 +42,9 @@ both_raised cover reach marks was are = record {
   reach_positions = are_positions-raised_marks reach marks was.reach_positions are;
   reached = λ name. omega (arith, position_of-raised_marks cover marks name, position_of-raised_marks reach marks name, was.reached name);
 }
+
+-- marks that reach others are the others raised by them
+pub raised_by_greater : (own marks : Positions) → Rise own → Rise marks → are_positions own ≡ true → are_positions marks ≡ true → Reaches marks own → marks ≡ raised_marks own marks
+raised_by_greater own marks rising rises are are_too reaches =
+    same_reached marks (raised_marks own marks) rises (is_sorted-raised_marks own marks rising) are_too (are_positions-raised_marks own marks are are_too)
+    (λ name. omega (arith, reaches name, position_of-raised_marks own marks name)) (λ name. omega (arith, position_of-raised_marks own marks name))

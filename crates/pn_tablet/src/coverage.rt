@@ -4,6 +4,7 @@ ghost use Rattle.std.specs.Prelude.{◌≡◌, [], IsTrue, IfOk, unwrap_or};
 ghost use Rattle.pn_join.specs.Prelude.{Positions, Reaches, are_positions, raised_marks};
 ghost use Rattle.pn_tablet.specs.Tablets.{IsCoverage};
 
+use crate::SharedMarks;
 use pn_join::{Dup, Marks, NoMemory, dup_optional, raise};
 use std::alloc::Global;
 use std::marker::Model;
@@ -11,9 +12,9 @@ use std::marker::Model;
 /// The positions up to which all cells of a tablet took streams, and those up to which any did.
 #[derive(Drop)]
 pub(crate) struct Coverage {
-    cover: Marks,
+    cover: SharedMarks,
     // The reach, or None where it equals the cover.
-    ahead: Option<Marks>,
+    ahead: Option<SharedMarks>,
 }
 
 impl Model for Coverage {
@@ -36,13 +37,13 @@ impl Coverage {
         ensures { result ≡ record { cover = []; reach = [] } }
     {
         Coverage {
-            cover: Marks::new(alloc),
+            cover: SharedMarks::new(alloc),
             ahead: None,
         }
     }
 
     /// A cover, and a reach that is nowhere less.
-    pub fn of_parts(cover: Marks, reach: Marks) -> Coverage
+    pub fn of_parts(cover: SharedMarks, reach: SharedMarks) -> Coverage
         requires { IsCoverage cover reach }
         ensures { result ≡ record { cover = cover; reach = reach } }
     {
@@ -58,7 +59,7 @@ impl Coverage {
     }
 
     /// The positions up to which all cells took streams.
-    pub fn cover(&self) -> &Marks
+    pub fn cover(&self) -> &SharedMarks
         ensures cover { result.now ≡ self.now.cover }
         ensures positions { IsTrue (are_positions self.now.cover) }
     {
@@ -66,7 +67,7 @@ impl Coverage {
     }
 
     /// The positions up to which any cells took streams.
-    pub fn reach(&self) -> &Marks
+    pub fn reach(&self) -> &SharedMarks
         ensures reach { result.now ≡ self.now.reach }
         ensures positions { IsTrue (are_positions self.now.reach) }
         ensures reached { Reaches self.now.reach self.now.cover }
@@ -84,25 +85,37 @@ impl Coverage {
         let _ = &self.cover;
     }
 
-    /// The cover and the reach, raised by the marks.
-    pub fn with_marks(&self, marks: &Marks) -> Result<Coverage, NoMemory>
+    /// The cover and the reach, raised by the marks. Where these are nowhere less than both, they are shared.
+    pub fn with_marks(&self, alloc: Global, marks: &SharedMarks) -> Result<Coverage, NoMemory>
         requires { IsTrue (are_positions marks.now) }
         ensures { IfOk result (λ higher. higher ≡ record { cover = raised_marks self.now.cover marks.now; reach = raised_marks self.now.reach marks.now }) }
     {
-        let cover = raise_copy(&self.cover, marks)?;
+        let cover = raise_copy(alloc, &self.cover, marks)?;
         match &self.ahead {
             None => Ok(Coverage { cover, ahead: None }),
-            Some(ahead) => Ok(Coverage::of_parts(cover, raise_copy(ahead, marks)?)),
+            Some(ahead) => Ok(Coverage::of_parts(cover, raise_copy(alloc, ahead, marks)?)),
         }
     }
 }
 
-fn raise_copy(own: &Marks, marks: &Marks) -> Result<Marks, NoMemory>
+// The marks raised by others: the others themselves, shared, where they are nowhere less.
+fn raise_copy(
+    alloc: Global,
+    own: &SharedMarks,
+    marks: &SharedMarks,
+) -> Result<SharedMarks, NoMemory>
+    requires own { IsTrue (are_positions own.now) }
+    requires marks { IsTrue (are_positions marks.now) }
     ensures { IfOk result (λ higher. higher ≡ raised_marks own.now marks.now) }
 {
-    let mut higher = own.dup()?;
-    raise(&mut higher, marks)?;
-    Ok(higher)
+    own.recall_order();
+    marks.recall_order();
+    if marks.reaches(own) {
+        return marks.dup();
+    }
+    let mut higher = own.marks().dup()?;
+    raise(&mut higher, marks.marks())?;
+    SharedMarks::of(alloc, higher)
 }
 
 impl Dup for Coverage {

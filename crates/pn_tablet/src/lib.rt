@@ -23,6 +23,7 @@ mod inside;
 pub mod laws;
 mod layout;
 mod range;
+mod shared_marks;
 mod state;
 
 pub use change::Change;
@@ -37,4 +38,5 @@ pub use fault::{CopyFault, CopyTextFault, OpFault, Shortfall};
 pub use inside::cells_within;
 pub use layout::{Layout, LayoutFault, MAX_BOUNDS};
 pub use range::{Range, is_before, write_end_member};
+pub use shared_marks::SharedMarks;
 pub use state::{Status, TabletOp, TabletState};

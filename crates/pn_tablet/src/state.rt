@@ -17,7 +17,7 @@ use crate::counted_cells::CountedCells;
 use crate::coverage::Coverage;
 use crate::fault::{Shortfall, first_shortfall};
 use crate::inside::lie_in;
-use crate::{Change, OpFault, Range, TabletCopy};
+use crate::{Change, OpFault, Range, SharedMarks, TabletCopy};
 use pn_join::{Dup, Marks, NoMemory};
 use pn_record::Records;
 use std::alloc::Global;
@@ -27,14 +27,14 @@ use std::marker::Model;
 #[derive(Drop)]
 pub enum Status {
     Serving,
-    Recovering { need: Marks },
+    Recovering { need: SharedMarks },
 }
 
 /// One event of a tablet.
 #[derive(Drop)]
 pub enum TabletOp {
     /// Cells are joined into the tablet's, and the marks raise its cover and its reach, even while it recovers.
-    Join { cells: Records, marks: Marks },
+    Join { cells: Records, marks: SharedMarks },
     /// The tablet loses its records. It then recovers, and needs a copy that reaches its reach.
     Lose,
     /// A copy of the tablet is joined in, and the tablet serves again.
@@ -49,7 +49,7 @@ pub struct TabletState {
     cells: CountedCells,
     coverage: Coverage,
     status: Status,
-    spare: Option<Marks>,
+    spare: Option<SharedMarks>,
     alloc: Global,
 }
 
@@ -79,7 +79,7 @@ impl TabletState {
             cells: CountedCells::new(alloc),
             coverage: Coverage::new(alloc),
             status: Status::Serving,
-            spare: Some(Marks::new(alloc)),
+            spare: Some(SharedMarks::new(alloc)),
             alloc,
         }
     }
@@ -114,7 +114,7 @@ impl TabletState {
 }
 
 impl TabletState {
-    fn join(&mut self, cells: &Records, marks: &Marks) -> Result<Vec<Change>, OpFault>
+    fn join(&mut self, cells: &Records, marks: &SharedMarks) -> Result<Vec<Change>, OpFault>
         requires { IsTrue (are_positions marks.now) }
         ensures ok { OnOk result (step self.old (Join cells.now marks.now) ≡ Ok self.new) }
         ensures changes { IfOk result (λ list. list.items ≡ changes self.old.cells self.new.cells) }
@@ -125,7 +125,7 @@ impl TabletState {
             return Err(OpFault::WrongRange);
         }
         let mut changes = reserve_changes(self.alloc, cells.len())?;
-        let (coverage, spare) = raise_coverage(&self.coverage, marks)?;
+        let (coverage, spare) = raise_coverage(self.alloc, &self.coverage, marks)?;
         let told = self.cells.join_and_tell(cells)?;
         add_changes(&mut changes, told);
         self.coverage = coverage;
@@ -158,7 +158,7 @@ impl TabletState {
                 needs: short.wanted,
             });
         }
-        let (coverage, spare) = raise_coverage(&self.coverage, &copy.marks)?;
+        let (coverage, spare) = raise_by_copy(self.alloc, &self.coverage, &copy.marks)?;
         self.cells.join_and_count(&copy.cells)?;
         self.coverage = coverage;
         self.spare = Some(spare);
@@ -172,19 +172,36 @@ impl TabletState {
     {
         match &self.status {
             Status::Serving => None,
-            Status::Recovering { need } => first_shortfall(marks, need),
+            Status::Recovering { need } => first_shortfall(marks, need.marks()),
         }
     }
 }
 
 // The coverage raised by the marks, and a copy of its reach, which a later loss takes as the need.
-fn raise_coverage(coverage: &Coverage, marks: &Marks) -> Result<(Coverage, Marks), NoMemory>
+fn raise_coverage(
+    alloc: Global,
+    coverage: &Coverage,
+    marks: &SharedMarks,
+) -> Result<(Coverage, SharedMarks), NoMemory>
     requires { IsTrue (are_positions marks.now) }
     ensures { IfOk result (λ both. (both.0.cover ≡ raised_marks coverage.now.cover marks.now) × ((both.0.reach ≡ raised_marks coverage.now.reach marks.now) × (both.1 ≡ both.0.reach))) }
 {
-    let higher = coverage.with_marks(marks)?;
+    let higher = coverage.with_marks(alloc, marks)?;
     let spare = higher.reach().dup()?;
     Ok((higher, spare))
+}
+
+// The same by the marks of a copy.
+fn raise_by_copy(
+    alloc: Global,
+    coverage: &Coverage,
+    marks: &Marks,
+) -> Result<(Coverage, SharedMarks), NoMemory>
+    requires { IsTrue (are_positions marks.now) }
+    ensures { IfOk result (λ both. (both.0.cover ≡ raised_marks coverage.now.cover marks.now) × ((both.0.reach ≡ raised_marks coverage.now.reach marks.now) × (both.1 ≡ both.0.reach))) }
+{
+    let marks = SharedMarks::of(alloc, marks.dup()?)?;
+    raise_coverage(alloc, coverage, &marks)
 }
 
 impl Dup for TabletState {

@@ -10,9 +10,9 @@ use crate::publish_order::PairWriter;
 use crate::publish_position::{AttemptCounter, PublishPosition, open_book};
 use crate::published_state::PublishedState;
 use core::mem::{replace, replace_with};
-use pn_join::{Dup, Marks, NoMemory};
+use pn_join::{Dup, NoMemory};
 use pn_record::Records;
-use pn_tablet::{Range, TabletOp, TabletState};
+use pn_tablet::{Range, SharedMarks, TabletOp, TabletState};
 use std::alloc::Global;
 use std::sync::Wait;
 
@@ -42,7 +42,7 @@ impl LiveTablet {
                 let state = self.state().dup()?;
                 let lacks = TabletOp::Join {
                     cells: Records::new(alloc),
-                    marks: Marks::new(alloc),
+                    marks: SharedMarks::new(alloc),
                 };
                 Ok(StateDraft { state, lacks })
             }

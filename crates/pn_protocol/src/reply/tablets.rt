@@ -116,7 +116,7 @@ fn write_need(writer: &mut Writer, status: &Status) -> Result<(), NoMemory>
 {
     match status {
         Status::Serving => Ok(writer.null()?),
-        Status::Recovering { need } => write_marks(writer, need),
+        Status::Recovering { need } => write_marks(writer, need.marks()),
     }
 }
 

@@ -11,7 +11,7 @@ ghost use Rattle.pn_tablet.specs.declared.state.Status.TheVariants.{Serving};
 use super::{Status, TabletState};
 use crate::counted_cells::CountedCells;
 use crate::coverage::Coverage;
-use crate::{Range, RecordCounts};
+use crate::{Range, RecordCounts, SharedMarks};
 use pn_join::{Dup, Marks, NoMemory};
 use pn_record::Records;
 use std::alloc::Global;
@@ -33,6 +33,8 @@ impl TabletState {
         ensures { IfOk result (λ tablet. tablet ≡ record { range = range; cells = cells; cover = cover; reach = reach; status = Serving }) }
     {
         cells.recall_table();
+        let cover = SharedMarks::of(alloc, cover)?;
+        let reach = SharedMarks::of(alloc, reach)?;
         let spare = reach.dup()?;
         Ok(TabletState {
             range,
@@ -72,7 +74,7 @@ impl TabletState {
         ensures cover { result.now ≡ self.now.cover }
         ensures positions { IsTrue (are_positions self.now.cover) }
     {
-        self.coverage.cover()
+        self.coverage.cover().marks()
     }
 
     /// The positions up to which any cells took streams, nowhere less than the cover.
@@ -81,7 +83,7 @@ impl TabletState {
         ensures positions { IsTrue (are_positions self.now.reach) }
         ensures reached { Reaches self.now.reach self.now.cover }
     {
-        self.coverage.reach()
+        self.coverage.reach().marks()
     }
 
     /// Whether the tablet serves, or what it needs in order to.

@@ -1,9 +1,9 @@
 //! The tablets of the views.
 
 use crate::scans::view::TakesTurns;
-use pn_join::{Marks, NoMemory};
+use pn_join::NoMemory;
 use pn_record::{Records, add_image};
-use pn_tablet::{Layout, OpFault, Range, TabletOp, TabletState};
+use pn_tablet::{Layout, OpFault, Range, SharedMarks, TabletOp, TabletState};
 use std::alloc::Global;
 use std::test::Fail;
 use test_kit::{image, layout};
@@ -53,7 +53,7 @@ fn tablet(alloc: Global, range: Range, words: &str) -> Result<TabletState, Fail>
 }
 
 fn join(alloc: Global, state: &mut TabletState, cells: Records) -> Result<(), OpFault> {
-    let marks = Marks::new(alloc);
+    let marks = SharedMarks::new(alloc);
     state.apply(&TabletOp::Join { cells, marks })?;
     Ok(())
 }

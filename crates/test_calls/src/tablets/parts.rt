@@ -2,7 +2,9 @@
 
 use pn_join::{Marks, NoMemory};
 use pn_record::{Key, Records};
-use pn_tablet::{Range, TabletCopy, TabletOp, TabletState, cells_within, read_copy, write_copy};
+use pn_tablet::{
+    Range, SharedMarks, TabletCopy, TabletOp, TabletState, cells_within, read_copy, write_copy,
+};
 use std::alloc::Global;
 use std::test::Fail;
 use test_kit::newlines;
@@ -62,7 +64,7 @@ fn tablet_of_copy(alloc: Global, copy: TabletCopy) -> Result<TabletState, NoMemo
 
 // Has a tablet take a copy's streams.
 fn take_marks(alloc: Global, tablet: &mut TabletState, copy: &str) -> Result<(), Fail> {
-    let marks = read_copy(alloc, copy.as_bytes())?.marks;
+    let marks = SharedMarks::of(alloc, read_copy(alloc, copy.as_bytes())?.marks)?;
     let cells = Records::new(alloc);
     tablet.apply(&TabletOp::Join { cells, marks })?;
     Ok(())

@@ -8,7 +8,7 @@ use Rattle.pn_tablet.proofs.state.TabletState.of_parts.Goals as goal
 
 pub invariant_of-result : goal.invariant_of-result
 invariant_of-result c =
-    let same = c.of.ensures in
+    let same = c.of-3.ensures in
     record {
       inside = subst (λ (es : Entries). lie_in c.args.range es ≡ true) (sym same) c.requires.inside;
       spelled = same ∙ spelled_own c.args.cells c.recall_table.ensures ∙ ap (λ (es : Entries). table_of (spell es)) (sym same);
