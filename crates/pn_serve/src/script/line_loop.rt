@@ -15,6 +15,7 @@ ghost use Rattle.pn_serve.specs.declared.script.replies.TheConstants.{REPLY_CAPA
 ghost use Rattle.pn_serve.specs.Session.Knowing.{IsSteady, KnowsNoLess};
 
 mod answering;
+mod parts;
 mod reading;
 mod running;
 mod state;
