@@ -70,7 +70,7 @@ impl InputBuffer {
         requires { length bytes.now ≤ INPUT_CAPACITY }
         ensures { self.new ≡ bytes.now }
     {
-        self.bytes[..bytes.len()].copy_from_slice(bytes);
+        copy_to_front(&mut self.bytes, bytes);
         self.start = 0;
         self.end = bytes.len();
     }
@@ -100,7 +100,17 @@ fn read_piece<R: Read>(input: &mut R, bytes: &mut [u8]) -> io::Result<usize>
     ensures few { IfOk result (λ count. count ≤ READ_SIZE) }
     ensures size { length bytes.new ≡ length bytes.old }
 {
-    input.read(&mut bytes[..READ_SIZE])
+    let count = input.read(&mut bytes[..READ_SIZE])?;
+    Ok(count)
+}
+
+// Writes bytes over the first of others.
+fn copy_to_front(others: &mut [u8], bytes: &[u8])
+    requires { length bytes.now ≤ length others.old }
+    ensures front { take (length bytes.now) others.new ≡ bytes.now }
+    ensures size { length others.new ≡ length others.old }
+{
+    others[..bytes.len()].copy_from_slice(bytes);
 }
 
 impl Source for InputBuffer {
