@@ -3,3 +3,4 @@ pub use Rattle.pn_line.specs.Line.{kept_bytes, so_far}
 pub use Rattle.pn_line.specs.Reads.{HasShown, IsUnbroken}
 pub use Rattle.pn_line.specs.Sent.{AppendsPrefix, Sends}
 pub use Rattle.pn_line.specs.Text.{text_of}
+pub use Rattle.pn_line.specs.Writing.{WouldBlock}

@@ -164,6 +164,8 @@ impl Sink for FailingSink {
 
     ghost is_handed_on = { λ sink. sink.handed_on ≡ length sink.contents };
 
+    ghost has_failed = { λ _. Unit {0} };
+
     /// Takes up to `most` bytes. Fails if it is the chosen call, or out of memory.
     fn write_some(&mut self, bytes: &[u8]) -> Result<usize, WriteFault>
         ensures within { IfOk result (λ count. count ≤ length bytes.now) }

@@ -1,6 +1,7 @@
 //! Where bytes are written to: any writer, or nowhere, where no write fails.
-ghost use Rattle.std.specs.Prelude.{◌<◌, ◌≤◌, ℕ, List, Option, length, take, IfOk, OnOk, OnErr};
+ghost use Rattle.std.specs.Prelude.{◌<◌, ◌≤◌, ◌⊎◌, ℕ, List, Option, length, take, IfOk, IfErr, OnOk, OnErr};
 ghost use Rattle.std.specs.Io.KnownBytes.{Appends, Keeps};
+ghost use Rattle.pn_line.specs.Writing.{WouldBlock};
 
 use crate::writing::WriteFault;
 use std::io::Write;
@@ -16,6 +17,9 @@ pub trait Sink {
     // What was written so far was handed on, where the type shows it.
     ghost is_handed_on: { Self → Type 0 };
 
+    // A call of it has failed, where the type shows it. A write that would block has not failed.
+    ghost has_failed: { Self → Type 0 };
+
     /// Writes a prefix of the bytes, at least one if there is one, and returns its length.
     ///
     /// A fault is an error of the writer, `Interrupted` too, or that it accepts no byte. Then nothing is written.
@@ -25,13 +29,15 @@ pub trait Sink {
         ensures written { IfOk result
             (λ count. Appends (contents self.old) (contents self.new) (take count bytes.now)) }
         ensures fault { OnErr result may_fail }
-        ensures kept { OnErr result (Keeps (contents self.old) (contents self.new)) };
+        ensures kept { OnErr result (Keeps (contents self.old) (contents self.new)) }
+        ensures failed { IfErr result (λ fault. WouldBlock fault ⊎ has_failed self.new) };
 
     /// Flushes the writer: what was written so far is handed on.
     fn hand_on(&mut self) -> Result<(), WriteFault>
         ensures all { OnOk result (is_handed_on self.new) }
         ensures fault { OnErr result may_fail }
-        ensures kept { Keeps (contents self.old) (contents self.new) };
+        ensures kept { Keeps (contents self.old) (contents self.new) }
+        ensures failed { OnErr result (has_failed self.new) };
 }
 
 impl<W: Write> Sink for W {
@@ -40,6 +46,8 @@ impl<W: Write> Sink for W {
     ghost may_fail = { Unit {0} };
 
     ghost is_handed_on = { λ _. Unit {0} };
+
+    ghost has_failed = { λ _. Unit {0} };
 
     fn write_some(&mut self, bytes: &[u8]) -> Result<usize, WriteFault> {
         match self.write(bytes) {
@@ -66,6 +74,8 @@ impl Sink for Discard {
     ghost may_fail = { ⊥ };
 
     ghost is_handed_on = { λ _. Unit {0} };
+
+    ghost has_failed = { λ _. ⊥ };
 
     fn write_some(&mut self, bytes: &[u8]) -> Result<usize, WriteFault> {
         Ok(bytes.len())

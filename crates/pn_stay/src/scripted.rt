@@ -119,6 +119,8 @@ impl Sink for ScriptedSink<'_> {
 
     ghost is_handed_on = { λ _. Unit {0} };
 
+    ghost has_failed = { λ _. Unit {0} };
+
     fn write_some(&mut self, bytes: &[u8]) -> Result<usize, WriteFault> {
         let Some((count, counts)) = self.counts.split_first() else {
             return self.append(bytes);

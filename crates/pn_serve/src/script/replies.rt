@@ -2,9 +2,9 @@
 
 ghost use Rattle.std.specs.Prelude.{◌≡◌, ◌≢◌, ◌+◌, ◌<◌, ◌≤◌, ◌↔◌, ◌++◌, [], length, drop, vec_len, vec_capacity, IfOk, IfErr, IsTrue, OnErr, MatchBool};
 ghost use Rattle.std.specs.Io.KnownBytes.{Keeps};
-ghost use Rattle.pn_line.specs.Prelude.{Sends, AppendsPrefix};
+ghost use Rattle.pn_line.specs.Prelude.{Sends, AppendsPrefix, WouldBlock};
 ghost use Rattle.pn_serve.specs.Lines.Made.{MakesAtMost};
-ghost use Rattle.pn_serve.specs.Lines.Sending.{WouldBlock, text_left};
+ghost use Rattle.pn_serve.specs.Lines.Sending.{text_left};
 
 use pn_line::{Sink, WriteFault};
 use pn_protocol::{MAX_PIECE_BYTES, ReplyText};
