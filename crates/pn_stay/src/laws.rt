@@ -2,8 +2,11 @@
 
 ghost use Rattle.std.specs.Prelude.{ℕ, List, [], Some, IfOk, IfSome, map};
 ghost use Rattle.std.specs.Io.KnownBytes.{prepend_known};
+ghost use Rattle.pn_serve.specs.Lines.States.{Start};
 ghost use Rattle.pn_serve.specs.Lines.Stepping.{HasEnded, by};
+ghost use Rattle.pn_serve.specs.Session.Knowing.{IsSteady};
 ghost use Rattle.pn_stay.specs.Scripted.{bytes_of, begin_with};
+ghost use Rattle.pn_stay.specs.Turns.{Continues};
 
 use crate::connection_state::{ConnectionState, ThreadBuffers, TurnOutcome};
 use crate::scripted::{ScriptedSink, ScriptedSource};
@@ -29,13 +32,30 @@ pub fn answer_in_turns<M: LineHandler, R: Read, W: Sink>(
     let mut buffers = ThreadBuffers::new(alloc)?;
     let mut state = ConnectionState::new(alloc);
     machine.recall_moves();
+    Ok(take_turns(&mut state, &mut buffers, machine, input, output, turns))
+}
+
+// Gives a connection turns until it ends, or all are over. The buffers and the connection are the caller's, since a loop that owns
+// them has a long proof.
+fn take_turns<M: LineHandler, R: Read, W: Sink>(
+    state: &mut ConnectionState,
+    buffers: &mut ThreadBuffers,
+    machine: &mut M,
+    input: &mut R,
+    output: &mut W,
+    turns: u32,
+) -> Option<Result<Counts, RunFault>>
+    requires ready { M.ready }
+    ensures { (start : Start M) → IsSteady M.reader M.moves → Continues (by M.moves M.makes M.ends M.goes M.goes_last) start (R.remaining input.old) (W.contents output.old) machine.old state.old
+        → IfSome result (λ ended. (held : List ℕ) × HasEnded (by M.moves M.makes M.ends M.goes M.goes_last) start (prepend_known held (R.remaining input.new)) (W.contents output.new) machine.new ended) }
+{
     'turns: for _turn in 0..turns {
-        match state.turn(&mut buffers, machine, input, output) {
+        match state.turn(buffers, machine, input, output) {
             TurnOutcome::Goes(_) => {}
-            TurnOutcome::Ended(ended) => return Ok(Some(ended)),
+            TurnOutcome::Ended(ended) => return Some(ended),
         }
     }
-    Ok(None)
+    None
 }
 
 /// For every list of pieces, with waits among them, and every list of what a sink takes, with waits among them: a

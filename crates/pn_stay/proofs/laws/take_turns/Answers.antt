@@ -1,0 +1,11 @@
+-- One turn after another.
+use Rattle.pn_stay.proofs.laws.take_turns.Goals as goal
+
+pub turns-init : goal.turns-init
+turns-init g c = λ start steady continues. continues
+
+pub turns-preserved : goal.turns-preserved
+turns-preserved g c = λ start steady continues. c.in-Goes.ensures.turns start steady (c.turns.invariant start steady continues)
+
+pub returns-in-Ended : goal.returns-in-Ended
+returns-in-Ended g c = λ start steady continues. c.in-Ended.ensures.turns start steady (c.turns.invariant start steady continues)
