@@ -94,7 +94,7 @@ module _ {V : Type 0} (handling : Handling V) (start : Start V) (left written : 
 
     reading_put : (script : List ℕ) → SameInput line held new_line new_held → IsReading handling start script (prepend_known held left) written machine (record { line = line; replies = replies; state = state })
         → IsReading handling start script (prepend_known new_held left) written machine (record { line = new_line; replies = replies; state = state })
-    reading_put script (inl same) is = reading_same script same.0 same.1 is
+    reading_put script (inl same) is = reading_same script same.1 same.2 is
     reading_put script (inr put) is = reading_back script put.0 put.1 put.2 is
 
     looking_put : (going : Going) (script : List ℕ) → new_line ≡ so_far [] → new_held ≡ held → IsLooking handling start script (prepend_known held left) written machine (record { line = line; replies = replies; state = state }) going

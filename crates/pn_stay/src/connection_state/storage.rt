@@ -1,12 +1,13 @@
 //! What a connection keeps is loaded into the buffers of its thread, and stored again after a turn.
 
-ghost use Rattle.std.specs.Prelude.{◌≡◌, ◌+◌, ◌≤◌, [], ◌++◌, Option, length, vec_len, IfOk, IfSome, IsTrue};
-ghost use Rattle.pn_stay.specs.Connections.{SameInput, line_in, replies_in};
+ghost use Rattle.std.specs.Prelude.{◌≡◌, ◌+◌, ◌≤◌, [], ◌++◌, Option, length, vec_len, IfOk, IfSome, IsTrue, MatchBool};
+ghost use Rattle.pn_stay.specs.Connections.{DoesNotFit, SameInput, line_in, replies_in};
+ghost use Rattle.pn_line.specs.declared.line_buffer.TheConstants.{MAX_LINE_BYTES};
 ghost use Rattle.pn_stay.specs.Turns.{in_buffers, KeepsOr, PausesWell, StopsWell, Stores};
 
 use crate::connection_state::{ConnectionState, Pause, ThreadBuffers, TurnOutcome};
 use crate::input_buffer::INPUT_CAPACITY;
-use pn_line::{Discard, LineBuffer, MAX_LINE_BYTES};
+use pn_line::{Discard, LineBuffer};
 use pn_serve::{LineLoop, ReplyBuffer, RunFault, Step};
 use std::alloc::{AllocError, Global};
 use std::mem;
@@ -140,9 +141,8 @@ fn unload_input(alloc: Global, buffers: &mut ThreadBuffers) -> Result<StoredInpu
 {
     let unread = buffers.input.bytes();
     let part = buffers.lines.line();
-    let bytes = part.bytes();
-    if part.len() <= MAX_LINE_BYTES && bytes.len() <= INPUT_CAPACITY - unread.len() {
-        let held = concat(alloc, bytes, unread)?;
+    if fits(part, unread) {
+        let held = concat(alloc, part.bytes(), unread)?;
         return Ok(StoredInput { line: None, held });
     }
     let held = Vec::from_slice(alloc, unread)?;
@@ -152,6 +152,17 @@ fn unload_input(alloc: Global, buffers: &mut ThreadBuffers) -> Result<StoredInpu
         line: Some(line),
         held,
     })
+}
+
+// Whether a part of a line is not too long, and fits before the input that is held.
+fn fits(part: &LineBuffer, held: &[u8]) -> bool
+    requires { length held.now ≤ INPUT_CAPACITY }
+    ensures { MatchBool result ((part.now.count ≤ MAX_LINE_BYTES) × (length part.now.bytes + length held.now ≤ INPUT_CAPACITY)) (DoesNotFit part.now held.now) }
+{
+    if part.is_too_long() {
+        return false;
+    }
+    part.bytes().len() <= INPUT_CAPACITY - held.len()
 }
 
 fn concat(alloc: Global, first: &[u8], second: &[u8]) -> Result<Vec<u8>, AllocError>
