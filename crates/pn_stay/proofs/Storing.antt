@@ -3,8 +3,9 @@ use Rattle.std.proofs.Common.{◌≡◌, ◌≢◌, ◌≤◌, ℕ, Bool, true, 
 use Rattle.std.specs.Prelude.{Result, Err}
 use Rattle.std.specs.Io.KnownBytes.{prepend_known}
 use Rattle.std.proofs.KnownBytes.{Appends-nil}
+use Rattle.std.proofs.Math.Seq.{take-nil}
 use Rattle.std.proofs.lemmas.List.Elements.{All-nil, Contains-append_right}
-use Rattle.pn_line.specs.Line.{LineBufferValue, so_far}
+use Rattle.pn_line.specs.Line.{LineBufferValue, max_kept, so_far}
 use Rattle.pn_line.specs.LinesRead.{PartRead}
 use Rattle.pn_line.specs.Reads.{HasShown}
 use Rattle.pn_line.specs.Sent.{AppendsPrefix}
@@ -17,7 +18,7 @@ use Rattle.pn_serve.specs.declared.script.line_loop.state.Stage.TheVariants.{Rea
 use Rattle.pn_serve.specs.declared.script.line_loop.steps.Step.{Step}
 use Rattle.pn_serve.specs.declared.script.line_loop.steps.Step.TheVariants.{Next, NoInput, NoRoom, Ends}
 use Rattle.pn_serve.specs.declared.sessions.going.Going.{Going}
-use Rattle.pn_serve.specs.Lines.States.{LineStateValue, Start}
+use Rattle.pn_serve.specs.Lines.States.{LineLoopValue, LineStateValue, Start}
 use Rattle.pn_serve.specs.Lines.Stepping.{Handling, HasEnded, IsLooking, IsReading, Stands, StandsAt, StepsTo}
 use Rattle.pn_serve.proofs.Serving.{OnTold}
 use Rattle.pn_stay.specs.Connections.{ConnectionValue, IsKept, SameInput, loop_of}
@@ -167,3 +168,28 @@ module _ (most : ℕ) (before loaded after new : ConnectionValue) (same : loaded
   looked_stored NoInput outcome stores = kept_looked Input outcome stores
   looked_stored NoRoom outcome stores = kept_looked Output outcome stores
   looked_stored (Ends ended) outcome stores = subst (λ (o : TurnOutcome). LooksWithin most before new o) (sym stores) tt
+
+-- ---- what a connection keeps
+
+-- of a line that was begun nothing is held
+begun_input : (line new_line : LineBufferValue) (held new_held : List ℕ) → line ≡ so_far [] → SameInput line held new_line new_held → (new_line ≡ so_far []) × (new_held ≡ held)
+begun_input line new_line held new_held none (inl same) = (same.1 ∙ none, same.2)
+begun_input line new_line held new_held none (inr put) = (put.1, put.2 ∙ ap (λ (b : List ℕ). b ++ held) (ap (λ (l : LineBufferValue). l.bytes) none ∙ take-nil max_kept))
+
+-- a loop that reads, or has begun a line
+module _ (run now : LineLoopValue) where
+  begun_apart : (stage : Stage) → (stage ≡ Reading → now ≡ run) → (stage ≢ Reading → now ≡ record run { line = so_far [] }) → (now.state ≡ run.state) × (now.replies ≡ run.replies)
+  begun_apart Reading reading begun = let same = reading refl in (ap (λ (l : LineLoopValue). l.state) same, ap (λ (l : LineLoopValue). l.replies) same)
+  begun_apart (Looking going) reading begun = let same = begun (λ is. cc) in (ap (λ (l : LineLoopValue). l.state) same, ap (λ (l : LineLoopValue). l.replies) same)
+  begun_apart (Ending ended) reading begun = let same = begun (λ is. cc) in (ap (λ (l : LineLoopValue). l.state) same, ap (λ (l : LineLoopValue). l.replies) same)
+
+-- a line is begun unless it is read, and then its input is kept
+pub kept_input : (old new : ConnectionValue) (now : LineLoopValue) → (old.state.stage ≡ Reading → now ≡ loop_of old) → (old.state.stage ≢ Reading → now ≡ record (loop_of old) { line = so_far [] })
+    → SameInput now.line old.held new.line new.held → new.state ≡ now.state → new.replies ≡ now.replies → IsKept old new
+kept_input old new now reading begun same state replies =
+    let apart = begun_apart (loop_of old) now old.state.stage reading begun in record {
+      state = state ∙ apart.0;
+      replies = replies ∙ apart.1;
+      input = λ reads. subst (λ (l : LineBufferValue). SameInput l old.held new.line new.held) (ap (λ (l : LineLoopValue). l.line) (reading reads)) same;
+      none = λ looks. begun_input now.line new.line old.held new.held (ap (λ (l : LineLoopValue). l.line) (begun looks)) same;
+    }
