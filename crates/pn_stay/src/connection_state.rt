@@ -111,6 +111,8 @@ pub enum TurnOutcome {
     Goes(Pause),
     /// The connection has ended, as a session ends.
     Ended(Result<Counts, RunFault>),
+    /// The connection has ended, since there is no memory in which to keep it.
+    OutOfMemory,
 }
 
 impl ConnectionState {

@@ -33,6 +33,7 @@ pub fn answer_in_turns<M: LineHandler, R: Read, W: Sink>(
         match state.turn(&mut buffers, machine, input, output) {
             TurnOutcome::Goes(_) => {}
             TurnOutcome::Ended(ended) => return Ok(Some(ended)),
+            TurnOutcome::OutOfMemory => return Ok(Some(Err(RunFault::Write))),
         }
     }
     Ok(None)

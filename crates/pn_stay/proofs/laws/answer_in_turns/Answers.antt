@@ -18,5 +18,8 @@ turns-init g c =
 pub returns-in-Ended : goal.returns-in-Ended
 returns-in-Ended g c = record { ends = c.in-Ended.ensures.turns _ c.recall_moves.ensures c.turns.invariant }
 
+pub returns-in-OutOfMemory : goal.returns-in-OutOfMemory
+returns-in-OutOfMemory g c = record { ends = c.in-OutOfMemory.ensures.turns _ c.recall_moves.ensures c.turns.invariant }
+
 pub turns-preserved : goal.turns-preserved
 turns-preserved g c = c.in-Goes.ensures.turns _ c.recall_moves.ensures c.turns.invariant
