@@ -17,7 +17,7 @@ use Rattle.pn_serve.specs.declared.script.line_loop.state.Stage.TheVariants.{Rea
 use Rattle.pn_serve.specs.declared.script.line_loop.steps.Step.{Step}
 use Rattle.pn_serve.specs.declared.script.line_loop.steps.Step.TheVariants.{Next, NoInput, NoRoom, Ends}
 use Rattle.pn_serve.specs.declared.sessions.going.Going.{Going}
-use Rattle.pn_serve.specs.Lines.Bounds.{EndsByAt, EndsByStep}
+use Rattle.pn_serve.specs.Lines.Faults.{EndsByAt, EndsByStep}
 use Rattle.pn_serve.specs.Lines.States.{LineStateValue, Start}
 use Rattle.pn_serve.specs.Lines.Stepping.{Handling, HasEnded, IsLooking, IsReading, Stands, StandsAt, StepsTo}
 use Rattle.pn_serve.proofs.Serving.{OnTold}

@@ -9,7 +9,7 @@ use Rattle.pn_serve.specs.declared.script.RunFault.{RunFault}
 use Rattle.pn_serve.specs.declared.script.RunFault.TheVariants.{Write}
 use Rattle.pn_serve.specs.declared.script.line_loop.steps.Step.{Step}
 use Rattle.pn_serve.specs.declared.script.line_loop.steps.Step.TheVariants.{Next, NoInput, NoRoom, Ends}
-use Rattle.pn_serve.specs.Lines.Bounds.{EndsByAt}
+use Rattle.pn_serve.specs.Lines.Faults.{EndsByAt}
 use Rattle.pn_serve.specs.Lines.States.{Start, waits_in}
 use Rattle.pn_serve.specs.Lines.Stepping.{Handling, HasEnded, Stands, StepsTo as LoopStepsTo}
 use Rattle.pn_stay.specs.Connections.{ConnectionValue, IsKept, loop_of}

@@ -6,16 +6,16 @@ ghost use Rattle.pn_serve.specs.Lines.Stepping.{HasEnded, by};
 ghost use Rattle.pn_stay.specs.Scripted.{bytes_of, begin_with};
 
 use crate::connection_state::{ConnectionState, ThreadBuffers, TurnOutcome};
+use crate::input::Input;
 use crate::scripted::{ScriptedSink, ScriptedSource};
 use pn_join::NoMemory;
 use pn_line::Sink;
 use pn_serve::{Counts, LineHandler, RunFault};
 use std::alloc::Global;
-use std::io::Read;
 
 /// Answers a connection that has its handler alone, until it ends or all `turns` are over. It ends as a session of its
 /// whole input ends. None where the turns were over.
-pub fn answer_in_turns<M: LineHandler, R: Read, W: Sink>(
+pub fn answer_in_turns<M: LineHandler, R: Input, W: Sink>(
     alloc: Global,
     machine: &mut M,
     input: &mut R,

@@ -13,7 +13,7 @@ use Rattle.pn_stay.proofs.connection_state.send_and_step.Goals as goal
 pub returns-in-Next-clause-steps : goal.returns-in-Next-clause-steps
 returns-in-Next-clause-steps g c = λ start steady stands.
     let H = by g.M.LineHandler.moves g.M.LineHandler.makes g.M.LineHandler.ends g.M.LineHandler.goes g.M.LineHandler.goes_last in
-    let left = g.R.Read.remaining c.args.input.now in
+    let left = g.R.Input.remaining c.args.input.now in
     let sent = c.in-Next.ensures.steps start (prepend_known c.args.buffers.now.input left) steady stands in
     c.step_and_send.ensures.steps start steady
     (subst (λ (h : List ℕ). Stands H start (prepend_known h left) (g.W.Sink.contents c.send_waiting.new.output) c.args.machine.now c.send_waiting.new.buffers.lines) (sym c.send_waiting.ensures.input) sent)
@@ -32,7 +32,7 @@ pub returns-in_default : goal.returns-in_default
 returns-in_default g c = record {
   steps = λ start steady stands.
       let H = by g.M.LineHandler.moves g.M.LineHandler.makes g.M.LineHandler.ends g.M.LineHandler.goes g.M.LineHandler.goes_last in
-      let left = g.R.Read.remaining c.args.input.now in
+      let left = g.R.Input.remaining c.args.input.now in
       let sent = c.send_waiting.ensures.steps start (prepend_known c.args.buffers.now.input left) steady stands in
       subst (λ (h : List ℕ). StepsTo H start (prepend_known h left) (g.W.Sink.contents c.send_waiting.new.output) c.args.machine.now c.send_waiting.new.buffers.lines c.send_waiting.result) (sym c.send_waiting.ensures.input) sent;
   stops = c.send_waiting.ensures.stops;

@@ -9,7 +9,7 @@ use Rattle.pn_stay.proofs.connection_state.step_and_send.Goals as goal
 pub returns-in-Next-clause-steps : goal.returns-in-Next-clause-steps
 returns-in-Next-clause-steps g c = λ start steady stands.
     let H = by g.M.LineHandler.moves g.M.LineHandler.makes g.M.LineHandler.ends g.M.LineHandler.goes g.M.LineHandler.goes_last in
-    let left = g.R.Read.remaining c.take_steps.new.input in
+    let left = g.R.Input.remaining c.take_steps.new.input in
     let sent = c.send_waiting.ensures.steps start (prepend_known c.take_steps.new.buffers.input left) steady (c.in-Next.ensures.steps start steady stands) in
     subst (λ (h : List ℕ). StepsTo H start (prepend_known h left) (g.W.Sink.contents c.send_waiting.new.output) c.take_steps.new.machine c.send_waiting.new.buffers.lines c.send_waiting.result) (sym c.send_waiting.ensures.input) sent
 

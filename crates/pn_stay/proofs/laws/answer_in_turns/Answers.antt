@@ -10,7 +10,7 @@ use Rattle.pn_stay.proofs.laws.answer_in_turns.Goals as goal
 pub turns-init : goal.turns-init
 turns-init g c =
     let H = by g.M.LineHandler.moves g.M.LineHandler.makes g.M.LineHandler.ends g.M.LineHandler.goes g.M.LineHandler.goes_last in
-    let left = g.R.Read.remaining c.args.input.now in
+    let left = g.R.Input.remaining c.args.input.now in
     let written = g.W.Sink.contents c.args.output.now in
     subst (λ (k : ConnectionValue). Continues H (begin_with c.args.machine.now left written) left written c.args.machine.now k) (sym c.new-state.ensures)
     (Continues-new H g.M.LineHandler.reader c.recall_moves.ensures c.args.machine.now left written)

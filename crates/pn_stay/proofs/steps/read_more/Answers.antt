@@ -14,16 +14,16 @@ pub returns-in-Input-clause-steps : goal.returns-in-Input-clause-steps
 returns-in-Input-clause-steps g c = λ start written steady stands.
     let H = by g.M.LineHandler.moves g.M.LineHandler.makes g.M.LineHandler.ends g.M.LineHandler.goes g.M.LineHandler.goes_last in
     let lines = c.args.buffers.now.lines in
-    let was = subst (λ (h : List ℕ). Stands H start (prepend_known h (g.R.Read.remaining c.args.input.now)) written c.args.machine.now lines) c.requires.empty stands in
-    Stands-came H start written c.args.machine.now lines c.requires.idle.0 (g.R.Read.remaining c.args.input.now) (g.R.Read.remaining c.read_from-read.new.input) c.read_from-read.new.self
+    let was = subst (λ (h : List ℕ). Stands H start (prepend_known h (g.R.Input.remaining c.args.input.now)) written c.args.machine.now lines) c.requires.empty stands in
+    Stands-came H start written c.args.machine.now lines c.requires.idle.0 (g.R.Input.remaining c.args.input.now) (g.R.Input.remaining c.read_from-read.new.input) c.read_from-read.new.self
     (at_input c.read_from-read.result _ c.in-Input.ensures c.read_from-read.ensures.came) was
 
 pub returns-in-Nothing-clause-steps : goal.returns-in-Nothing-clause-steps
 returns-in-Nothing-clause-steps g c = λ start written steady stands.
     let H = by g.M.LineHandler.moves g.M.LineHandler.makes g.M.LineHandler.ends g.M.LineHandler.goes g.M.LineHandler.goes_last in
     let lines = c.args.buffers.now.lines in
-    let left = g.R.Read.remaining c.args.input.now in
-    let leaves = g.R.Read.remaining c.read_from-read.new.input in
+    let left = g.R.Input.remaining c.args.input.now in
+    let leaves = g.R.Input.remaining c.read_from-read.new.input in
     let was = subst (λ (h : List ℕ). Stands H start (prepend_known h left) written c.args.machine.now lines) c.requires.empty stands in
     let none : c.read_from-read.new.self ≡ [] = at_nothing c.read_from-read.result _ c.in-Nothing.ensures c.read_from-read.ensures.none in
     let kept : Keeps left leaves = at_nothing c.read_from-read.result _ c.in-Nothing.ensures c.read_from-read.ensures.kept in
@@ -37,8 +37,8 @@ pub returns-in-End-clause-steps : goal.returns-in-End-clause-steps
 returns-in-End-clause-steps g c = λ start written steady stands.
     let H = by g.M.LineHandler.moves g.M.LineHandler.makes g.M.LineHandler.ends g.M.LineHandler.goes g.M.LineHandler.goes_last in
     let lines = c.args.buffers.now.lines in
-    let left = g.R.Read.remaining c.args.input.now in
-    let leaves = g.R.Read.remaining c.read_from-read.new.input in
+    let left = g.R.Input.remaining c.args.input.now in
+    let leaves = g.R.Input.remaining c.read_from-read.new.input in
     let was = subst (λ (h : List ℕ). Stands H start (prepend_known h left) written c.args.machine.now lines) c.requires.empty stands in
     let came : Consumes left leaves c.read_from-read.new.self = at_end c.read_from-read.result (λ _. Consumes left leaves c.read_from-read.new.self) c.in-End.ensures c.read_from-read.ensures.came in
     let end : (c.read_from-read.new.self ≡ []) × IsAtEnd leaves =
@@ -52,8 +52,8 @@ pub returns-in-Fault-clause-steps : goal.returns-in-Fault-clause-steps
 returns-in-Fault-clause-steps g c = λ start written steady stands.
     let H = by g.M.LineHandler.moves g.M.LineHandler.makes g.M.LineHandler.ends g.M.LineHandler.goes g.M.LineHandler.goes_last in
     let lines = c.args.buffers.now.lines in
-    let left = g.R.Read.remaining c.args.input.now in
-    let leaves = g.R.Read.remaining c.read_from-read.new.input in
+    let left = g.R.Input.remaining c.args.input.now in
+    let leaves = g.R.Input.remaining c.read_from-read.new.input in
     let was = subst (λ (h : List ℕ). Stands H start (prepend_known h left) written c.args.machine.now lines) c.requires.empty stands in
     let none : c.read_from-read.new.self ≡ [] = at_fault c.read_from-read.result _ c.in-Fault.ensures c.read_from-read.ensures.none in
     let kept : Keeps left leaves = at_fault c.read_from-read.result _ c.in-Fault.ensures c.read_from-read.ensures.kept in
@@ -83,8 +83,8 @@ returns-in-Nothing-clause-few g c = reads_nothing _ _ _ (Consumes-nothing _ _ (a
 
 pub returns-in-End-clause-few : goal.returns-in-End-clause-few
 returns-in-End-clause-few g c =
-    let left = g.R.Read.remaining c.args.input.now in
-    let leaves = g.R.Read.remaining c.read_from-read.new.input in
+    let left = g.R.Input.remaining c.args.input.now in
+    let leaves = g.R.Input.remaining c.read_from-read.new.input in
     let came : Consumes left leaves c.read_from-read.new.self = at_end c.read_from-read.result (λ _. Consumes left leaves c.read_from-read.new.self) c.in-End.ensures c.read_from-read.ensures.came in
     let end : (c.read_from-read.new.self ≡ []) × IsAtEnd leaves =
     at_end c.read_from-read.result (λ (more : Bool). more ≡ false → (c.read_from-read.new.self ≡ []) × IsAtEnd leaves) c.in-End.ensures c.read_from-read.ensures.end refl in

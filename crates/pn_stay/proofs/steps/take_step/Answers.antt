@@ -8,7 +8,7 @@ use Rattle.pn_stay.proofs.steps.take_step.Goals as goal
 
 pub returns-in-NoInput-clause-steps : goal.returns-in-NoInput-clause-steps
 returns-in-NoInput-clause-steps g c = λ start steady stands.
-    c.read_more.ensures.steps start (g.W.Sink.contents c.step-step.new.output) steady (c.in-NoInput.ensures.steps start (g.R.Read.remaining c.args.input.now) steady stands)
+    c.read_more.ensures.steps start (g.W.Sink.contents c.step-step.new.output) steady (c.in-NoInput.ensures.steps start (g.R.Input.remaining c.args.input.now) steady stands)
 
 pub returns-in-NoInput-clause-knows : goal.returns-in-NoInput-clause-knows
 returns-in-NoInput-clause-knows g c = knows_on _ _ _ c.step-step.ensures.knows c.read_more.ensures.knows
@@ -21,7 +21,7 @@ returns-in-NoInput-clause-answers g c = omega (arith, c.in-NoInput.ensures.count
 
 pub returns-in_default : goal.returns-in_default
 returns-in_default g c = record {
-  steps = λ start steady stands. c.step-step.ensures.steps start (g.R.Read.remaining c.args.input.now) steady stands;
+  steps = λ start steady stands. c.step-step.ensures.steps start (g.R.Input.remaining c.args.input.now) steady stands;
   waits = waits_well (record { line = c.step-step.new.self.line; held = c.step-step.new.input; replies = c.step-step.new.self.replies; state = c.step-step.new.self.state }) c.step-step.result c.in_default.not-NoInput c.step-step.ensures.held;
   few = reads_none _ _;
   written = c.step-step.ensures.written;

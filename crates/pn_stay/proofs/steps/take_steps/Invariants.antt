@@ -15,10 +15,10 @@ use Rattle.pn_stay.proofs.steps.take_steps.Given as goal
 abbrev pub invariant-steps : goal.invariant-steps
 invariant-steps g l = record {
   stands : (start : Start g.row.M.Denot) → IsSteady g.M.LineHandler.reader g.M.LineHandler.moves
-      → Continues (by g.M.LineHandler.moves g.M.LineHandler.makes g.M.LineHandler.ends g.M.LineHandler.goes g.M.LineHandler.goes_last) start (g.R.Read.remaining l.initial.input) (g.W.Sink.contents l.initial.output) l.initial.machine (in_buffers l.initial.buffers)
-      → Continues (by g.M.LineHandler.moves g.M.LineHandler.makes g.M.LineHandler.ends g.M.LineHandler.goes g.M.LineHandler.goes_last) start (g.R.Read.remaining l.input) (g.W.Sink.contents l.output) l.machine (in_buffers l.buffers);
-  within : TakesWithin l.units (g.R.Read.remaining l.initial.input) (g.R.Read.remaining l.input);
-  few : TakesAtMost most_taken (g.R.Read.remaining l.initial.input) (g.R.Read.remaining l.input);
+      → Continues (by g.M.LineHandler.moves g.M.LineHandler.makes g.M.LineHandler.ends g.M.LineHandler.goes g.M.LineHandler.goes_last) start (g.R.Input.remaining l.initial.input) (g.W.Sink.contents l.initial.output) l.initial.machine (in_buffers l.initial.buffers)
+      → Continues (by g.M.LineHandler.moves g.M.LineHandler.makes g.M.LineHandler.ends g.M.LineHandler.goes g.M.LineHandler.goes_last) start (g.R.Input.remaining l.input) (g.W.Sink.contents l.output) l.machine (in_buffers l.buffers);
+  within : TakesWithin l.units (g.R.Input.remaining l.initial.input) (g.R.Input.remaining l.input);
+  few : TakesAtMost most_taken (g.R.Input.remaining l.initial.input) (g.R.Input.remaining l.input);
   makes : MakesWithin l.units (g.W.Sink.contents l.initial.output) (g.W.Sink.contents l.output) l.initial.buffers.lines.replies l.buffers.lines.replies;
   written : MakesAtMost most_made (g.W.Sink.contents l.initial.output) (g.W.Sink.contents l.output) l.initial.buffers.lines.replies l.buffers.lines.replies;
   lines : l.buffers.lines.state.counts.lines + l.units ≤ l.initial.buffers.lines.state.counts.lines + TURN_UNITS;

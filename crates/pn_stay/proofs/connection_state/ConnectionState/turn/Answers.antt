@@ -14,9 +14,9 @@ pub returns-clause-turns : goal.returns-clause-turns
 returns-clause-turns g c = λ start steady continues.
     let H = by g.M.LineHandler.moves g.M.LineHandler.makes g.M.LineHandler.ends g.M.LineHandler.goes g.M.LineHandler.goes_last in
     let kept : ConnectionValue = in_buffers c.send_and_step-step.new.buffers in
-    let left = g.R.Read.remaining c.send_and_step-step.new.input in
+    let left = g.R.Input.remaining c.send_and_step-step.new.input in
     let written = g.W.Sink.contents c.send_and_step-step.new.output in
-    let loaded = subst (λ (k : ConnectionValue). Continues H start (g.R.Read.remaining c.args.input.now) (g.W.Sink.contents c.args.output.now) c.args.machine.now k) (sym c.load.ensures) continues in
+    let loaded = subst (λ (k : ConnectionValue). Continues H start (g.R.Input.remaining c.args.input.now) (g.W.Sink.contents c.args.output.now) c.args.machine.now k) (sym c.load.ensures) continues in
     Turns-stored H start left written c.send_and_step-step.new.machine kept c.store.new.self c.send_and_step-step.result c.store.result c.store.ensures.stores (c.send_and_step-step.ensures.steps start steady loaded)
     (λ stands. c.recall_cut.ensures start (prepend_known kept.held left) written written steady stands (AppendsPrefix-none written (waits_in (loop_of kept))))
 
