@@ -226,7 +226,7 @@ fn send_waiting<M: LineHandler, W: Sink>(
     ensures few { HandsOnAtMost REPLY_CAPACITY buffers.old.lines buffers.new.lines }
     ensures written { MakesAtMost 0 (W.contents output.old) (W.contents output.new) buffers.old.lines.replies buffers.new.lines.replies }
     ensures same { KeepsLine buffers.old.lines buffers.new.lines }
-    ensures stage { buffers.new.lines.state.stage ≡ buffers.old.lines.state.stage }
+    ensures stage { (units : ℕ) → result ≡ Step.Next units → buffers.new.lines.state.stage ≡ buffers.old.lines.state.stage }
     ensures read_fault { EndsByStep RunFault.Read buffers.new.lines result → EndsByAt RunFault.Read buffers.old.lines.state.stage }
     ensures write_fault { EndsByStep RunFault.Write buffers.new.lines result → EndsByAt RunFault.Write buffers.old.lines.state.stage ⊎ W.has_failed output.new }
 {

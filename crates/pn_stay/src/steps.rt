@@ -40,7 +40,7 @@ pub(crate) fn take_steps<M: LineHandler, R: Input, W: Sink>(
     ensures looked { LooksFew most_looked buffers.old.lines.state buffers.new.lines.state }
     ensures read_fault { EndsByStep RunFault.Read buffers.new.lines result → EndsByAt RunFault.Read buffers.old.lines.state.stage ⊎ R.has_failed input.new }
     ensures write_fault { EndsByStep RunFault.Write buffers.new.lines result → EndsByAt RunFault.Write buffers.old.lines.state.stage ⊎ W.has_failed output.new }
-    ensures write_stage { EndsByAt RunFault.Write buffers.new.lines.state.stage → EndsByAt RunFault.Write buffers.old.lines.state.stage }
+    ensures write_stage { (used : ℕ) → result ≡ Step.Next used → EndsByAt RunFault.Write buffers.new.lines.state.stage → EndsByAt RunFault.Write buffers.old.lines.state.stage }
     ensures knows { KnowsNoLess (M.reader machine.old) (M.reader machine.new) }
 {
     let mut units = TURN_UNITS;
@@ -81,7 +81,7 @@ fn take_step<M: LineHandler, R: Input, W: Sink>(
     ensures records { LooksFew (records_by result) buffers.old.lines.state buffers.new.lines.state }
     ensures read_fault { EndsByStep RunFault.Read buffers.new.lines result → (EndsByAt RunFault.Read buffers.old.lines.state.stage × (input.new ≡ input.old)) ⊎ R.has_failed input.new }
     ensures write_fault { EndsByStep RunFault.Write buffers.new.lines result → EndsByAt RunFault.Write buffers.old.lines.state.stage ⊎ W.has_failed output.new }
-    ensures write_stage { EndsByAt RunFault.Write buffers.new.lines.state.stage → EndsByAt RunFault.Write buffers.old.lines.state.stage }
+    ensures write_stage { (used : ℕ) → result ≡ Step.Next used → EndsByAt RunFault.Write buffers.new.lines.state.stage → EndsByAt RunFault.Write buffers.old.lines.state.stage }
     ensures knows { KnowsNoLess (M.reader machine.old) (M.reader machine.new) }
 {
     let step = buffers
@@ -111,7 +111,6 @@ fn read_more<M: LineHandler, R: Input>(
     ensures looked { buffers.new.lines.state.looked ≡ buffers.old.lines.state.looked }
     ensures read_fault { EndsByStep RunFault.Read buffers.new.lines result → R.has_failed input.new }
     ensures write_fault { EndsByStep RunFault.Write buffers.new.lines result → ⊥ }
-    ensures write_stage { EndsByAt RunFault.Write buffers.new.lines.state.stage → ⊥ }
     ensures knows { KnowsNoLess (M.reader machine.old) (M.reader machine.new) }
 {
     let read = buffers.input.read_from(input);

@@ -1,8 +1,9 @@
 -- What the steps left is sent.
-use Rattle.std.proofs.Common.{ℕ, List, sym, ap, subst, arith}
+use Rattle.std.proofs.Common.{ℕ, List, refl, sym, ap, subst, arith}
 use Rattle.std.specs.Io.KnownBytes.{prepend_known}
 use Rattle.pn_serve.specs.declared.script.Counts.{Counts}
 use Rattle.pn_serve.specs.Lines.Stepping.{StepsTo, by}
+use Rattle.pn_stay.proofs.Faults.{before_or}
 use Rattle.pn_stay.proofs.Outputs.{makes_then}
 use Rattle.pn_stay.proofs.connection_state.step_and_send.Goals as goal
 
@@ -21,3 +22,9 @@ returns-in-Next-clause-answers g c = omega (arith, c.in-Next.ensures.answers, ap
 
 pub returns-in-Next-clause-looked : goal.returns-in-Next-clause-looked
 returns-in-Next-clause-looked g c = omega (arith, c.in-Next.ensures.looked, c.send_waiting.ensures.same.looked)
+
+pub returns-in-Next-clause-read_fault : goal.returns-in-Next-clause-read_fault
+returns-in-Next-clause-read_fault g c = λ ends. c.in-Next.ensures.read_fault (c.send_waiting.ensures.read_fault ends)
+
+pub returns-in-Next-clause-write_fault : goal.returns-in-Next-clause-write_fault
+returns-in-Next-clause-write_fault g c = λ ends. before_or _ _ _ (c.in-Next.ensures.write_stage _ refl) (c.send_waiting.ensures.write_fault ends)

@@ -1,12 +1,14 @@
 -- What a read brought.
 use Rattle.std.proofs.Common.{◌≡◌, Bool, false, ℕ, List, [], length, arith, refl, sym, ap, subst}
 use Rattle.std.specs.Io.KnownBytes.{Consumes, IsAtEnd, Keeps, prepend_known}
+use Rattle.pn_serve.specs.declared.script.RunFault.TheVariants.{Read, Write}
 use Rattle.pn_serve.specs.Lines.States.{LineLoopValue}
 use Rattle.pn_serve.specs.Lines.Stepping.{Stands, by}
 use Rattle.pn_serve.proofs.Bounded.{end_lines, end_looked}
 use Rattle.pn_serve.proofs.Knowing.{knows_itself}
 use Rattle.pn_serve.proofs.Steps.{Steps-read_fault}
-use Rattle.pn_stay.proofs.Coming.{Consumes-nothing, Ends-known, Keeps-front, Stands-came, at_end, at_fault, at_input, at_nothing}
+use Rattle.pn_stay.proofs.Coming.{Consumes-nothing, Ends-known, Keeps-front, Stands-came, at_end, at_failed, at_fault, at_input, at_nothing}
+use Rattle.pn_stay.proofs.Faults.{ends_reading, reads_on}
 use Rattle.pn_stay.proofs.Inputs.{reads_nothing}
 use Rattle.pn_stay.proofs.steps.read_more.Goals as goal
 
@@ -98,3 +100,27 @@ returns-in-End-clause-answers g c = end_lines c.args.buffers.now.lines c.end_inp
 
 pub returns-in-End-clause-looked : goal.returns-in-End-clause-looked
 returns-in-End-clause-looked g c = end_looked c.args.buffers.now.lines c.end_input.new.self c.end_input.ensures.some c.end_input.ensures.none
+
+pub returns-in-Input-clause-read_fault : goal.returns-in-Input-clause-read_fault
+returns-in-Input-clause-read_fault g c = λ ends. absurd (reads_on Read _ c.requires.idle.0 ends)
+
+pub returns-in-Input-clause-write_fault : goal.returns-in-Input-clause-write_fault
+returns-in-Input-clause-write_fault g c = λ ends. reads_on Write _ c.requires.idle.0 ends
+
+pub returns-in-Nothing-clause-read_fault : goal.returns-in-Nothing-clause-read_fault
+returns-in-Nothing-clause-read_fault g c = λ ends. absurd (reads_on Read _ c.requires.idle.0 ends)
+
+pub returns-in-Nothing-clause-write_fault : goal.returns-in-Nothing-clause-write_fault
+returns-in-Nothing-clause-write_fault g c = λ ends. reads_on Write _ c.requires.idle.0 ends
+
+pub returns-in-End-clause-read_fault : goal.returns-in-End-clause-read_fault
+returns-in-End-clause-read_fault g c = λ ends. absurd (c.end_input.ensures.faults Read ends)
+
+pub returns-in-End-clause-write_fault : goal.returns-in-End-clause-write_fault
+returns-in-End-clause-write_fault g c = λ ends. c.end_input.ensures.faults Write ends
+
+pub returns-in-Fault-clause-read_fault : goal.returns-in-Fault-clause-read_fault
+returns-in-Fault-clause-read_fault g c = λ ends. at_failed c.read_from-read.result _ c.in-Fault.ensures c.read_from-read.ensures.failed
+
+pub returns-in-Fault-clause-write_fault : goal.returns-in-Fault-clause-write_fault
+returns-in-Fault-clause-write_fault g c = λ ends. ends_reading c.args.buffers.now.lines c.end_by.new.self c.end_by.ensures ends

@@ -1,7 +1,9 @@
 -- The loop steps, and reads where no input is at hand.
-use Rattle.std.proofs.Common.{arith}
+use Rattle.std.proofs.Common.{inl, inr, refl, arith}
+use Rattle.pn_serve.specs.declared.script.RunFault.TheVariants.{Write}
 use Rattle.pn_serve.proofs.Knowing.{knows_on}
 use Rattle.pn_stay.proofs.Coming.{waits_well}
+use Rattle.pn_stay.proofs.Faults.{by_step, or_none}
 use Rattle.pn_stay.proofs.Inputs.{reads_none}
 use Rattle.pn_stay.proofs.Outputs.{answers_counted, makes_more}
 use Rattle.pn_stay.proofs.steps.take_step.Goals as goal
@@ -28,6 +30,9 @@ returns-in_default g c = record {
   answers = answers_counted c.args.buffers.now.lines c.step-step.new.self c.step-step.result c.step-step.ensures.counted;
   looked = c.step-step.ensures.looked;
   records = c.step-step.ensures.records;
+  read_fault = λ ends. or_none _ (λ was. (was, refl)) (c.step-step.ensures.read_fault ends);
+  write_fault = c.step-step.ensures.write_fault;
+  write_stage = c.step-step.ensures.write_stage;
   knows = c.step-step.ensures.knows;
 }
 
@@ -36,3 +41,12 @@ returns-in-NoInput-clause-looked g c = omega (arith, c.in-NoInput.ensures.looked
 
 pub returns-in-NoInput-clause-records : goal.returns-in-NoInput-clause-records
 returns-in-NoInput-clause-records g c = omega (arith, c.in-NoInput.ensures.records, c.read_more.ensures.looked)
+
+pub returns-in-NoInput-clause-read_fault : goal.returns-in-NoInput-clause-read_fault
+returns-in-NoInput-clause-read_fault g c = λ ends. inr (c.read_more.ensures.read_fault ends)
+
+pub returns-in-NoInput-clause-write_fault : goal.returns-in-NoInput-clause-write_fault
+returns-in-NoInput-clause-write_fault g c = λ ends. absurd (c.read_more.ensures.write_fault ends)
+
+pub returns-in-NoInput-clause-write_stage : goal.returns-in-NoInput-clause-write_stage
+returns-in-NoInput-clause-write_stage g c = λ used is ends. absurd (c.read_more.ensures.write_fault (by_step Write _ _ used is ends))

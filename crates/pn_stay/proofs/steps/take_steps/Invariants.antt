@@ -1,6 +1,8 @@
 -- The connection goes on as its session does.
-use Rattle.std.proofs.Common.{◌≤◌, ◌+◌}
+use Rattle.std.proofs.Common.{◌≤◌, ◌+◌, ◌⊎◌}
+use Rattle.pn_serve.specs.declared.script.RunFault.TheVariants.{Read, Write}
 use Rattle.pn_serve.specs.declared.script.line_loop.steps.TheConstants.{TURN_UNITS}
+use Rattle.pn_serve.specs.Lines.Faults.{EndsByAt}
 use Rattle.pn_serve.specs.Lines.Made.{MakesAtMost}
 use Rattle.pn_serve.specs.Lines.States.{Start}
 use Rattle.pn_serve.specs.Lines.Stepping.{by}
@@ -25,6 +27,9 @@ invariant-steps g l = record {
   answers : AnswersAtMost TURN_UNITS l.initial.buffers.lines.state l.buffers.lines.state;
   looks : LooksOn l.units l.initial.buffers.lines.state l.buffers.lines.state;
   looked : LooksFew most_looked l.initial.buffers.lines.state l.buffers.lines.state;
+  read_fault : EndsByAt Read l.buffers.lines.state.stage → EndsByAt Read l.initial.buffers.lines.state.stage ⊎ g.R.Input.has_failed l.input;
+  write_fault : EndsByAt Write l.buffers.lines.state.stage → EndsByAt Write l.initial.buffers.lines.state.stage ⊎ g.W.Sink.has_failed l.output;
+  write_stage : EndsByAt Write l.buffers.lines.state.stage → EndsByAt Write l.initial.buffers.lines.state.stage;
   knows : KnowsNoLess (g.M.LineHandler.reader l.initial.machine) (g.M.LineHandler.reader l.machine);
 }
 

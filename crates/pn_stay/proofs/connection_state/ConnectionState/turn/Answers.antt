@@ -2,12 +2,15 @@
 use Rattle.std.proofs.Common.{sym, subst}
 use Rattle.std.specs.Io.KnownBytes.{prepend_known}
 use Rattle.pn_serve.specs.declared.script.line_loop.steps.TheConstants.{TURN_UNITS}
+use Rattle.pn_serve.specs.declared.script.RunFault.TheVariants.{Read, Write}
+use Rattle.pn_serve.specs.Lines.Faults.{EndsByAt}
 use Rattle.pn_serve.specs.Lines.States.{waits_in}
 use Rattle.pn_serve.specs.Lines.Stepping.{by}
 use Rattle.pn_stay.specs.Connections.{ConnectionValue, loop_of}
 use Rattle.pn_stay.specs.Outputs.{most_looked}
 use Rattle.pn_stay.specs.Turns.{Continues, in_buffers}
-use Rattle.pn_stay.proofs.Storing.{AppendsPrefix-none, Turns-stored, answers_stored, looked_stored}
+use Rattle.pn_stay.proofs.Faults.{before_or}
+use Rattle.pn_stay.proofs.Storing.{AppendsPrefix-none, Turns-stored, answers_stored, fault_stored, looked_stored}
 use Rattle.pn_stay.proofs.connection_state.ConnectionState.turn.Goals as goal
 
 pub returns-clause-turns : goal.returns-clause-turns
@@ -36,3 +39,13 @@ returns-clause-answers g c =
 pub returns-clause-looked : goal.returns-clause-looked
 returns-clause-looked g c =
     looked_stored most_looked c.args.self.now (in_buffers c.load.new.buffers) (in_buffers c.send_and_step-step.new.buffers) c.store.new.self c.load.ensures c.send_and_step-step.ensures.looked c.send_and_step-step.result c.store.result c.store.ensures.stores
+
+pub returns-clause-read_fault : goal.returns-clause-read_fault
+returns-clause-read_fault g c = λ ends.
+    let stepped = fault_stored Read (in_buffers c.send_and_step-step.new.buffers) c.store.new.self c.send_and_step-step.result c.store.result c.store.ensures.stores ends in
+    before_or _ _ _ (λ was. subst (λ (k : ConnectionValue). EndsByAt Read k.state.stage) c.load.ensures was) (c.send_and_step-step.ensures.read_fault stepped)
+
+pub returns-clause-write_fault : goal.returns-clause-write_fault
+returns-clause-write_fault g c = λ ends.
+    let stepped = fault_stored Write (in_buffers c.send_and_step-step.new.buffers) c.store.new.self c.send_and_step-step.result c.store.result c.store.ensures.stores ends in
+    before_or _ _ _ (λ was. subst (λ (k : ConnectionValue). EndsByAt Write k.state.stage) c.load.ensures was) (c.send_and_step-step.ensures.write_fault stepped)
