@@ -49,4 +49,4 @@ pub returns-in-NoInput-clause-write_fault : goal.returns-in-NoInput-clause-write
 returns-in-NoInput-clause-write_fault g c = λ ends. absurd (c.read_more.ensures.write_fault ends)
 
 pub returns-in-NoInput-clause-write_stage : goal.returns-in-NoInput-clause-write_stage
-returns-in-NoInput-clause-write_stage g c = λ used is ends. absurd (c.read_more.ensures.write_fault (by_step Write _ _ used is ends))
+returns-in-NoInput-clause-write_stage g c = λ used is ends. absurd (c.read_more.ensures.write_fault (by_step Write c.read_more.new.buffers.lines c.read_more.result used is ends))

@@ -22,7 +22,7 @@ steps-preserved g c = let within = within_after _ _ _ _ _ _ c.steps-test.true c.
       answers = omega (arith, c.steps.invariant.lines, c.in-Next.ensures.answers, c.steps-test.true);
       looks = looks;
       looked = looks.few;
-      read_fault = λ ends. after_read g.R.Input.has_failed c.steps.l.input c.take_step.new.input _ _ c.steps.invariant.read_fault (c.in-Next.ensures.read_fault ends);
+      read_fault = λ ends. after_read g.R.Input.has_failed _ _ _ _ c.steps.invariant.read_fault (c.in-Next.ensures.read_fault ends);
       write_fault = λ ends. inl (c.steps.invariant.write_stage (c.in-Next.ensures.write_stage _ refl ends));
       write_stage = λ ends. c.steps.invariant.write_stage (c.in-Next.ensures.write_stage _ refl ends);
       knows = knows_on _ _ _ c.steps.invariant.knows c.take_step.ensures.knows;
@@ -36,7 +36,7 @@ returns-in_default g c = record {
   written = makes_last _ _ _ _ _ _ _ _ c.steps-test.true c.steps.invariant.makes c.take_step.ensures.written;
   answers = omega (arith, c.steps.invariant.lines, c.take_step.ensures.answers, one_line c.take_step.result, c.steps-test.true);
   looked = looks_last _ _ _ c.take_step.new.buffers.lines.state c.steps-test.true c.steps.invariant.looks c.take_step.ensures.looked;
-  read_fault = λ ends. after_read g.R.Input.has_failed c.steps.l.input c.take_step.new.input _ _ c.steps.invariant.read_fault (c.take_step.ensures.read_fault ends);
+  read_fault = λ ends. after_read g.R.Input.has_failed _ _ _ _ c.steps.invariant.read_fault (c.take_step.ensures.read_fault ends);
   write_fault = λ ends. before_or _ _ _ c.steps.invariant.write_stage (c.take_step.ensures.write_fault ends);
   write_stage = λ used is ends. c.steps.invariant.write_stage (c.take_step.ensures.write_stage used is ends);
   knows = knows_on _ _ _ c.steps.invariant.knows c.take_step.ensures.knows;
