@@ -38,6 +38,15 @@ read_no_write is = cc
 same_error : (found fault : RunFault) → (let e : Result Counts RunFault = Err found in e) ≡ Err fault → found ≡ fault
 same_error found fault is = cc
 
+ends_no_next : (ended : Result Counts RunFault) (units : ℕ) → Ends ended ≡ Next units → ⊥
+ends_no_next ended units is = cc
+
+no_input_no_next : (units : ℕ) → NoInput ≡ Next units → ⊥
+no_input_no_next units is = cc
+
+no_room_no_next : (units : ℕ) → NoRoom ≡ Next units → ⊥
+no_room_no_next units is = cc
+
 -- ---- by its stage
 
 -- a loop that reads is to end by no fault
@@ -77,6 +86,12 @@ module _ (old new : LineLoopValue) (before after : Option (List ℕ)) where
   sends_write failed NoRoom fault sends ends = inl (kept_ends Write sends.0.kept ends)
   sends_write failed (Ends ended) fault sends ends = inr (fault (ap Ends sends.0))
 
+  pub sends_next : (fault : RunFault) (step : Step) → SendsTo old before new after step → (units : ℕ) → step ≡ Next units → EndsByAt fault new.state.stage → EndsByAt fault old.state.stage
+  sends_next fault (Next count) sends units is ends = kept_ends fault sends.kept ends
+  sends_next fault NoInput sends units is ends = absurd sends
+  sends_next fault NoRoom sends units is ends = kept_ends fault sends.0.kept ends
+  sends_next fault (Ends ended) sends units is ends = absurd (ends_no_next ended units is)
+
   -- ---- of a loop that reads
 
   module _ (reading : old.state.stage ≡ Reading) where
@@ -92,6 +107,9 @@ module _ (old new : LineLoopValue) (before after : Option (List ℕ)) where
     sends_failed failed NoRoom fault sends ends = absurd (kept_on Write sends.0.kept ends)
     sends_failed failed (Ends ended) fault sends ends = fault (ap Ends sends.0)
 
+    pub sends_next_on : (fault : RunFault) (step : Step) → SendsTo old before new after step → (units : ℕ) → step ≡ Next units → EndsByAt fault new.state.stage → ⊥
+    sends_next_on fault step sends units is ends = reads_on fault old.state.stage reading (sends_next fault step sends units is ends)
+
     pub waits_no_read : (step : Step) → WaitsTo old before new after step → EndsByStep Read new step → ⊥
     waits_no_read (Next units) waits ends = waits
     waits_no_read NoInput waits ends = kept_on Read waits.0.kept ends
@@ -103,6 +121,12 @@ module _ (old new : LineLoopValue) (before after : Option (List ℕ)) where
     waits_failed failed NoInput fault waits ends = absurd (kept_on Write waits.0.kept ends)
     waits_failed failed NoRoom fault waits ends = absurd (kept_on Write waits.0.kept ends)
     waits_failed failed (Ends ended) fault waits ends = fault (ap Ends waits.0)
+
+  pub waits_no_next : (step : Step) → WaitsTo old before new after step → (units : ℕ) → step ≡ Next units → ⊥
+  waits_no_next (Next count) waits units is = waits
+  waits_no_next NoInput waits units is = no_input_no_next units is
+  waits_no_next NoRoom waits units is = no_room_no_next units is
+  waits_no_next (Ends ended) waits units is = ends_no_next ended units is
 
   -- ---- where the end is decided
 
@@ -122,3 +146,9 @@ module _ (old new : LineLoopValue) (before after : Option (List ℕ)) where
       | inl same ↦ inl (sym same ∙ is)
       | inr has ↦ inr has
     ]
+
+    pub ends_no_turn : (step : Step) → EndsTo ended old before new after step → (units : ℕ) → step ≡ Next units → ⊥
+    ends_no_turn (Next count) ends units is = ends
+    ends_no_turn NoInput ends units is = ends
+    ends_no_turn NoRoom ends units is = no_room_no_next units is
+    ends_no_turn (Ends other) ends units is = ends_no_next other units is

@@ -105,6 +105,7 @@ impl LineLoop {
         ensures foresees { Foresees S.may_fail W.may_fail S.may_end self.old → ForeseesStep S.may_fail W.may_fail S.may_end self.new result }
         ensures read_fault { EndsByStep RunFault.Read self.new result → EndsByAt RunFault.Read self.old.state.stage ⊎ S.may_fail }
         ensures write_fault { EndsByStep RunFault.Write self.new result → EndsByAt RunFault.Write self.old.state.stage ⊎ W.has_failed output.new }
+        ensures write_stage { (units : ℕ) → result ≡ Step.Next units → EndsByAt RunFault.Write self.new.state.stage → EndsByAt RunFault.Write self.old.state.stage }
         ensures knows { KnowsNoLess (M.reader machine.old) (M.reader machine.new) }
     {
         if self.state.has_text() {

@@ -11,7 +11,7 @@ use Rattle.pn_serve.specs.Lines.States.{LineLoopValue}
 use Rattle.pn_serve.specs.Lines.Stepping.{Stands, StepsTo, by, with_rest}
 use Rattle.pn_serve.proofs.Knowing.{knows_itself}
 use Rattle.pn_serve.proofs.Bounded.{counts_nothing, sends_counted, some_rest, waits_counted}
-use Rattle.pn_serve.proofs.Faults.{ends_by_found, no_read, no_write, read_no_write, sends_failed, sends_no_read, waits_failed, waits_no_read}
+use Rattle.pn_serve.proofs.Faults.{ends_by_found, no_read, no_write, read_no_write, sends_failed, sends_next_on, sends_no_read, waits_failed, waits_no_next, waits_no_read}
 use Rattle.pn_serve.proofs.Made.{makes_none, makes_unwritten}
 use Rattle.pn_serve.proofs.Measured.{fault_nearer, out_nearer, waits_nearer}
 use Rattle.pn_serve.proofs.Standing.{Keeps-rest, Steps-put_out, Steps-waited}
@@ -247,3 +247,27 @@ returns-in-Ok-false-clause-write_fault g c =
     let after = g.W.Sink.contents c.wait_for_input.new.output in
     λ ends.
     waits_failed c.args.self.now c.wait_for_input.new.self before after c.requires.reading (g.W.Sink.has_failed c.wait_for_input.new.output) c.wait_for_input.result c.wait_for_input.ensures.failed c.wait_for_input.ensures.waits ends
+
+pub returns-then-not-is_out-clause-write_stage : goal.returns-then-not-is_out-clause-write_stage
+returns-then-not-is_out-clause-write_stage g c =
+    let before = g.W.Sink.contents c.args.output.now in
+    let after = g.W.Sink.contents c.put_out.new.output in
+    λ units is ends. sends_next_on c.args.self.now c.put_out.new.self before after c.requires.reading Write c.put_out.result c.put_out.ensures.sends units is ends
+
+pub returns-then-len-ge-ENDLESS-clause-write_stage : goal.returns-then-len-ge-ENDLESS-clause-write_stage
+returns-then-len-ge-ENDLESS-clause-write_stage g c =
+    λ units is ends. no_write (ends_by_found Write TooManyTurns c.end_reading.new.self (Next 0) refl (ap (λ (r : LineLoopValue). r.state.stage) c.end_reading.ensures.ends) ends)
+
+pub returns-in-Ok-true-clause-write_stage : goal.returns-in-Ok-true-clause-write_stage
+returns-in-Ok-true-clause-write_stage g c =
+    λ units is ends. no_write (ends_by_found Write TooManyTurns c.end_reading-in-Ok-true.new.self (Next 0) refl (ap (λ (r : LineLoopValue). r.state.stage) c.end_reading-in-Ok-true.ensures.ends) ends)
+
+pub returns-in-Err-clause-write_stage : goal.returns-in-Err-clause-write_stage
+returns-in-Err-clause-write_stage g c =
+    λ units is ends. read_no_write (ends_by_found Write Read c.end_reading-in-Err.new.self (Next 0) refl (ap (λ (r : LineLoopValue). r.state.stage) c.end_reading-in-Err.ensures.ends) ends)
+
+pub returns-in-Ok-false-clause-write_stage : goal.returns-in-Ok-false-clause-write_stage
+returns-in-Ok-false-clause-write_stage g c =
+    let before = g.W.Sink.contents c.args.output.now in
+    let after = g.W.Sink.contents c.wait_for_input.new.output in
+    λ units is ends. waits_no_next c.args.self.now c.wait_for_input.new.self before after c.wait_for_input.result c.wait_for_input.ensures.waits units is

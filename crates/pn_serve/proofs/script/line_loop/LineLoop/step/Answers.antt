@@ -14,7 +14,7 @@ use Rattle.pn_serve.specs.Lines.States.{LineLoopValue, LineStateValue, with_look
 use Rattle.pn_serve.specs.Lines.Stepping.{Stands, StandsAt, by, with_rest}
 use Rattle.pn_serve.specs.Lines.Taking.{EndsTo, Takes, TakesLine}
 use Rattle.pn_serve.proofs.Bounded.{counts_nothing, ends_counted, ends_foresees, ends_idle, ends_no_input, sends_foresees, takes_foresees, takes_grows, takes_line, takes_lines, takes_out}
-use Rattle.pn_serve.proofs.Faults.{ends_read, ends_write, sends_read, sends_write, takes_on}
+use Rattle.pn_serve.proofs.Faults.{ends_no_turn, ends_read, ends_write, sends_next, sends_read, sends_write, takes_on}
 use Rattle.pn_serve.proofs.Knowing.{knows_itself}
 use Rattle.pn_serve.proofs.Looked.{same_look}
 use Rattle.pn_serve.proofs.Made.{makes_none, makes_unwritten}
@@ -407,3 +407,21 @@ returns-in-Ending-clause-write_fault g c =
     let ends : EndsTo ended mid before new after c.end_once_out.result = subst (λ (r : LineLoopValue). EndsTo ended r before new after c.end_once_out.result) mid_is c.end_once_out.ensures.ends in
     let failed = g.W.Sink.has_failed c.end_once_out.new.output in
     λ found. subst (λ (s : Stage). EndsByAt Write s ⊎ failed) (sym ending) (ends_write mid new before after ended failed c.end_once_out.result c.end_once_out.ensures.failed ends found)
+
+pub returns-then-has_text-clause-write_stage : goal.returns-then-has_text-clause-write_stage
+returns-then-has_text-clause-write_stage g c =
+    let before = g.W.Sink.contents c.args.output.now in
+    let after = g.W.Sink.contents c.write_on.new.output in
+    λ units is ends. sends_next c.args.self.now c.write_on.new.self before after Write c.write_on.result c.write_on.ensures.sends units is ends
+
+pub returns-in-Reading-clause-write_stage : goal.returns-in-Reading-clause-write_stage
+returns-in-Reading-clause-write_stage g c = λ units is ends. absurd (c.read_on.ensures.write_stage units is ends)
+
+pub returns-in-Looking-clause-write_stage : goal.returns-in-Looking-clause-write_stage
+returns-in-Looking-clause-write_stage g c = λ units is ends. absurd (takes_on true _ c.look_on.new.self Write c.look_on.ensures.takes ends)
+
+pub returns-in-Ending-clause-write_stage : goal.returns-in-Ending-clause-write_stage
+returns-in-Ending-clause-write_stage g c =
+    let before = g.W.Sink.contents c.args.output.now in
+    let after = g.W.Sink.contents c.end_once_out.new.output in
+    λ units is ends. absurd (ends_no_turn _ c.end_once_out.new.self before after c.in-Ending.ended c.end_once_out.result c.end_once_out.ensures.ends units is)

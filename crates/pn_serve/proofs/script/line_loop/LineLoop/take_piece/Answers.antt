@@ -18,7 +18,7 @@ use Rattle.pn_serve.specs.Lines.Stepping.{Stands, StepsTo, by, with_rest}
 use Rattle.pn_serve.specs.Lines.Taking.{Takes, TakesLine, WaitsTo}
 use Rattle.pn_serve.proofs.Knowing.{knows_itself}
 use Rattle.pn_serve.proofs.Bounded.{counts_nothing, shown_rest, takes_looked, waits_counted}
-use Rattle.pn_serve.proofs.Faults.{ends_by_found, read_no_write, reads_on, takes_on, waits_failed, waits_no_read}
+use Rattle.pn_serve.proofs.Faults.{ends_by_found, read_no_write, reads_on, takes_on, waits_failed, waits_no_next, waits_no_read}
 use Rattle.pn_serve.proofs.Made.{makes_none, makes_unwritten}
 use Rattle.pn_serve.proofs.Measured.{answer_nearer, fault_nearer, part_nearer, waits_nearer}
 use Rattle.pn_serve.proofs.Standing.{Keeps-rest, Steps-waited, Takes-rest}
@@ -238,3 +238,19 @@ returns-in-Err-clause-read_fault g c = λ ends. c.in-Err.ensures.fault
 pub returns-in-Err-clause-write_fault : goal.returns-in-Err-clause-write_fault
 returns-in-Err-clause-write_fault g c =
     λ ends. absurd (read_no_write (ends_by_found Write Read c.end_reading.new.self c.end_reading.result c.end_reading.ensures.step (ap (λ (r : LineLoopValue). r.state.stage) c.end_reading.ensures.ends) ends))
+
+pub returns-in-Ok-Part-clause-write_stage : goal.returns-in-Ok-Part-clause-write_stage
+returns-in-Ok-Part-clause-write_stage g c = λ units is ends. reads_on Write c.self.inside.state.stage (ap (λ (r : LineLoopValue). r.state.stage) c.self.view_is ∙ c.requires.reading) ends
+
+pub returns-in-Ok-Ended-clause-write_stage : goal.returns-in-Ok-Ended-clause-write_stage
+returns-in-Ok-Ended-clause-write_stage g c = λ units is ends. takes_on true _ c.answer.new.self Write c.answer.ensures.takes ends
+
+pub returns-in-Ok-NoMore-clause-write_stage : goal.returns-in-Ok-NoMore-clause-write_stage
+returns-in-Ok-NoMore-clause-write_stage g c =
+    let before = g.W.Sink.contents c.args.output.now in
+    let after = g.W.Sink.contents c.wait_for_input.new.output in
+    λ units is ends. waits_no_next _ c.wait_for_input.new.self before after c.wait_for_input.result c.wait_for_input.ensures.waits units is
+
+pub returns-in-Err-clause-write_stage : goal.returns-in-Err-clause-write_stage
+returns-in-Err-clause-write_stage g c =
+    λ units is ends. read_no_write (ends_by_found Write Read c.end_reading.new.self (Next 0) refl (ap (λ (r : LineLoopValue). r.state.stage) c.end_reading.ensures.ends) ends)
