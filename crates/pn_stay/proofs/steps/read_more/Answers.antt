@@ -5,10 +5,11 @@ use Rattle.pn_serve.specs.declared.script.RunFault.TheVariants.{Read, Write}
 use Rattle.pn_serve.specs.Lines.States.{LineLoopValue}
 use Rattle.pn_serve.specs.Lines.Stepping.{Stands, by}
 use Rattle.pn_serve.proofs.Bounded.{end_lines, end_looked}
+use Rattle.pn_serve.proofs.Faults.{reads_on}
 use Rattle.pn_serve.proofs.Knowing.{knows_itself}
 use Rattle.pn_serve.proofs.Steps.{Steps-read_fault}
 use Rattle.pn_stay.proofs.Coming.{Consumes-nothing, Ends-known, Keeps-front, Stands-came, at_end, at_failed, at_fault, at_input, at_nothing}
-use Rattle.pn_stay.proofs.Faults.{ends_reading, reads_on}
+use Rattle.pn_stay.proofs.Faults.{ends_reading}
 use Rattle.pn_stay.proofs.Inputs.{reads_nothing}
 use Rattle.pn_stay.proofs.steps.read_more.Goals as goal
 
