@@ -3,6 +3,7 @@ pub mod After
 pub mod Bounds
 pub mod Coding
 pub mod Ends
+pub mod Faults
 pub mod Going
 pub mod Made
 pub mod Replies

@@ -1,8 +1,10 @@
 -- What a read brings to a connection.
 use Rattle.std.proofs.Common.{◌≡◌, ◌≢◌, ℕ, Bool, true, false, Option, None, Some, List, [], IfSome, inl, inr, refl, sym, ap, subst}
-use Rattle.std.specs.Prelude.{Result, Ok, Err, IfOk, OnErr}
+use Rattle.std.specs.Prelude.{◌⊎◌, Result, Ok, Err, IfErr, IfOk, OnErr}
+use Rattle.std.specs.IoError.{error_kind}
 use Rattle.std.specs.Io.KnownBytes.{Consumes, IsAtEnd, Keeps, prepend_known}
 use Rattle.std.specs.declared.io.Error.{Error}
+use Rattle.std.specs.declared.io.ErrorKind.TheVariants.{WouldBlock}
 use Rattle.pn_serve.specs.declared.script.line_loop.state.Stage.{Stage}
 use Rattle.pn_serve.specs.declared.script.line_loop.state.Stage.TheVariants.{Reading}
 use Rattle.pn_live.specs.Prelude.{LiveReaderValue}
@@ -40,6 +42,14 @@ pub at_fault : (read : Result Bool Error) (P : Type 0) → IsRead read came.Faul
 at_fault (Ok true) P is holds = absurd cc
 at_fault (Ok false) P is holds = absurd cc
 at_fault (Err error) P is holds = holds
+
+-- a fault is no wait
+pub at_failed : (read : Result Bool Error) (P : Type 0) → IsRead read came.Fault → IfErr read (λ error. (error_kind error ≡ WouldBlock) ⊎ P) → P
+at_failed (Ok true) P is holds = absurd cc
+at_failed (Ok false) P is holds = absurd cc
+at_failed (Err error) P (inl is) holds = absurd (let e = is.1 in cc)
+at_failed (Err error) P (inr is) (inl waits) = absurd (is.0 waits)
+at_failed (Err error) P (inr is) (inr failed) = failed
 
 -- ---- where the loop stands
 

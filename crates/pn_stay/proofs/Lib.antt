@@ -1,6 +1,7 @@
 pub mod Buffers
 pub mod Coming
 pub mod Crossing
+pub mod Faults
 pub mod Inputs
 pub mod Outputs
 pub mod Pieces

@@ -18,16 +18,17 @@ use Rattle.pn_serve.specs.declared.script.line_loop.state.Stage.TheVariants.{Rea
 use Rattle.pn_serve.specs.declared.script.line_loop.steps.Step.{Step}
 use Rattle.pn_serve.specs.declared.script.line_loop.steps.Step.TheVariants.{Next, NoInput, NoRoom, Ends}
 use Rattle.pn_serve.specs.declared.sessions.going.Going.{Going}
+use Rattle.pn_serve.specs.Lines.Faults.{EndsByAt, EndsByStep}
 use Rattle.pn_serve.specs.Lines.States.{LineLoopValue, LineStateValue, Start}
 use Rattle.pn_serve.specs.Lines.Stepping.{Handling, HasEnded, IsLooking, IsReading, Stands, StandsAt, StepsTo}
 use Rattle.pn_serve.proofs.Serving.{OnTold}
 use Rattle.pn_stay.specs.Connections.{ConnectionValue, IsKept, SameInput, loop_of}
 use Rattle.pn_stay.specs.Outputs.{AnswersAtMost, LooksFew}
-use Rattle.pn_stay.specs.Turns.{AnswersFew, Continues, KeepsOr, LooksWithin, Stores, TurnsTo}
+use Rattle.pn_stay.specs.Turns.{AnswersFew, Continues, EndsTurnBy, KeepsOr, LooksWithin, Stores, TurnsTo}
 use Rattle.pn_stay.specs.declared.connection_state.Pause.{Pause}
 use Rattle.pn_stay.specs.declared.connection_state.Pause.TheVariants.{Turn, Input, Output}
 use Rattle.pn_stay.specs.declared.connection_state.TurnOutcome.{TurnOutcome}
-use Rattle.pn_stay.specs.declared.connection_state.TurnOutcome.TheVariants.{Goes, Ended}
+use Rattle.pn_stay.specs.declared.connection_state.TurnOutcome.TheVariants.{Goes, Ended, OutOfMemory}
 
 -- where bytes wait, something waits
 pub some_waits : (replies left : List ℕ) → replies ≢ [] → replies ++ left ≢ []
@@ -121,11 +122,12 @@ module _ {V : Type 0} (handling : Handling V) (start : Start V) (left written : 
       let replied = subst (λ (r : List ℕ). Stands handling start (prepend_known new.held left) written machine (record { line = new.line; replies = r; state = old.state })) (sym kept.replies) put in
       subst (λ (s : LineStateValue). Stands handling start (prepend_known new.held left) written machine (record { line = new.line; replies = new.replies; state = s })) (sym kept.state) replied
 
-  -- it is kept, or the writer failed
+  -- it is kept, or there was no memory
   kept_or : (old new : ConnectionValue) (pause : Pause) (outcome : TurnOutcome) → KeepsOr old pause new outcome → Continues handling start left written machine old
       → HasEnded handling start (prepend_known old.held left) written machine (Err Write) → TurnsTo handling start left written machine new outcome
   kept_or old new pause (Goes other) keeps stands cut = Continues-kept old new keeps.1 stands
-  kept_or old new pause (Ended ended) keeps stands cut = (old.held, subst (λ (e : Result Counts RunFault). HasEnded handling start (prepend_known old.held left) written machine e) (sym keeps) cut)
+  kept_or old new pause (Ended ended) keeps stands cut = absurd keeps
+  kept_or old new pause OutOfMemory keeps stands cut = (old.held, cut)
 
   ended_so : (old new : ConnectionValue) (ended : Result Counts RunFault) (outcome : TurnOutcome) → outcome ≡ Ended ended → HasEnded handling start (prepend_known old.held left) written machine ended → TurnsTo handling start left written machine new outcome
   ended_so old new ended outcome is has = subst (λ (o : TurnOutcome). TurnsTo handling start left written machine new o) (sym is) (old.held, has)
@@ -147,6 +149,7 @@ module _ (most : ℕ) (before loaded after new : ConnectionValue) (same : loaded
   kept_answers : (pause : Pause) (outcome : TurnOutcome) → KeepsOr after pause new outcome → AnswersFew most before new outcome
   kept_answers pause (Goes other) keeps = omega (arith, answers, ap (λ (k : ConnectionValue). k.state.counts.lines) same, ap (λ (s : LineStateValue). s.counts.lines) keeps.1.state)
   kept_answers pause (Ended ended) keeps = tt
+  kept_answers pause OutOfMemory keeps = tt
 
   -- are as many after the connection is stored
   pub answers_stored : (step : Step) (outcome : TurnOutcome) → Stores after step new outcome → AnswersFew most before new outcome
@@ -161,6 +164,7 @@ module _ (most : ℕ) (before loaded after new : ConnectionValue) (same : loaded
   kept_looked : (pause : Pause) (outcome : TurnOutcome) → KeepsOr after pause new outcome → LooksWithin most before new outcome
   kept_looked pause (Goes other) keeps = omega (arith, looks, ap (λ (k : ConnectionValue). k.state.looked) same, ap (λ (s : LineStateValue). s.looked) keeps.1.state)
   kept_looked pause (Ended ended) keeps = tt
+  kept_looked pause OutOfMemory keeps = tt
 
   -- are as many after the connection is stored
   pub looked_stored : (step : Step) (outcome : TurnOutcome) → Stores after step new outcome → LooksWithin most before new outcome
@@ -168,6 +172,21 @@ module _ (most : ℕ) (before loaded after new : ConnectionValue) (same : loaded
   looked_stored NoInput outcome stores = kept_looked Input outcome stores
   looked_stored NoRoom outcome stores = kept_looked Output outcome stores
   looked_stored (Ends ended) outcome stores = subst (λ (o : TurnOutcome). LooksWithin most before new o) (sym stores) tt
+
+-- ---- the fault that it ends by
+
+module _ (fault : RunFault) (old new : ConnectionValue) where
+  kept_fault : (pause : Pause) (outcome : TurnOutcome) → KeepsOr old pause new outcome → EndsTurnBy fault new outcome → EndsByAt fault old.state.stage
+  kept_fault pause (Goes other) keeps ends = subst (λ (s : LineStateValue). EndsByAt fault s.stage) keeps.1.state ends
+  kept_fault pause (Ended ended) keeps ends = absurd keeps
+  kept_fault pause OutOfMemory keeps ends = absurd ends
+
+  -- is that of its last step
+  pub fault_stored : (step : Step) (outcome : TurnOutcome) → Stores old step new outcome → EndsTurnBy fault new outcome → EndsByStep fault (loop_of old) step
+  fault_stored (Next units) outcome stores ends = kept_fault Turn outcome stores ends
+  fault_stored NoInput outcome stores ends = kept_fault Input outcome stores ends
+  fault_stored NoRoom outcome stores ends = kept_fault Output outcome stores ends
+  fault_stored (Ends ended) outcome stores ends = subst (λ (o : TurnOutcome). EndsTurnBy fault new o) stores ends
 
 -- ---- what a connection keeps
 

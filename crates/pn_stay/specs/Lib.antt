@@ -1,5 +1,6 @@
 -- Connections that are answered in turns.
 pub mod Connections
+pub mod Failures
 pub mod IdleTimeouts
 pub mod Inputs
 pub mod Loops

@@ -5,9 +5,11 @@ use Rattle.std.specs.Io.KnownBytes.{prepend_known}
 use Rattle.std.specs.declared.io.Error.{Error}
 use Rattle.std.specs.declared.io.ErrorKind.TheVariants.{WouldBlock}
 use Rattle.pn_serve.specs.declared.script.line_loop.state.Stage.TheVariants.{Reading}
+use Rattle.pn_serve.specs.declared.script.RunFault.{RunFault}
 use Rattle.pn_serve.specs.declared.script.RunFault.TheVariants.{Write}
 use Rattle.pn_serve.specs.declared.script.line_loop.steps.Step.{Step}
 use Rattle.pn_serve.specs.declared.script.line_loop.steps.Step.TheVariants.{Next, NoInput, NoRoom, Ends}
+use Rattle.pn_serve.specs.Lines.Faults.{EndsByAt}
 use Rattle.pn_serve.specs.Lines.States.{Start, waits_in}
 use Rattle.pn_serve.specs.Lines.Stepping.{Handling, HasEnded, Stands, StepsTo as LoopStepsTo}
 use Rattle.pn_stay.specs.Connections.{ConnectionValue, IsKept, loop_of}
@@ -16,7 +18,7 @@ use Rattle.pn_stay.specs.declared.connection_state.ThreadBuffers.{ThreadBuffers}
 use Rattle.pn_stay.specs.declared.connection_state.Pause.{Pause}
 use Rattle.pn_stay.specs.declared.connection_state.Pause.TheVariants.{Turn, Input, Output}
 use Rattle.pn_stay.specs.declared.connection_state.TurnOutcome.{TurnOutcome}
-use Rattle.pn_stay.specs.declared.connection_state.TurnOutcome.TheVariants.{Goes, Ended}
+use Rattle.pn_stay.specs.declared.connection_state.TurnOutcome.TheVariants.{Goes, Ended, OutOfMemory}
 use Rattle.pn_stay.specs.declared.steps.Came.{Came}
 use Rattle.pn_stay.specs.declared.steps.Came.TheVariants as came
 
@@ -40,6 +42,13 @@ Pauses kept Output = kept.replies ≢ []
 abbrev pub PausesWell : ConnectionValue → TurnOutcome → Type 0
 PausesWell kept (Goes pause) = Pauses kept pause
 PausesWell kept (Ended ended) = Unit {0}
+PausesWell kept OutOfMemory = Unit {0}
+
+-- after a turn the connection is to end by this fault, or has ended by it
+abbrev pub EndsTurnBy : RunFault → ConnectionValue → TurnOutcome → Type 0
+EndsTurnBy fault kept (Goes pause) = EndsByAt fault kept.state.stage
+EndsTurnBy fault kept (Ended ended) = ended ≡ Err fault
+EndsTurnBy fault kept OutOfMemory = ⊥
 
 -- where a step waits it pauses so
 abbrev pub WaitsWell : ConnectionValue → Step → Type 0
@@ -59,16 +68,19 @@ StopsWell kept (Ends ended) = Unit {0}
 abbrev pub AnswersFew : ℕ → ConnectionValue → ConnectionValue → TurnOutcome → Type 0
 AnswersFew most old new (Goes pause) = AnswersAtMost most old.state new.state
 AnswersFew most old new (Ended ended) = Unit {0}
+AnswersFew most old new OutOfMemory = Unit {0}
 
 -- and has looked at at most this number of records
 abbrev pub LooksWithin : ℕ → ConnectionValue → ConnectionValue → TurnOutcome → Type 0
 LooksWithin most old new (Goes pause) = LooksFew most old.state new.state
 LooksWithin most old new (Ended ended) = Unit {0}
+LooksWithin most old new OutOfMemory = Unit {0}
 
 -- the connection is kept in a pause, or there was no memory for that
 abbrev pub KeepsOr : ConnectionValue → Pause → ConnectionValue → TurnOutcome → Type 0
 KeepsOr old pause new (Goes other) = (other ≡ pause) × IsKept old new
-KeepsOr old pause new (Ended ended) = ended ≡ Err Write
+KeepsOr old pause new (Ended ended) = ⊥
+KeepsOr old pause new OutOfMemory = Unit {0}
 
 -- the connection is kept after a step, unless it has ended
 abbrev pub Stores : ConnectionValue → Step → ConnectionValue → TurnOutcome → Type 0
@@ -86,7 +98,8 @@ module _ {V : Type 0} (handling : Handling V) where
   abbrev pub StepsIn : Start V → Option (List ℕ) → Option (List ℕ) → V → ThreadBuffers → Step → Type 0
   StepsIn start left written machine buffers step = LoopStepsTo handling start (prepend_known buffers.input left) written machine (loop_of (in_buffers buffers)) step
 
-  -- the connection goes on, or has ended as its session ends
+  -- the connection goes on, or has ended as its session ends; without memory, as one whose writer fails
   abbrev pub TurnsTo : Start V → Option (List ℕ) → Option (List ℕ) → V → ConnectionValue → TurnOutcome → Type 0
   TurnsTo start left written machine kept (Goes pause) = Continues start left written machine kept
   TurnsTo start left written machine kept (Ended ended) = (held : List ℕ) × HasEnded handling start (prepend_known held left) written machine ended
+  TurnsTo start left written machine kept OutOfMemory = (held : List ℕ) × HasEnded handling start (prepend_known held left) written machine (Err Write)

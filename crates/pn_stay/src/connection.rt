@@ -85,6 +85,7 @@ impl Connection {
                 self.lingers = ended == Err(RunFault::TooManyTurns);
                 None
             }
+            TurnOutcome::OutOfMemory => None,
         }
     }
 }

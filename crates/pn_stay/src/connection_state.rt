@@ -1,20 +1,22 @@
 //! The state of a connection: it is answered as a session is, in turns, between which it keeps as little as it can.
 
-ghost use Rattle.std.specs.Prelude.{◌≡◌, ◌+◌, ◌-◌, ◌^◌, ◌≤◌, ℕ, List, Option, min};
+ghost use Rattle.std.specs.Prelude.{◌≡◌, ◌⊎◌, ◌+◌, ◌-◌, ◌^◌, ◌≤◌, ℕ, List, Option, min};
 ghost use Rattle.pn_serve.specs.Lines.Stepping.{by, Stands, StepsTo};
 ghost use Rattle.pn_serve.specs.Lines.Bounds.{HandsOnAtMost, KeepsLine};
+ghost use Rattle.pn_serve.specs.Lines.Faults.{EndsByAt, EndsByStep};
 ghost use Rattle.pn_serve.specs.Lines.Made.{AppendsAtMost, MakesAtMost};
 ghost use Rattle.pn_serve.specs.Lines.States.{Start};
 ghost use Rattle.pn_serve.specs.declared.script.line_loop.steps.TheConstants.{TURN_UNITS};
 ghost use Rattle.pn_serve.specs.declared.script.replies.TheConstants.{REPLY_CAPACITY};
 ghost use Rattle.pn_stay.specs.Connections.{new_connection};
-ghost use Rattle.pn_stay.specs.Turns.{in_buffers, AnswersFew, Continues, LooksWithin, PausesWell, StepsIn, StopsWell, TurnsTo};
+ghost use Rattle.pn_stay.specs.Turns.{in_buffers, AnswersFew, Continues, EndsTurnBy, LooksWithin, PausesWell, StepsIn, StopsWell, TurnsTo};
 ghost use Rattle.pn_stay.specs.Inputs.{most_taken, TakesAtMost};
 ghost use Rattle.pn_stay.specs.Outputs.{AnswersAtMost, LooksFew, most_looked, most_made, most_written};
 ghost use Rattle.pn_serve.specs.Session.Knowing.{IsSteady, KnowsNoLess};
 
 mod storage;
 
+use crate::input::Input;
 use crate::input_buffer::InputBuffer;
 use crate::steps::take_steps;
 use pn_join::NoMemory;
@@ -23,7 +25,6 @@ use pn_serve::{
     Counts, LineCounts, LineHandler, LineLoop, LineState, ReplyBuffer, RunFault, SendOutcome, Step,
 };
 use std::alloc::Global;
-use std::io::Read;
 use std::marker::Model;
 use std::mem;
 
@@ -111,6 +112,8 @@ pub enum TurnOutcome {
     Goes(Pause),
     /// The connection has ended, as a session ends.
     Ended(Result<Counts, RunFault>),
+    /// The connection has ended, since there is no memory in which to keep it.
+    OutOfMemory,
 }
 
 impl ConnectionState {
@@ -131,7 +134,7 @@ impl ConnectionState {
     /// that are read, made and written.
     ///
     /// Where the socket leaves replies nothing is read: at most 128 KB of them wait.
-    pub fn turn<M: LineHandler, R: Read, W: Sink>(
+    pub fn turn<M: LineHandler, R: Input, W: Sink>(
         &mut self,
         buffers: &mut ThreadBuffers,
         machine: &mut M,
@@ -146,6 +149,8 @@ impl ConnectionState {
         ensures written { AppendsAtMost most_written (W.contents output.old) (W.contents output.new) }
         ensures answers { AnswersFew TURN_UNITS self.old self.new result }
         ensures looked { LooksWithin most_looked self.old self.new result }
+        ensures read_fault { EndsTurnBy RunFault.Read self.new result → EndsByAt RunFault.Read self.old.state.stage ⊎ R.has_failed input.new }
+        ensures write_fault { EndsTurnBy RunFault.Write self.new result → EndsByAt RunFault.Write self.old.state.stage ⊎ W.has_failed output.new }
         ensures knows { KnowsNoLess (M.reader machine.old) (M.reader machine.new) }
     {
         self.load(buffers);
@@ -159,7 +164,7 @@ impl ConnectionState {
 }
 
 // Sends what waits, and takes the steps of a turn where nothing is left of it.
-fn send_and_step<M: LineHandler, R: Read, W: Sink>(
+fn send_and_step<M: LineHandler, R: Input, W: Sink>(
     buffers: &mut ThreadBuffers,
     machine: &mut M,
     input: &mut R,
@@ -173,6 +178,8 @@ fn send_and_step<M: LineHandler, R: Read, W: Sink>(
     ensures written { AppendsAtMost most_written (W.contents output.old) (W.contents output.new) }
     ensures answers { AnswersAtMost TURN_UNITS buffers.old.lines.state buffers.new.lines.state }
     ensures looked { LooksFew most_looked buffers.old.lines.state buffers.new.lines.state }
+    ensures read_fault { EndsByStep RunFault.Read buffers.new.lines result → EndsByAt RunFault.Read buffers.old.lines.state.stage ⊎ R.has_failed input.new }
+    ensures write_fault { EndsByStep RunFault.Write buffers.new.lines result → EndsByAt RunFault.Write buffers.old.lines.state.stage ⊎ W.has_failed output.new }
     ensures knows { KnowsNoLess (M.reader machine.old) (M.reader machine.new) }
 {
     match send_waiting(buffers, &*machine, output) {
@@ -182,7 +189,7 @@ fn send_and_step<M: LineHandler, R: Read, W: Sink>(
 }
 
 // Takes the steps of a turn, and sends what they left.
-fn step_and_send<M: LineHandler, R: Read, W: Sink>(
+fn step_and_send<M: LineHandler, R: Input, W: Sink>(
     buffers: &mut ThreadBuffers,
     machine: &mut M,
     input: &mut R,
@@ -196,6 +203,8 @@ fn step_and_send<M: LineHandler, R: Read, W: Sink>(
     ensures written { MakesAtMost most_made (W.contents output.old) (W.contents output.new) buffers.old.lines.replies buffers.new.lines.replies }
     ensures answers { AnswersAtMost TURN_UNITS buffers.old.lines.state buffers.new.lines.state }
     ensures looked { LooksFew most_looked buffers.old.lines.state buffers.new.lines.state }
+    ensures read_fault { EndsByStep RunFault.Read buffers.new.lines result → EndsByAt RunFault.Read buffers.old.lines.state.stage ⊎ R.has_failed input.new }
+    ensures write_fault { EndsByStep RunFault.Write buffers.new.lines result → EndsByAt RunFault.Write buffers.old.lines.state.stage ⊎ W.has_failed output.new }
     ensures knows { KnowsNoLess (M.reader machine.old) (M.reader machine.new) }
 {
     match take_steps(buffers, machine, input, output) {
@@ -217,6 +226,9 @@ fn send_waiting<M: LineHandler, W: Sink>(
     ensures few { HandsOnAtMost REPLY_CAPACITY buffers.old.lines buffers.new.lines }
     ensures written { MakesAtMost 0 (W.contents output.old) (W.contents output.new) buffers.old.lines.replies buffers.new.lines.replies }
     ensures same { KeepsLine buffers.old.lines buffers.new.lines }
+    ensures stage { (units : ℕ) → result ≡ Step.Next units → buffers.new.lines.state.stage ≡ buffers.old.lines.state.stage }
+    ensures read_fault { EndsByStep RunFault.Read buffers.new.lines result → EndsByAt RunFault.Read buffers.old.lines.state.stage }
+    ensures write_fault { EndsByStep RunFault.Write buffers.new.lines result → EndsByAt RunFault.Write buffers.old.lines.state.stage ⊎ W.has_failed output.new }
 {
     if buffers.lines.is_sent() {
         return Step::Next(0);

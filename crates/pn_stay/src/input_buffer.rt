@@ -1,13 +1,15 @@
 //! The input buffer of a session thread, which its connections use one after another.
 
-ghost use Rattle.std.specs.Prelude.{◌≡◌, ◌≢◌, ◌≤◌, ◌<◌, ◌↔◌, [], true, false, length, vec_len, vec_capacity, IfOk, IsTrue, OnErr};
+ghost use Rattle.std.specs.Prelude.{◌≡◌, ◌≢◌, ◌≤◌, ◌<◌, ◌↔◌, ◌⊎◌, [], true, false, length, vec_len, vec_capacity, IfErr, IfOk, IsTrue, OnErr};
 ghost use Rattle.std.specs.Io.KnownBytes.{Consumes, IsAtEnd, Keeps};
+ghost use Rattle.std.specs.IoError.{error_kind};
 ghost use Rattle.pn_line.specs.Reads.{newline_after};
 
+use crate::input::Input;
 use pn_line::{InMemory, LineBuffer, MAX_LINE_BYTES, Piece, Source};
 use std::alloc::{AllocError, Global};
 use std::io;
-use std::io::Read;
+use std::io::ErrorKind;
 use std::marker::Model;
 
 /// How many bytes fit into it: a line that is not too long.
@@ -76,13 +78,14 @@ impl InputBuffer {
     }
 
     /// Reads once, in place of the input that it holds. False at the end of the input.
-    pub fn read_from<R: Read>(&mut self, input: &mut R) -> io::Result<bool>
+    pub fn read_from<R: Input>(&mut self, input: &mut R) -> io::Result<bool>
         ensures came { IfOk result (λ _. Consumes (R.remaining input.old) (R.remaining input.new) self.new) }
         ensures more { IfOk result (λ more. more ≡ true → self.new ≢ []) }
         ensures end { IfOk result (λ more. more ≡ false → (self.new ≡ []) × IsAtEnd (R.remaining input.new)) }
         ensures kept { OnErr result (Keeps (R.remaining input.old) (R.remaining input.new)) }
         ensures none { OnErr result (self.new ≡ []) }
         ensures few { length self.new ≤ READ_SIZE }
+        ensures failed { IfErr result (λ error. (error_kind error ≡ ErrorKind.WouldBlock) ⊎ R.has_failed input.new) }
     {
         self.start = 0;
         read_piece(input, &mut self.piece, &mut self.bytes)
@@ -90,7 +93,7 @@ impl InputBuffer {
 }
 
 // Reads once into the piece, and copies what came. False at the end of the input.
-fn read_piece<R: Read>(input: &mut R, piece: &mut [u8], bytes: &mut Vec<u8>) -> io::Result<bool>
+fn read_piece<R: Input>(input: &mut R, piece: &mut [u8], bytes: &mut Vec<u8>) -> io::Result<bool>
     requires some { 0 < length piece.old }
     requires fits { length piece.old ≤ vec_capacity bytes.old }
     ensures came { IfOk result (λ _. Consumes (R.remaining input.old) (R.remaining input.new) bytes.new.items) }
@@ -100,9 +103,10 @@ fn read_piece<R: Read>(input: &mut R, piece: &mut [u8], bytes: &mut Vec<u8>) -> 
     ensures none { OnErr result (bytes.new.items ≡ []) }
     ensures few { vec_len bytes.new ≤ length piece.old }
     ensures capacity { vec_capacity bytes.old ≤ vec_capacity bytes.new }
+    ensures failed { IfErr result (λ error. (error_kind error ≡ ErrorKind.WouldBlock) ⊎ R.has_failed input.new) }
 {
     bytes.clear();
-    let count = input.read(piece)?;
+    let count = input.read_some(piece)?;
     bytes.extend_from_slice(&piece[..count]).unwrap();
     Ok(count > 0)
 }

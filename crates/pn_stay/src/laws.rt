@@ -9,16 +9,16 @@ ghost use Rattle.pn_stay.specs.Scripted.{bytes_of, begin_with};
 ghost use Rattle.pn_stay.specs.Turns.{Continues};
 
 use crate::connection_state::{ConnectionState, ThreadBuffers, TurnOutcome};
+use crate::input::Input;
 use crate::scripted::{ScriptedSink, ScriptedSource};
 use pn_join::NoMemory;
 use pn_line::Sink;
 use pn_serve::{Counts, LineHandler, RunFault};
 use std::alloc::Global;
-use std::io::Read;
 
 /// Answers a connection that has its handler alone, until it ends or all `turns` are over. It ends as a session of its
 /// whole input ends. None where the turns were over.
-pub fn answer_in_turns<M: LineHandler, R: Read, W: Sink>(
+pub fn answer_in_turns<M: LineHandler, R: Input, W: Sink>(
     alloc: Global,
     machine: &mut M,
     input: &mut R,
@@ -37,7 +37,7 @@ pub fn answer_in_turns<M: LineHandler, R: Read, W: Sink>(
 
 // Gives a connection turns until it ends, or all are over. The buffers and the connection are the caller's, since a loop that owns
 // them has a long proof.
-fn take_turns<M: LineHandler, R: Read, W: Sink>(
+fn take_turns<M: LineHandler, R: Input, W: Sink>(
     state: &mut ConnectionState,
     buffers: &mut ThreadBuffers,
     machine: &mut M,
@@ -53,6 +53,7 @@ fn take_turns<M: LineHandler, R: Read, W: Sink>(
         match state.turn(buffers, machine, input, output) {
             TurnOutcome::Goes(_) => {}
             TurnOutcome::Ended(ended) => return Some(ended),
+            TurnOutcome::OutOfMemory => return Some(Err(RunFault::Write)),
         }
     }
     None

@@ -1,13 +1,15 @@
 //! The sockets of clients, over TCP or at a path.
 
-ghost use Rattle.std.specs.Prelude.{◌≡◌, ◌≢◌, ◌||◌, ◌⊎◌, true, Ok, IfErr, OnOk, MatchBool};
+ghost use Rattle.std.specs.Prelude.{◌≡◌, ◌≢◌, ◌⊎◌, false, true, Ok, IfErr, OnOk, MatchBool};
 ghost use Rattle.std.specs.Io.{ReadsAtMost, WritesAtMost};
 ghost use Rattle.std.specs.IoError.{error_kind};
+ghost use Rattle.pn_stay.specs.Failures.{NotesFailure};
 
 use libc::net::{POLLHUP, poll};
 use libc::types::pollfd;
 use mio::unix::SourceFd;
 use mio::{Interest, Registry, Token};
+use pn_line::{Sink, WriteFault};
 use std::io;
 use std::io::{ErrorKind, Read, Write};
 use std::net::{Shutdown, TcpStream};
@@ -109,21 +111,25 @@ impl Socket {
     }
 }
 
-/// A socket that is read or written, and whether anything went over it.
+/// A socket that is read or written, whether anything went over it, and whether a call of it has failed.
 #[derive(Drop)]
 pub(crate) struct TrackedSocket<'a> {
     socket: &'a Socket,
     has_moved: bool,
+    has_failed: bool,
     // Whether its input ends where a read would wait.
     is_ending: bool,
 }
 
 impl<'a> TrackedSocket<'a> {
     /// A socket over which nothing went so far.
-    pub(crate) fn new(socket: &'a Socket) -> TrackedSocket<'a> {
+    pub(crate) fn new(socket: &'a Socket) -> TrackedSocket<'a>
+        ensures failed { result.has_failed ≡ false }
+    {
         TrackedSocket {
             socket,
             has_moved: false,
+            has_failed: false,
             is_ending: false,
         }
     }
@@ -141,14 +147,17 @@ impl<'a> TrackedSocket<'a> {
         *has_moved
     }
 
-    // Answers what a read or a write answered, and notes whether it succeeded: then bytes went over the socket, or its end.
+    // Answers what a read or a write answered, and notes whether it succeeded, so that bytes went over the socket, or its end; or
+    // whether it failed.
     fn note(&mut self, moved: io::Result<usize>) -> io::Result<usize>
         ensures same { result ≡ moved }
         ensures noted { OnOk moved (self.new.has_moved ≡ true) }
+        ensures failed { NotesFailure self.old.has_failed moved self.new.has_failed }
     {
         if moved.is_ok() {
             self.has_moved = true;
         }
+        self.has_failed = has_failed_after(self.has_failed, &moved);
         moved
     }
 }
@@ -177,14 +186,41 @@ fn end_in_place_of_wait(read: io::Result<usize>) -> io::Result<usize>
     if waits { Ok(0) } else { read }
 }
 
-impl Write for TrackedSocket<'_> {
-    fn write(&mut self, buf: &[u8]) -> io::Result<usize> {
-        let count = self.socket.write_some(buf);
-        self.note(count)
+impl Sink for TrackedSocket<'_> {
+    ghost use Rattle.std.specs.Prelude.{None};
+
+    ghost contents = { λ _. None };
+
+    ghost may_fail = { Unit {0} };
+
+    ghost is_handed_on = { λ _. Unit {0} };
+
+    ghost has_failed = { λ socket. socket.has_failed ≡ true };
+
+    fn write_some(&mut self, bytes: &[u8]) -> Result<usize, WriteFault> {
+        let count = self.socket.write_some(bytes);
+        match self.note(count) {
+            Ok(0) if !bytes.is_empty() => {
+                self.has_failed = true;
+                Err(WriteFault::TookNothing)
+            }
+            Ok(count) => Ok(count),
+            Err(error) => Err(WriteFault::Failed(error)),
+        }
     }
 
-    fn flush(&mut self) -> io::Result<()> {
+    fn hand_on(&mut self) -> Result<(), WriteFault> {
         Ok(())
+    }
+}
+
+/// Whether a call has failed after one that answered so: it gave an error that is no wait, or one had failed before.
+pub(crate) fn has_failed_after(has_failed: bool, moved: &io::Result<usize>) -> bool
+    ensures { NotesFailure has_failed moved.now result }
+{
+    match moved {
+        Ok(_) => has_failed,
+        Err(error) => has_failed || !is_wait(error),
     }
 }
 

@@ -1,7 +1,8 @@
 //! The steps of a connection's turn: those of its line loop, and reads where no more input is at hand.
 
-ghost use Rattle.std.specs.Prelude.{◌≡◌, ◌<◌, ◌≤◌, ◌+◌, ◌*◌, ℕ, List, [], length, Option};
+ghost use Rattle.std.specs.Prelude.{◌≡◌, ◌⊎◌, ◌<◌, ◌≤◌, ◌+◌, ◌*◌, ℕ, List, [], length, Option};
 ghost use Rattle.pn_serve.specs.Lines.Bounds.{IsIdleAt, records_by, records_in};
+ghost use Rattle.pn_serve.specs.Lines.Faults.{EndsByAt, EndsByStep};
 ghost use Rattle.pn_serve.specs.Lines.Made.{MakesAtMost, made_by};
 ghost use Rattle.pn_serve.specs.Lines.States.{Start};
 ghost use Rattle.pn_serve.specs.declared.script.line_loop.steps.TheConstants.{TURN_UNITS};
@@ -13,17 +14,17 @@ ghost use Rattle.pn_stay.specs.Outputs.{AnswersAtMost, LooksFew, lines_by, most_
 ghost use Rattle.pn_stay.specs.declared.input_buffer.TheConstants.{READ_SIZE};
 
 use crate::connection_state::ThreadBuffers;
+use crate::input::Input;
 use crate::socket::is_wait;
 use pn_line::Sink;
 use pn_serve::{LineHandler, RunFault, Step, TURN_UNITS};
 use std::io;
-use std::io::Read;
 
 /// How many bytes of input count for one unit.
 const UNIT_BYTES: usize = 1_024;
 
 /// Steps until no input is at hand, the socket takes no more replies, the connection ends, or the units of a turn are used.
-pub(crate) fn take_steps<M: LineHandler, R: Read, W: Sink>(
+pub(crate) fn take_steps<M: LineHandler, R: Input, W: Sink>(
     buffers: &mut ThreadBuffers,
     machine: &mut M,
     input: &mut R,
@@ -37,6 +38,9 @@ pub(crate) fn take_steps<M: LineHandler, R: Read, W: Sink>(
     ensures written { MakesAtMost most_made (W.contents output.old) (W.contents output.new) buffers.old.lines.replies buffers.new.lines.replies }
     ensures answers { AnswersAtMost TURN_UNITS buffers.old.lines.state buffers.new.lines.state }
     ensures looked { LooksFew most_looked buffers.old.lines.state buffers.new.lines.state }
+    ensures read_fault { EndsByStep RunFault.Read buffers.new.lines result → EndsByAt RunFault.Read buffers.old.lines.state.stage ⊎ R.has_failed input.new }
+    ensures write_fault { EndsByStep RunFault.Write buffers.new.lines result → EndsByAt RunFault.Write buffers.old.lines.state.stage ⊎ W.has_failed output.new }
+    ensures write_stage { (used : ℕ) → result ≡ Step.Next used → EndsByAt RunFault.Write buffers.new.lines.state.stage → EndsByAt RunFault.Write buffers.old.lines.state.stage }
     ensures knows { KnowsNoLess (M.reader machine.old) (M.reader machine.new) }
 {
     let mut units = TURN_UNITS;
@@ -59,7 +63,7 @@ fn units_after(units: u32, used: u32) -> u32
 }
 
 // One step of the line loop, or a read.
-fn take_step<M: LineHandler, R: Read, W: Sink>(
+fn take_step<M: LineHandler, R: Input, W: Sink>(
     buffers: &mut ThreadBuffers,
     machine: &mut M,
     input: &mut R,
@@ -75,6 +79,9 @@ fn take_step<M: LineHandler, R: Read, W: Sink>(
     ensures answers { AnswersAtMost (lines_by result) buffers.old.lines.state buffers.new.lines.state }
     ensures looked { LooksFew (records_in units) buffers.old.lines.state buffers.new.lines.state }
     ensures records { LooksFew (records_by result) buffers.old.lines.state buffers.new.lines.state }
+    ensures read_fault { EndsByStep RunFault.Read buffers.new.lines result → (EndsByAt RunFault.Read buffers.old.lines.state.stage × (input.new ≡ input.old)) ⊎ R.has_failed input.new }
+    ensures write_fault { EndsByStep RunFault.Write buffers.new.lines result → EndsByAt RunFault.Write buffers.old.lines.state.stage ⊎ W.has_failed output.new }
+    ensures write_stage { (used : ℕ) → result ≡ Step.Next used → EndsByAt RunFault.Write buffers.new.lines.state.stage → EndsByAt RunFault.Write buffers.old.lines.state.stage }
     ensures knows { KnowsNoLess (M.reader machine.old) (M.reader machine.new) }
 {
     let step = buffers
@@ -87,7 +94,7 @@ fn take_step<M: LineHandler, R: Read, W: Sink>(
 }
 
 // Reads once where no input is at hand.
-fn read_more<M: LineHandler, R: Read>(
+fn read_more<M: LineHandler, R: Input>(
     buffers: &mut ThreadBuffers,
     machine: &mut M,
     input: &mut R,
@@ -102,6 +109,8 @@ fn read_more<M: LineHandler, R: Read>(
     ensures makes { length buffers.new.lines.replies ≤ length buffers.old.lines.replies + made_by result }
     ensures answers { AnswersAtMost (lines_by result) buffers.old.lines.state buffers.new.lines.state }
     ensures looked { buffers.new.lines.state.looked ≡ buffers.old.lines.state.looked }
+    ensures read_fault { EndsByStep RunFault.Read buffers.new.lines result → R.has_failed input.new }
+    ensures write_fault { EndsByStep RunFault.Write buffers.new.lines result → ⊥ }
     ensures knows { KnowsNoLess (M.reader machine.old) (M.reader machine.new) }
 {
     let read = buffers.input.read_from(input);

@@ -6,11 +6,13 @@ ghost use Rattle.std.specs.Io.KnownBytes.{IsAtEnd};
 ghost use Rattle.pn_line.specs.Prelude.{so_far};
 ghost use Rattle.pn_line.specs.declared.line_buffer.TheConstants.{ENDLESS};
 ghost use Rattle.pn_serve.specs.Lines.Bounds.{CountsStages, CountsUnits, Foresees, ForeseesStep, HandsOnAtMost, HandsOnStep, IsIdleAt, IsOutAs, IsSettled, LooksAtMost, ReadsOn, WorksOn, records_by, records_in};
+ghost use Rattle.pn_serve.specs.Lines.Faults.{EndsByAt, EndsByStep};
 ghost use Rattle.pn_serve.specs.Lines.Made.{MakesAtMost, made_by, made_in};
 ghost use Rattle.pn_serve.specs.Lines.States.{Start, new_loop, waits_in};
 ghost use Rattle.pn_serve.specs.Lines.Stepping.{by, with_rest, Stands, StepsTo};
 ghost use Rattle.pn_serve.specs.Lines.Taking.{HasReply, Takes};
 ghost use Rattle.pn_protocol.specs.declared.reply.Reply.{Reply};
+ghost use Rattle.pn_serve.specs.declared.script.RunFault.{RunFault};
 ghost use Rattle.pn_serve.specs.declared.script.replies.TheConstants.{REPLY_CAPACITY};
 ghost use Rattle.pn_serve.specs.Session.Knowing.{IsSteady, KnowsNoLess};
 ghost use Rattle.pn_serve.specs.declared.sessions.going.Going.{Going};
@@ -101,6 +103,9 @@ impl LineLoop {
         ensures held { result ≡ Step.NoRoom → self.new.replies ≢ [] }
         ensures room { result ≡ Step.NoRoom → W.may_fail }
         ensures foresees { Foresees S.may_fail W.may_fail S.may_end self.old → ForeseesStep S.may_fail W.may_fail S.may_end self.new result }
+        ensures read_fault { EndsByStep RunFault.Read self.new result → EndsByAt RunFault.Read self.old.state.stage ⊎ S.may_fail }
+        ensures write_fault { EndsByStep RunFault.Write self.new result → EndsByAt RunFault.Write self.old.state.stage ⊎ W.has_failed output.new }
+        ensures write_stage { (units : ℕ) → result ≡ Step.Next units → EndsByAt RunFault.Write self.new.state.stage → EndsByAt RunFault.Write self.old.state.stage }
         ensures knows { KnowsNoLess (M.reader machine.old) (M.reader machine.new) }
     {
         if self.state.has_text() {
@@ -125,6 +130,7 @@ impl LineLoop {
         ensures some { self.old.line.count ≢ 0 → Takes true (record self.old { line = so_far []; state = record self.old.state { last = true } }) self.new }
         ensures none { self.old.line.count ≡ 0 → (reply : Reply) × HasReply false (record self.old { line = so_far []; state = record self.old.state { last = true } }) reply self.new }
         ensures makes { length self.new.replies ≤ length self.old.replies + made_in result }
+        ensures faults { (fault : RunFault) → EndsByAt fault self.new.state.stage → ⊥ }
         ensures knows { KnowsNoLess (M.reader machine.old) (M.reader machine.new) }
     {
         let is_line = self.has_part();

@@ -1,6 +1,6 @@
 //! Replies that wait to be written: their bytes, in a buffer that is allocated once.
 
-ghost use Rattle.std.specs.Prelude.{◌≡◌, ◌≢◌, ◌+◌, ◌<◌, ◌≤◌, ◌↔◌, ◌++◌, [], length, drop, vec_len, vec_capacity, IfOk, IfErr, IsTrue, OnErr, MatchBool};
+ghost use Rattle.std.specs.Prelude.{◌≡◌, ◌≢◌, ◌⊎◌, ◌+◌, ◌<◌, ◌≤◌, ◌↔◌, ◌++◌, [], length, drop, vec_len, vec_capacity, IfOk, IfErr, IsTrue, OnErr, MatchBool};
 ghost use Rattle.std.specs.Io.KnownBytes.{Keeps};
 ghost use Rattle.pn_line.specs.Prelude.{Sends, AppendsPrefix, WouldBlock};
 ghost use Rattle.pn_serve.specs.Lines.Made.{MakesAtMost};
@@ -126,6 +126,7 @@ impl ReplyBuffer {
         ensures written { MakesAtMost 0 (W.contents writer.old) (W.contents writer.new) self.old self.new }
         ensures err { OnErr result (AppendsPrefix (W.contents writer.old) (W.contents writer.new) self.old) }
         ensures fault { OnErr result W.may_fail }
+        ensures failed { OnErr result (W.has_failed writer.new) }
         ensures stops { IfErr result (λ fault. ¬ (WouldBlock fault)) }
     {
         let most = (BLOCK - self.offset).min(self.len());
@@ -142,6 +143,7 @@ impl ReplyBuffer {
         ensures written { MakesAtMost 0 (W.contents writer.old) (W.contents writer.new) self.old self.new }
         ensures err { OnErr result (AppendsPrefix (W.contents writer.old) (W.contents writer.new) self.old) }
         ensures fault { OnErr result W.may_fail }
+        ensures failed { OnErr result (W.has_failed writer.new) }
     {
         let all = self.len();
         match self.send_some(writer, all)? {
@@ -163,6 +165,7 @@ impl ReplyBuffer {
         ensures written { MakesAtMost 0 (W.contents writer.old) (W.contents writer.new) self.old self.new }
         ensures err { OnErr result (AppendsPrefix (W.contents writer.old) (W.contents writer.new) self.old) }
         ensures fault { OnErr result W.may_fail }
+        ensures failed { OnErr result (W.has_failed writer.new) }
         ensures stops { IfErr result (λ fault. ¬ (WouldBlock fault)) }
     {
         let mut left = most;
@@ -184,11 +187,16 @@ impl ReplyBuffer {
         ensures err { OnErr result (Keeps (W.contents writer.old) (W.contents writer.new)) }
         ensures kept { OnErr result (self.new ≡ self.old) }
         ensures fault { OnErr result W.may_fail }
+        ensures failed { IfErr result (λ fault. WouldBlock fault ⊎ W.has_failed writer.new) }
     {
-        let count = writer.write_some(&self.bytes[self.start..self.start + most])?;
-        self.start += count;
-        self.offset = (self.offset + count) % BLOCK;
-        Ok(count)
+        match writer.write_some(&self.bytes[self.start..self.start + most]) {
+            Ok(count) => {
+                self.start += count;
+                self.offset = (self.offset + count) % BLOCK;
+                Ok(count)
+            }
+            Err(fault) => Err(fault),
+        }
     }
 }
 

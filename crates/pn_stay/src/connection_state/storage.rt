@@ -8,7 +8,7 @@ ghost use Rattle.pn_stay.specs.Turns.{in_buffers, KeepsOr, PausesWell, StopsWell
 use crate::connection_state::{ConnectionState, Pause, ThreadBuffers, TurnOutcome};
 use crate::input_buffer::INPUT_CAPACITY;
 use pn_line::{Discard, LineBuffer};
-use pn_serve::{LineLoop, ReplyBuffer, RunFault, Step};
+use pn_serve::{LineLoop, ReplyBuffer, Step};
 use std::alloc::{AllocError, Global};
 use std::mem;
 
@@ -26,7 +26,7 @@ impl ConnectionState {
         buffers.lines.set_scarce(!can_keep);
     }
 
-    // Stores it until its next turn, unless it has ended. Out of memory, it ends as by a fault of the writer.
+    // Stores it until its next turn, unless it has ended.
     pub(super) fn store(&mut self, buffers: &mut ThreadBuffers, step: Step) -> TurnOutcome
         ensures stores { Stores (in_buffers buffers.old) step self.new result }
         ensures pauses { StopsWell (in_buffers buffers.old) step → PausesWell self.new result }
@@ -45,12 +45,12 @@ impl ConnectionState {
     {
         buffers.lines.begin_unless_reading();
         let Ok(stored) = unload_input(self.alloc, buffers) else {
-            return TurnOutcome::Ended(Err(RunFault::Write));
+            return TurnOutcome::OutOfMemory;
         };
         self.line = stored.line;
         self.held = stored.held;
         if !keep_replies(buffers, &mut self.replies) {
-            return TurnOutcome::Ended(Err(RunFault::Write));
+            return TurnOutcome::OutOfMemory;
         }
         buffers.lines.swap_state(&mut self.state);
         TurnOutcome::Goes(pause)

@@ -26,7 +26,7 @@ pub(crate) fn take_turns(alloc: Global, line: &str) -> Result<String, Fail> {
     for _ in 0..TURNS {
         match state.turn(&mut buffers, &mut Echo, &mut input, &mut output) {
             TurnOutcome::Goes(pause) => pauses.push(sign(pause))?,
-            TurnOutcome::Ended(_) => break,
+            TurnOutcome::Ended(_) | TurnOutcome::OutOfMemory => break,
         }
     }
     let taken = show(alloc, output.bytes())?;

@@ -4,6 +4,7 @@ ghost use Rattle.std.specs.Prelude.{◌≡◌, ◌≢◌, ◌⊎◌, ◌+◌, �
 ghost use Rattle.std.specs.Io.KnownBytes.{IsAtEnd};
 ghost use Rattle.pn_line.specs.declared.line_buffer.TheConstants.{ENDLESS};
 ghost use Rattle.pn_serve.specs.Lines.Bounds.{CountsUnits, Foresees, ForeseesStep, HandsOnAtMost, HandsOnStep, IsIdleAt, IsOutAs, ReadsOn};
+ghost use Rattle.pn_serve.specs.Lines.Faults.{EndsByAt, EndsByStep};
 ghost use Rattle.pn_serve.specs.Lines.Made.{MakesAtMost, made_by};
 ghost use Rattle.pn_serve.specs.Lines.States.{Start};
 ghost use Rattle.pn_serve.specs.Lines.Stepping.{by, with_rest, Stands, StepsTo};
@@ -46,6 +47,9 @@ impl LineLoop {
         ensures held { result ≡ Step.NoRoom → self.new.replies ≢ [] }
         ensures room { result ≡ Step.NoRoom → W.may_fail }
         ensures foresees { Foresees S.may_fail W.may_fail S.may_end self.old → ForeseesStep S.may_fail W.may_fail S.may_end self.new result }
+        ensures read_fault { EndsByStep RunFault.Read self.new result → S.may_fail }
+        ensures write_fault { EndsByStep RunFault.Write self.new result → W.has_failed output.new }
+        ensures write_stage { (units : ℕ) → result ≡ Step.Next units → EndsByAt RunFault.Write self.new.state.stage → ⊥ }
         ensures knows { KnowsNoLess (M.reader machine.old) (M.reader machine.new) }
     {
         if !self.state.has_more() && !self.state.is_out() {
@@ -92,6 +96,9 @@ impl LineLoop {
         ensures held { result ≡ Step.NoRoom → self.new.replies ≢ [] }
         ensures room { result ≡ Step.NoRoom → W.may_fail }
         ensures foresees { Foresees S.may_fail W.may_fail S.may_end self.old → ForeseesStep S.may_fail W.may_fail S.may_end self.new result }
+        ensures read_fault { EndsByStep RunFault.Read self.new result → S.may_fail }
+        ensures write_fault { EndsByStep RunFault.Write self.new result → W.has_failed output.new }
+        ensures write_stage { (units : ℕ) → result ≡ Step.Next units → EndsByAt RunFault.Write self.new.state.stage → ⊥ }
         ensures knows { KnowsNoLess (M.reader machine.old) (M.reader machine.new) }
     {
         let before = self.line.len();

@@ -32,6 +32,7 @@ impl LineLoop {
         ensures held { result ≡ Step.NoRoom → self.new.replies ≢ [] }
         ensures room { result ≡ Step.NoRoom → W.may_fail }
         ensures fault { result ≡ Step.Ends (Err RunFault.Write) → W.may_fail }
+        ensures failed { result ≡ Step.Ends (Err RunFault.Write) → W.has_failed output.new }
     {
         match self.replies.send_block(output) {
             Ok(SendOutcome::All) => Step::Next(self.make_text()),
@@ -52,6 +53,7 @@ impl LineLoop {
         ensures held { result ≡ Step.NoRoom → self.new.replies ≢ [] }
         ensures room { result ≡ Step.NoRoom → W.may_fail }
         ensures fault { result ≡ Step.Ends (Err RunFault.Write) → W.may_fail }
+        ensures failed { result ≡ Step.Ends (Err RunFault.Write) → W.has_failed output.new }
     {
         if self.state.is_out() && !self.has_replies() {
             return Step::NoInput;
@@ -74,6 +76,7 @@ impl LineLoop {
         ensures held { result ≡ Step.NoRoom → self.new.replies ≢ [] }
         ensures room { result ≡ Step.NoRoom → W.may_fail }
         ensures fault { result ≡ Step.Ends (Err RunFault.Write) → W.may_fail }
+        ensures failed { result ≡ Step.Ends (Err RunFault.Write) → W.has_failed output.new }
     {
         match self.flush(output) {
             Ok(SendOutcome::All) => Step::Next(0),
@@ -98,6 +101,7 @@ impl LineLoop {
         ensures held { result ≡ Step.NoRoom → self.new.replies ≢ [] }
         ensures room { result ≡ Step.NoRoom → W.may_fail }
         ensures fault { (other : Result Counts RunFault) → result ≡ Step.Ends other → (other ≡ ended) ⊎ W.may_fail }
+        ensures failed { (other : Result Counts RunFault) → result ≡ Step.Ends other → (other ≡ ended) ⊎ W.has_failed output.new }
     {
         match self.flush(output) {
             Ok(SendOutcome::All) => Step::Ends(ended),
@@ -122,6 +126,7 @@ impl LineLoop {
         ensures once { IfOk result (λ sent. sent ≡ SendOutcome.All → self.old.state.left ≡ [] → self.new.state.out ≡ true) }
         ensures err { OnErr result (AppendsPrefix (W.contents output.old) (W.contents output.new) (waits_in self.old)) }
         ensures fault { OnErr result W.may_fail }
+        ensures failed { OnErr result (W.has_failed output.new) }
     {
         self.state.set_out(false);
         match self.replies.flush(output)? {

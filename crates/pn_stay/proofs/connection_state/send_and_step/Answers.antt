@@ -1,11 +1,15 @@
 -- What waits is sent first.
-use Rattle.std.proofs.Common.{ℕ, List, length, sym, ap, subst, arith}
+use Rattle.std.proofs.Common.{ℕ, List, length, inl, refl, sym, ap, subst, arith}
 use Rattle.std.specs.Io.KnownBytes.{prepend_known}
 use Rattle.pn_serve.specs.declared.script.Counts.{Counts}
+use Rattle.pn_serve.specs.declared.script.RunFault.TheVariants.{Read, Write}
+use Rattle.pn_serve.specs.declared.script.line_loop.state.Stage.{Stage}
+use Rattle.pn_serve.specs.Lines.Faults.{EndsByAt}
 use Rattle.pn_serve.specs.Lines.Made.{MakesAtMost}
 use Rattle.pn_serve.specs.Lines.Stepping.{Stands, StepsTo, by}
 use Rattle.pn_serve.proofs.Knowing.{knows_itself}
 use Rattle.pn_stay.specs.Outputs.{most_made}
+use Rattle.pn_stay.proofs.Faults.{before_or}
 use Rattle.pn_stay.proofs.Inputs.{takes_nothing}
 use Rattle.pn_stay.proofs.Outputs.{writes_held, writes_on}
 use Rattle.pn_stay.proofs.connection_state.send_and_step.Goals as goal
@@ -13,7 +17,7 @@ use Rattle.pn_stay.proofs.connection_state.send_and_step.Goals as goal
 pub returns-in-Next-clause-steps : goal.returns-in-Next-clause-steps
 returns-in-Next-clause-steps g c = λ start steady stands.
     let H = by g.M.LineHandler.moves g.M.LineHandler.makes g.M.LineHandler.ends g.M.LineHandler.goes g.M.LineHandler.goes_last in
-    let left = g.R.Read.remaining c.args.input.now in
+    let left = g.R.Input.remaining c.args.input.now in
     let sent = c.in-Next.ensures.steps start (prepend_known c.args.buffers.now.input left) steady stands in
     c.step_and_send.ensures.steps start steady
     (subst (λ (h : List ℕ). Stands H start (prepend_known h left) (g.W.Sink.contents c.send_waiting.new.output) c.args.machine.now c.send_waiting.new.buffers.lines) (sym c.send_waiting.ensures.input) sent)
@@ -32,7 +36,7 @@ pub returns-in_default : goal.returns-in_default
 returns-in_default g c = record {
   steps = λ start steady stands.
       let H = by g.M.LineHandler.moves g.M.LineHandler.makes g.M.LineHandler.ends g.M.LineHandler.goes g.M.LineHandler.goes_last in
-      let left = g.R.Read.remaining c.args.input.now in
+      let left = g.R.Input.remaining c.args.input.now in
       let sent = c.send_waiting.ensures.steps start (prepend_known c.args.buffers.now.input left) steady stands in
       subst (λ (h : List ℕ). StepsTo H start (prepend_known h left) (g.W.Sink.contents c.send_waiting.new.output) c.args.machine.now c.send_waiting.new.buffers.lines c.send_waiting.result) (sym c.send_waiting.ensures.input) sent;
   stops = c.send_waiting.ensures.stops;
@@ -40,8 +44,16 @@ returns-in_default g c = record {
   written = writes_held _ _ _ _ c.send_waiting.ensures.few c.send_waiting.ensures.written;
   answers = omega (arith, ap (λ (n : Counts). n.lines) c.send_waiting.ensures.same.counts);
   looked = omega (arith, c.send_waiting.ensures.same.looked);
+  read_fault = λ ends. inl (c.send_waiting.ensures.read_fault ends);
+  write_fault = c.send_waiting.ensures.write_fault;
   knows = knows_itself _;
 }
 
 pub returns-in-Next-clause-looked : goal.returns-in-Next-clause-looked
 returns-in-Next-clause-looked g c = omega (arith, c.in-Next.ensures.same.looked, c.step_and_send.ensures.looked)
+
+pub returns-in-Next-clause-read_fault : goal.returns-in-Next-clause-read_fault
+returns-in-Next-clause-read_fault g c = λ ends. before_or _ _ _ (λ was. subst (λ (s : Stage). EndsByAt Read s) (c.in-Next.ensures.stage _ refl) was) (c.step_and_send.ensures.read_fault ends)
+
+pub returns-in-Next-clause-write_fault : goal.returns-in-Next-clause-write_fault
+returns-in-Next-clause-write_fault g c = λ ends. before_or _ _ _ (λ was. subst (λ (s : Stage). EndsByAt Write s) (c.in-Next.ensures.stage _ refl) was) (c.step_and_send.ensures.write_fault ends)

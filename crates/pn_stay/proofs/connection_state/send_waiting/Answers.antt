@@ -1,8 +1,13 @@
 -- What waits is sent, or the writer takes no more.
+use Rattle.std.proofs.Common.{inl, inr, subst}
+use Rattle.pn_serve.specs.declared.script.RunFault.TheVariants.{Read, Write}
+use Rattle.pn_serve.specs.declared.script.line_loop.state.Stage.{Stage}
+use Rattle.pn_serve.specs.Lines.Faults.{EndsByAt}
 use Rattle.pn_serve.specs.Lines.States.{waits_in}
 use Rattle.pn_serve.specs.Lines.Stepping.{by}
 use Rattle.pn_serve.proofs.Buffers.{AppendsPrefix-sends}
 use Rattle.pn_serve.proofs.Standing.{Stands-sent}
+use Rattle.pn_stay.proofs.Faults.{write_no_read}
 use Rattle.pn_stay.proofs.Storing.{some_waits}
 use Rattle.pn_stay.proofs.connection_state.send_waiting.Goals as goal
 
@@ -27,3 +32,24 @@ returns-in-Ok-Waits-clause-steps g c = λ start left steady stands.
 pub returns-in-Err-clause-steps : goal.returns-in-Err-clause-steps
 returns-in-Err-clause-steps g c = λ start left steady stands.
     c.recall_cut.ensures start left (g.W.Sink.contents c.args.output.now) (g.W.Sink.contents c.flush.new.output) steady stands c.in-Err.ensures.err
+
+pub returns-in-Ok-All-clause-read_fault : goal.returns-in-Ok-All-clause-read_fault
+returns-in-Ok-All-clause-read_fault g c = λ ends. subst (λ (s : Stage). EndsByAt Read s) c.in-Ok-All.ensures.ok.kept.stage ends
+
+pub returns-in-Ok-All-clause-write_fault : goal.returns-in-Ok-All-clause-write_fault
+returns-in-Ok-All-clause-write_fault g c = λ ends. inl (subst (λ (s : Stage). EndsByAt Write s) c.in-Ok-All.ensures.ok.kept.stage ends)
+
+pub returns-in-Ok-Waits-clause-read_fault : goal.returns-in-Ok-Waits-clause-read_fault
+returns-in-Ok-Waits-clause-read_fault g c = λ ends. subst (λ (s : Stage). EndsByAt Read s) c.in-Ok-Waits.ensures.ok.kept.stage ends
+
+pub returns-in-Ok-Waits-clause-write_fault : goal.returns-in-Ok-Waits-clause-write_fault
+returns-in-Ok-Waits-clause-write_fault g c = λ ends. inl (subst (λ (s : Stage). EndsByAt Write s) c.in-Ok-Waits.ensures.ok.kept.stage ends)
+
+pub returns-in-Ok-All-clause-stage : goal.returns-in-Ok-All-clause-stage
+returns-in-Ok-All-clause-stage g c = λ units is. c.in-Ok-All.ensures.ok.kept.stage
+
+pub returns-in-Err-clause-read_fault : goal.returns-in-Err-clause-read_fault
+returns-in-Err-clause-read_fault g c = λ ends. absurd (write_no_read ends)
+
+pub returns-in-Err-clause-write_fault : goal.returns-in-Err-clause-write_fault
+returns-in-Err-clause-write_fault g c = λ ends. inr c.in-Err.ensures.failed

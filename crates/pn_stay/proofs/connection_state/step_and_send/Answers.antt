@@ -1,15 +1,16 @@
 -- What the steps left is sent.
-use Rattle.std.proofs.Common.{ℕ, List, sym, ap, subst, arith}
+use Rattle.std.proofs.Common.{ℕ, List, refl, sym, ap, subst, arith}
 use Rattle.std.specs.Io.KnownBytes.{prepend_known}
 use Rattle.pn_serve.specs.declared.script.Counts.{Counts}
 use Rattle.pn_serve.specs.Lines.Stepping.{StepsTo, by}
+use Rattle.pn_stay.proofs.Faults.{before_or}
 use Rattle.pn_stay.proofs.Outputs.{makes_then}
 use Rattle.pn_stay.proofs.connection_state.step_and_send.Goals as goal
 
 pub returns-in-Next-clause-steps : goal.returns-in-Next-clause-steps
 returns-in-Next-clause-steps g c = λ start steady stands.
     let H = by g.M.LineHandler.moves g.M.LineHandler.makes g.M.LineHandler.ends g.M.LineHandler.goes g.M.LineHandler.goes_last in
-    let left = g.R.Read.remaining c.take_steps.new.input in
+    let left = g.R.Input.remaining c.take_steps.new.input in
     let sent = c.send_waiting.ensures.steps start (prepend_known c.take_steps.new.buffers.input left) steady (c.in-Next.ensures.steps start steady stands) in
     subst (λ (h : List ℕ). StepsTo H start (prepend_known h left) (g.W.Sink.contents c.send_waiting.new.output) c.take_steps.new.machine c.send_waiting.new.buffers.lines c.send_waiting.result) (sym c.send_waiting.ensures.input) sent
 
@@ -21,3 +22,9 @@ returns-in-Next-clause-answers g c = omega (arith, c.in-Next.ensures.answers, ap
 
 pub returns-in-Next-clause-looked : goal.returns-in-Next-clause-looked
 returns-in-Next-clause-looked g c = omega (arith, c.in-Next.ensures.looked, c.send_waiting.ensures.same.looked)
+
+pub returns-in-Next-clause-read_fault : goal.returns-in-Next-clause-read_fault
+returns-in-Next-clause-read_fault g c = λ ends. c.in-Next.ensures.read_fault (c.send_waiting.ensures.read_fault ends)
+
+pub returns-in-Next-clause-write_fault : goal.returns-in-Next-clause-write_fault
+returns-in-Next-clause-write_fault g c = λ ends. before_or _ _ _ (c.in-Next.ensures.write_stage _ refl) (c.send_waiting.ensures.write_fault ends)

@@ -10,7 +10,7 @@ use Rattle.pn_stay.proofs.laws.answer_in_turns.Goals as goal
 pub returns : goal.returns
 returns g c =
     let H = by g.M.LineHandler.moves g.M.LineHandler.makes g.M.LineHandler.ends g.M.LineHandler.goes g.M.LineHandler.goes_last in
-    let left = g.R.Read.remaining c.args.input.now in
+    let left = g.R.Input.remaining c.args.input.now in
     let written = g.W.Sink.contents c.args.output.now in
     record {
       ends = c.take_turns.ensures _ c.recall_moves.ensures

@@ -9,5 +9,5 @@ abbrev pub invariant-turns : goal.invariant-turns
 invariant-turns g l =
     let H = by g.M.LineHandler.moves g.M.LineHandler.makes g.M.LineHandler.ends g.M.LineHandler.goes g.M.LineHandler.goes_last in
     (start : Start _) → IsSteady g.M.LineHandler.reader g.M.LineHandler.moves
-    → Continues H start (g.R.Read.remaining l.initial.input) (g.W.Sink.contents l.initial.output) l.initial.machine l.initial.state
-    → Continues H start (g.R.Read.remaining l.input) (g.W.Sink.contents l.output) l.machine l.state
+    → Continues H start (g.R.Input.remaining l.initial.input) (g.W.Sink.contents l.initial.output) l.initial.machine l.initial.state
+    → Continues H start (g.R.Input.remaining l.input) (g.W.Sink.contents l.output) l.machine l.state

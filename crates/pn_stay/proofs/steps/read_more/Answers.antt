@@ -1,12 +1,15 @@
 -- What a read brought.
 use Rattle.std.proofs.Common.{◌≡◌, Bool, false, ℕ, List, [], length, arith, refl, sym, ap, subst}
 use Rattle.std.specs.Io.KnownBytes.{Consumes, IsAtEnd, Keeps, prepend_known}
+use Rattle.pn_serve.specs.declared.script.RunFault.TheVariants.{Read, Write}
 use Rattle.pn_serve.specs.Lines.States.{LineLoopValue}
 use Rattle.pn_serve.specs.Lines.Stepping.{Stands, by}
 use Rattle.pn_serve.proofs.Bounded.{end_lines, end_looked}
+use Rattle.pn_serve.proofs.Faults.{reads_on}
 use Rattle.pn_serve.proofs.Knowing.{knows_itself}
 use Rattle.pn_serve.proofs.Steps.{Steps-read_fault}
-use Rattle.pn_stay.proofs.Coming.{Consumes-nothing, Ends-known, Keeps-front, Stands-came, at_end, at_fault, at_input, at_nothing}
+use Rattle.pn_stay.proofs.Coming.{Consumes-nothing, Ends-known, Keeps-front, Stands-came, at_end, at_failed, at_fault, at_input, at_nothing}
+use Rattle.pn_stay.proofs.Faults.{ends_reading}
 use Rattle.pn_stay.proofs.Inputs.{reads_nothing}
 use Rattle.pn_stay.proofs.steps.read_more.Goals as goal
 
@@ -14,16 +17,16 @@ pub returns-in-Input-clause-steps : goal.returns-in-Input-clause-steps
 returns-in-Input-clause-steps g c = λ start written steady stands.
     let H = by g.M.LineHandler.moves g.M.LineHandler.makes g.M.LineHandler.ends g.M.LineHandler.goes g.M.LineHandler.goes_last in
     let lines = c.args.buffers.now.lines in
-    let was = subst (λ (h : List ℕ). Stands H start (prepend_known h (g.R.Read.remaining c.args.input.now)) written c.args.machine.now lines) c.requires.empty stands in
-    Stands-came H start written c.args.machine.now lines c.requires.idle.0 (g.R.Read.remaining c.args.input.now) (g.R.Read.remaining c.read_from-read.new.input) c.read_from-read.new.self
+    let was = subst (λ (h : List ℕ). Stands H start (prepend_known h (g.R.Input.remaining c.args.input.now)) written c.args.machine.now lines) c.requires.empty stands in
+    Stands-came H start written c.args.machine.now lines c.requires.idle.0 (g.R.Input.remaining c.args.input.now) (g.R.Input.remaining c.read_from-read.new.input) c.read_from-read.new.self
     (at_input c.read_from-read.result _ c.in-Input.ensures c.read_from-read.ensures.came) was
 
 pub returns-in-Nothing-clause-steps : goal.returns-in-Nothing-clause-steps
 returns-in-Nothing-clause-steps g c = λ start written steady stands.
     let H = by g.M.LineHandler.moves g.M.LineHandler.makes g.M.LineHandler.ends g.M.LineHandler.goes g.M.LineHandler.goes_last in
     let lines = c.args.buffers.now.lines in
-    let left = g.R.Read.remaining c.args.input.now in
-    let leaves = g.R.Read.remaining c.read_from-read.new.input in
+    let left = g.R.Input.remaining c.args.input.now in
+    let leaves = g.R.Input.remaining c.read_from-read.new.input in
     let was = subst (λ (h : List ℕ). Stands H start (prepend_known h left) written c.args.machine.now lines) c.requires.empty stands in
     let none : c.read_from-read.new.self ≡ [] = at_nothing c.read_from-read.result _ c.in-Nothing.ensures c.read_from-read.ensures.none in
     let kept : Keeps left leaves = at_nothing c.read_from-read.result _ c.in-Nothing.ensures c.read_from-read.ensures.kept in
@@ -37,8 +40,8 @@ pub returns-in-End-clause-steps : goal.returns-in-End-clause-steps
 returns-in-End-clause-steps g c = λ start written steady stands.
     let H = by g.M.LineHandler.moves g.M.LineHandler.makes g.M.LineHandler.ends g.M.LineHandler.goes g.M.LineHandler.goes_last in
     let lines = c.args.buffers.now.lines in
-    let left = g.R.Read.remaining c.args.input.now in
-    let leaves = g.R.Read.remaining c.read_from-read.new.input in
+    let left = g.R.Input.remaining c.args.input.now in
+    let leaves = g.R.Input.remaining c.read_from-read.new.input in
     let was = subst (λ (h : List ℕ). Stands H start (prepend_known h left) written c.args.machine.now lines) c.requires.empty stands in
     let came : Consumes left leaves c.read_from-read.new.self = at_end c.read_from-read.result (λ _. Consumes left leaves c.read_from-read.new.self) c.in-End.ensures c.read_from-read.ensures.came in
     let end : (c.read_from-read.new.self ≡ []) × IsAtEnd leaves =
@@ -52,8 +55,8 @@ pub returns-in-Fault-clause-steps : goal.returns-in-Fault-clause-steps
 returns-in-Fault-clause-steps g c = λ start written steady stands.
     let H = by g.M.LineHandler.moves g.M.LineHandler.makes g.M.LineHandler.ends g.M.LineHandler.goes g.M.LineHandler.goes_last in
     let lines = c.args.buffers.now.lines in
-    let left = g.R.Read.remaining c.args.input.now in
-    let leaves = g.R.Read.remaining c.read_from-read.new.input in
+    let left = g.R.Input.remaining c.args.input.now in
+    let leaves = g.R.Input.remaining c.read_from-read.new.input in
     let was = subst (λ (h : List ℕ). Stands H start (prepend_known h left) written c.args.machine.now lines) c.requires.empty stands in
     let none : c.read_from-read.new.self ≡ [] = at_fault c.read_from-read.result _ c.in-Fault.ensures c.read_from-read.ensures.none in
     let kept : Keeps left leaves = at_fault c.read_from-read.result _ c.in-Fault.ensures c.read_from-read.ensures.kept in
@@ -83,8 +86,8 @@ returns-in-Nothing-clause-few g c = reads_nothing _ _ _ (Consumes-nothing _ _ (a
 
 pub returns-in-End-clause-few : goal.returns-in-End-clause-few
 returns-in-End-clause-few g c =
-    let left = g.R.Read.remaining c.args.input.now in
-    let leaves = g.R.Read.remaining c.read_from-read.new.input in
+    let left = g.R.Input.remaining c.args.input.now in
+    let leaves = g.R.Input.remaining c.read_from-read.new.input in
     let came : Consumes left leaves c.read_from-read.new.self = at_end c.read_from-read.result (λ _. Consumes left leaves c.read_from-read.new.self) c.in-End.ensures c.read_from-read.ensures.came in
     let end : (c.read_from-read.new.self ≡ []) × IsAtEnd leaves =
     at_end c.read_from-read.result (λ (more : Bool). more ≡ false → (c.read_from-read.new.self ≡ []) × IsAtEnd leaves) c.in-End.ensures c.read_from-read.ensures.end refl in
@@ -98,3 +101,27 @@ returns-in-End-clause-answers g c = end_lines c.args.buffers.now.lines c.end_inp
 
 pub returns-in-End-clause-looked : goal.returns-in-End-clause-looked
 returns-in-End-clause-looked g c = end_looked c.args.buffers.now.lines c.end_input.new.self c.end_input.ensures.some c.end_input.ensures.none
+
+pub returns-in-Input-clause-read_fault : goal.returns-in-Input-clause-read_fault
+returns-in-Input-clause-read_fault g c = λ ends. absurd (reads_on Read _ c.requires.idle.0 ends)
+
+pub returns-in-Input-clause-write_fault : goal.returns-in-Input-clause-write_fault
+returns-in-Input-clause-write_fault g c = λ ends. reads_on Write _ c.requires.idle.0 ends
+
+pub returns-in-Nothing-clause-read_fault : goal.returns-in-Nothing-clause-read_fault
+returns-in-Nothing-clause-read_fault g c = λ ends. absurd (reads_on Read _ c.requires.idle.0 ends)
+
+pub returns-in-Nothing-clause-write_fault : goal.returns-in-Nothing-clause-write_fault
+returns-in-Nothing-clause-write_fault g c = λ ends. reads_on Write _ c.requires.idle.0 ends
+
+pub returns-in-End-clause-read_fault : goal.returns-in-End-clause-read_fault
+returns-in-End-clause-read_fault g c = λ ends. absurd (c.end_input.ensures.faults Read ends)
+
+pub returns-in-End-clause-write_fault : goal.returns-in-End-clause-write_fault
+returns-in-End-clause-write_fault g c = λ ends. c.end_input.ensures.faults Write ends
+
+pub returns-in-Fault-clause-read_fault : goal.returns-in-Fault-clause-read_fault
+returns-in-Fault-clause-read_fault g c = λ ends. at_failed c.read_from-read.result _ c.in-Fault.ensures c.read_from-read.ensures.failed
+
+pub returns-in-Fault-clause-write_fault : goal.returns-in-Fault-clause-write_fault
+returns-in-Fault-clause-write_fault g c = λ ends. ends_reading c.args.buffers.now.lines c.end_by.new.self c.end_by.ensures ends

@@ -1,14 +1,16 @@
 -- The loop steps, and reads where no input is at hand.
-use Rattle.std.proofs.Common.{arith}
+use Rattle.std.proofs.Common.{inl, inr, refl, arith}
+use Rattle.pn_serve.specs.declared.script.RunFault.TheVariants.{Write}
 use Rattle.pn_serve.proofs.Knowing.{knows_on}
 use Rattle.pn_stay.proofs.Coming.{waits_well}
+use Rattle.pn_stay.proofs.Faults.{by_step, or_none}
 use Rattle.pn_stay.proofs.Inputs.{reads_none}
 use Rattle.pn_stay.proofs.Outputs.{answers_counted, makes_more}
 use Rattle.pn_stay.proofs.steps.take_step.Goals as goal
 
 pub returns-in-NoInput-clause-steps : goal.returns-in-NoInput-clause-steps
 returns-in-NoInput-clause-steps g c = λ start steady stands.
-    c.read_more.ensures.steps start (g.W.Sink.contents c.step-step.new.output) steady (c.in-NoInput.ensures.steps start (g.R.Read.remaining c.args.input.now) steady stands)
+    c.read_more.ensures.steps start (g.W.Sink.contents c.step-step.new.output) steady (c.in-NoInput.ensures.steps start (g.R.Input.remaining c.args.input.now) steady stands)
 
 pub returns-in-NoInput-clause-knows : goal.returns-in-NoInput-clause-knows
 returns-in-NoInput-clause-knows g c = knows_on _ _ _ c.step-step.ensures.knows c.read_more.ensures.knows
@@ -21,13 +23,16 @@ returns-in-NoInput-clause-answers g c = omega (arith, c.in-NoInput.ensures.count
 
 pub returns-in_default : goal.returns-in_default
 returns-in_default g c = record {
-  steps = λ start steady stands. c.step-step.ensures.steps start (g.R.Read.remaining c.args.input.now) steady stands;
+  steps = λ start steady stands. c.step-step.ensures.steps start (g.R.Input.remaining c.args.input.now) steady stands;
   waits = waits_well (record { line = c.step-step.new.self.line; held = c.step-step.new.input; replies = c.step-step.new.self.replies; state = c.step-step.new.self.state }) c.step-step.result c.in_default.not-NoInput c.step-step.ensures.held;
   few = reads_none _ _;
   written = c.step-step.ensures.written;
   answers = answers_counted c.args.buffers.now.lines c.step-step.new.self c.step-step.result c.step-step.ensures.counted;
   looked = c.step-step.ensures.looked;
   records = c.step-step.ensures.records;
+  read_fault = λ ends. or_none _ (λ was. (was, refl)) (c.step-step.ensures.read_fault ends);
+  write_fault = c.step-step.ensures.write_fault;
+  write_stage = c.step-step.ensures.write_stage;
   knows = c.step-step.ensures.knows;
 }
 
@@ -36,3 +41,12 @@ returns-in-NoInput-clause-looked g c = omega (arith, c.in-NoInput.ensures.looked
 
 pub returns-in-NoInput-clause-records : goal.returns-in-NoInput-clause-records
 returns-in-NoInput-clause-records g c = omega (arith, c.in-NoInput.ensures.records, c.read_more.ensures.looked)
+
+pub returns-in-NoInput-clause-read_fault : goal.returns-in-NoInput-clause-read_fault
+returns-in-NoInput-clause-read_fault g c = λ ends. inr (c.read_more.ensures.read_fault ends)
+
+pub returns-in-NoInput-clause-write_fault : goal.returns-in-NoInput-clause-write_fault
+returns-in-NoInput-clause-write_fault g c = λ ends. absurd (c.read_more.ensures.write_fault ends)
+
+pub returns-in-NoInput-clause-write_stage : goal.returns-in-NoInput-clause-write_stage
+returns-in-NoInput-clause-write_stage g c = λ used is ends. absurd (c.read_more.ensures.write_fault (by_step Write c.read_more.new.buffers.lines c.read_more.result used is ends))

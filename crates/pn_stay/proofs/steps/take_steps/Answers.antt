@@ -1,12 +1,13 @@
 -- One step after another.
-use Rattle.std.proofs.Common.{arith}
+use Rattle.std.proofs.Common.{inl, refl, arith}
 use Rattle.pn_serve.proofs.Knowing.{knows_itself, knows_on}
+use Rattle.pn_stay.proofs.Faults.{after_read, before_or}
 use Rattle.pn_stay.proofs.Inputs.{within_after, within_all, within_last, within_turn}
 use Rattle.pn_stay.proofs.Outputs.{looks_after, looks_all, looks_last, makes_after, makes_all, makes_last, makes_turn, one_line}
 use Rattle.pn_stay.proofs.steps.take_steps.Goals as goal
 
 pub steps-init : goal.steps-init
-steps-init g c = record { stands = λ start steady stands. stands; within = within_all _; few = within_turn _ _ _ (within_all _); makes = makes_all _ _; written = makes_turn _ _ _ _ _ (makes_all _ _); lines = omega arith; answers = omega arith; looks = looks_all _; looked = omega arith; knows = knows_itself _ }
+steps-init g c = record { stands = λ start steady stands. stands; within = within_all _; few = within_turn _ _ _ (within_all _); makes = makes_all _ _; written = makes_turn _ _ _ _ _ (makes_all _ _); lines = omega arith; answers = omega arith; looks = looks_all _; looked = omega arith; read_fault = λ ends. inl ends; write_fault = λ ends. inl ends; write_stage = λ ends. ends; knows = knows_itself _ }
 
 pub steps-preserved : goal.steps-preserved
 steps-preserved g c = let within = within_after _ _ _ _ _ _ c.steps-test.true c.units_after-units.ensures.fewer c.units_after-units.ensures.counted c.steps.invariant.within c.in-Next.ensures.few in
@@ -21,6 +22,9 @@ steps-preserved g c = let within = within_after _ _ _ _ _ _ c.steps-test.true c.
       answers = omega (arith, c.steps.invariant.lines, c.in-Next.ensures.answers, c.steps-test.true);
       looks = looks;
       looked = looks.few;
+      read_fault = λ ends. after_read g.R.Input.has_failed _ _ _ _ c.steps.invariant.read_fault (c.in-Next.ensures.read_fault ends);
+      write_fault = λ ends. inl (c.steps.invariant.write_stage (c.in-Next.ensures.write_stage _ refl ends));
+      write_stage = λ ends. c.steps.invariant.write_stage (c.in-Next.ensures.write_stage _ refl ends);
       knows = knows_on _ _ _ c.steps.invariant.knows c.take_step.ensures.knows;
     }
 
@@ -32,5 +36,8 @@ returns-in_default g c = record {
   written = makes_last _ _ _ _ _ _ _ _ c.steps-test.true c.steps.invariant.makes c.take_step.ensures.written;
   answers = omega (arith, c.steps.invariant.lines, c.take_step.ensures.answers, one_line c.take_step.result, c.steps-test.true);
   looked = looks_last _ _ _ c.take_step.new.buffers.lines.state c.steps-test.true c.steps.invariant.looks c.take_step.ensures.looked;
+  read_fault = λ ends. after_read g.R.Input.has_failed _ _ _ _ c.steps.invariant.read_fault (c.take_step.ensures.read_fault ends);
+  write_fault = λ ends. before_or _ _ _ c.steps.invariant.write_stage (c.take_step.ensures.write_fault ends);
+  write_stage = λ used is ends. c.steps.invariant.write_stage (c.take_step.ensures.write_stage used is ends);
   knows = knows_on _ _ _ c.steps.invariant.knows c.take_step.ensures.knows;
 }

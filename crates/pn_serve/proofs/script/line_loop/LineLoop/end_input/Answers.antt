@@ -5,6 +5,7 @@ use Rattle.pn_serve.specs.Lines.Going.{AnswersLast}
 use Rattle.pn_serve.specs.Lines.States.{LineLoopValue, LineStateValue}
 use Rattle.pn_serve.specs.Lines.Stepping.{by}
 use Rattle.pn_serve.specs.Lines.Taking.{Takes, TakesLine}
+use Rattle.pn_serve.proofs.Faults.{takes_on}
 use Rattle.pn_serve.proofs.Steps.{Steps-end, last_replied, none_is, part_is, part_kept, some_is}
 use Rattle.pn_serve.proofs.Writing.{waits_none}
 use Rattle.pn_serve.proofs.script.line_loop.LineLoop.end_input.Goals as goal
@@ -61,3 +62,6 @@ returns-clause-none g c =
     last_replied M.ends M.goes_last false c.args.machine.now c.answer_end-answer.new.self (let m : LineLoopValue = record old { line = so_far []; state = record old.state { last = true } } in m) new
     (subst (λ (b : Bool). TakesLine (AnswersLast M.ends M.goes_last) b c.args.machine.now [] c.answer_end-answer.new.self (let m : LineLoopValue = record old { line = so_far []; state = record old.state { last = true } } in m) new) is.0
     (subst (λ (r : LineLoopValue). TakesLine (AnswersLast M.ends M.goes_last) test c.args.machine.now [] c.answer_end-answer.new.self r new) mid_is (c.take_answer.ensures.last c.args.machine.now c.answer_end-answer.new.self [] answered)))
+
+pub returns-clause-faults : goal.returns-clause-faults
+returns-clause-faults g c = λ fault ends. takes_on c.has_part-is_line.result _ c.take_answer.new.self fault c.take_answer.ensures.takes ends

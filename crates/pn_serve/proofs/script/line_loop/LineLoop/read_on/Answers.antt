@@ -2,7 +2,7 @@
 use Rattle.std.proofs.Common.{◌≡◌, length, true, false, refl, sym, ap, ◌∙◌, subst, arith}
 use Rattle.std.specs.Prelude.{Ok}
 use Rattle.pn_serve.specs.declared.script.Counts.{Counts}
-use Rattle.pn_serve.specs.declared.script.RunFault.TheVariants.{Read, TooManyTurns}
+use Rattle.pn_serve.specs.declared.script.RunFault.TheVariants.{Read, TooManyTurns, Write}
 use Rattle.pn_serve.specs.declared.script.line_loop.steps.Step.{Step}
 use Rattle.pn_serve.specs.declared.script.line_loop.steps.Step.TheVariants.{Next}
 use Rattle.pn_serve.specs.Lines.Bounds.{ReadsOn}
@@ -11,6 +11,7 @@ use Rattle.pn_serve.specs.Lines.States.{LineLoopValue}
 use Rattle.pn_serve.specs.Lines.Stepping.{Stands, StepsTo, by, with_rest}
 use Rattle.pn_serve.proofs.Knowing.{knows_itself}
 use Rattle.pn_serve.proofs.Bounded.{counts_nothing, sends_counted, some_rest, waits_counted}
+use Rattle.pn_serve.proofs.Faults.{ends_by_found, no_read, no_write, read_no_write, sends_failed, sends_next_on, sends_no_read, waits_failed, waits_no_next, waits_no_read}
 use Rattle.pn_serve.proofs.Made.{makes_none, makes_unwritten}
 use Rattle.pn_serve.proofs.Measured.{fault_nearer, out_nearer, waits_nearer}
 use Rattle.pn_serve.proofs.Standing.{Keeps-rest, Steps-put_out, Steps-waited}
@@ -195,3 +196,78 @@ returns-in-Ok-true-clause-looked g c = ap (λ (r : LineLoopValue). r.state.looke
 
 pub returns-in-Err-clause-looked : goal.returns-in-Err-clause-looked
 returns-in-Err-clause-looked g c = ap (λ (r : LineLoopValue). r.state.looked) c.end_reading-in-Err.ensures.ends
+
+pub returns-then-not-is_out-clause-read_fault : goal.returns-then-not-is_out-clause-read_fault
+returns-then-not-is_out-clause-read_fault g c =
+    let before = g.W.Sink.contents c.args.output.now in
+    let after = g.W.Sink.contents c.put_out.new.output in
+    λ ends. absurd (sends_no_read c.args.self.now c.put_out.new.self before after c.requires.reading c.put_out.result c.put_out.ensures.sends ends)
+
+pub returns-then-not-is_out-clause-write_fault : goal.returns-then-not-is_out-clause-write_fault
+returns-then-not-is_out-clause-write_fault g c =
+    let before = g.W.Sink.contents c.args.output.now in
+    let after = g.W.Sink.contents c.put_out.new.output in
+    λ ends. sends_failed c.args.self.now c.put_out.new.self before after c.requires.reading (g.W.Sink.has_failed c.put_out.new.output) c.put_out.result c.put_out.ensures.failed c.put_out.ensures.sends ends
+
+pub returns-then-len-ge-ENDLESS-clause-read_fault : goal.returns-then-len-ge-ENDLESS-clause-read_fault
+returns-then-len-ge-ENDLESS-clause-read_fault g c =
+    λ ends. absurd (no_read (ends_by_found Read TooManyTurns c.end_reading.new.self c.end_reading.result c.end_reading.ensures.step (ap (λ (r : LineLoopValue). r.state.stage) c.end_reading.ensures.ends) ends))
+
+pub returns-then-len-ge-ENDLESS-clause-write_fault : goal.returns-then-len-ge-ENDLESS-clause-write_fault
+returns-then-len-ge-ENDLESS-clause-write_fault g c =
+    λ ends. absurd (no_write (ends_by_found Write TooManyTurns c.end_reading.new.self c.end_reading.result c.end_reading.ensures.step (ap (λ (r : LineLoopValue). r.state.stage) c.end_reading.ensures.ends) ends))
+
+pub returns-in-Ok-true-clause-read_fault : goal.returns-in-Ok-true-clause-read_fault
+returns-in-Ok-true-clause-read_fault g c =
+    λ ends.
+    absurd (no_read (ends_by_found Read TooManyTurns c.end_reading-in-Ok-true.new.self c.end_reading-in-Ok-true.result c.end_reading-in-Ok-true.ensures.step (ap (λ (r : LineLoopValue). r.state.stage) c.end_reading-in-Ok-true.ensures.ends) ends))
+
+pub returns-in-Ok-true-clause-write_fault : goal.returns-in-Ok-true-clause-write_fault
+returns-in-Ok-true-clause-write_fault g c =
+    λ ends.
+    absurd (no_write (ends_by_found Write TooManyTurns c.end_reading-in-Ok-true.new.self c.end_reading-in-Ok-true.result c.end_reading-in-Ok-true.ensures.step (ap (λ (r : LineLoopValue). r.state.stage) c.end_reading-in-Ok-true.ensures.ends) ends))
+
+pub returns-in-Err-clause-read_fault : goal.returns-in-Err-clause-read_fault
+returns-in-Err-clause-read_fault g c = λ ends. c.in-Err.ensures.fault
+
+pub returns-in-Err-clause-write_fault : goal.returns-in-Err-clause-write_fault
+returns-in-Err-clause-write_fault g c =
+    λ ends.
+    absurd (read_no_write (ends_by_found Write Read c.end_reading-in-Err.new.self c.end_reading-in-Err.result c.end_reading-in-Err.ensures.step (ap (λ (r : LineLoopValue). r.state.stage) c.end_reading-in-Err.ensures.ends) ends))
+
+pub returns-in-Ok-false-clause-read_fault : goal.returns-in-Ok-false-clause-read_fault
+returns-in-Ok-false-clause-read_fault g c =
+    let before = g.W.Sink.contents c.args.output.now in
+    let after = g.W.Sink.contents c.wait_for_input.new.output in
+    λ ends. absurd (waits_no_read c.args.self.now c.wait_for_input.new.self before after c.requires.reading c.wait_for_input.result c.wait_for_input.ensures.waits ends)
+
+pub returns-in-Ok-false-clause-write_fault : goal.returns-in-Ok-false-clause-write_fault
+returns-in-Ok-false-clause-write_fault g c =
+    let before = g.W.Sink.contents c.args.output.now in
+    let after = g.W.Sink.contents c.wait_for_input.new.output in
+    λ ends.
+    waits_failed c.args.self.now c.wait_for_input.new.self before after c.requires.reading (g.W.Sink.has_failed c.wait_for_input.new.output) c.wait_for_input.result c.wait_for_input.ensures.failed c.wait_for_input.ensures.waits ends
+
+pub returns-then-not-is_out-clause-write_stage : goal.returns-then-not-is_out-clause-write_stage
+returns-then-not-is_out-clause-write_stage g c =
+    let before = g.W.Sink.contents c.args.output.now in
+    let after = g.W.Sink.contents c.put_out.new.output in
+    λ units is ends. sends_next_on c.args.self.now c.put_out.new.self before after c.requires.reading Write c.put_out.result c.put_out.ensures.sends units is ends
+
+pub returns-then-len-ge-ENDLESS-clause-write_stage : goal.returns-then-len-ge-ENDLESS-clause-write_stage
+returns-then-len-ge-ENDLESS-clause-write_stage g c =
+    λ units is ends. no_write (ends_by_found Write TooManyTurns c.end_reading.new.self (Next 0) refl (ap (λ (r : LineLoopValue). r.state.stage) c.end_reading.ensures.ends) ends)
+
+pub returns-in-Ok-true-clause-write_stage : goal.returns-in-Ok-true-clause-write_stage
+returns-in-Ok-true-clause-write_stage g c =
+    λ units is ends. no_write (ends_by_found Write TooManyTurns c.end_reading-in-Ok-true.new.self (Next 0) refl (ap (λ (r : LineLoopValue). r.state.stage) c.end_reading-in-Ok-true.ensures.ends) ends)
+
+pub returns-in-Err-clause-write_stage : goal.returns-in-Err-clause-write_stage
+returns-in-Err-clause-write_stage g c =
+    λ units is ends. read_no_write (ends_by_found Write Read c.end_reading-in-Err.new.self (Next 0) refl (ap (λ (r : LineLoopValue). r.state.stage) c.end_reading-in-Err.ensures.ends) ends)
+
+pub returns-in-Ok-false-clause-write_stage : goal.returns-in-Ok-false-clause-write_stage
+returns-in-Ok-false-clause-write_stage g c =
+    let before = g.W.Sink.contents c.args.output.now in
+    let after = g.W.Sink.contents c.wait_for_input.new.output in
+    λ units is ends. waits_no_next c.args.self.now c.wait_for_input.new.self before after c.wait_for_input.result c.wait_for_input.ensures.waits units is

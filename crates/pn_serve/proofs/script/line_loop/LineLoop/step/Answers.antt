@@ -1,17 +1,20 @@
 -- A step writes, reads, goes on with a look, or ends.
-use Rattle.std.proofs.Common.{◌≡◌, ◌≢◌, ◌+◌, ◌*◌, ◌<◌, ◌≤◌, ℕ, length, true, [], inr, refl, sym, ap, ◌∙◌, subst, arith}
+use Rattle.std.proofs.Common.{◌≡◌, ◌≢◌, ◌⊎◌, ◌+◌, ◌*◌, ◌<◌, ◌≤◌, ℕ, length, true, [], inl, inr, refl, sym, ap, ◌∙◌, subst, arith}
 use Rattle.pn_line.specs.Line.{LineBufferValue}
 use Rattle.pn_serve.specs.declared.script.replies.TheConstants.{REPLY_CAPACITY}
+use Rattle.pn_serve.specs.declared.script.RunFault.TheVariants.{Read, Write}
 use Rattle.pn_serve.specs.declared.script.line_loop.state.Stage.{Stage}
 use Rattle.pn_serve.specs.declared.script.line_loop.state.Stage.TheVariants.{Reading, Looking, Ending}
 use Rattle.pn_serve.specs.Lines.Bounds.{CountsStages, CountsUnits, Foresees, ForeseesAt, HandsOnAtMost, IsLookingAt, IsOutAs, KeepsLine, ReadsOn}
 use Rattle.pn_serve.specs.declared.sessions.going.Going.{Going}
+use Rattle.pn_serve.specs.Lines.Faults.{EndsByAt}
 use Rattle.pn_serve.specs.Lines.Going.{AnswersLast, AnswersWith}
 use Rattle.pn_serve.specs.Lines.Made.{MakesAtMost, made_by, made_in}
 use Rattle.pn_serve.specs.Lines.States.{LineLoopValue, LineStateValue, with_looked}
 use Rattle.pn_serve.specs.Lines.Stepping.{Stands, StandsAt, by, with_rest}
 use Rattle.pn_serve.specs.Lines.Taking.{EndsTo, Takes, TakesLine}
 use Rattle.pn_serve.proofs.Bounded.{counts_nothing, ends_counted, ends_foresees, ends_idle, ends_no_input, sends_foresees, takes_foresees, takes_grows, takes_line, takes_lines, takes_out}
+use Rattle.pn_serve.proofs.Faults.{ends_no_turn, ends_read, ends_write, sends_next, sends_read, sends_write, takes_on}
 use Rattle.pn_serve.proofs.Knowing.{knows_itself}
 use Rattle.pn_serve.proofs.Looked.{same_look}
 use Rattle.pn_serve.proofs.Made.{makes_none, makes_unwritten}
@@ -353,3 +356,72 @@ pub returns-in-Ending-clause-counts : goal.returns-in-Ending-clause-counts
 returns-in-Ending-clause-counts g c =
     let ending = sym (ap (λ (r : LineLoopValue). r.state.stage) c.self.view_is) ∙ sym c.take_stage.ensures.stage ∙ c.in-Ending.is in
     λ going is made. absurd (subst IsLookingAt (sym is ∙ ending) tt)
+
+pub returns-then-has_text-clause-read_fault : goal.returns-then-has_text-clause-read_fault
+returns-then-has_text-clause-read_fault g c =
+    let before = g.W.Sink.contents c.args.output.now in
+    let after = g.W.Sink.contents c.write_on.new.output in
+    λ ends. inl (sends_read c.args.self.now c.write_on.new.self before after c.write_on.result c.write_on.ensures.sends ends)
+
+pub returns-then-has_text-clause-write_fault : goal.returns-then-has_text-clause-write_fault
+returns-then-has_text-clause-write_fault g c =
+    let before = g.W.Sink.contents c.args.output.now in
+    let after = g.W.Sink.contents c.write_on.new.output in
+    λ ends. sends_write c.args.self.now c.write_on.new.self before after (g.W.Sink.has_failed c.write_on.new.output) c.write_on.result c.write_on.ensures.failed c.write_on.ensures.sends ends
+
+pub returns-in-Reading-clause-read_fault : goal.returns-in-Reading-clause-read_fault
+returns-in-Reading-clause-read_fault g c = λ ends. inr (c.read_on.ensures.read_fault ends)
+
+pub returns-in-Reading-clause-write_fault : goal.returns-in-Reading-clause-write_fault
+returns-in-Reading-clause-write_fault g c = λ ends. inr (c.read_on.ensures.write_fault ends)
+
+pub returns-in-Looking-clause-read_fault : goal.returns-in-Looking-clause-read_fault
+returns-in-Looking-clause-read_fault g c = λ ends. absurd (takes_on true _ c.look_on.new.self Read c.look_on.ensures.takes ends)
+
+pub returns-in-Looking-clause-write_fault : goal.returns-in-Looking-clause-write_fault
+returns-in-Looking-clause-write_fault g c = λ ends. absurd (takes_on true _ c.look_on.new.self Write c.look_on.ensures.takes ends)
+
+pub returns-in-Ending-clause-read_fault : goal.returns-in-Ending-clause-read_fault
+returns-in-Ending-clause-read_fault g c =
+    let old = c.args.self.now in
+    let new = c.end_once_out.new.self in
+    let ended = c.in-Ending.ended in
+    let before = g.W.Sink.contents c.args.output.now in
+    let after = g.W.Sink.contents c.end_once_out.new.output in
+    let mid : LineLoopValue = record old { state = record old.state { stage = Reading } } in
+    let mid_is = taken_reads c.self.inside.line c.self.inside.replies c.self.inside.state c.take_stage.new.self old c.take_stage.ensures.reads c.self.view_is in
+    let ending : old.state.stage ≡ Ending ended = sym (ap (λ (r : LineLoopValue). r.state.stage) c.self.view_is) ∙ sym c.take_stage.ensures.stage ∙ c.in-Ending.is in
+    let ends : EndsTo ended mid before new after c.end_once_out.result = subst (λ (r : LineLoopValue). EndsTo ended r before new after c.end_once_out.result) mid_is c.end_once_out.ensures.ends in
+    λ found. inl (subst (λ (s : Stage). EndsByAt Read s) (sym ending) (ends_read mid new before after ended c.end_once_out.result ends found))
+
+pub returns-in-Ending-clause-write_fault : goal.returns-in-Ending-clause-write_fault
+returns-in-Ending-clause-write_fault g c =
+    let old = c.args.self.now in
+    let new = c.end_once_out.new.self in
+    let ended = c.in-Ending.ended in
+    let before = g.W.Sink.contents c.args.output.now in
+    let after = g.W.Sink.contents c.end_once_out.new.output in
+    let mid : LineLoopValue = record old { state = record old.state { stage = Reading } } in
+    let mid_is = taken_reads c.self.inside.line c.self.inside.replies c.self.inside.state c.take_stage.new.self old c.take_stage.ensures.reads c.self.view_is in
+    let ending : old.state.stage ≡ Ending ended = sym (ap (λ (r : LineLoopValue). r.state.stage) c.self.view_is) ∙ sym c.take_stage.ensures.stage ∙ c.in-Ending.is in
+    let ends : EndsTo ended mid before new after c.end_once_out.result = subst (λ (r : LineLoopValue). EndsTo ended r before new after c.end_once_out.result) mid_is c.end_once_out.ensures.ends in
+    let failed = g.W.Sink.has_failed c.end_once_out.new.output in
+    λ found. subst (λ (s : Stage). EndsByAt Write s ⊎ failed) (sym ending) (ends_write mid new before after ended failed c.end_once_out.result c.end_once_out.ensures.failed ends found)
+
+pub returns-then-has_text-clause-write_stage : goal.returns-then-has_text-clause-write_stage
+returns-then-has_text-clause-write_stage g c =
+    let before = g.W.Sink.contents c.args.output.now in
+    let after = g.W.Sink.contents c.write_on.new.output in
+    λ units is ends. sends_next c.args.self.now c.write_on.new.self before after Write c.write_on.result c.write_on.ensures.sends units is ends
+
+pub returns-in-Reading-clause-write_stage : goal.returns-in-Reading-clause-write_stage
+returns-in-Reading-clause-write_stage g c = λ units is ends. absurd (c.read_on.ensures.write_stage units is ends)
+
+pub returns-in-Looking-clause-write_stage : goal.returns-in-Looking-clause-write_stage
+returns-in-Looking-clause-write_stage g c = λ units is ends. absurd (takes_on true _ c.look_on.new.self Write c.look_on.ensures.takes ends)
+
+pub returns-in-Ending-clause-write_stage : goal.returns-in-Ending-clause-write_stage
+returns-in-Ending-clause-write_stage g c =
+    let before = g.W.Sink.contents c.args.output.now in
+    let after = g.W.Sink.contents c.end_once_out.new.output in
+    λ units is ends. absurd (ends_no_turn _ c.end_once_out.new.self before after c.in-Ending.ended c.end_once_out.result c.end_once_out.ensures.ends units is)

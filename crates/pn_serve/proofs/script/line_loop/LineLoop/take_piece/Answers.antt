@@ -6,7 +6,7 @@ use Rattle.pn_line.specs.declared.piece.Piece.{Piece}
 use Rattle.pn_line.specs.declared.piece.Piece.TheVariants.{Ended}
 use Rattle.pn_line.specs.Line.{LineBufferValue, so_far}
 use Rattle.pn_line.specs.Reads.{HasMore, HasShown, Takes as ReadTakes, newline_after}
-use Rattle.pn_serve.specs.declared.script.RunFault.TheVariants.{Read}
+use Rattle.pn_serve.specs.declared.script.RunFault.TheVariants.{Read, Write}
 use Rattle.pn_serve.specs.declared.script.line_loop.state.Stage.TheVariants.{Ending}
 use Rattle.pn_serve.specs.declared.script.line_loop.steps.Step.{Step}
 use Rattle.pn_serve.specs.declared.script.line_loop.steps.Step.TheVariants.{Next}
@@ -18,6 +18,7 @@ use Rattle.pn_serve.specs.Lines.Stepping.{Stands, StepsTo, by, with_rest}
 use Rattle.pn_serve.specs.Lines.Taking.{Takes, TakesLine, WaitsTo}
 use Rattle.pn_serve.proofs.Knowing.{knows_itself}
 use Rattle.pn_serve.proofs.Bounded.{counts_nothing, shown_rest, takes_looked, waits_counted}
+use Rattle.pn_serve.proofs.Faults.{ends_by_found, read_no_write, reads_on, takes_on, waits_failed, waits_no_next, waits_no_read}
 use Rattle.pn_serve.proofs.Made.{makes_none, makes_unwritten}
 use Rattle.pn_serve.proofs.Measured.{answer_nearer, fault_nearer, part_nearer, waits_nearer}
 use Rattle.pn_serve.proofs.Standing.{Keeps-rest, Steps-waited, Takes-rest}
@@ -198,3 +199,58 @@ returns-in-Ok-NoMore-clause-looked g c = c.wait_for_input.ensures.same.looked �
 
 pub returns-in-Err-clause-looked : goal.returns-in-Err-clause-looked
 returns-in-Err-clause-looked g c = ap (λ (r : LineLoopValue). r.state.looked) c.end_reading.ensures.ends ∙ ap (λ (r : LineLoopValue). r.state.looked) c.self.view_is
+
+pub returns-in-Ok-Part-clause-read_fault : goal.returns-in-Ok-Part-clause-read_fault
+returns-in-Ok-Part-clause-read_fault g c = λ ends. absurd (reads_on Read c.self.inside.state.stage (ap (λ (r : LineLoopValue). r.state.stage) c.self.view_is ∙ c.requires.reading) ends)
+
+pub returns-in-Ok-Part-clause-write_fault : goal.returns-in-Ok-Part-clause-write_fault
+returns-in-Ok-Part-clause-write_fault g c = λ ends. absurd (reads_on Write c.self.inside.state.stage (ap (λ (r : LineLoopValue). r.state.stage) c.self.view_is ∙ c.requires.reading) ends)
+
+pub returns-in-Ok-Ended-clause-read_fault : goal.returns-in-Ok-Ended-clause-read_fault
+returns-in-Ok-Ended-clause-read_fault g c = λ ends. absurd (takes_on true _ c.answer.new.self Read c.answer.ensures.takes ends)
+
+pub returns-in-Ok-Ended-clause-write_fault : goal.returns-in-Ok-Ended-clause-write_fault
+returns-in-Ok-Ended-clause-write_fault g c = λ ends. absurd (takes_on true _ c.answer.new.self Write c.answer.ensures.takes ends)
+
+pub returns-in-Ok-NoMore-clause-read_fault : goal.returns-in-Ok-NoMore-clause-read_fault
+returns-in-Ok-NoMore-clause-read_fault g c =
+    let before = g.W.Sink.contents c.args.output.now in
+    let after = g.W.Sink.contents c.wait_for_input.new.output in
+    let new = c.wait_for_input.new.self in
+    let line = c.take_some.new.line in
+    let mid : LineLoopValue = record c.args.self.now { line = line } in
+    let waits = subst (λ (r : LineLoopValue). WaitsTo (let m : LineLoopValue = record r { line = line } in m) before new after c.wait_for_input.result) c.self.view_is c.wait_for_input.ensures.waits in
+    λ ends. absurd (waits_no_read mid new before after c.requires.reading c.wait_for_input.result waits ends)
+
+pub returns-in-Ok-NoMore-clause-write_fault : goal.returns-in-Ok-NoMore-clause-write_fault
+returns-in-Ok-NoMore-clause-write_fault g c =
+    let before = g.W.Sink.contents c.args.output.now in
+    let after = g.W.Sink.contents c.wait_for_input.new.output in
+    let new = c.wait_for_input.new.self in
+    let line = c.take_some.new.line in
+    let mid : LineLoopValue = record c.args.self.now { line = line } in
+    let waits = subst (λ (r : LineLoopValue). WaitsTo (let m : LineLoopValue = record r { line = line } in m) before new after c.wait_for_input.result) c.self.view_is c.wait_for_input.ensures.waits in
+    λ ends. waits_failed mid new before after c.requires.reading (g.W.Sink.has_failed c.wait_for_input.new.output) c.wait_for_input.result c.wait_for_input.ensures.failed waits ends
+
+pub returns-in-Err-clause-read_fault : goal.returns-in-Err-clause-read_fault
+returns-in-Err-clause-read_fault g c = λ ends. c.in-Err.ensures.fault
+
+pub returns-in-Err-clause-write_fault : goal.returns-in-Err-clause-write_fault
+returns-in-Err-clause-write_fault g c =
+    λ ends. absurd (read_no_write (ends_by_found Write Read c.end_reading.new.self c.end_reading.result c.end_reading.ensures.step (ap (λ (r : LineLoopValue). r.state.stage) c.end_reading.ensures.ends) ends))
+
+pub returns-in-Ok-Part-clause-write_stage : goal.returns-in-Ok-Part-clause-write_stage
+returns-in-Ok-Part-clause-write_stage g c = λ units is ends. reads_on Write c.self.inside.state.stage (ap (λ (r : LineLoopValue). r.state.stage) c.self.view_is ∙ c.requires.reading) ends
+
+pub returns-in-Ok-Ended-clause-write_stage : goal.returns-in-Ok-Ended-clause-write_stage
+returns-in-Ok-Ended-clause-write_stage g c = λ units is ends. takes_on true _ c.answer.new.self Write c.answer.ensures.takes ends
+
+pub returns-in-Ok-NoMore-clause-write_stage : goal.returns-in-Ok-NoMore-clause-write_stage
+returns-in-Ok-NoMore-clause-write_stage g c =
+    let before = g.W.Sink.contents c.args.output.now in
+    let after = g.W.Sink.contents c.wait_for_input.new.output in
+    λ units is ends. waits_no_next _ c.wait_for_input.new.self before after c.wait_for_input.result c.wait_for_input.ensures.waits units is
+
+pub returns-in-Err-clause-write_stage : goal.returns-in-Err-clause-write_stage
+returns-in-Err-clause-write_stage g c =
+    λ units is ends. read_no_write (ends_by_found Write Read c.end_reading.new.self (Next 0) refl (ap (λ (r : LineLoopValue). r.state.stage) c.end_reading.ensures.ends) ends)
