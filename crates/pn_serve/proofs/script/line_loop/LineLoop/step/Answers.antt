@@ -422,6 +422,12 @@ returns-in-Looking-clause-write_stage g c = λ units is ends. absurd (takes_on t
 
 pub returns-in-Ending-clause-write_stage : goal.returns-in-Ending-clause-write_stage
 returns-in-Ending-clause-write_stage g c =
+    let old = c.args.self.now in
+    let new = c.end_once_out.new.self in
+    let ended = c.in-Ending.ended in
     let before = g.W.Sink.contents c.args.output.now in
     let after = g.W.Sink.contents c.end_once_out.new.output in
-    λ units is ends. absurd (ends_no_turn _ c.end_once_out.new.self before after c.in-Ending.ended c.end_once_out.result c.end_once_out.ensures.ends units is)
+    let mid : LineLoopValue = record old { state = record old.state { stage = Reading } } in
+    let mid_is = taken_reads c.self.inside.line c.self.inside.replies c.self.inside.state c.take_stage.new.self old c.take_stage.ensures.reads c.self.view_is in
+    let ends : EndsTo ended mid before new after c.end_once_out.result = subst (λ (r : LineLoopValue). EndsTo ended r before new after c.end_once_out.result) mid_is c.end_once_out.ensures.ends in
+    λ units is found. absurd (ends_no_turn mid new before after ended c.end_once_out.result ends units is)
