@@ -37,10 +37,12 @@ pub reads_bytes : {E : Type 0} (result : Result ℕ E) (old new : List (List ℕ
 reads_bytes (Ok count) old new buf now Waits is copied left comes waits =
     let few : count ≤ length (first_piece old) = omega (arith, is, min-le_left (length (first_piece old)) (length buf)) in
     let source : bytes_of old ≡ take count now ++ bytes_of new =
-        bytes_after count old few ∙ ap (λ (l : List ℕ). l ++ bytes_of (pieces_after count old)) (sym (copied_front count (first_piece old) (drop count buf) now few copied))
-        ∙ ap (λ (p : List (List ℕ)). take count now ++ bytes_of p) (sym left) in
-    (source, λ none room.
-        let same : length now ≡ length buf = ap length (copied ∙ ap (λ (n : ℕ). take n (first_piece old) ++ drop n buf) none) in
-        let empty : length (first_piece old) ≡ 0 = omega (arith, is, none, room, same) in
-        ap bytes_of left ∙ none_left count old comes empty)
+    bytes_after count old few ∙ ap (λ (l : List ℕ). l ++ bytes_of (pieces_after count old)) (sym (copied_front count (first_piece old) (drop count buf) now few copied))
+    ∙ ap (λ (p : List (List ℕ)). take count now ++ bytes_of p) (sym left) in (
+      source,
+      λ none room.
+          let same : length now ≡ length buf = ap length (copied ∙ ap (λ (n : ℕ). take n (first_piece old) ++ drop n buf) none) in
+          let empty : length (first_piece old) ≡ 0 = omega (arith, is, none, room, same) in
+          ap bytes_of left ∙ none_left count old comes empty,
+    )
 reads_bytes (Err error) old new buf now Waits is copied left comes waits = sym (ap bytes_of waits.1)

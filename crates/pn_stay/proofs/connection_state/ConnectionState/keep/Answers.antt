@@ -6,6 +6,8 @@ use Rattle.pn_stay.proofs.connection_state.ConnectionState.keep.Goals as goal
 
 pub returns : goal.returns
 returns c =
-    let taken : IsTrue c.keep_replies.result = search rules in
-    (refl, kept_input (in_buffers c.args.buffers.now) _ c.begin_unless_reading.new.self c.begin_unless_reading.ensures.reading c.begin_unless_reading.ensures.begun c.in-Ok.ensures.same
-        (c.swap_state.ensures.given ∙ c.keep_replies.ensures.state ∙ c.in-Ok.ensures.kept) (c.keep_replies.ensures.kept taken ∙ c.in-Ok.ensures.replies))
+    let taken : IsTrue c.keep_replies.result = search rules in (
+      refl,
+      kept_input (in_buffers c.args.buffers.now) _ c.begin_unless_reading.new.self c.begin_unless_reading.ensures.reading c.begin_unless_reading.ensures.begun c.in-Ok.ensures.same
+          (c.swap_state.ensures.given ∙ c.keep_replies.ensures.state ∙ c.in-Ok.ensures.kept) (c.keep_replies.ensures.kept taken ∙ c.in-Ok.ensures.replies),
+    )
