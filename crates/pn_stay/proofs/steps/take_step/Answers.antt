@@ -1,5 +1,5 @@
 -- The loop steps, and reads where no input is at hand.
-use Rattle.std.proofs.Common.{inl, inr, refl, arith}
+use Rattle.std.proofs.Common.{inr, refl, arith}
 use Rattle.pn_serve.specs.declared.script.RunFault.TheVariants.{Write}
 use Rattle.pn_serve.proofs.Knowing.{knows_on}
 use Rattle.pn_stay.proofs.Coming.{waits_well}
