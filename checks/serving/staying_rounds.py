@@ -2,6 +2,7 @@
 import os
 import re
 import time
+from collections.abc import Callable
 
 from common.served import Client, Served, message, row_of, same, written
 from faults.preloaded import Watched
@@ -63,6 +64,15 @@ def wide_streams(folder: str) -> list[tuple[str, str]]:
     return [(name, written(folder, name, b"".join(line % (at, name.encode(), at) for at in range(1, WIDE + 1)))) for name in NAMES]
 
 
+def settled(count: Callable[[], int]) -> int:
+    """A count that has not changed for a tenth of a second: a region answers before the last of its own threads has started."""
+    found, looks = count(), 0
+    while looks < 10:
+        time.sleep(0.01)
+        found, looks = (found, looks + 1) if count() == found else (count(), 0)
+    return found
+
+
 def threads_started(program: str, folder: str, streams: list[tuple[str, str]], workers: int, stays: bool) -> int:
     """How many threads have started once all streams were taken."""
     watched = Watched(folder)
@@ -73,7 +83,7 @@ def threads_started(program: str, folder: str, streams: list[tuple[str, str]], w
     with serving as region, Client(region.port) as client:
         wanted = [bool(os.path.getsize(path)) for _, path in streams]
         until("the last record of each stream is there", lambda: [row is not None for row in client.ask(last)["rows"]] == wanted)
-        found = watched.threads()
+        found = settled(watched.threads)
     os.remove(watched.noted)
     return found
 
