@@ -8,7 +8,7 @@ import time
 from common.served import SECONDS, Json, same
 from faults.refusing import Refusals
 from serving.controlled import Session, adoption
-from serving.staying import Staying
+from serving.staying import Staying, until
 from serving.writers import Writer
 
 # Refusals after which a line is asked again.
@@ -17,7 +17,8 @@ FENCE, AT_FENCE = b" " * 65_537 + b"\n", b'{"error":"too-long"}\n'
 # What a program may say, and still go on; and why it may not start.
 ROUND_FAILED = b"pnuts: round failed"
 GOES_ON = (ROUND_FAILED, b"pnuts: stream east failed", b"pnuts: stream east ended", b"pnuts: stream east begins again",
-           b"pnuts: cannot accept", b"pnuts: 1 lines were dropped")
+           b"pnuts: cannot accept", b"pnuts: 1 lines were dropped", b"pnuts: out of memory: a stream waits", b"pnuts: streams go on",
+           b"pnuts: out of memory: a round waits", b"pnuts: rounds go on")
 STARTS_NOT = (b"pnuts: memory", b"pnuts: cannot start", b"pnuts: cannot listen", b"pnuts: cannot open east")
 KEYS = ("a", "b", "x", "y")
 MESSAGES = b"".join(b'{"at":%d,"image":{"fields":{"v":"1"},"key":"%b","master":"w","version":[1,0]}}\n' % (at, key.encode())
@@ -86,7 +87,7 @@ def give(region: Staying, path: str, asking: Asking) -> bool:
         with contextlib.suppress(OSError, ValueError), Writer(path) as writer:
             writer.socket.settimeout(PATIENCE)
             if writer.begin() == len(KEYS):
-                same("marks", asking.told(do="marks"), {"marks": {"east": len(KEYS)}})
+                until("the marks are those of all messages", lambda: asking.told(do="marks") == {"marks": {"east": len(KEYS)}})
                 return True
             writer.send(MESSAGES)
             while line := writer.line():

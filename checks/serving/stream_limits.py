@@ -86,8 +86,13 @@ def take_up_to(writer: Writer, last: int) -> None:
         pass
 
 
+def waiting_in(region: Staying) -> set[bytes]:
+    """What it has told of that waited for memory: a stream, or a round."""
+    return set(re.findall(rb"pnuts: out of memory: a (\w+) waits\n", region.said()))
+
+
 def check_little_memory(program: str, folder: str) -> None:
-    """Where no memory is left a stream waits, what was taken is shown, and once there is some the same writer is read on."""
+    """Where no memory is left a stream or a round waits, what was taken is shown, and once there is some the same writer is read on."""
     (path, west), (at, east) = made(folder, "west"), socket_in(folder)
     with Staying(program, folder, [east, west], threads=2) as region, Client(region.port) as client:
         with open(path, "wb", buffering=0) as pipe:
@@ -98,12 +103,12 @@ def check_little_memory(program: str, folder: str) -> None:
             filling = threading.Thread(target=fill, args=(writer,), daemon=True)
             with little_memory(region):
                 filling.start()
-                region.wait_for_words(b"pnuts: out of memory: a stream waits\n")
+                until("a stream or a round waits", lambda: waiting_in(region) != set())
                 same("a record that is there", client.read(key_of(1)), {"row": row_of(key_of(1), 0, "x")})
                 time.sleep(LOOKED)
                 same("whether the writer still waits", filling.is_alive(), True)
             take_up_to(writer, FILLED)
-            region.wait_for_words(b"pnuts: streams go on\n")
+            until("what waited goes on", lambda: all(b"pnuts: %bs go on\n" % what in region.said() for what in waiting_in(region)))
         with open(path, "wb", buffering=0) as pipe:
             pipe.write(messages(2, 1))
         client.wait_for(key_of(2), row_of(key_of(2), 0, "x"))
