@@ -131,13 +131,13 @@ fn read_chunks<R: Threads>(
     }
     let (low, high) = text.split_at(last_chunk_at(text, chunks));
     let others = chunks - 1;
-    let front = || -> FirstLines
-        ensures { (result.taken ≤ length low.entry.now) × BeginsWith form.entry low.entry.now result.says.items (drop result.taken low.entry.now) }
-    { read_chunks(rt, alloc, form, low, others) };
     let back = || -> FirstLines
         ensures { (result.taken ≤ length high.entry.now) × BeginsWith form.entry high.entry.now result.says.items (drop result.taken high.entry.now) }
     { read_chunk(alloc, form, high) };
-    let (earlier, later) = join(rt, front, back);
+    let front = || -> FirstLines
+        ensures { (result.taken ≤ length low.entry.now) × BeginsWith form.entry low.entry.now result.says.items (drop result.taken low.entry.now) }
+    { read_chunks(rt, alloc, form, low, others) };
+    let (later, earlier) = join(rt, back, front);
     put_together(earlier, low.len(), later)
 }
 
