@@ -1,15 +1,16 @@
 -- What is read of a copy's lines in chunks is what is read of them one by one.
-use Rattle.std.proofs.Common.{◌≡◌, ℕ, suc, ◌+◌, ◌-◌, ◌<◌, ◌≤◌, List, [], ◌∷◌, ◌++◌, ◌⊎◌, inl, inr, length, drop, All, Result, Ok, Err, refl, sym, ap, ◌∙◌, subst, append_assoc, append-nil, length-append, arith, zero-add}
+use Rattle.std.proofs.Common.{◌≡◌, ℕ, suc, ◌+◌, ◌-◌, ◌≤◌, List, [], ◌∷◌, ◌++◌, ◌⊎◌, inl, inr, length, drop, All, Result, Ok, Err, refl, sym, ap, ◌∙◌, subst, append_assoc, append-nil, length-append, arith}
 use Rattle.std.proofs.Math.Seq.{drop-append_seam, drop-append-add}
-use Rattle.std.proofs.lemmas.List.{drop-append-le, drop_all, length-drop}
+use Rattle.std.proofs.lemmas.List.{drop-append-le, drop_all}
 use Rattle.std.proofs.lemmas.List.Elements.{All-head, All-tail, All-nil, All-cons, All-append}
 use Rattle.pn_line.specs.Reads.{IsUnbroken}
 use Rattle.pn_line.specs.Text.{text_of}
 use Rattle.pn_line.proofs.TextLaws.{text_of-nil, text_of-cons, text_of-append}
 use Rattle.pn_json.specs.Answers.{◌>>=◌}
+use Rattle.pn_tablet.specs.Copies.{TabletCopyValue}
 use Rattle.pn_tablet.specs.CopyChunks.{IsMarkOrImage, BeginsWith, AddsLine}
 use Rattle.pn_tablet.specs.CopyLines.{AreLines}
-use Rattle.pn_tablet.specs.CopyReading.{pieces_of, with_mark, with_image, with_line, with_lines, read_on}
+use Rattle.pn_tablet.specs.CopyReading.{pieces_of, with_line, with_lines, read_on}
 use Rattle.pn_tablet.specs.Drafts.{DraftValue}
 use Rattle.pn_tablet.specs.declared.form.Form.{Form}
 use Rattle.pn_tablet.specs.declared.copy_line.CopyLine.{CopyLine}
@@ -19,7 +20,7 @@ use Rattle.pn_tablet.specs.declared.fault.CopyTextFault.TheVariants.{BadLine}
 use Rattle.pn_tablet.proofs.CopyLineCounts.{as_many}
 use Rattle.pn_tablet.proofs.CopyPieces.{pieces_of-text, pieces_of-some}
 use Rattle.pn_tablet.proofs.CopyStarts.{some_then, text_cut}
-use Rattle.pn_tablet.proofs.CopySteps.{read_on-cons, then_ok}
+use Rattle.pn_tablet.proofs.CopySteps.{read_on-cons, then_ok, then_err}
 use Rattle.pn_tablet.proofs.CopyTextFacts.{joined, joined-cons, joined-pieces_of, unbroken-pieces_of}
 use Rattle.pn_tablet.proofs.CopyValues.{line_at-again}
 
@@ -50,36 +51,40 @@ with_lines-err n draft says more fault is = with_lines-cons n draft says more �
 
 -- the lines that say marks and images are read as these are added
 module _ (form : Form) (rest : List ℕ) where
-  pub lines_read : (lines : List (List ℕ)) (n : ℕ) (draft : DraftValue) (says : List CopyLine) → AreLines form lines says → All IsMarkOrImage says
-      → read_on form n draft (lines ++ pieces_of rest) ≡ (with_lines n draft says >>= (λ longer. read_on form (n + length says) longer (pieces_of rest)))
-
-  line_taken : (line : List ℕ) (lines : List (List ℕ)) (n : ℕ) (draft : DraftValue) (says : CopyLine) (more : List CopyLine) → AreLines form lines more → All IsMarkOrImage more
-      → read_on form n draft (line ∷ lines ++ pieces_of rest) ≡ (with_line n draft says >>= (λ longer. read_on form (n + 1) longer (lines ++ pieces_of rest)))
-      → read_on form n draft (line ∷ lines ++ pieces_of rest) ≡ (with_lines n draft (says ∷ more) >>= (λ longer. read_on form (n + length (says ∷ more)) longer (pieces_of rest)))
-  line_taken line lines n draft says more are kinds first =
+  line_taken : (line : List ℕ) (lines : List (List ℕ)) (n : ℕ) (draft : DraftValue) (says : CopyLine) (more : List CopyLine)
+      → read_on form n draft (line ∷ (lines ++ pieces_of rest)) ≡ (with_line n draft says >>= (λ longer. read_on form (n + 1) longer (lines ++ pieces_of rest)))
+      → ((longer : DraftValue) → read_on form (n + 1) longer (lines ++ pieces_of rest) ≡ (with_lines (n + 1) longer more >>= (λ last. read_on form (n + 1 + length more) last (pieces_of rest))))
+      → read_on form n draft (line ∷ (lines ++ pieces_of rest)) ≡ (with_lines n draft (says ∷ more) >>= (λ last. read_on form (n + suc (length more)) last (pieces_of rest)))
+  line_taken line lines n draft says more first later =
+      let next : DraftValue → Result TabletCopyValue CopyTextFault = λ longer. read_on form (n + 1) longer (lines ++ pieces_of rest) in
+      let end : DraftValue → Result TabletCopyValue CopyTextFault = λ last. read_on form (n + suc (length more)) last (pieces_of rest) in
       let number : n + 1 + length more ≡ n + suc (length more) = omega arith in
       first
-      ∙ then_same (with_line n draft says) _ _ (λ longer.
-      lines_read lines (n + 1) longer more are kinds
-      ∙ ap (λ m. with_lines (n + 1) longer more >>= (λ last. read_on form m last (pieces_of rest))) number)
-      ∙ sym (then_then (with_line n draft says) (λ longer. with_lines (n + 1) longer more) (λ longer. read_on form (n + suc (length more)) longer (pieces_of rest)))
-      ∙ ap (λ added. added >>= (λ longer. read_on form (n + suc (length more)) longer (pieces_of rest))) (sym (with_lines-cons n draft says more))
+      ∙ then_same (with_line n draft says) next (λ longer. with_lines (n + 1) longer more >>= end)
+      (λ longer. later longer ∙ ap (λ (m : ℕ). with_lines (n + 1) longer more >>= (λ last. read_on form m last (pieces_of rest))) number)
+      ∙ sym (then_then (with_line n draft says) (λ longer. with_lines (n + 1) longer more) end)
+      ∙ ap (λ (added : Result DraftValue CopyTextFault). added >>= end) (sym (with_lines-cons n draft says more))
+
+  pub lines_read : (lines : List (List ℕ)) (n : ℕ) (draft : DraftValue) (says : List CopyLine) → AreLines form lines says → All IsMarkOrImage says
+      → read_on form n draft (lines ++ pieces_of rest) ≡ (with_lines n draft says >>= (λ last. read_on form (n + length says) last (pieces_of rest)))
   lines_read [] n draft [] are kinds =
       let same : n ≡ n + 0 = omega arith in
-      ap (λ m. read_on form m draft (pieces_of rest)) same
-      ∙ ap (λ added. added >>= (λ longer. read_on form (n + 0) longer (pieces_of rest))) (sym (with_lines-nil n draft))
+      ap (λ (m : ℕ). read_on form m draft (pieces_of rest)) same
+      ∙ ap (λ (added : Result DraftValue CopyTextFault). added >>= (λ last. read_on form (n + 0) last (pieces_of rest))) (sym (with_lines-nil n draft))
   lines_read [] n draft (says ∷ more) are kinds = absurd are
   lines_read (line ∷ lines) n draft [] are kinds = absurd are
   lines_read (line ∷ lines) n draft (Mark name position ∷ more) are kinds =
       let (piece, others, some) = some_then lines rest in
-      line_taken line lines n draft (Mark name position) more are.1 (All-tail IsMarkOrImage (Mark name position) more kinds)
+      line_taken line lines n draft (Mark name position) more
       (read_on-cons form n draft line piece (lines ++ pieces_of rest) others some
       ∙ then_ok _ _ (Mark name position) (line_at-again (BadLine n) form line (Mark name position) are.0))
+      (λ longer. lines_read lines (n + 1) longer more are.1 (All-tail IsMarkOrImage (Mark name position) more kinds))
   lines_read (line ∷ lines) n draft (Record image ∷ more) are kinds =
       let (piece, others, some) = some_then lines rest in
-      line_taken line lines n draft (Record image) more are.1 (All-tail IsMarkOrImage (Record image) more kinds)
+      line_taken line lines n draft (Record image) more
       (read_on-cons form n draft line piece (lines ++ pieces_of rest) others some
       ∙ then_ok _ _ (Record image) (line_at-again (BadLine n) form line (Record image) are.0))
+      (λ longer. lines_read lines (n + 1) longer more are.1 (All-tail IsMarkOrImage (Record image) more kinds))
   lines_read (line ∷ lines) n draft (End count ∷ more) are kinds = absurd (All-head IsMarkOrImage (End count) more kinds)
 
 -- ---- the first lines of a text
@@ -96,6 +101,16 @@ module _ (form : Form) (text : List ℕ) (says : List CopyLine) (rest : List ℕ
   begun draft =
       ap (read_on form 2 draft) (ap pieces_of is.text_is ∙ pieces_of-text is.lines rest is.unbroken)
       ∙ lines_read form rest is.lines 2 draft says is.lines_are is.kinds
+
+  -- what the first lines say is added, and the reading goes on
+  pub taken_then : (draft longer : DraftValue) (number : ℕ) (after : List ℕ) → with_lines 2 draft says ≡ Ok longer → number ≡ 2 + length says → after ≡ rest → read_on form 2 draft (pieces_of text) ≡ read_on form number longer (pieces_of after)
+  taken_then draft longer number after added count same =
+      begun draft ∙ then_ok (with_lines 2 draft says) (λ last. read_on form (2 + length says) last (pieces_of rest)) longer added
+      ∙ (λ i. read_on form (sym count i) longer (pieces_of (sym same i)))
+
+  -- or one of them has a fault
+  pub refused_then : (draft : DraftValue) (fault : CopyTextFault) → with_lines 2 draft says ≡ Err fault → read_on form 2 draft (pieces_of text) ≡ Err fault
+  refused_then draft fault added = begun draft ∙ then_err (with_lines 2 draft says) (λ last. read_on form (2 + length says) last (pieces_of rest)) fault added
 
   -- each line takes a byte
   pub room : length says + length rest ≤ length text
@@ -178,9 +193,11 @@ pub put_together : (form : Form) (text low high : List ℕ) (one other all : Lis
     → first ≤ length low → BeginsWith form low one (drop first low) → second ≤ length high → BeginsWith form high other (drop second high)
     → ((all ≡ one) × (taken ≡ first)) ⊎ ((long ≤ first) × (all ≡ one ++ other) × (taken ≡ long + second))
     → (taken ≤ length text) × BeginsWith form text all (drop taken text)
-put_together form text low high one other all long first second taken whole count within front also back (inl alone) =
+put_together form text low high one other all long first second taken whole count within front also back result =
     let sum : length text ≡ length low + length high = ap length whole ∙ length-append low high in
-    (omega (arith, sum, within, alone.1), rw (whole, alone.0, alone.1) (first_alone form low high one other first within front))
-put_together form text low high one other all long first second taken whole count within front also back (inr both) =
-    let sum : length text ≡ length low + length high = ap length whole ∙ length-append low high in
-    (omega (arith, sum, also, count, both.2), rw (whole, both.1, both.2, count) (both_read form low high one other first second (omega (arith, both.0, count)) front back))
+    elim result [
+      | inl alone ↦ (omega (arith, sum, within, alone.1), rw (whole, alone.0, alone.1) (first_alone form low high one other first within front))
+      | inr both ↦
+          let (all_read, grown, at) = both in
+          (omega (arith, sum, also, count, at), rw (whole, grown, at, count) (both_read form low high one other first second (omega (arith, all_read, count)) front back))
+    ]

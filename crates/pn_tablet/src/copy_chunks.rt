@@ -132,10 +132,10 @@ fn read_chunks<R: Threads>(
     let (low, high) = text.split_at(last_chunk_at(text, chunks));
     let others = chunks - 1;
     let back = || -> FirstLines
-        ensures { (result.taken ≤ length high.entry.now) × BeginsWith form.entry high.entry.now result.says.items (drop result.taken high.entry.now) }
+        ensures { (result.taken ≤ length high.entry.now) × BeginsWith form high.entry.now result.says.items (drop result.taken high.entry.now) }
     { read_chunk(alloc, form, high) };
     let front = || -> FirstLines
-        ensures { (result.taken ≤ length low.entry.now) × BeginsWith form.entry low.entry.now result.says.items (drop result.taken low.entry.now) }
+        ensures { (result.taken ≤ length low.entry.now) × BeginsWith form low.entry.now result.says.items (drop result.taken low.entry.now) }
     { read_chunks(rt, alloc, form, low, others) };
     let (later, earlier) = join(rt, back, front);
     put_together(earlier, low.len(), later)
@@ -208,7 +208,8 @@ fn read_mark_or_image(alloc: Global, form: Form, line: &[u8]) -> Option<CopyLine
     ensures { IfSome result (IsLineOf form line.now) }
 {
     match read_line(alloc, form, line, CopyTextFault::Truncated) {
+        Ok(CopyLine::Mark(name, position)) => Some(CopyLine::Mark(name, position)),
+        Ok(CopyLine::Record(image)) => Some(CopyLine::Record(image)),
         Ok(CopyLine::End(_)) | Err(_) => None,
-        Ok(said) => Some(said),
     }
 }
