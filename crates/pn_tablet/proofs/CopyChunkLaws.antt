@@ -7,8 +7,10 @@ use Rattle.pn_line.specs.Reads.{IsUnbroken}
 use Rattle.pn_line.specs.Text.{text_of}
 use Rattle.pn_line.proofs.TextLaws.{text_of-nil, text_of-cons, text_of-append}
 use Rattle.pn_json.specs.Answers.{◌>>=◌}
+use Rattle.pn_record.specs.declared.image.Image.{Image}
 use Rattle.pn_tablet.specs.Copies.{TabletCopyValue}
-use Rattle.pn_tablet.specs.CopyChunks.{IsMarkOrImage, BeginsWith, AddsLine}
+use Rattle.pn_tablet.specs.CopyChunks.{IsMarkOrImage, IsLineOf, BeginsWith, AddsLine}
+use Rattle.pn_tablet.specs.CopyLineReading.{line_at}
 use Rattle.pn_tablet.specs.CopyLines.{AreLines}
 use Rattle.pn_tablet.specs.CopyReading.{pieces_of, with_line, with_lines, read_on}
 use Rattle.pn_tablet.specs.Drafts.{DraftValue}
@@ -20,9 +22,9 @@ use Rattle.pn_tablet.specs.declared.fault.CopyTextFault.TheVariants.{BadLine}
 use Rattle.pn_tablet.proofs.CopyLineCounts.{as_many}
 use Rattle.pn_tablet.proofs.CopyPieces.{pieces_of-text, pieces_of-some}
 use Rattle.pn_tablet.proofs.CopyStarts.{some_then, text_cut}
-use Rattle.pn_tablet.proofs.CopySteps.{read_on-cons, then_ok, then_err}
+use Rattle.pn_tablet.proofs.CopySteps.{read_on-cons, then_ok, then_err, mark_position}
 use Rattle.pn_tablet.proofs.CopyTextFacts.{joined, joined-cons, joined-pieces_of, unbroken-pieces_of}
-use Rattle.pn_tablet.proofs.CopyValues.{line_at-again}
+use Rattle.pn_tablet.proofs.CopyValues.{line_at-again, line_at-found}
 
 -- ---- one line after another
 
@@ -86,6 +88,13 @@ module _ (form : Form) (rest : List ℕ) where
       ∙ then_ok _ _ (Record image) (line_at-again (BadLine n) form line (Record image) are.0))
       (λ longer. lines_read lines (n + 1) longer more are.1 (All-tail IsMarkOrImage (Record image) more kinds))
   lines_read (line ∷ lines) n draft (End count ∷ more) are kinds = absurd (All-head IsMarkOrImage (End count) more kinds)
+
+-- a line that says a mark or an image
+pub mark_said : (form : Form) (fault : CopyTextFault) (line name : List ℕ) (position : ℕ) → line_at form fault line ≡ Ok (Mark name position) → IsLineOf form line (Mark name position)
+mark_said form fault line name position is = (line_at-found fault form line (Mark name position) is, mark_position form fault line name position is)
+
+pub image_said : (form : Form) (fault : CopyTextFault) (line : List ℕ) (image : Image) → line_at form fault line ≡ Ok (Record image) → IsLineOf form line (Record image)
+image_said form fault line image is = (line_at-found fault form line (Record image) is, tt)
 
 -- ---- the first lines of a text
 

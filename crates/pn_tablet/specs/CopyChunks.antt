@@ -1,5 +1,5 @@
 -- The first lines of a text that follows the head of a copy, read before those that come before it.
-use Rattle.std.specs.Prelude.{◌≡◌, ⊥, Unit, ℕ, List, [], ◌∷◌, ◌++◌, All, IsTrue}
+use Rattle.std.specs.Prelude.{◌≡◌, ℕ, List, [], ◌∷◌, ◌++◌, All, IsTrue}
 use Rattle.pn_line.specs.Reads.{IsUnbroken}
 use Rattle.pn_line.specs.Text.{text_of}
 use Rattle.pn_join.specs.Marks.{is_position}
