@@ -5,7 +5,7 @@ use Rattle.std.proofs.lemmas.List.{drop-append-le, drop_all}
 use Rattle.std.proofs.lemmas.List.Elements.{All-head, All-tail, All-nil, All-cons, All-append}
 use Rattle.pn_line.specs.Reads.{IsUnbroken}
 use Rattle.pn_line.specs.Text.{text_of}
-use Rattle.pn_line.proofs.TextLaws.{text_of-nil, text_of-cons, text_of-append}
+use Rattle.pn_line.proofs.TextLaws.{text_of-nil, text_of-append}
 use Rattle.pn_json.specs.Answers.{◌>>=◌}
 use Rattle.pn_record.specs.declared.image.Image.{Image}
 use Rattle.pn_tablet.specs.Copies.{TabletCopyValue}
@@ -19,7 +19,6 @@ use Rattle.pn_tablet.specs.declared.copy_line.CopyLine.{CopyLine}
 use Rattle.pn_tablet.specs.declared.copy_line.CopyLine.TheVariants.{Mark, Record, End}
 use Rattle.pn_tablet.specs.declared.fault.CopyTextFault.{CopyTextFault}
 use Rattle.pn_tablet.specs.declared.fault.CopyTextFault.TheVariants.{BadLine}
-use Rattle.pn_tablet.proofs.CopyLineCounts.{as_many}
 use Rattle.pn_tablet.proofs.CopyPieces.{pieces_of-text, pieces_of-some}
 use Rattle.pn_tablet.proofs.CopyStarts.{some_then, text_cut}
 use Rattle.pn_tablet.proofs.CopySteps.{read_on-cons, then_ok, then_err, mark_position}
@@ -89,6 +88,10 @@ module _ (form : Form) (rest : List ℕ) where
       (λ longer. lines_read lines (n + 1) longer more are.1 (All-tail IsMarkOrImage (Record image) more kinds))
   lines_read (line ∷ lines) n draft (End count ∷ more) are kinds = absurd (All-head IsMarkOrImage (End count) more kinds)
 
+pub none_left : (says : List CopyLine) → length says ≡ 0 → says ≡ []
+none_left [] none = refl
+none_left (line ∷ says) none = absurd (omega (arith, none))
+
 -- a line that says a mark or an image
 pub mark_said : (form : Form) (fault : CopyTextFault) (line name : List ℕ) (position : ℕ) → line_at form fault line ≡ Ok (Mark name position) → IsLineOf form line (Mark name position)
 mark_said form fault line name position is = (line_at-found fault form line (Mark name position) is, mark_position form fault line name position is)
@@ -97,12 +100,6 @@ pub image_said : (form : Form) (fault : CopyTextFault) (line : List ℕ) (image 
 image_said form fault line image is = (line_at-found fault form line (Record image) is, tt)
 
 -- ---- the first lines of a text
-
-text_room : (lines : List (List ℕ)) → length lines ≤ length (text_of lines)
-text_room [] = omega arith
-text_room (line ∷ lines) =
-    let cut : length (text_of (line ∷ lines)) ≡ length line + suc (length (text_of lines)) = ap length (text_of-cons line lines) ∙ length-append line (10 ∷ text_of lines) in
-    omega (arith, cut, text_room lines)
 
 module _ (form : Form) (text : List ℕ) (says : List CopyLine) (rest : List ℕ) (is : BeginsWith form text says rest) where
   -- the text is read as what its first lines say is added, and then the rest
@@ -120,12 +117,6 @@ module _ (form : Form) (text : List ℕ) (says : List CopyLine) (rest : List ℕ
   -- or one of them has a fault
   pub refused_then : (draft : DraftValue) (fault : CopyTextFault) → with_lines 2 draft says ≡ Err fault → read_on form 2 draft (pieces_of text) ≡ Err fault
   refused_then draft fault added = begun draft ∙ then_err (with_lines 2 draft says) (λ last. read_on form (2 + length says) last (pieces_of rest)) fault added
-
-  -- each line takes a byte
-  pub room : length says + length rest ≤ length text
-  room =
-      let all : length text ≡ length (text_of is.lines) + length rest = ap length is.text_is ∙ length-append (text_of is.lines) rest in
-      omega (arith, all, text_room is.lines, as_many form is.lines says is.lines_are)
 
   -- the rest is what is left behind the bytes of the lines
   pub left : drop (length text - length rest) text ≡ rest

@@ -1,11 +1,11 @@
 -- One line more is read, until one is bad or the end.
-use Rattle.std.proofs.Common.{subst, arith}
-use Rattle.pn_tablet.proofs.CopyChunkLaws.{none_read, one_read, left}
+use Rattle.std.proofs.Common.{arith}
+use Rattle.pn_tablet.proofs.CopyChunkLaws.{none_read, one_read}
 use Rattle.pn_tablet.proofs.copy_chunks.read_chunk.Goals as goal
 
 pub lines-init : goal.lines-init
 lines-init c = record {
-  begins = none_read c.args.form c.args.text.now _ c.new-says.ensures;
+  begins = none_read c.args.form c.args.text.now _ c.new-says.ensures.items;
   within = omega arith;
 }
 
