@@ -1,6 +1,6 @@
 //! Copies whose lines several threads read, each a chunk of consecutive lines.
 
-ghost use Rattle.std.specs.Prelude.{◌≡◌, ◌≤◌, ◌<◌, ◌+◌, ◌^◌, ◌⊎◌, ◌∷◌, [], ◌++◌, length, drop, All, false, true, Ok, IfOk, IfSome, IsTrue};
+ghost use Rattle.std.specs.Prelude.{◌≡◌, ◌≤◌, ◌<◌, ◌+◌, ◌^◌, ◌⊎◌, ◌∷◌, [], ◌++◌, length, drop, All, false, Ok, IfOk, IfSome, IsTrue};
 ghost use Rattle.pn_line.specs.Prelude.{IsUnbroken};
 ghost use Rattle.pn_json.specs.Prelude.{IsUnless};
 ghost use Rattle.pn_tablet.specs.Copies.{TabletCopyValue};
