@@ -1,5 +1,5 @@
 -- What is read of a copy's lines in chunks is what is read of them one by one.
-use Rattle.std.proofs.Common.{◌≡◌, ℕ, suc, ◌+◌, ◌-◌, ◌≤◌, List, [], ◌∷◌, ◌++◌, ◌⊎◌, inl, inr, length, drop, All, Result, Ok, Err, refl, sym, ap, ◌∙◌, subst, append_assoc, append-nil, length-append, arith}
+use Rattle.std.proofs.Common.{◌≡◌, ℕ, false, suc, ◌+◌, ◌-◌, ◌≤◌, List, [], ◌∷◌, ◌++◌, ◌⊎◌, inl, inr, length, drop, All, Result, Ok, Err, refl, sym, ap, ◌∙◌, subst, append_assoc, append-nil, length-append, arith}
 use Rattle.std.proofs.Math.Seq.{drop-append_seam, drop-append-add}
 use Rattle.std.proofs.lemmas.List.{drop-append-le, drop_all}
 use Rattle.std.proofs.lemmas.List.Elements.{All-head, All-tail, All-nil, All-cons, All-append}
@@ -9,7 +9,7 @@ use Rattle.pn_line.proofs.TextLaws.{text_of-nil, text_of-append}
 use Rattle.pn_json.specs.Answers.{◌>>=◌}
 use Rattle.pn_record.specs.declared.image.Image.{Image}
 use Rattle.pn_tablet.specs.Copies.{TabletCopyValue}
-use Rattle.pn_tablet.specs.CopyChunks.{IsMarkOrImage, IsLineOf, BeginsWith, AddsLine}
+use Rattle.pn_tablet.specs.CopyChunks.{IsMarkOrImage, IsLineOf, BeginsWith, AddsLine, is_end}
 use Rattle.pn_tablet.specs.CopyLineReading.{line_at}
 use Rattle.pn_tablet.specs.CopyLines.{AreLines}
 use Rattle.pn_tablet.specs.CopyReading.{pieces_of, with_line, with_lines, read_on}
@@ -93,11 +93,17 @@ none_left [] none = refl
 none_left (line ∷ says) none = absurd (omega (arith, none))
 
 -- a line that says a mark or an image
-pub mark_said : (form : Form) (fault : CopyTextFault) (line name : List ℕ) (position : ℕ) → line_at form fault line ≡ Ok (Mark name position) → IsLineOf form line (Mark name position)
+mark_said : (form : Form) (fault : CopyTextFault) (line name : List ℕ) (position : ℕ) → line_at form fault line ≡ Ok (Mark name position) → IsLineOf form line (Mark name position)
 mark_said form fault line name position is = (line_at-found fault form line (Mark name position) is, mark_position form fault line name position is)
 
-pub image_said : (form : Form) (fault : CopyTextFault) (line : List ℕ) (image : Image) → line_at form fault line ≡ Ok (Record image) → IsLineOf form line (Record image)
+image_said : (form : Form) (fault : CopyTextFault) (line : List ℕ) (image : Image) → line_at form fault line ≡ Ok (Record image) → IsLineOf form line (Record image)
 image_said form fault line image is = (line_at-found fault form line (Record image) is, tt)
+
+-- a line that does not say the end
+pub line_said : (form : Form) (fault : CopyTextFault) (line : List ℕ) (says : CopyLine) → line_at form fault line ≡ Ok says → is_end says ≡ false → IsLineOf form line says
+line_said form fault line (Mark name position) is other = mark_said form fault line name position is
+line_said form fault line (Record image) is other = image_said form fault line image is
+line_said form fault line (End count) is other = absurd (cc)
 
 -- ---- the first lines of a text
 

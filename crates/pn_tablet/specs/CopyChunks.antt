@@ -1,5 +1,5 @@
 -- The first lines of a text that follows the head of a copy, read before those that come before it.
-use Rattle.std.specs.Prelude.{◌≡◌, ℕ, List, [], ◌∷◌, ◌++◌, All, IsTrue}
+use Rattle.std.specs.Prelude.{◌≡◌, ℕ, Bool, true, false, List, [], ◌∷◌, ◌++◌, All, IsTrue}
 use Rattle.pn_line.specs.Reads.{IsUnbroken}
 use Rattle.pn_line.specs.Text.{text_of}
 use Rattle.pn_join.specs.Marks.{is_position}
@@ -14,6 +14,11 @@ abbrev pub IsMarkOrImage : CopyLine → Type 0
 IsMarkOrImage (Mark name position) = IsTrue (is_position position)
 IsMarkOrImage (Record image) = Unit {0}
 IsMarkOrImage (End count) = ⊥
+
+-- a line that says the end
+abbrev pub is_end : CopyLine → Bool
+is_end (End count) = true
+is_end _ = false
 
 -- the line is that of this mark or image
 abbrev pub IsLineOf : Form → List ℕ → CopyLine → Type 0

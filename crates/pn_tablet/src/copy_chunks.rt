@@ -4,7 +4,7 @@ ghost use Rattle.std.specs.Prelude.{◌≡◌, ◌≤◌, ◌<◌, ◌+◌, ◌^
 ghost use Rattle.pn_line.specs.Prelude.{IsUnbroken};
 ghost use Rattle.pn_json.specs.Prelude.{IsUnless};
 ghost use Rattle.pn_tablet.specs.Copies.{TabletCopyValue};
-ghost use Rattle.pn_tablet.specs.CopyChunks.{AddsLine, BeginsWith, IsLineOf, IsMarkOrImage};
+ghost use Rattle.pn_tablet.specs.CopyChunks.{AddsLine, BeginsWith, IsLineOf, IsMarkOrImage, is_end as is_end_line};
 ghost use Rattle.pn_tablet.specs.CopyReading.{pieces_of, read_on, copy_at, with_line, with_lines};
 ghost use Rattle.pn_tablet.specs.CopyTexts.{IsCopyText};
 ghost use Rattle.pn_tablet.specs.Refusals.{Answers};
@@ -208,8 +208,19 @@ fn read_mark_or_image(alloc: Global, form: Form, line: &[u8]) -> Option<CopyLine
     ensures { IfSome result (IsLineOf form line.now) }
 {
     match read_line(alloc, form, line, CopyTextFault::Truncated) {
-        Ok(CopyLine::Mark(name, position)) => Some(CopyLine::Mark(name, position)),
-        Ok(CopyLine::Record(image)) => Some(CopyLine::Record(image)),
-        Ok(CopyLine::End(_)) | Err(_) => None,
+        Ok(said) => {
+            if is_end(&said) {
+                return None;
+            }
+            Some(said)
+        }
+        Err(_) => None,
     }
+}
+
+// Whether a line says the end.
+fn is_end(said: &CopyLine) -> bool
+    ensures { result ≡ is_end_line said.now }
+{
+    matches!(said, CopyLine::End(_))
 }
