@@ -9,7 +9,7 @@ use Rattle.pn_line.proofs.TextLaws.{text_of-nil, text_of-append}
 use Rattle.pn_json.specs.Answers.{◌>>=◌}
 use Rattle.pn_record.specs.declared.image.Image.{Image}
 use Rattle.pn_tablet.specs.Copies.{TabletCopyValue}
-use Rattle.pn_tablet.specs.CopyChunks.{IsMarkOrImage, IsLineOf, BeginsWith, AddsLine, is_end}
+use Rattle.pn_tablet.specs.CopyChunks.{IsMarkOrImage, IsLineOf, BeginsWith, AddsLine, says_end}
 use Rattle.pn_tablet.specs.CopyLineReading.{line_at}
 use Rattle.pn_tablet.specs.CopyLines.{AreLines}
 use Rattle.pn_tablet.specs.CopyReading.{pieces_of, with_line, with_lines, read_on}
@@ -100,7 +100,7 @@ image_said : (form : Form) (fault : CopyTextFault) (line : List ℕ) (image : Im
 image_said form fault line image is = (line_at-found fault form line (Record image) is, tt)
 
 -- a line that does not say the end
-pub line_said : (form : Form) (fault : CopyTextFault) (line : List ℕ) (says : CopyLine) → line_at form fault line ≡ Ok says → is_end says ≡ false → IsLineOf form line says
+pub line_said : (form : Form) (fault : CopyTextFault) (line : List ℕ) (says : CopyLine) → line_at form fault line ≡ Ok says → says_end says ≡ false → IsLineOf form line says
 line_said form fault line (Mark name position) is other = mark_said form fault line name position is
 line_said form fault line (Record image) is other = image_said form fault line image is
 line_said form fault line (End count) is other = absurd (cc)

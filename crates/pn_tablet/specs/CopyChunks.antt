@@ -16,9 +16,9 @@ IsMarkOrImage (Record image) = Unit {0}
 IsMarkOrImage (End count) = ⊥
 
 -- a line that says the end
-abbrev pub is_end : CopyLine → Bool
-is_end (End count) = true
-is_end _ = false
+abbrev pub says_end : CopyLine → Bool
+says_end (End count) = true
+says_end _ = false
 
 -- the line is that of this mark or image
 abbrev pub IsLineOf : Form → List ℕ → CopyLine → Type 0

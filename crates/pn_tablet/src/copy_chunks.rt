@@ -4,7 +4,7 @@ ghost use Rattle.std.specs.Prelude.{◌≡◌, ◌≤◌, ◌<◌, ◌+◌, ◌^
 ghost use Rattle.pn_line.specs.Prelude.{IsUnbroken};
 ghost use Rattle.pn_json.specs.Prelude.{IsUnless};
 ghost use Rattle.pn_tablet.specs.Copies.{TabletCopyValue};
-ghost use Rattle.pn_tablet.specs.CopyChunks.{AddsLine, BeginsWith, IsLineOf, IsMarkOrImage, is_end as is_end_line};
+ghost use Rattle.pn_tablet.specs.CopyChunks.{AddsLine, BeginsWith, IsLineOf, IsMarkOrImage, says_end};
 ghost use Rattle.pn_tablet.specs.CopyReading.{pieces_of, read_on, copy_at, with_line, with_lines};
 ghost use Rattle.pn_tablet.specs.CopyTexts.{IsCopyText};
 ghost use Rattle.pn_tablet.specs.Refusals.{Answers};
@@ -209,7 +209,7 @@ fn read_mark_or_image(alloc: Global, form: Form, line: &[u8]) -> Option<CopyLine
 {
     match read_line(alloc, form, line, CopyTextFault::Truncated) {
         Ok(said) => {
-            if is_end(&said) {
+            if is_end_line(&said) {
                 return None;
             }
             Some(said)
@@ -219,8 +219,8 @@ fn read_mark_or_image(alloc: Global, form: Form, line: &[u8]) -> Option<CopyLine
 }
 
 // Whether a line says the end.
-fn is_end(said: &CopyLine) -> bool
-    ensures { result ≡ is_end_line said.now }
+fn is_end_line(said: &CopyLine) -> bool
+    ensures { result ≡ says_end said.now }
 {
     matches!(said, CopyLine::End(_))
 }
