@@ -20,7 +20,7 @@ use std::alloc::Global;
 use std::thread::{Threads, join};
 
 /// The fewest bytes of lines worth a thread.
-const MIN_BYTES_PER_THREAD: usize = 16_384;
+const MIN_BYTES_PER_THREAD: usize = 65_536;
 
 /// What the first lines of a text say, marks and images, and how many bytes these lines have.
 #[derive(Drop)]
