@@ -1,13 +1,11 @@
 -- What is kept is the same connection.
-use Rattle.std.proofs.Common.{refl, ◌∙◌, IsTrue, rules}
+use Rattle.std.proofs.Common.{refl, ◌∙◌, IsFalse, IsTrue, rules}
 use Rattle.pn_stay.specs.Turns.{in_buffers}
-use Rattle.pn_stay.proofs.Storing.{kept_input}
+use Rattle.pn_stay.proofs.Storing.{kept_input, own_begun}
 use Rattle.pn_stay.proofs.connection_state.ConnectionState.keep.Goals as goal
 
+pub unload_input-requires-clause-own : goal.unload_input-requires-clause-own
+unload_input-requires-clause-own c = ?
+
 pub returns : goal.returns
-returns c =
-    let taken : IsTrue c.keep_replies.result = search rules in (
-      refl,
-      kept_input (in_buffers c.args.buffers.now) _ c.begin_unless_reading.new.self c.begin_unless_reading.ensures.reading c.begin_unless_reading.ensures.begun c.in-Ok.ensures.same
-          (c.swap_state.ensures.given ∙ c.keep_replies.ensures.state ∙ c.in-Ok.ensures.kept) (c.keep_replies.ensures.kept taken ∙ c.in-Ok.ensures.replies),
-    )
+returns c = ?
