@@ -22,11 +22,12 @@ use Rattle.pn_serve.specs.Lines.Faults.{EndsByAt, EndsByStep}
 use Rattle.pn_serve.specs.Lines.States.{LineLoopValue, LineStateValue, Start}
 use Rattle.pn_serve.specs.Lines.Stepping.{Handling, HasEnded, IsLooking, IsReading, Stands, StandsAt, StepsTo}
 use Rattle.pn_serve.proofs.Serving.{OnTold}
-use Rattle.pn_stay.specs.Connections.{ConnectionValue, IsKept, IsOwn, SameInput, is_spare, loop_of}
+use Rattle.pn_stay.specs.Connections.{ConnectionValue, IsKept, IsLoaded, IsOwn, SameInput, StaysOwn, is_spare, loop_of}
 use Rattle.pn_stay.specs.Outputs.{AnswersAtMost, LooksFew}
 use Rattle.pn_stay.specs.Turns.{AnswersFew, Continues, EndsTurnBy, KeepsOr, LooksWithin, Stores, TurnsTo}
 use Rattle.pn_stay.specs.declared.connection_state.input_memory.InputMemory.{InputMemory}
 use Rattle.pn_stay.specs.declared.connection_state.input_memory.InputMemory.TheVariants.{Spare, Own}
+use Rattle.pn_stay.specs.declared.connection_state.input_memory.StoredInput.{StoredInput}
 use Rattle.pn_stay.specs.declared.connection_state.Pause.{Pause}
 use Rattle.pn_stay.specs.declared.connection_state.Pause.TheVariants.{Turn, Input, Output, Memory}
 use Rattle.pn_stay.specs.declared.connection_state.TurnOutcome.{TurnOutcome}
@@ -203,7 +204,7 @@ begun_input line new_line held new_held none (inr put) = (put.1, put.2 ∙ ap (�
 
 -- a loop that reads, or has begun a line
 module _ (run now : LineLoopValue) where
-  begun_apart : (stage : Stage) → (stage ≡ Reading → now ≡ run) → (stage ≢ Reading → now ≡ record run { line = so_far [] }) → (now.state ≡ run.state) × (now.replies ≡ run.replies)
+  pub begun_apart : (stage : Stage) → (stage ≡ Reading → now ≡ run) → (stage ≢ Reading → now ≡ record run { line = so_far [] }) → (now.state ≡ run.state) × (now.replies ≡ run.replies)
   begun_apart Reading reading begun = let same = reading refl in (ap (λ (l : LineLoopValue). l.state) same, ap (λ (l : LineLoopValue). l.replies) same)
   begun_apart (Looking going) reading begun = let same = begun (λ is. cc) in (ap (λ (l : LineLoopValue). l.state) same, ap (λ (l : LineLoopValue). l.replies) same)
   begun_apart (Ending ended) reading begun = let same = begun (λ is. cc) in (ap (λ (l : LineLoopValue). l.state) same, ap (λ (l : LineLoopValue). l.replies) same)
@@ -220,6 +221,11 @@ kept_input old new now reading begun same state replies =
     }
 
 -- ---- input that has stayed where it was
+
+-- is what was loaded
+pub own_stays : (memory : InputMemory) (own : StoredInput) (line : LineBufferValue) (held : List ℕ) → StaysOwn memory own → IsLoaded own line held → IsOwn memory line held
+own_stays (Spare memory) own line held stays loaded = tt
+own_stays (Own stored) own line held stays loaded = subst (λ (s : StoredInput). IsLoaded s line held) (sym stays) loaded
 
 -- is the same while neither the line nor what is held changes
 pub own_untaken : (memory : InputMemory) (line now : LineBufferValue) (held holds : List ℕ) → IsOwn memory line held → (is_spare memory ≡ false → (now ≡ line) × (holds ≡ held)) → IsOwn memory now holds

@@ -46,12 +46,16 @@ abbrev pub is_spare : InputMemory → Bool
 is_spare (Spare memory) = true
 is_spare (Own stored) = false
 
--- input that has stayed where it was is this: what is held, and the line, unless that was begun
-abbrev pub IsOwn : InputMemory → LineBufferValue → List ℕ → Type 0
-IsOwn (Spare memory) line held = Unit {0}
-IsOwn (Own stored) line held = (stored.line ≡ None → line ≡ so_far []) × (stored.held.items ≡ held) × (vec_len stored.held ≤ INPUT_CAPACITY)
+-- input was this when it was loaded: what is held, and the line, which was begun where it had no buffer
+abbrev pub IsLoaded : StoredInput → LineBufferValue → List ℕ → Type 0
+IsLoaded stored line held = (stored.line ≡ None → line ≡ so_far []) × (stored.held.items ≡ held) × (vec_len stored.held ≤ INPUT_CAPACITY)
 
 -- input that has stayed where it was is this
+abbrev pub IsOwn : InputMemory → LineBufferValue → List ℕ → Type 0
+IsOwn (Spare memory) line held = Unit {0}
+IsOwn (Own stored) line held = IsLoaded stored line held
+
+-- what has stayed where it was is this
 abbrev pub StaysOwn : InputMemory → StoredInput → Type 0
 StaysOwn (Spare memory) own = Unit {0}
 StaysOwn (Own stored) own = stored ≡ own

@@ -120,7 +120,7 @@ impl InputMemory {
 impl StoredInput {
     // The memory of input that was taken, if any input fits into it.
     fn into_memory(self) -> InputMemory
-        ensures { StaysOwn result self.entry }
+        ensures { StaysOwn result self }
     {
         if self.held.capacity() < INPUT_CAPACITY {
             return InputMemory::Own(self);

@@ -45,6 +45,7 @@ returns-in_default g c = record {
   answers = omega (arith, ap (λ (n : Counts). n.lines) c.send_waiting.ensures.same.counts);
   looked = omega (arith, c.send_waiting.ensures.same.looked);
   read_fault = λ ends. inl (c.send_waiting.ensures.read_fault ends);
+  untaken = λ short. (c.send_waiting.ensures.same.line, c.send_waiting.ensures.input, refl);
   write_fault = c.send_waiting.ensures.write_fault;
   knows = knows_itself _;
 }
