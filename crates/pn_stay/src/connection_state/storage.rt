@@ -198,11 +198,11 @@ fn put_back(lines: &mut LineLoop, own: StoredInput) -> StoredInput
 {
     let StoredInput { line, held } = own;
     match line {
-        Some(line) => {
-            let mut line = line;
-            lines.swap_line(&mut line);
+        Some(buffer) => {
+            let mut buffer = buffer;
+            lines.swap_line(&mut buffer);
             StoredInput {
-                line: Some(line),
+                line: Some(buffer),
                 held,
             }
         }

@@ -39,6 +39,7 @@ fn sign(pause: Pause) -> char {
         Pause::Turn => 't',
         Pause::Input => 'i',
         Pause::Output => 'o',
+        Pause::Memory => 'm',
     }
 }
 
