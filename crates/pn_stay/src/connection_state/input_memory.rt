@@ -87,7 +87,11 @@ impl SpareInput {
 
 impl InputMemory {
     /// The thread's spare memory, which is made anew where there is none. Without it the input stays where it is.
-    pub(super) fn find(alloc: Global, spare: &mut Option<SpareInput>, own: StoredInput) -> InputMemory
+    pub(super) fn find(
+        alloc: Global,
+        spare: &mut Option<SpareInput>,
+        own: StoredInput,
+    ) -> InputMemory
         ensures { StaysOwn result own }
     {
         if let Some(spare) = spare.take() {
