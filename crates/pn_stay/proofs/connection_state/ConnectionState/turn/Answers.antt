@@ -1,12 +1,12 @@
 -- A turn begins with what the connection keeps, and ends with what it keeps then.
-use Rattle.std.proofs.Common.{◌≡◌, ◌∙◌, false, sym, ap, subst}
+use Rattle.std.proofs.Common.{◌∙◌, sym, ap, subst}
 use Rattle.std.specs.Io.KnownBytes.{prepend_known}
 use Rattle.pn_serve.specs.declared.script.line_loop.steps.TheConstants.{TURN_UNITS}
 use Rattle.pn_serve.specs.declared.script.RunFault.TheVariants.{Read, Write}
 use Rattle.pn_serve.specs.Lines.Faults.{EndsByAt}
 use Rattle.pn_serve.specs.Lines.States.{waits_in}
 use Rattle.pn_serve.specs.Lines.Stepping.{by}
-use Rattle.pn_stay.specs.Connections.{ConnectionValue, is_spare, loop_of}
+use Rattle.pn_stay.specs.Connections.{ConnectionValue, loop_of}
 use Rattle.pn_stay.specs.Outputs.{most_looked}
 use Rattle.pn_stay.specs.Turns.{Continues, in_buffers}
 use Rattle.pn_stay.proofs.Faults.{before_or}
