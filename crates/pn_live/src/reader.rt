@@ -14,7 +14,7 @@ use crate::front::{Front, TabletNote};
 use crate::tablet_reader::TabletReader;
 use pn_join::Marks;
 use pn_record::{Cell, Key, Version};
-use pn_scan::{Page, PartResult, Query, ScanFault, View, page, read_at_least};
+use pn_scan::{Budget, Page, PartResult, Query, ScanFault, View, page, read_at_least};
 use pn_tablet::{CopyFault, Layout, RecordCounts, TabletCopy};
 use std::alloc::Global;
 use std::marker::Model;
@@ -210,16 +210,13 @@ impl View for LiveReader {
         &self.layout
     }
 
-    fn part(
-        &mut self,
-        alloc: Global,
-        tablet: usize,
-        query: &Query,
-        room: usize,
-        records: usize,
-    ) -> PartResult {
-        let records = records.max(ENTRY_RECORDS);
-        self.tablet_readers[tablet].part(alloc, tablet, query, room, records)
+    fn part(&mut self, tablet: usize, query: &Query, room: usize, budget: Budget) -> PartResult {
+        let records = budget.records.max(ENTRY_RECORDS);
+        let entry = Budget {
+            alloc: budget.alloc,
+            records,
+        };
+        self.tablet_readers[tablet].part(tablet, query, room, entry)
     }
 
     fn cell(&mut self, key: &Key) -> Result<Option<Cell>, ScanFault> {

@@ -16,9 +16,8 @@ use crate::reader_handle::ReaderHandle;
 use core::mem::replace_with;
 use pn_join::Marks;
 use pn_record::{Cell, Key};
-use pn_scan::{PartResult, Query, ScanFault, cell_of, part_of};
+use pn_scan::{Budget, PartResult, Query, ScanFault, cell_of, part_of};
 use pn_tablet::{CopyFault, RecordCounts, TabletCopy};
-use std::alloc::Global;
 use std::marker::Model;
 
 /// A reader of one tablet.
@@ -111,39 +110,31 @@ impl TabletReader {
     }
 
     /// The first `room` rows that a query shows in the state that one entry finds, as `part_of`; `NoEntry` where
-    /// the entry is refused. The entry looks at `records` records at most.
-    pub fn part(
-        &mut self,
-        alloc: Global,
-        tablet: usize,
-        query: &Query,
-        room: usize,
-        records: usize,
-    ) -> PartResult
+    /// the entry is refused. The entry looks at the budget's records at most.
+    pub fn part(&mut self, tablet: usize, query: &Query, room: usize, budget: Budget) -> PartResult
         ensures look { (found : Option TabletStateValue) × IsOneLook self.old self.new (part_at query.now) result (rows_at query.now room) tablet found }
-        ensures few { IfOk result (λ part. looked_in records part ≤ records) }
+        ensures few { IfOk result (λ part. looked_in budget.records part ≤ budget.records) }
     {
         replace_with(
             self,
             query,
-            |reader, query| reader.look_up_part(alloc, tablet, query, room, records),
+            |reader, query| reader.look_up_part(tablet, query, room, budget),
         )
     }
 
     fn look_up_part(
         self,
-        alloc: Global,
         tablet: usize,
         query: &Query,
         room: usize,
-        records: usize,
+        budget: Budget,
     ) -> (TabletReader, PartResult)
         ensures look { (found : Option TabletStateValue) × IsOneLook self result.0 (part_at query.now) result.1 (rows_at query.now room) tablet found }
-        ensures few { IfOk result.1 (λ part. looked_in records part ≤ records) }
+        ensures few { IfOk result.1 (λ part. looked_in budget.records part ≤ budget.records) }
     {
         match self.enter() {
             Ok(guard) => {
-                let answer = part_of(alloc, guard.state(), tablet, query, room, records);
+                let answer = part_of(guard.state(), tablet, query, room, budget);
                 (TabletReader::leave(guard), answer)
             }
             Err(reader) => (reader, Err(ScanFault::NoEntry)),

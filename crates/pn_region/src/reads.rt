@@ -10,10 +10,9 @@ ghost use Rattle.pn_region.specs.Reads.{IsThere, BeginsToRead, look_in, look_for
 use crate::Region;
 use pn_record::{Cell, Key, Version};
 use pn_scan::{
-    Page, PartResult, Query, ScanFault, View, cell_of, get, page, part_of, read_at_least,
+    Budget, Page, PartResult, Query, ScanFault, View, cell_of, get, page, part_of, read_at_least,
 };
 use pn_tablet::{Layout, Status, TabletState};
-use std::alloc::Global;
 
 /// A view of the region's own tablets, which do not change while it lasts. It never answers `NoEntry`.
 impl View for &Region {
@@ -28,15 +27,12 @@ impl View for &Region {
     }
 
     // The tablets stay, so no look is cut short.
-    fn part(
-        &mut self,
-        alloc: Global,
-        tablet: usize,
-        query: &Query,
-        room: usize,
-        _records: usize,
-    ) -> PartResult {
-        part_of(alloc, self.state(tablet), tablet, query, room, usize::MAX)
+    fn part(&mut self, tablet: usize, query: &Query, room: usize, budget: Budget) -> PartResult {
+        let whole = Budget {
+            alloc: budget.alloc,
+            records: usize::MAX,
+        };
+        part_of(self.state(tablet), tablet, query, room, whole)
     }
 
     fn cell(&mut self, key: &Key) -> Result<Option<Cell>, ScanFault> {

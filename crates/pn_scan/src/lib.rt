@@ -27,5 +27,5 @@ pub use query::{MAX_CONDITIONS, MAX_PAGE_ROWS, Query};
 pub use query_reading::{QueryFault, read_query};
 pub use query_writing::{query_value, write_query};
 pub use reads::{get, read_at_least};
-pub use view::{Page, PartResult, Row, View};
+pub use view::{Budget, Page, PartResult, Row, View};
 pub use walk::{Part, PartWalk};

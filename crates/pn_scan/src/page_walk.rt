@@ -8,7 +8,7 @@ ghost use Rattle.pn_scan.specs.Queries.{QueryValue};
 ghost use Rattle.pn_scan.specs.declared.pages.TheConstants.{LOOK_RECORDS};
 
 use crate::pages::{LOOK_RECORDS, candidates, page_of, put_after};
-use crate::{Page, Part, PartWalk, Query, Row, ScanFault, View};
+use crate::{Budget, Page, Part, PartWalk, Query, Row, ScanFault, View};
 use pn_join::NoMemory;
 use pn_tablet::Layout;
 use std::alloc::Global;
@@ -114,33 +114,36 @@ impl PageWalk {
                 let part = part.go_on(query, records)?;
                 Ok(PageStep::Next(walk.with_part(part, records)?))
             }
-            None => walk.look_further(alloc, view, query, records),
+            None => walk.look_further(view, query, Budget { alloc, records }),
         }
     }
 
     // Looks into the next tablet, unless nothing is left to look for.
     fn look_further<V: View>(
         self,
-        alloc: Global,
         view: &mut V,
         query: &Query,
-        records: usize,
+        budget: Budget,
     ) -> Result<PageStep, ScanFault>
         requires { self.part ≡ None }
         ensures goes { (trace : List (LookMade V)) → IsOnPage V.looks (V.bounds view.old) query.now self trace
             → PagesTo V.looks (V.bounds view.old) query.now view.old view.new result trace }
         ensures nearer { IfOk result (IsNearer self) }
-        ensures few { IfOk result (CountsRecords (max records LOOK_RECORDS) (V.most (max records LOOK_RECORDS)) self) }
+        ensures few { IfOk result (CountsRecords (max budget.records LOOK_RECORDS) (V.most (max budget.records LOOK_RECORDS)) self) }
         ensures looked { OnlyLooks V.looks view.old view.new }
         ensures layout { V.bounds view.new ≡ V.bounds view.old }
     {
         if self.is_whole(view.layout(), query) {
-            return Ok(PageStep::Done(page_of(alloc, query, self.rows)?));
+            return Ok(PageStep::Done(page_of(budget.alloc, query, self.rows)?));
         }
         let mut walk = self;
         let room = query.limit() + 1 - walk.rows.len();
-        let most = records.max(LOOK_RECORDS);
-        let part = view.part(alloc, walk.tablet, query, room, most)?;
+        let most = budget.records.max(LOOK_RECORDS);
+        let further = Budget {
+            alloc: budget.alloc,
+            records: most,
+        };
+        let part = view.part(walk.tablet, query, room, further)?;
         walk.tablet += 1;
         Ok(PageStep::Next(walk.with_part(part, most)?))
     }

@@ -11,7 +11,7 @@ ghost use Rattle.pn_scan.specs.Pages.{first_page};
 ghost use Rattle.pn_scan.specs.Views.{LooksOnce};
 ghost use Rattle.pn_scan.specs.Visits.{IsScan, rows_after};
 
-use crate::{Page, Query, Row, ScanFault, View};
+use crate::{Budget, Page, Query, Row, ScanFault, View};
 use pn_join::NoMemory;
 use pn_record::Key;
 use pn_tablet::Layout;
@@ -67,7 +67,11 @@ fn read_on<V: View>(
     ensures layout { V.bounds view.new ≡ V.bounds view.old }
 {
     let room = query.limit() + 1 - rows.len();
-    let part = view.part(alloc, tablet, query, room, LOOK_RECORDS)?;
+    let budget = Budget {
+        alloc,
+        records: LOOK_RECORDS,
+    };
+    let part = view.part(tablet, query, room, budget)?;
     Ok(put_after(rows, part.into_rows(query)?)?)
 }
 

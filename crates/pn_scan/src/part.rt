@@ -13,47 +13,39 @@ ghost use Rattle.pn_record.specs.Prelude.{bytes_cmp};
 ghost use Rattle.pn_tablet.specs.Prelude.{is_from};
 
 use crate::walk::{PartWalk, Walked, walk_some};
-use crate::{Part, PartResult, Query, Row, ScanFault};
+use crate::{Budget, Part, PartResult, Query, Row, ScanFault};
 use pn_join::{Dup, NoMemory};
 use pn_record::{Cell, Key, Records};
 use pn_tablet::{Status, TabletState, is_before};
-use std::alloc::Global;
 
 /// The first `room` rows that a query shows of a tablet, and whether it shows more. It copies keys and shares contents. It looks
-/// at `records` records at most; where that is not enough it takes the others by sharing them, and is to be gone on with.
+/// at the budget's records at most; where that is not enough it takes the others by sharing them, and is to be gone on with.
 ///
 /// `Recovering`, with the number given, exactly where the tablet recovers.
 pub fn part_of(
-    alloc: Global,
     state: &TabletState,
     tablet: usize,
     query: &Query,
     room: usize,
-    records: usize,
+    budget: Budget,
 ) -> PartResult
     ensures answers { Answers (part_at query.now) result (rows_at query.now room (tablet, Some state.now)) }
-    ensures few { IfOk result (λ part. looked_in records part ≤ records) }
+    ensures few { IfOk result (λ part. looked_in budget.records part ≤ budget.records) }
 {
     check_serving(state, tablet)?;
-    Ok(begin_walk(alloc, state.cells(), query, room, records)?)
+    Ok(begin_walk(state.cells(), query, room, budget)?)
 }
 
-// A walk from the first key that may be shown, found by a search, to the end of the range, one row past the room, or past this
-// number of records.
-fn begin_walk(
-    alloc: Global,
-    cells: &Records,
-    query: &Query,
-    room: usize,
-    records: usize,
-) -> Result<Part, NoMemory>
+// A walk from the first key that may be shown, found by a search, to the end of the range, one row past the room, or past the
+// budget's number of records.
+fn begin_walk(cells: &Records, query: &Query, room: usize, budget: Budget) -> Result<Part, NoMemory>
     ensures same { IfOk result (λ part. part_at query.now part ≡ walk_answer query.now (record { rows = []; rest = cells.now; room = room })) }
-    ensures few { IfOk result (λ part. looked_in records part ≤ records) }
+    ensures few { IfOk result (λ part. looked_in budget.records part ≤ budget.records) }
 {
-    let mut rows = Vec::with_capacity(alloc, room.min(cells.len()))?;
+    let mut rows = Vec::with_capacity(budget.alloc, room.min(cells.len()))?;
     let index = first_index(cells, query);
-    prefetch_cells(cells, index, query, room.min(records));
-    match walk_some(cells, index, query, room, records, &mut rows)? {
+    prefetch_cells(cells, index, query, room.min(budget.records));
+    match walk_some(cells, index, query, room, budget.records, &mut rows)? {
         Walked::All(more, looked) => Ok(Part::Done(rows, more, looked)),
         Walked::To(next) => take_rest(cells, next, query, rows, room),
     }

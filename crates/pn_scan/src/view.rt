@@ -40,6 +40,15 @@ pub struct Page {
     pub next: Option<Query>,
 }
 
+/// What a look into a tablet may use.
+#[derive(Clone, Copy)]
+pub struct Budget {
+    /// The memory for what it finds.
+    pub alloc: Global,
+    /// How many records it looks at.
+    pub records: usize,
+}
+
 /// What a look into a tablet has of its answer; or why none was made.
 pub type PartResult = Result<Part, ScanFault>;
 
@@ -60,22 +69,15 @@ pub trait View {
         ensures { result.now ≡ bounds self.now };
 
     /// The first `room` rows that a query shows of a tablet, whose number is below the layout's count, and whether it
-    /// shows more. A view of tablets that may change looks at `records` records, or at some more, and then takes the others with it.
+    /// shows more. A view of tablets that may change looks at the budget's records, or at some more, and then takes the others with it.
     ///
     /// `Recovering` exactly where the tablet recovers, `NoEntry` exactly where the entry was refused. After an error
     /// the view stays usable.
-    fn part(
-        &mut self,
-        alloc: Global,
-        tablet: usize,
-        query: &Query,
-        room: usize,
-        records: usize,
-    ) -> PartResult
+    fn part(&mut self, tablet: usize, query: &Query, room: usize, budget: Budget) -> PartResult
         requires { tablet ≤ length (bounds self.old) }
         ensures look { (found : Option TabletStateValue) × LooksOnce looks (bounds self.old) self.old self.new (part_at query.now) result
             (rows_at query.now room) (tablet, found) }
-        ensures few { IfOk result (λ part. looked_in (most records) part ≤ most records) }
+        ensures few { IfOk result (λ part. looked_in (most budget.records) part ≤ most budget.records) }
         ensures layout { bounds self.new ≡ bounds self.old };
 
     /// The cell of a key, if it has one, read in the key's own tablet. Errors are those of `part`.

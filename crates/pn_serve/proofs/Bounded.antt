@@ -1,5 +1,5 @@
 -- What a step that writes, or takes an answer, counts, foresees and leaves to be handed on.
-use Rattle.std.proofs.Common.{◌≡◌, ◌≢◌, ◌⊎◌, ℕ, ◌+◌, ◌<◌, ◌≤◌, Bool, true, false, Option, Some, None, List, [], ◌∷◌, length, IfSome, OnSome, inl, inr, refl, sym, ap, ◌∙◌, subst, arith, length-append, ⊎_elim}
+use Rattle.std.proofs.Common.{◌≡◌, ◌≢◌, ◌⊎◌, ℕ, ◌+◌, ◌<◌, ◌≤◌, Bool, true, false, ◌||◌, Option, Some, None, List, [], ◌∷◌, length, IfSome, OnSome, inl, inr, refl, sym, ap, ◌∙◌, subst, arith, length-append, ⊎_elim}
 use Rattle.std.specs.Prelude.{Result, Err}
 use Rattle.std.specs.Io.KnownBytes.{IsAtEnd, Keeps}
 use Rattle.std.proofs.lemmas.Bool.{cases_eq, cases_lt}
@@ -11,13 +11,14 @@ use Rattle.pn_protocol.specs.declared.reply.Reply.{Reply}
 use Rattle.pn_serve.specs.declared.machine.line_handler.Answer.TheVariants.{Done, Going as Begun}
 use Rattle.pn_serve.specs.declared.script.Counts.{Counts}
 use Rattle.pn_serve.specs.declared.script.RunFault.{RunFault}
-use Rattle.pn_serve.specs.declared.script.RunFault.TheVariants.{Write}
+use Rattle.pn_serve.specs.declared.script.RunFault.TheVariants.{Read, Write, TooManyTurns, Memory}
 use Rattle.pn_serve.specs.declared.script.TheConstants.{MAX_LINES}
 use Rattle.pn_serve.specs.declared.script.line_loop.state.Stage.{Stage}
 use Rattle.pn_serve.specs.declared.script.line_loop.state.Stage.TheVariants.{Reading, Looking, Ending}
 use Rattle.pn_serve.specs.declared.script.line_loop.steps.Step.{Step}
 use Rattle.pn_serve.specs.declared.script.line_loop.steps.Step.TheVariants.{Next, NoInput, NoRoom, Ends}
 use Rattle.pn_serve.specs.Lines.Bounds.{CanEndBy, CountsNothing, CountsUnits, Foresees, ForeseesAt, ForeseesStep, HandsOnStep, IsIdleAt, IsOutAs, KeepsLine}
+use Rattle.pn_serve.specs.Lines.Faults.{StopsBy}
 use Rattle.pn_serve.specs.Lines.Made.{MakesAtMost}
 use Rattle.pn_serve.specs.Lines.States.{LineLoopValue, one_more, waits_in}
 use Rattle.pn_serve.specs.Lines.Stepping.{with_rest}
@@ -148,6 +149,25 @@ module _ (old new : LineLoopValue) (before after : Option (List ℕ)) where
           | inr failed ↦ subst (λ (e : Result Counts RunFault). CanEndBy read write end e) (sym cut.0) failed
         ]
 
+-- ---- a loop that reads
+
+pub is_not_last : (read write end : Type 0) (run : LineLoopValue) → run.state.stage ≡ Reading → Foresees read write end run → run.state.last ≡ false
+is_not_last read write end run reading was = (subst (λ (s : Stage). ForeseesAt s read write end run) reading was).1
+
+-- it read a piece of a line
+pub piece_foresees : (read write end : Type 0) (old new : LineLoopValue) → old.state.stage ≡ Reading → new ≡ record old { line = new.line } → (old.state.counts.lines < MAX_LINES) ⊎ (new ≡ old) → Foresees read write end old → Foresees read write end new
+piece_foresees read write end old new reading is (inl few) was =
+    let next : LineLoopValue = record old { line = new.line } in
+    subst (λ (r : LineLoopValue). Foresees read write end r) (sym is) (subst (λ (s : Stage). ForeseesAt s read write end next) (sym reading) (inl few, is_not_last read write end old reading was))
+piece_foresees read write end old new reading is (inr same) was = subst (λ (r : LineLoopValue). Foresees read write end r) (sym same) was
+
+-- it reads no more
+pub stops_foresees : (fault : RunFault) (read write end : Type 0) (left : Option (List ℕ)) (run : LineLoopValue) → StopsBy fault read left run → CanEndBy read write end (Err fault)
+stops_foresees Read read write end left run why = why
+stops_foresees TooManyTurns read write end left run why = tt
+stops_foresees Write read write end left run why = absurd why
+stops_foresees Memory read write end left run why = absurd why
+
 -- ---- an answer that was taken
 
 one_more_at_most : (line : Bool) (count : ℕ) → one_more line count ≤ count + 1
@@ -199,6 +219,10 @@ some_rest None rest some = tt
 some_rest (Some []) rest some = absurd (some refl)
 some_rest (Some (b ∷ bs)) None some = tt
 some_rest (Some (b ∷ bs)) (Some more) some = λ none. cc
+
+pub out_of : (more out : Bool) → more || out ≡ false → out ≡ false
+out_of false out none = none
+out_of true out none = cc
 
 pub shown_rest : (more : Bool) (left leaves rest : Option (List ℕ)) → OnSome left (HasShown more leaves) → OnSome (with_rest left rest) (HasShown more (with_rest leaves rest))
 shown_rest more None leaves rest shown = tt

@@ -6,9 +6,9 @@ use Rattle.pn_line.specs.declared.writing.WriteFault.{WriteFault}
 use Rattle.pn_serve.specs.declared.machine.line_handler.Answer.TheVariants.{Done, Going as Begun}
 use Rattle.pn_serve.specs.declared.script.Counts.{Counts}
 use Rattle.pn_serve.specs.declared.script.RunFault.{RunFault}
-use Rattle.pn_serve.specs.declared.script.RunFault.TheVariants.{Read, Write, TooManyTurns}
+use Rattle.pn_serve.specs.declared.script.RunFault.TheVariants.{Read, Write}
 use Rattle.pn_serve.specs.declared.script.line_loop.state.Stage.{Stage}
-use Rattle.pn_serve.specs.declared.script.line_loop.state.Stage.TheVariants.{Reading, Looking, Ending}
+use Rattle.pn_serve.specs.declared.script.line_loop.state.Stage.TheVariants.{Reading, Ending}
 use Rattle.pn_serve.specs.declared.script.line_loop.steps.Step.{Step}
 use Rattle.pn_serve.specs.declared.script.line_loop.steps.Step.TheVariants.{Next, NoInput, NoRoom, Ends}
 use Rattle.pn_serve.specs.Lines.Faults.{EndsByAt, EndsByStep}
@@ -25,15 +25,6 @@ failed_unless_waits (Err found) fault failed stays (inr has) = has
 
 not_both : (ended : Result Counts RunFault) → ended ≡ Err Write → ended ≡ Err Read → ⊥
 not_both ended write read = cc
-
-pub no_read : TooManyTurns ≡ Read → ⊥
-no_read is = cc
-
-pub no_write : TooManyTurns ≡ Write → ⊥
-no_write is = cc
-
-pub read_no_write : Read ≡ Write → ⊥
-read_no_write is = cc
 
 same_error : (found fault : RunFault) → (let e : Result Counts RunFault = Err found in e) ≡ Err fault → found ≡ fault
 same_error found fault is = cc

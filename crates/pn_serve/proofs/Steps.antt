@@ -6,27 +6,32 @@ use Rattle.std.proofs.lemmas.List.Elements.{All-cons}
 use Rattle.pn_line.specs.declared.line_buffer.TheConstants.{ENDLESS}
 use Rattle.pn_line.specs.Line.{LineBufferValue, so_far}
 use Rattle.pn_line.specs.LinesRead.{LinesRead, PartRead}
-use Rattle.pn_line.specs.Reads.{HasShown, Takes as ReadTakes}
+use Rattle.pn_line.specs.declared.piece.Piece.{Piece}
+use Rattle.pn_line.specs.declared.piece.Piece.TheVariants.{NoMore}
+use Rattle.pn_line.specs.Reads.{HasShown, Takes as ReadTakes, newline_after}
 use Rattle.pn_line.specs.Sent.{AppendsPrefix}
 use Rattle.pn_line.specs.Text.{last_line}
 use Rattle.pn_protocol.specs.declared.reply.Reply.{Reply}
 use Rattle.pn_scan.specs.Paging.{IsPreorder}
 use Rattle.pn_serve.specs.declared.machine.line_handler.Answer.{Answer}
 use Rattle.pn_serve.specs.declared.machine.line_handler.Answer.TheVariants.{Done, Going as Begun}
-use Rattle.pn_serve.specs.declared.script.RunFault.TheVariants.{Read, Write, TooManyTurns}
+use Rattle.pn_serve.specs.declared.script.RunFault.{RunFault}
+use Rattle.pn_serve.specs.declared.script.RunFault.TheVariants.{Read, Write, TooManyTurns, Memory}
 use Rattle.pn_serve.specs.declared.script.TheConstants.{MAX_LINES}
 use Rattle.pn_serve.specs.declared.script.line_loop.state.Stage.{Stage}
 use Rattle.pn_serve.specs.declared.script.line_loop.state.Stage.TheVariants.{Reading, Looking, Ending}
 use Rattle.pn_serve.specs.declared.sessions.going.Going.{Going}
+use Rattle.pn_serve.specs.Lines.Faults.{StopsBy}
 use Rattle.pn_serve.specs.Lines.Going.{AnswersLast, AnswersWith}
 use Rattle.pn_serve.specs.Lines.Served.{IsShort, AllAnswered}
 use Rattle.pn_serve.specs.Lines.States.{LineLoopValue, Start, waiting_in, waits_in}
-use Rattle.pn_serve.specs.Lines.Stepping.{BeginsLast, BeginsLine, EndsOnceSent, Handling, HasEnded, IsLooking, IsReading, Makes, MakesLast, Stands, StandsAt}
+use Rattle.pn_serve.specs.Lines.Stepping.{BeginsLast, BeginsLine, EndsOnceSent, Handling, HasEnded, IsLooking, IsReading, Makes, MakesLast, Stands, StandsAt, with_rest}
 use Rattle.pn_serve.specs.Lines.Taking.{HasReply, Takes, TakesAnswer, TakesLine, stage_after}
 use Rattle.pn_serve.specs.Script.Written.{one_if}
 use Rattle.pn_serve.proofs.Serving.{OnTold, of_known, stays}
 use Rattle.pn_serve.proofs.Stopping.{Broken_here, Cut_here, Exceeded_bytes, Exceeded_lines}
-use Rattle.pn_serve.proofs.Standing.{EndsOnceSent-untold, LinesRead-end, PartRead-more, at_told, at_untold, no_length, told_or}
+use Rattle.pn_serve.proofs.Bounded.{some_rest}
+use Rattle.pn_serve.proofs.Standing.{EndsOnceSent-untold, Keeps-rest, LinesRead-end, PartRead-more, Takes-rest, at_told, at_untold, no_length, told_or}
 use Rattle.pn_serve.proofs.Replied.{cons_nil, PartRead-kept, Stands-begun, Stands-begun_last, Stands-ended, Stands-replied, one_last, shown_at, shown_part, true_false}
 
 module _ {V : Type 0} (handling : Handling V) (pre : IsPreorder handling.moves) (start : Start V) where
@@ -164,13 +169,13 @@ module _ {V : Type 0} (handling : Handling V) (pre : IsPreorder handling.moves) 
         told_or start.left _ _ reads_at (λ none. EndsOnceSent-untold handling pre start leaves written (waits_in old) machine (Err Read) none (λ same. cc))
         (λ script told is. Ends-read script told left leaves written machine old is is.part (PartRead-kept script left leaves is.lines is.part is.read kept))
 
-    pub Steps-endless : ENDLESS ≤ old.line.count → old.line.count ≤ ENDLESS → Stands handling start left written machine (record old { state = record old.state { stage = Ending (Err TooManyTurns) } })
-    Steps-endless long most =
-        told_or start.left _ _ reads_at (λ none. EndsOnceSent-untold handling pre start left written (waits_in old) machine (Err TooManyTurns) none (λ same. cc))
+    pub Steps-endless : old.line.count ≡ ENDLESS → Keeps left leaves → Stands handling start leaves written machine (record old { state = record old.state { stage = Ending (Err TooManyTurns) } })
+    Steps-endless long kept =
+        told_or start.left _ _ reads_at (λ none. EndsOnceSent-untold handling pre start leaves written (waits_in old) machine (Err TooManyTurns) none (λ same. cc))
         (λ script told is.
-        let whole : length is.part ≡ 1000000000 = omega (arith, long, most, ap (λ (l : LineBufferValue). l.count) is.line_is) in
+        let whole : length is.part ≡ 1000000000 = omega (arith, long, ap (λ (l : LineBufferValue). l.count) is.line_is) in
         let few : old.state.counts.lines < MAX_LINES = ⊎_elim (λ few. few) (λ all. absurd (omega (arith, whole, ap length all.1))) is.bound in
-        Ends-endless script told left left written machine old is is.part is.read whole few)
+        Ends-endless script told left leaves written machine old is is.part (PartRead-kept script left leaves is.lines is.part is.read kept) whole few)
 
     pub Steps-many : MAX_LINES ≤ old.state.counts.lines → IfSome left (λ rest. rest ≢ []) → Keeps left leaves → Stands handling start leaves written machine (record old { state = record old.state { stage = Ending (Err TooManyTurns) } })
     unfolding PartRead-kept
@@ -180,6 +185,32 @@ module _ {V : Type 0} (handling : Handling V) (pre : IsPreorder handling.moves) 
         let all : (old.state.counts.lines ≡ MAX_LINES) × (is.part ≡ []) = ⊎_elim (λ few. absurd (omega (arith, few, most))) (λ all. all) is.bound in
         Ends-many script told left leaves written machine old is is.part (PartRead-kept script left leaves is.lines is.part is.read kept) all.1
         (of_known left is.read.rest (λ (r : List ℕ). r ≢ []) is.read.left_is some) all.0)
+
+  -- a piece of a line was read, or none where no line more may be answered
+  pub Steps-piece : (left leaves rest written : Option (List ℕ)) (machine : V) (old new : LineLoopValue) (piece : Piece) → old.state.stage ≡ Reading → Stands handling start (with_rest left rest) written machine old → new ≡ record old { line = new.line }
+      → ReadTakes old.line new.line left leaves (newline_after piece) → newline_after piece ≡ [] → (old.state.counts.lines < MAX_LINES) ⊎ ((piece ≡ NoMore) × (new ≡ old) × Keeps left leaves) → Stands handling start (with_rest leaves rest) written machine new
+  Steps-piece left leaves rest written machine old new piece reading stands is takes none (inl few) =
+      let taken : ReadTakes old.line new.line left leaves [] = subst (λ (bs : List ℕ). ReadTakes old.line new.line left leaves bs) none takes in
+      subst (λ (r : LineLoopValue). Stands handling start (with_rest leaves rest) written machine r) (sym is)
+      (Steps-part (with_rest left rest) (with_rest leaves rest) written machine old reading stands new.line (Takes-rest left leaves rest old.line new.line [] taken) few)
+  Steps-piece left leaves rest written machine old new piece reading stands is takes none (inr same) =
+      subst (λ (r : LineLoopValue). Stands handling start (with_rest leaves rest) written machine r) (sym same.1)
+      (Steps-kept (with_rest left rest) (with_rest leaves rest) written machine old reading stands (Keeps-rest left leaves rest same.2))
+
+  -- no more is read
+  pub Steps-stopped : (left leaves rest written : Option (List ℕ)) (machine : V) (old new : LineLoopValue) (fault : RunFault) (read : Type 0) → old.state.stage ≡ Reading → Stands handling start (with_rest left rest) written machine old
+      → new ≡ record old { state = record old.state { stage = Ending (Err fault) } } → StopsBy fault read left old → Keeps left leaves → Stands handling start (with_rest leaves rest) written machine new
+  Steps-stopped left leaves rest written machine old new fault read reading stands is why kept = subst (λ (r : LineLoopValue). Stands handling start (with_rest leaves rest) written machine r) (sym is) (stopped fault why)
+    where
+      keeps : Keeps (with_rest left rest) (with_rest leaves rest)
+      keeps = Keeps-rest left leaves rest kept
+
+      stopped : (found : RunFault) → StopsBy found read left old → Stands handling start (with_rest leaves rest) written machine (record old { state = record old.state { stage = Ending (Err found) } })
+      stopped Read why = Steps-read_fault (with_rest left rest) (with_rest leaves rest) written machine old reading stands keeps
+      stopped TooManyTurns (inl long) = Steps-endless (with_rest left rest) (with_rest leaves rest) written machine old reading stands long keeps
+      stopped TooManyTurns (inr more) = Steps-many (with_rest left rest) (with_rest leaves rest) written machine old reading stands more.0 (some_rest left rest more.1) keeps
+      stopped Write why = absurd why
+      stopped Memory why = absurd why
 
   -- the last part was answered, or begun
   answered_last : (script : List ℕ) (told : start.left ≡ Some script) (left written : Option (List ℕ)) (lines : List (List ℕ)) (part : List ℕ) (reached was now : V) (line : Bool) (old new : LineLoopValue)

@@ -46,7 +46,7 @@ pub(crate) fn answer_line<R: Threads + Sync, C: CommandReader>(
 {
     match announced {
         None => run_command::<R, C>(rt, alloc, region, workers, line),
-        Some(announced) => take_line(alloc, region, announced, line),
+        Some(announced) => take_line(rt, alloc, region, workers, announced, line),
     }
 }
 
@@ -89,7 +89,7 @@ pub(crate) fn answer_end<R: Threads + Sync, C: CommandReader>(
     ensures { ConcludesBy C.may_run_out (with_mode announced region.old) part.now (machine_over region.new) result }
 {
     match announced {
-        Some(announced) => take_last_part(alloc, region, announced, part),
+        Some(announced) => take_last_part(rt, alloc, region, workers, announced, part),
         None if part.is_empty() => Reply::Silent,
         None => run_last_command::<R, C>(rt, alloc, region, workers, part),
     }
@@ -109,7 +109,7 @@ fn run_last_command<R: Threads + Sync, C: CommandReader>(
     match C::command_of(alloc, line) {
         Ok(command) => match obey(rt, alloc, region, workers, command) {
             Handled::Obeyed(reply) => reply,
-            Handled::Announces(_) => adopt(alloc, region, Some(Vec::new(alloc))),
+            Handled::Announces(_) => adopt(rt, alloc, region, workers, Some(Vec::new(alloc))),
         },
         Err(refusal) => Reply::Refused(refusal),
     }

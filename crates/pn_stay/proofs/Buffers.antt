@@ -1,13 +1,15 @@
 -- What is taken from the front of bytes that are held.
-use Rattle.std.proofs.Common.{◌≡◌, ℕ, ◌+◌, ◌-◌, Some, List, ◌++◌, length, take, drop, sym, ap, ◌∙◌, subst, arith, length-append}
-use Rattle.std.proofs.lemmas.List.{drop-drop, drop_at, take_rest}
+use Rattle.std.proofs.Common.{◌≡◌, ℕ, ◌+◌, ◌-◌, ◌≤◌, Some, List, ◌++◌, length, take, drop, sym, ap, ◌∙◌, subst, arith, length-append}
+use Rattle.std.proofs.lemmas.List.{drop-drop, drop-take, drop_at}
 use Rattle.pn_line.specs.Line.{LineBufferValue}
 use Rattle.pn_line.specs.Reads.{Takes, HasMore}
 use Rattle.pn_line.specs.declared.piece.Piece.{Piece}
 
--- the bytes from a place on, as a slice shows them
-pub slice_from : (shown all : List ℕ) (start : ℕ) → shown ≡ all → take (length shown - start) (drop start shown) ≡ drop start all
-slice_from shown all start same = ap (λ (l : List ℕ). take (length l - start) (drop start l)) same ∙ take_rest all start
+-- the bytes between two places, as a slice shows them
+pub slice_within : (shown all : List ℕ) (start end : ℕ) → shown ≡ all → start ≤ end → take (end - start) (drop start shown) ≡ drop start (take end all)
+slice_within shown all start end same within =
+    let whole : start + (end - start) ≡ end = omega (arith, within) in
+    ap (λ (l : List ℕ). take (end - start) (drop start l)) same ∙ sym (drop-take start (end - start) all) ∙ ap (λ (n : ℕ). drop start (take n all)) whole
 
 -- the rest of a line's bytes is what the room then holds
 pub rest_front : (old new : LineBufferValue) (all : List ℕ) (start used : ℕ) (shown shows now after : List ℕ) → shown ≡ now → drop start all ≡ now → Takes old new (Some shown) (Some shows) after

@@ -1,6 +1,6 @@
 //! The input buffer of a session thread, which its connections use one after another.
 
-ghost use Rattle.std.specs.Prelude.{◌≡◌, ◌≢◌, ◌≤◌, ◌<◌, ◌↔◌, ◌⊎◌, [], true, false, length, vec_len, vec_capacity, IfErr, IfOk, IsTrue, OnErr};
+ghost use Rattle.std.specs.Prelude.{◌≡◌, ◌≢◌, ◌≤◌, ◌<◌, ◌↔◌, ◌⊎◌, [], true, false, length, take, IfErr, IfOk, IsTrue, OnErr};
 ghost use Rattle.std.specs.Io.KnownBytes.{Consumes, IsAtEnd, Keeps};
 ghost use Rattle.std.specs.IoError.{error_kind};
 ghost use Rattle.pn_line.specs.Reads.{newline_after};
@@ -21,21 +21,21 @@ pub const READ_SIZE: usize = 16_384;
 /// Input that was read and is not answered yet. Its memory is allocated when it is made, and never again.
 #[derive(Drop)]
 pub struct InputBuffer {
+    // What a read fills. The input that is held goes from the start to the end.
     bytes: Vec<u8>,
     start: usize,
-    // What a read fills.
-    piece: Vec<u8>,
+    end: usize,
 }
 
 impl Model for InputBuffer {
-    ghost use Rattle.std.specs.Prelude.{◌≡◌, ◌≤◌, ℕ, List, vec_len, vec_capacity, drop};
-    ghost use Rattle.pn_stay.specs.declared.input_buffer.TheConstants.{INPUT_CAPACITY, READ_SIZE};
+    ghost use Rattle.std.specs.Prelude.{◌≡◌, ◌≤◌, ℕ, List, vec_len, drop, take};
+    ghost use Rattle.pn_stay.specs.declared.input_buffer.TheConstants.{INPUT_CAPACITY};
 
     ghost Value = { List ℕ };
 
-    ghost view = { λ buffer. drop buffer.start buffer.bytes.items };
+    ghost view = { λ buffer. drop buffer.start (take buffer.end buffer.bytes.items) };
 
-    ghost invariant = { λ buffer. (buffer.start ≤ vec_len buffer.bytes) × (vec_len buffer.bytes ≤ INPUT_CAPACITY) × (INPUT_CAPACITY ≤ vec_capacity buffer.bytes) × (vec_len buffer.piece ≡ READ_SIZE) };
+    ghost invariant = { λ buffer. (buffer.start ≤ buffer.end) × (buffer.end ≤ INPUT_CAPACITY) × (vec_len buffer.bytes ≡ INPUT_CAPACITY) };
 }
 
 impl InputBuffer {
@@ -43,12 +43,12 @@ impl InputBuffer {
     pub fn new(alloc: Global) -> Result<InputBuffer, AllocError>
         ensures { IfOk result (λ buffer. buffer ≡ []) }
     {
-        let mut piece = Vec::new(alloc);
-        piece.resize(READ_SIZE, 0)?;
+        let mut bytes = Vec::new(alloc);
+        bytes.resize(INPUT_CAPACITY, 0)?;
         Ok(InputBuffer {
-            bytes: Vec::with_capacity(alloc, INPUT_CAPACITY)?,
+            bytes,
             start: 0,
-            piece,
+            end: 0,
         })
     }
 
@@ -57,14 +57,14 @@ impl InputBuffer {
         ensures held { result.now ≡ self.now }
         ensures bounded { length result.now ≤ INPUT_CAPACITY }
     {
-        &self.bytes[self.start..]
+        &self.bytes[self.start..self.end]
     }
 
     /// Whether it holds no input.
     pub fn is_empty(&self) -> bool
         ensures { IsTrue result ↔ (self.now ≡ []) }
     {
-        self.start == self.bytes.len()
+        self.start == self.end
     }
 
     /// Holds this input, and no other.
@@ -72,9 +72,9 @@ impl InputBuffer {
         requires { length bytes.now ≤ INPUT_CAPACITY }
         ensures { self.new ≡ bytes.now }
     {
+        copy_to_front(&mut self.bytes, bytes);
         self.start = 0;
-        self.bytes.clear();
-        self.bytes.extend_from_slice(bytes).unwrap();
+        self.end = bytes.len();
     }
 
     /// Reads once, in place of the input that it holds. False at the end of the input.
@@ -88,27 +88,33 @@ impl InputBuffer {
         ensures failed { IfErr result (λ error. (error_kind error ≡ ErrorKind.WouldBlock) ⊎ R.has_failed input.new) }
     {
         self.start = 0;
-        read_piece(input, &mut self.piece, &mut self.bytes)
+        self.end = 0;
+        self.end = read_piece(input, &mut self.bytes)?;
+        Ok(self.end > 0)
     }
 }
 
-// Reads once into the piece, and copies what came. False at the end of the input.
-fn read_piece<R: Input>(input: &mut R, piece: &mut [u8], bytes: &mut Vec<u8>) -> io::Result<bool>
-    requires some { 0 < length piece.old }
-    requires fits { length piece.old ≤ vec_capacity bytes.old }
-    ensures came { IfOk result (λ _. Consumes (R.remaining input.old) (R.remaining input.new) bytes.new.items) }
-    ensures more { IfOk result (λ more. more ≡ true → bytes.new.items ≢ []) }
-    ensures end { IfOk result (λ more. more ≡ false → (bytes.new.items ≡ []) × IsAtEnd (R.remaining input.new)) }
+// Reads once to the front of the bytes. How many came, none at the end of the input.
+fn read_piece<R: Input>(input: &mut R, bytes: &mut [u8]) -> io::Result<usize>
+    requires size { READ_SIZE ≤ length bytes.old }
+    ensures came { IfOk result (λ count. Consumes (R.remaining input.old) (R.remaining input.new) (take count bytes.new)) }
+    ensures end { IfOk result (λ count. count ≡ 0 → IsAtEnd (R.remaining input.new)) }
     ensures kept { OnErr result (Keeps (R.remaining input.old) (R.remaining input.new)) }
-    ensures none { OnErr result (bytes.new.items ≡ []) }
-    ensures few { vec_len bytes.new ≤ length piece.old }
-    ensures capacity { vec_capacity bytes.old ≤ vec_capacity bytes.new }
+    ensures few { IfOk result (λ count. count ≤ READ_SIZE) }
+    ensures size { length bytes.new ≡ length bytes.old }
     ensures failed { IfErr result (λ error. (error_kind error ≡ ErrorKind.WouldBlock) ⊎ R.has_failed input.new) }
 {
-    bytes.clear();
-    let count = input.read_some(piece)?;
-    bytes.extend_from_slice(&piece[..count]).unwrap();
-    Ok(count > 0)
+    let count = input.read_some(&mut bytes[..READ_SIZE])?;
+    Ok(count)
+}
+
+// Writes bytes over the first of others.
+fn copy_to_front(others: &mut [u8], bytes: &[u8])
+    requires { length bytes.now ≤ length others.old }
+    ensures front { take (length bytes.now) others.new ≡ bytes.now }
+    ensures size { length others.new ≡ length others.old }
+{
+    others[..bytes.len()].copy_from_slice(bytes);
 }
 
 impl Source for InputBuffer {
@@ -124,7 +130,7 @@ impl Source for InputBuffer {
 
     fn take_some(&mut self, line: &mut LineBuffer) -> io::Result<Piece> {
         let before = line.len();
-        let mut shown = InMemory::new(&self.bytes[self.start..]);
+        let mut shown = InMemory::new(self.bytes());
         let piece = shown.take_some(line)?;
         self.start += line.len() - before + newlines(piece);
         Ok(piece)

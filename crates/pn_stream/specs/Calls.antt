@@ -2,6 +2,7 @@
 use Rattle.std.specs.Prelude.{◌≡◌, ◌≢◌, ℕ, ◌+◌, ◌≤◌, List, ◌++◌, length, min, Option, Some, None, Result, Err, IfOk, IfErr, IsErrOf, IfSome}
 use Rattle.pn_join.specs.declared.marks.TheConstants.{LAST_POSITION}
 use Rattle.pn_record.specs.Limits.{max_line_bytes}
+use Rattle.pn_record.specs.declared.image.Image.{Image}
 use Rattle.pn_stream.specs.Batches.{Stream, Batch}
 use Rattle.pn_stream.specs.Faults.{Stands}
 use Rattle.pn_stream.specs.Positions.{DeliveryValue}
@@ -17,6 +18,20 @@ pub record Gives {S : Type 0} (left : S → Option (List ℕ)) (may_fail : Type 
   pub waits : length delivery.images ≡ 0 → new.fault ≡ None
   pub read : new.fault ≡ Some Read → may_fail
   pub not_failed : new.fault ≢ Some Failed
+
+-- the next messages are taken, and the fault that follows them, if there is one, which is none of an earlier call; only
+-- the part of a line that is kept and the source change
+pub record Takes {S : Type 0} (left : S → Option (List ℕ)) (may_fail may_give_up : Type 0) (least most : ℕ) (old : Stream S) (images : List Image) (fault : Option StreamFault) (new : Stream S) : Type 0 where
+  pub within : length images ≤ most
+  pub positions : old.position + length images ≤ LAST_POSITION
+  pub run : IfSome (left old.source) (λ text. Batch least most old.position (old.part ++ text) images fault new.part (left new.source))
+  pub read : fault ≡ Some Read → may_fail
+  pub gives_up : fault ≡ Some Memory → may_give_up
+  pub not_failed : fault ≢ Some Failed
+  pub name : new.name ≡ old.name
+  pub position : new.position ≡ old.position
+  pub waiting : new.fault ≡ old.fault
+  pub part : length new.part ≤ max_line_bytes
 
 -- a fault before the first message, or one that waited; after it the reader has failed, at the same position
 pub record Stops {S : Type 0} (left : S → Option (List ℕ)) (may_fail : Type 0) (old new : Stream S) (fault : StreamFault) : Type 0 where

@@ -1,5 +1,5 @@
 -- Lines that are taken from a stream before their messages are read, and what is read of them.
-use Rattle.std.specs.Prelude.{◌≡◌, ℕ, ◌+◌, ◌≤◌, List, [], ◌∷◌, ◌++◌, length, Option, Some, None}
+use Rattle.std.specs.Prelude.{◌≡◌, ℕ, ◌+◌, ◌<◌, ◌≤◌, ◌^◌, List, [], ◌∷◌, ◌++◌, length, All, Option, Some, None}
 use Rattle.pn_line.specs.Reads.{IsUnbroken}
 use Rattle.pn_line.specs.Text.{text_of}
 use Rattle.pn_record.specs.Limits.{max_line_bytes}
@@ -15,6 +15,10 @@ use Rattle.pn_stream.specs.declared.lines.NextLine.{NextLine}
 pub record IsWhole (line : List ℕ) : Type 0 where
   pub unbroken : IsUnbroken line
   pub short : length line ≤ max_line_bytes
+
+-- whole lines, whose messages have positions below 2^64
+abbrev pub CanBeRead : ℕ → List (List ℕ) → Type 0
+CanBeRead position lines = All IsWhole lines × (position + length lines < 2 ^ 64)
 
 -- the next line of the text, if a whole one is there, and what is left then
 abbrev pub IsNextLine : List ℕ → Option NextLine → List ℕ → Option (List ℕ) → Type 0

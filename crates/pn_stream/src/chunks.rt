@@ -1,14 +1,14 @@
 //! Lines that several threads read, each a chunk of consecutive lines at the positions that its place gives.
 
-ghost use Rattle.std.specs.Prelude.{◌≡◌, ◌+◌, ◌<◌, ◌^◌, ◌⊎◌, ◌↔◌, [], ◌++◌, length, All, None, Some, IfOk, IfErr, OnOk, OnErr, IsSome, IsTrue};
+ghost use Rattle.std.specs.Prelude.{◌≡◌, ◌⊎◌, ◌↔◌, [], ◌++◌, None, Some, IfOk, IfErr, OnOk, OnErr, IsSome, IsTrue};
 ghost use Rattle.pn_stream.specs.Faults.{Refuses};
-ghost use Rattle.pn_stream.specs.Lines.{AddsMessage, IsRead, IsWhole};
+ghost use Rattle.pn_stream.specs.Lines.{AddsMessage, CanBeRead, IsRead};
 ghost use Rattle.pn_stream.specs.MessageLines.{IsMessageLine};
 
 use crate::fault::StreamFault;
 use crate::lines::WholeLine;
-use crate::memory::{NoWait, ReaderMemory};
-use crate::next::{check_step, message_of_line, push_image};
+use crate::memory::{NoWait, ReaderMemory, push_one};
+use crate::next::{check_step, message_of_line};
 use pn_record::Image;
 use std::alloc::Global;
 use std::thread::{Threads, join};
@@ -47,8 +47,7 @@ pub(crate) fn read_chunks<R: Threads>(
     position: u64,
     workers: usize,
 ) -> ReadRun
-    requires whole { All IsWhole lines.now }
-    requires numbers { position + length lines.now < 2 ^ 64 }
+    requires lines { CanBeRead position lines.now }
     ensures { IsRead position lines.now result.images.items result.fault }
 {
     if workers < 2 || lines.len() < 2 {
@@ -58,11 +57,11 @@ pub(crate) fn read_chunks<R: Threads>(
     let (low, high) = lines.split_at(count);
     let (next, others) = (position + count as u64, workers - 1);
     let front = || -> ReadRun
-        requires { All IsWhole low.now × (position + length low.now < 2 ^ 64) }
+        requires { CanBeRead position low.now }
         ensures { IsRead position low.entry.now result.images.items result.fault }
     { read_lines(alloc, low, position) };
     let back = || -> ReadRun
-        requires { All IsWhole high.now × (next + length high.now < 2 ^ 64) }
+        requires { CanBeRead next high.now }
         ensures { IsRead next high.entry.now result.images.items result.fault }
     { read_chunks(rt, alloc, high, next, others) };
     let (earlier, later) = join(rt, front, back);
@@ -78,8 +77,7 @@ pub(crate) fn read_in_memory<R: Threads, M: ReaderMemory>(
     position: u64,
     workers: usize,
 ) -> ReadRun
-    requires whole { All IsWhole lines.now }
-    requires numbers { position + length lines.now < 2 ^ 64 }
+    requires lines { CanBeRead position lines.now }
     ensures read { IsRead position lines.now result.images.items result.fault }
     ensures gives_up { result.fault ≡ Some StreamFault.Memory → M.may_give_up }
 {
@@ -96,8 +94,7 @@ pub(crate) fn read_in_memory<R: Threads, M: ReaderMemory>(
 
 // Reads on from the line that memory ran out for.
 fn read_on(alloc: Global, lines: &[WholeLine], position: u64, run: ReadRun) -> ReadRun
-    requires whole { All IsWhole lines.now }
-    requires numbers { position + length lines.now < 2 ^ 64 }
+    requires lines { CanBeRead position lines.now }
     requires so_far { IsRead position lines.now run.images.items (Some StreamFault.Memory) }
     ensures { IsRead position lines.now result.images.items result.fault }
 {
@@ -135,8 +132,7 @@ fn put_together(front: ReadRun, back: ReadRun) -> ReadRun
 
 // Reads the messages of the lines, until one is refused.
 fn read_lines(alloc: Global, lines: &[WholeLine], position: u64) -> ReadRun
-    requires whole { All IsWhole lines.now }
-    requires numbers { position + length lines.now < 2 ^ 64 }
+    requires lines { CanBeRead position lines.now }
     ensures { IsRead position lines.now result.images.items result.fault }
 {
     let mut images = Vec::new(alloc);
@@ -160,8 +156,7 @@ fn push_messages(
     images: &mut Vec<Image>,
 ) -> Result<(), StreamFault>
     requires none { images.old.items ≡ [] }
-    requires whole { All IsWhole lines.now }
-    requires numbers { position + length lines.now < 2 ^ 64 }
+    requires lines { CanBeRead position lines.now }
     ensures ok { OnOk result (IsRead position lines.now images.new.items None) }
     ensures err { IfErr result (λ fault. IsRead position lines.now images.new.items (Some fault)) }
 {
@@ -184,7 +179,7 @@ fn push_message(
     ensures kept { OnErr result (images.new.items ≡ images.old.items) }
 {
     let image = image_in_step(alloc, line, wanted)?;
-    push_image(&NoWait::new(alloc), images, image)?;
+    push_one(&NoWait::new(alloc), images, image)?;
     Ok(())
 }
 

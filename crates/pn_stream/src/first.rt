@@ -8,7 +8,7 @@ ghost use Rattle.pn_stream.specs.Resuming.{StandsFirst};
 ghost use Rattle.pn_stream.specs.Streams.{NoLine, IsLeft};
 
 use crate::fault::{ResumeFault, StreamFault};
-use crate::memory::{ReaderMemory, reserve_one};
+use crate::memory::{ReaderMemory, push_one};
 use crate::next::{NextMessage, next_message, take_line};
 use pn_join::NoMemory;
 use pn_line::{LineBuffer, Source};
@@ -93,7 +93,6 @@ fn one_image<M: ReaderMemory>(memory: &M, image: Image) -> Result<Vec<Image>, No
     ensures gives_up { OnErr result M.may_give_up }
 {
     let mut images = Vec::new(memory.alloc());
-    reserve_one(memory, &mut images)?;
-    images.push_reserved(image);
+    push_one(memory, &mut images, image)?;
     Ok(images)
 }

@@ -1,13 +1,13 @@
 //! Whole lines of a stream, taken from its source before their messages are read.
 
-ghost use Rattle.std.specs.Prelude.{◌≡◌, ℕ, ◌≤◌, [], ◌∷◌, ◌++◌, length, All, None, Some, IfOk, IfErr, IfSome, OnOk, OnErr, OnSome, IsErrOf, IsSome};
+ghost use Rattle.std.specs.Prelude.{◌≡◌, ℕ, ◌≤◌, [], ◌++◌, length, All, None, Some, IfOk, IfErr, IfSome, OnOk, OnErr, OnSome, IsErrOf, IsSome};
 ghost use Rattle.pn_line.specs.Prelude.{HasShown};
 ghost use Rattle.pn_stream.specs.Batches.{IsPart, part_of};
 ghost use Rattle.pn_stream.specs.Faults.{Stands};
 ghost use Rattle.pn_stream.specs.Lines.{Gathered, IsNextLine, IsWhole};
 
 use crate::fault::StreamFault;
-use crate::memory::{ReaderMemory, reserve_one};
+use crate::memory::{ReaderMemory, push_one};
 use crate::next::{BatchSize, take_line, whole_line};
 use pn_join::NoMemory;
 use pn_line::{LineBuffer, Source, read_bounded_line};
@@ -83,7 +83,7 @@ pub(crate) fn take_lines<S: Source, M: ReaderMemory>(
         match next_line(memory, &mut line, source)? {
             Some(next) => {
                 more = next.more;
-                push_line(memory, lines, next.line)?;
+                push_one(memory, lines, next.line)?;
             }
             None => {
                 *held = Some(line);
@@ -92,21 +92,6 @@ pub(crate) fn take_lines<S: Source, M: ReaderMemory>(
         }
     }
     *held = Some(line);
-    Ok(())
-}
-
-// Adds a line. An error leaves the lines as they were.
-fn push_line<M: ReaderMemory>(
-    memory: &M,
-    lines: &mut Vec<WholeLine>,
-    line: WholeLine,
-) -> Result<(), NoMemory>
-    ensures ok { OnOk result (lines.new.items ≡ lines.old.items ++ line ∷ []) }
-    ensures err { OnErr result (lines.new.items ≡ lines.old.items) }
-    ensures gives_up { OnErr result M.may_give_up }
-{
-    reserve_one(memory, lines)?;
-    lines.push_reserved(line);
     Ok(())
 }
 

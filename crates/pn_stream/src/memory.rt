@@ -1,6 +1,6 @@
 //! The memory of a reader, which may be waited for where it runs out.
 
-ghost use Rattle.std.specs.Prelude.{◌≡◌, ◌<◌, [], false, vec_len, vec_capacity, IfOk, OnOk, OnErr};
+ghost use Rattle.std.specs.Prelude.{◌≡◌, ◌<◌, [], ◌∷◌, ◌++◌, false, vec_len, vec_capacity, IfOk, OnOk, OnErr};
 ghost use Rattle.pn_line.specs.Prelude.{so_far};
 
 use pn_join::NoMemory;
@@ -68,8 +68,8 @@ pub(crate) fn new_line<M: ReaderMemory>(memory: &M) -> Result<LineBuffer, NoMemo
     Err(NoMemory)
 }
 
-/// Makes place for one more.
-pub(crate) fn reserve_one<T, M: ReaderMemory>(memory: &M, list: &mut Vec<T>) -> Result<(), NoMemory>
+// Makes place for one more.
+fn reserve_one<T, M: ReaderMemory>(memory: &M, list: &mut Vec<T>) -> Result<(), NoMemory>
     ensures place { OnOk result (vec_len list.new < vec_capacity list.new) }
     ensures items { list.new.items ≡ list.old.items }
     ensures gives_up { OnErr result M.may_give_up }
@@ -84,4 +84,19 @@ pub(crate) fn reserve_one<T, M: ReaderMemory>(memory: &M, list: &mut Vec<T>) -> 
     }
     memory.give_up();
     Err(NoMemory)
+}
+
+/// Adds one more. An error leaves the list as it was.
+pub(crate) fn push_one<T: Drop, M: ReaderMemory>(
+    memory: &M,
+    list: &mut Vec<T>,
+    item: T,
+) -> Result<(), NoMemory>
+    ensures ok { OnOk result (list.new.items ≡ list.old.items ++ item ∷ []) }
+    ensures err { OnErr result (list.new.items ≡ list.old.items) }
+    ensures gives_up { OnErr result M.may_give_up }
+{
+    reserve_one(memory, list)?;
+    list.push_reserved(item);
+    Ok(())
 }

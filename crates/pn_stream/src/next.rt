@@ -1,6 +1,6 @@
 //! The next messages of a stream, read from the lines of its source.
 
-ghost use Rattle.std.specs.Prelude.{◌≡◌, ◌≢◌, ℕ, ◌+◌, ◌<◌, ◌≤◌, false, [], ◌∷◌, ◌++◌, length, IfOk, IfErr, IfSome, OnOk, OnSome, OnErr, IsErrOf, IsSome, IsTrue};
+ghost use Rattle.std.specs.Prelude.{◌≡◌, ◌≢◌, ℕ, ◌+◌, ◌<◌, ◌≤◌, false, [], ◌++◌, length, IfOk, IfErr, IfSome, OnOk, OnSome, OnErr, IsErrOf, IsSome, IsTrue};
 ghost use Rattle.pn_line.specs.Prelude.{HasShown};
 ghost use Rattle.pn_join.specs.Prelude.{is_position};
 ghost use Rattle.pn_join.specs.declared.marks.TheConstants.{LAST_POSITION};
@@ -10,9 +10,8 @@ ghost use Rattle.pn_stream.specs.Faults.{Refuses, Stands};
 ghost use Rattle.pn_stream.specs.Batches.{Batch, IsPart, IsNext, part_of};
 
 use crate::fault::StreamFault;
-use crate::memory::{ReaderMemory, new_line, reserve_one};
+use crate::memory::{ReaderMemory, new_line, push_one};
 use crate::message::read_message;
-use pn_join::NoMemory;
 use pn_line::{BoundedEnd, LineBuffer, Source, read_bounded_line};
 use pn_record::{Image, ImageFault};
 use std::alloc::Global;
@@ -79,7 +78,7 @@ pub(crate) fn next_images<S: Source, M: ReaderMemory>(
         match next_in_step(memory, &mut line, source, wanted)? {
             Some(next) => {
                 more = next.more;
-                push_image(memory, images, next.image)?;
+                push_one(memory, images, next.image)?;
             }
             None => {
                 *held = Some(line);
@@ -107,21 +106,6 @@ pub(crate) fn take_line<M: ReaderMemory>(
         Some(line) => Ok(line),
         None => Ok(new_line(memory)?),
     }
-}
-
-/// Adds an image. An error leaves the images as they were.
-pub(crate) fn push_image<M: ReaderMemory>(
-    memory: &M,
-    images: &mut Vec<Image>,
-    image: Image,
-) -> Result<(), NoMemory>
-    ensures ok { OnOk result (images.new.items ≡ images.old.items ++ image ∷ []) }
-    ensures err { OnErr result (images.new.items ≡ images.old.items) }
-    ensures gives_up { OnErr result M.may_give_up }
-{
-    reserve_one(memory, images)?;
-    images.push_reserved(image);
-    Ok(())
 }
 
 // The next message, which must have the position `wanted`. None where no whole line is left.

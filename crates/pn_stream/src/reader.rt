@@ -1,10 +1,10 @@
 //! Readers of streams: the next messages of a stream in the order of their positions, however its bytes arrive.
 
-ghost use Rattle.std.specs.Prelude.{◌≡◌, ◌≢◌, ◌+◌, ◌≤◌, pred, [], ◌++◌, length, min, IfOk, IfErr, IfSome, OnOk, IsErrOf, IsTrue};
+ghost use Rattle.std.specs.Prelude.{◌≡◌, ◌+◌, ◌≤◌, pred, [], ◌++◌, length, min, IfOk, IfErr, IfSome, OnOk, IsErrOf, IsTrue};
 ghost use Rattle.pn_join.specs.Prelude.{is_position};
 ghost use Rattle.pn_record.specs.Prelude.{max_line_bytes};
 ghost use Rattle.pn_stream.specs.Batches.{Batch};
-ghost use Rattle.pn_stream.specs.Calls.{GivesUp, IsCall};
+ghost use Rattle.pn_stream.specs.Calls.{GivesUp, IsCall, Takes};
 ghost use Rattle.pn_stream.specs.Positions.{are_positions};
 ghost use Rattle.pn_stream.specs.Resuming.{IsResumed, StandsFirst};
 ghost use Rattle.pn_stream.specs.Streams.{NoLine, IsLeft};
@@ -133,7 +133,7 @@ impl<S: Source + Drop> StreamReader<S> {
         match self.take_first(memory) {
             Ok(Some((at, images))) => Ok(Some(self.begin(at, images))),
             Ok(None) => Ok(None),
-            Err(fault) => Err(self.fail_first(fault)),
+            Err(fault) => Err(self.fail(fault)),
         }
     }
 
@@ -180,15 +180,6 @@ impl<S: Source + Drop> StreamReader<S> {
         Delivery::of(self.name, at, images)
     }
 
-    // Answers with the fault of a first message. From now on the reader has failed.
-    fn fail_first(&mut self, fault: ResumeFault) -> ResumeFault
-        ensures failed { self.new ≡ record self.old { fault = Some StreamFault.Failed } }
-        ensures fault { result ≡ fault }
-    {
-        self.fault = Some(StreamFault::Failed);
-        fault
-    }
-
     // The images of the next messages, as many as the size says.
     fn next_of_size<M: ReaderMemory>(
         &mut self,
@@ -217,7 +208,7 @@ impl<S: Source + Drop> StreamReader<S> {
     }
 
     // Answers with the fault. From now on the reader has failed.
-    fn fail(&mut self, fault: StreamFault) -> StreamFault
+    fn fail<F>(&mut self, fault: F) -> F
         ensures failed { self.new ≡ record self.old { fault = Some StreamFault.Failed } }
         ensures fault { result ≡ fault }
     {
@@ -233,17 +224,7 @@ impl<S: Source + Drop> StreamReader<S> {
     ) -> (Vec<Image>, Option<StreamFault>)
         requires some { 1 ≤ size.least }
         requires few { size.least ≤ size.most }
-        ensures within { length result.0.items ≤ size.most }
-        ensures positions { self.old.position + length result.0.items ≤ LAST_POSITION }
-        ensures run { IfSome (S.left self.old.source) (λ text.
-            Batch size.least size.most self.old.position (self.old.part ++ text) result.0.items result.1 self.new.part (S.left self.new.source)) }
-        ensures read { result.1 ≡ Some StreamFault.Read → S.may_fail }
-        ensures gives_up { result.1 ≡ Some StreamFault.Memory → M.may_give_up }
-        ensures not_failed { result.1 ≢ Some StreamFault.Failed }
-        ensures name { self.new.name ≡ self.old.name }
-        ensures position { self.new.position ≡ self.old.position }
-        ensures fault { self.new.fault ≡ self.old.fault }
-        ensures part { length self.new.part ≤ max_line_bytes }
+        ensures { Takes S.left S.may_fail M.may_give_up size.least size.most self.old result.0.items result.1 self.new }
     {
         let mut images = Vec::new(memory.alloc());
         let ended = next_images(

@@ -34,7 +34,7 @@ last_with last (image ∷ images) = last_with (Some image) images
 abbrev pub drafted : Ends → Positions → List Image → DraftValue
 drafted range marks images = record { range = range; marks = marks; cells = table_of images; last = last_with None images }
 
-some_then : (lines : List (List ℕ)) (rest : List ℕ) → (piece : List ℕ) × (more : List (List ℕ)) × (lines ++ pieces_of rest ≡ piece ∷ more)
+pub some_then : (lines : List (List ℕ)) (rest : List ℕ) → (piece : List ℕ) × (more : List (List ℕ)) × (lines ++ pieces_of rest ≡ piece ∷ more)
 some_then [] rest = pieces_of-some rest
 some_then (line ∷ lines) rest = (line, lines ++ pieces_of rest, refl)
 

@@ -31,7 +31,7 @@ joined-onto : (b : ℕ) (piece : List ℕ) (pieces : List (List ℕ)) → joined
 joined-onto b piece [] = refl
 joined-onto b piece (next ∷ pieces) = refl
 
-joined-cons : (line : List ℕ) (pieces more : List (List ℕ)) (piece : List ℕ) → pieces ≡ piece ∷ more → joined (line ∷ pieces) ≡ line ++ 10 ∷ joined pieces
+pub joined-cons : (line : List ℕ) (pieces more : List (List ℕ)) (piece : List ℕ) → pieces ≡ piece ∷ more → joined (line ∷ pieces) ≡ line ++ 10 ∷ joined pieces
 joined-cons line pieces more piece is = rw is refl
 
 pub joined-pieces_of : (text : List ℕ) → joined (pieces_of text) ≡ text

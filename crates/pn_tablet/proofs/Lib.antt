@@ -1,5 +1,6 @@
 pub mod BoundSteps
 pub mod Changed
+pub mod CopyChunkLaws
 pub mod CopyCounted
 pub mod CopyExchanges
 pub mod CopyGrammar

@@ -46,6 +46,17 @@ with_image n draft image =
 abbrev pub finish : ℕ → DraftValue → ℕ → Bool → Result TabletCopyValue CopyTextFault
 finish n draft count over = if count == n - 2 && over then Ok (copy_of_draft draft) else Err BadEnd
 
+-- line n, a mark or an image
+abbrev pub with_line : ℕ → DraftValue → CopyLine → Result DraftValue CopyTextFault
+with_line n draft (Mark name position) = with_mark n draft (name, position)
+with_line n draft (Record image) = with_image n draft image
+with_line n draft (End count) = Err BadEnd
+
+-- line n and those after it, one by one, up to the first that has a fault
+unfoldable pub with_lines : ℕ → DraftValue → List CopyLine → Result DraftValue CopyTextFault
+with_lines n draft [] = Ok draft
+with_lines n draft (line ∷ lines) = with_line n draft line >>= λ longer. with_lines (n + 1) longer lines
+
 -- line n, and then the lines after it
 abbrev pub after : ℕ → DraftValue → (DraftValue → Result TabletCopyValue CopyTextFault) → Bool → CopyLine → Result TabletCopyValue CopyTextFault
 after n draft next over (Mark name position) = with_mark n draft (name, position) >>= next

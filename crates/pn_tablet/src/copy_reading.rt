@@ -1,6 +1,6 @@
 //! Copies, read from their text.
 
-ghost use Rattle.std.specs.Prelude.{◌≡◌, ◌≤◌, ◌<◌, ◌∷◌, [], length, Ok, IfOk, MatchOption};
+ghost use Rattle.std.specs.Prelude.{◌≡◌, ◌≤◌, ◌<◌, ◌+◌, ◌^◌, ◌∷◌, [], length, Ok, IfOk, MatchOption};
 ghost use Rattle.pn_line.specs.Prelude.{IsUnbroken};
 ghost use Rattle.pn_json.specs.Prelude.{IsUnless};
 ghost use Rattle.pn_tablet.specs.Copies.{TabletCopyValue};
@@ -39,21 +39,24 @@ fn read_text(alloc: Global, text: &[u8]) -> Result<TabletCopy, CopyTextFault>
         return Err(CopyTextFault::Truncated);
     };
     let (form, range) = read_head(alloc, head, CopyTextFault::BadLine(1))?;
-    read_lines(alloc, form, CopyDraft::new(alloc, range), rest)
+    read_lines(alloc, form, 2, CopyDraft::new(alloc, range), rest)
 }
 
-// Reads the lines after the head, from line 2 on.
-fn read_lines(
+/// Reads the lines of the text, of which the first is line `first`, on from what was read before them.
+pub(crate) fn read_lines(
     alloc: Global,
     form: Form,
-    empty: CopyDraft,
+    first: u64,
+    before: CopyDraft,
     text: &[u8],
 ) -> Result<TabletCopy, CopyTextFault>
-    ensures { IsUnless CopyTextFault.Memory result (read_on form 2 empty (pieces_of text.now)) }
+    requires after_head { 2 ≤ first }
+    requires numbers { first + length text.now < 2 ^ 64 }
+    ensures { IsUnless CopyTextFault.Memory result (read_on form first before (pieces_of text.now)) }
 {
-    let mut draft = empty;
+    let mut draft = before;
     let mut rest = text;
-    let mut number = 2;
+    let mut number = first;
     'lines: while let Some((line, after)) = cut_line(rest) {
         match read_line(alloc, form, line, CopyTextFault::BadLine(number))? {
             CopyLine::Mark(name, position) => draft = draft.with_mark(number, name, position)?,
@@ -66,8 +69,8 @@ fn read_lines(
     Err(CopyTextFault::Truncated)
 }
 
-// The first line of a text, and the text after its newline. None where there is no newline.
-fn cut_line(text: &[u8]) -> Option<(&[u8], &[u8])>
+/// The first line of a text, and the text after its newline. None where there is no newline.
+pub(crate) fn cut_line(text: &[u8]) -> Option<(&[u8], &[u8])>
     ensures { MatchOption result (pieces_of text.now ≡ text.now ∷ [])
         (λ cut. (pieces_of text.now ≡ cut.0.now ∷ pieces_of cut.1.now) × (length cut.1.now < length text.now)) }
 {

@@ -102,6 +102,13 @@ pub(crate) fn recall_size(cells: &Records)
     let _ = cells.len();
 }
 
+// Recalls for the prover that marks can be counted.
+fn recall_count(marks: &Marks)
+    ensures { length marks.now < 2 ^ 64 }
+{
+    let _ = marks.len();
+}
+
 // Adds the line of a place. The next place.
 fn append_next(
     out: &mut Vec<u8>,
@@ -140,13 +147,6 @@ fn append_mark_at(out: &mut Vec<u8>, copy: &TabletCopy, lines: u64, index: usize
             append_image_at(out, copy, lines, 0, 0)
         }
     }
-}
-
-// Recalls for the prover that marks can be counted.
-fn recall_count(marks: &Marks)
-    ensures { length marks.now < 2 ^ 64 }
-{
-    let _ = marks.len();
 }
 
 // Adds the line of an image, or the end after all images.

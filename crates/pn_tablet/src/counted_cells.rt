@@ -1,12 +1,13 @@
 //! The cells of a tablet, and how many of them are deleted.
 
-ghost use Rattle.std.specs.Prelude.{◌≡◌, ◌+◌, ◌^◌, ◌<◌, ◌≤◌, [], ◌++◌, ℕ, List, count_by, length, IfOk, OnOk, OnErr, IsTrue};
+ghost use Rattle.std.specs.Prelude.{◌≡◌, ◌+◌, ◌≤◌, [], ◌++◌, ℕ, List, count_by, IfOk, OnOk, OnErr, IsTrue};
 ghost use Rattle.std.specs.FinMap.{find, is_sorted};
 ghost use Rattle.pn_join.specs.Prelude.{AreChanges, optional_joined};
 ghost use Rattle.pn_record.specs.Cells.{Holds};
 ghost use Rattle.pn_record.specs.Prelude.{HasContents, bytes_cmp, cell_joined, spell};
 ghost use Rattle.pn_tablet.specs.Counting.{counts_of, deleted_in, is_deleted as deletes, was_deleted as deleted_before};
 
+use crate::copy_text::recall_size;
 use pn_join::{Dup, NoMemory, TableChange};
 use pn_record::{Cell, CellState, Key, Records, join_and_tell, join_records};
 use std::alloc::Global;
@@ -96,7 +97,8 @@ impl CountedCells {
         other.recall_table();
         let told = join_and_tell(&mut self.cells, other)?;
         let count = self.cells.len();
-        self.deleted = count_after(count, self.deleted, count_come(&told), count_gone(&told));
+        let (come, gone) = count_moved(&told);
+        self.deleted = count_after(count, self.deleted, come, gone);
         Ok(told)
     }
 
@@ -126,37 +128,29 @@ fn count_after(most: usize, before: usize, come: usize, gone: usize) -> usize
     }
 }
 
-// How many changes bring a deleted cell.
-fn count_come(told: &[TableChange<Key, Cell>]) -> usize
-    ensures { result ≡ count_by (λ change. deletes change.after) told.now }
+// How many changes bring a deleted cell, and how many take one away.
+fn count_moved(told: &[TableChange<Key, Cell>]) -> (usize, usize)
+    ensures come { result.0 ≡ count_by (λ change. deletes change.after) told.now }
+    ensures gone { result.1 ≡ count_by (λ change. deleted_before change.before) told.now }
 {
-    let mut count = 0;
+    let mut come = 0;
+    let mut gone = 0;
     for change in told {
         if is_deleted(&change.after) {
-            count += 1;
+            come += 1;
         }
-    }
-    count
-}
-
-// How many changes take a deleted cell away.
-fn count_gone(told: &[TableChange<Key, Cell>]) -> usize
-    ensures { result ≡ count_by (λ change. deleted_before change.before) told.now }
-{
-    let mut count = 0;
-    for change in told {
         if was_deleted(&change.before) {
-            count += 1;
+            gone += 1;
         }
     }
-    count
+    (come, gone)
 }
 
 // How many of the cells are deleted.
 fn count_deleted(cells: &Records) -> usize
     ensures { result ≡ deleted_in cells.now }
 {
-    recall_len(cells);
+    recall_size(cells);
     let mut count = 0;
     for (_key, cell) in cells.iter() {
         if is_deleted(cell) {
@@ -164,13 +158,6 @@ fn count_deleted(cells: &Records) -> usize
         }
     }
     count
-}
-
-// Recalls for the prover that the cells can be counted.
-fn recall_len(cells: &Records)
-    ensures { length cells.now < 2 ^ 64 }
-{
-    let _ = cells.len();
 }
 
 fn is_deleted(cell: &Cell) -> bool

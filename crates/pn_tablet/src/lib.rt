@@ -4,6 +4,7 @@
 
 mod change;
 mod copy;
+mod copy_chunks;
 mod copy_count;
 mod copy_draft;
 pub mod copy_laws;
@@ -27,6 +28,7 @@ mod state;
 
 pub use change::Change;
 pub use copy::TabletCopy;
+pub use copy_chunks::read_copy_by;
 pub use copy_count::{CopyCount, CopyStep};
 pub use copy_reading::read_copy;
 pub use copy_text::CopyText;

@@ -25,7 +25,7 @@ fn answer<R: Threads + Sync>(rt: &R, alloc: Global, line: &str) -> Result<String
         "pn_join" => joins::answer(alloc, case),
         "pn_record" => records::answer(alloc, case),
         "pn_stream" => streams::answer(rt, alloc, case),
-        "pn_tablet" => tablets::answer(alloc, case),
+        "pn_tablet" => tablets::answer(rt, alloc, case),
         "pn_scan" => scans::answer(alloc, case),
         _ => regions::answer(rt, alloc, case),
     }

@@ -1,6 +1,9 @@
 -- By which fault a line loop ends.
-use Rattle.std.specs.Prelude.{◌≡◌, Err}
+use Rattle.std.specs.Prelude.{◌≡◌, ◌≢◌, ◌⊎◌, ◌≤◌, ℕ, List, [], Option, Err, IfSome}
+use Rattle.pn_line.specs.declared.line_buffer.TheConstants.{ENDLESS}
 use Rattle.pn_serve.specs.declared.script.RunFault.{RunFault}
+use Rattle.pn_serve.specs.declared.script.RunFault.TheVariants.{Read, Write, TooManyTurns, Memory}
+use Rattle.pn_serve.specs.declared.script.TheConstants.{MAX_LINES}
 use Rattle.pn_serve.specs.declared.script.line_loop.state.Stage.{Stage}
 use Rattle.pn_serve.specs.declared.script.line_loop.state.Stage.TheVariants.{Reading, Looking, Ending}
 use Rattle.pn_serve.specs.declared.script.line_loop.steps.Step.{Step}
@@ -19,3 +22,10 @@ EndsByStep fault run (Next units) = EndsByAt fault run.state.stage
 EndsByStep fault run NoInput = EndsByAt fault run.state.stage
 EndsByStep fault run NoRoom = EndsByAt fault run.state.stage
 EndsByStep fault run (Ends ended) = ended ≡ Err fault
+
+-- by this fault no more is read: the source failed, the line is as long as one may be, or there is more after the last line that may be answered
+abbrev pub StopsBy : RunFault → Type 0 → Option (List ℕ) → LineLoopValue → Type 0
+StopsBy Read read left run = read
+StopsBy TooManyTurns read left run = (run.line.count ≡ ENDLESS) ⊎ ((MAX_LINES ≤ run.state.counts.lines) × IfSome left (λ rest. rest ≢ []))
+StopsBy Write read left run = ⊥
+StopsBy Memory read left run = ⊥

@@ -9,14 +9,14 @@ ghost use Rattle.pn_serve.specs.declared.copies.fault.CopiesFault.TheVariants.{M
 use crate::CopiesFault;
 use crate::copies::texts::{CopyText, CopyTexts};
 use pn_line::Source;
-use pn_tablet::{CopyTextFault, MAX_BOUNDS, TabletCopy, read_copy};
+use pn_tablet::{CopyTextFault, MAX_BOUNDS, TabletCopy, read_copy_by};
 use std::alloc::Global;
 use std::marker::Model;
 use std::thread;
 use std::thread::Threads;
 
-/// Reads the copies of a text, each by one of 1 to 16 workers. Beside the copies it takes the memory of one copy's text a
-/// worker.
+/// Reads the copies of a text by 1 to 16 workers, which share the lines of few copies. Beside the copies it takes the memory
+/// of one copy's text a worker, and of what its lines say.
 ///
 /// The first faulty line of 64 copies decides; then that there are more.
 #[derive(Drop)]
@@ -76,7 +76,7 @@ impl<S: Source + Drop> CopiesReader<S> {
         if some.is_empty() {
             return Ok(false);
         }
-        let read = read_each(rt, alloc, some)?;
+        let read = read_each(rt, alloc, some, self.workers)?;
         add_copies(&mut self.copies, read)?;
         Ok(true)
     }
@@ -97,23 +97,30 @@ impl<S: Source + Drop> CopiesReader<S> {
     }
 }
 
-// Reads each of the texts, at the same time.
+// Reads each of the texts, at the same time. Workers that are more than the texts share their lines.
 fn read_each<R: Threads + Sync>(
     rt: &R,
     alloc: Global,
     texts: Vec<CopyText>,
+    workers: usize,
 ) -> Result<Vec<Result<TabletCopy, CopiesFault>>, CopiesFault>
     ensures read { IfOk result (λ reads. AreRead texts.items reads.items) }
     ensures fault { IfErr result (λ fault. fault ≡ CopiesFault.Memory) }
 {
-    Ok(thread::map_vec(rt, texts, &|text| read_text(alloc, text))?)
+    let each = workers / texts.len().max(1);
+    Ok(thread::map_vec(rt, texts, &|text| read_text(rt, alloc, text, each))?)
 }
 
 // The copy of a text, or at which line of the whole text it has which fault.
-fn read_text(alloc: Global, text: CopyText) -> Result<TabletCopy, CopiesFault>
+fn read_text<R: Threads>(
+    rt: &R,
+    alloc: Global,
+    text: CopyText,
+    workers: usize,
+) -> Result<TabletCopy, CopiesFault>
     ensures { IsUnless CopiesFault.Memory result (copy_in_cut text) }
 {
-    match read_copy(alloc, &text.text) {
+    match read_copy_by(rt, alloc, &text.text, workers) {
         Ok(copy) => {
             if text.is_too_long {
                 return Err(fault_in(&text, CopyTextFault::BadEnd));

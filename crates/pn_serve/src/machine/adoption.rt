@@ -16,8 +16,9 @@ use pn_join::NoMemory;
 use pn_line::MAX_KEPT_BYTES;
 use pn_protocol::{CommandFault, Refusal, Reply, refuse};
 use pn_region::Region;
-use pn_tablet::{CopyTextFault, TabletCopy, read_copy};
+use pn_tablet::{CopyTextFault, TabletCopy, read_copy, read_copy_by};
 use std::alloc::Global;
+use std::thread::Threads;
 
 /// The text of a copy that is not complete yet.
 #[derive(Drop)]
@@ -71,10 +72,12 @@ impl Announced {
     }
 }
 
-/// Takes an announced line. The last one adopts the copy.
-pub(crate) fn take_line(
+/// Takes an announced line. The last one adopts the copy, whose lines this number of workers reads.
+pub(crate) fn take_line<R: Threads>(
+    rt: &R,
     alloc: Global,
     region: &mut Region,
+    workers: usize,
     announced: Announced,
     line: &[u8],
 ) -> ScriptAnswer
@@ -82,20 +85,22 @@ pub(crate) fn take_line(
 {
     match announced.gather(line) {
         Gathered::More(announced) => (Reply::Silent, Some(announced)),
-        Gathered::Text(text) => (adopt(alloc, region, text), None),
+        Gathered::Text(text) => (adopt(rt, alloc, region, workers, text), None),
     }
 }
 
 /// Adopts the text so far, after a last part of a line.
-pub(crate) fn take_last_part(
+pub(crate) fn take_last_part<R: Threads>(
+    rt: &R,
     alloc: Global,
     region: &mut Region,
+    workers: usize,
     announced: Announced,
     part: &[u8],
 ) -> Reply
     ensures { ConcludesBy ⊥ (with_mode (Some announced) region.old) part.now (machine_over region.new) result }
 {
-    adopt(alloc, region, announced.end(part))
+    adopt(rt, alloc, region, workers, announced.end(part))
 }
 
 // Adds a line to the text. None once memory ran out.
@@ -116,14 +121,20 @@ fn extend_text(text: Vec<u8>, line: &[u8], newline: &[u8]) -> Result<Vec<u8>, No
     Ok(text)
 }
 
-/// Adopts the copy of the text. None: memory ran out before.
-pub(crate) fn adopt(alloc: Global, region: &mut Region, text: Option<Vec<u8>>) -> Reply
+/// Adopts the copy of the text, whose lines this number of workers reads. None: memory ran out before.
+pub(crate) fn adopt<R: Threads>(
+    rt: &R,
+    alloc: Global,
+    region: &mut Region,
+    workers: usize,
+    text: Option<Vec<u8>>,
+) -> Reply
     ensures { ComesTo (text_adoption_turn region.old (bytes_of text)) region.old region.new result }
 {
     let Some(text) = text else {
         return Reply::Refused(Refusal::Memory);
     };
-    match read_text(alloc, text) {
+    match read_text_by(rt, alloc, text, workers) {
         Ok(copy) => adopt_copy(alloc, region, copy),
         Err(fault) => refuse(alloc, CommandFault::CopyText(fault)),
     }
@@ -134,6 +145,18 @@ pub(crate) fn read_text(alloc: Global, text: Vec<u8>) -> Result<TabletCopy, Copy
     ensures { IsUnless CopyTextFault.Memory result (copy_at text.items) }
 {
     read_copy(alloc, &text)
+}
+
+// Parses the copy by this number of workers, and frees its text.
+fn read_text_by<R: Threads>(
+    rt: &R,
+    alloc: Global,
+    text: Vec<u8>,
+    workers: usize,
+) -> Result<TabletCopy, CopyTextFault>
+    ensures { IsUnless CopyTextFault.Memory result (copy_at text.items) }
+{
+    read_copy_by(rt, alloc, &text, workers)
 }
 
 fn adopt_copy(alloc: Global, region: &mut Region, copy: TabletCopy) -> Reply

@@ -18,6 +18,7 @@ ghost use Rattle.pn_serve.specs.Session.Knowing.{IsSteady, KnowsNoLess};
 ghost use Rattle.pn_serve.specs.declared.sessions.going.Going.{Going};
 
 mod answering;
+mod parts;
 mod reading;
 mod running;
 mod state;

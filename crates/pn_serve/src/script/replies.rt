@@ -4,7 +4,6 @@ ghost use Rattle.std.specs.Prelude.{◌≡◌, ◌≢◌, ◌⊎◌, ◌+◌, �
 ghost use Rattle.std.specs.Io.KnownBytes.{Keeps};
 ghost use Rattle.pn_line.specs.Prelude.{Sends, AppendsPrefix, WouldBlock};
 ghost use Rattle.pn_serve.specs.Lines.Made.{MakesAtMost};
-ghost use Rattle.pn_serve.specs.Lines.Sending.{text_left};
 
 use pn_line::{Sink, WriteFault};
 use pn_protocol::{MAX_PIECE_BYTES, ReplyText};
@@ -76,32 +75,18 @@ impl ReplyBuffer {
         self.start == self.bytes.len()
     }
 
-    /// Makes what is still to be made of a text, if anything is, until a block waits or all of it is made. Gives back the rest.
-    pub(crate) fn fill(&mut self, text: Option<ReplyText>) -> Option<ReplyText>
-        ensures whole { self.new ++ text_left result ≡ self.old ++ text_left text }
+    /// Makes the text of a reply until a block waits, or all of it is made.
+    pub(crate) fn fill(&mut self, text: &mut ReplyText)
+        ensures whole { self.new ++ text.new ≡ self.old ++ text.old }
         ensures grows { length self.old ≤ length self.new }
-        ensures some { length self.old < BLOCK → text_left text ≢ [] → length (text_left result) < length (text_left text) }
+        ensures some { length self.old < BLOCK → text.old ≢ [] → length text.new < length text.old }
     {
-        match text {
-            Some(text) => self.fill_from(text),
-            None => None,
-        }
-    }
-
-    // Makes the text of a reply until a block waits, or all of it is made.
-    fn fill_from(&mut self, text: ReplyText) -> Option<ReplyText>
-        ensures whole { self.new ++ text_left result ≡ self.old ++ text }
-        ensures grows { length self.old ≤ length self.new }
-        ensures some { length self.old < BLOCK → text ≢ [] → length (text_left result) < length text }
-    {
-        let mut text = text;
         'pieces: while !text.is_made() {
             if self.len() >= BLOCK {
-                return Some(text);
+                return;
             }
-            self.take_piece(&mut text);
+            self.take_piece(text);
         }
-        None
     }
 
     // Makes a piece of the text of a reply after the bytes that wait.

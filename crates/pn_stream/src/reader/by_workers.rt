@@ -1,10 +1,8 @@
 //! The next messages of a stream, whose lines several threads read.
 
-ghost use Rattle.std.specs.Prelude.{◌≡◌, ◌≢◌, ◌+◌, ◌≤◌, ◌++◌, length, All, Some, IfSome};
-ghost use Rattle.pn_join.specs.declared.marks.TheConstants.{LAST_POSITION};
+ghost use Rattle.std.specs.Prelude.{◌≡◌, ◌≢◌, ◌≤◌, ◌++◌, length, All, Some, IfSome};
 ghost use Rattle.pn_record.specs.Prelude.{max_line_bytes};
-ghost use Rattle.pn_stream.specs.Batches.{Batch};
-ghost use Rattle.pn_stream.specs.Calls.{GivesUp, IsCall};
+ghost use Rattle.pn_stream.specs.Calls.{GivesUp, IsCall, Takes};
 ghost use Rattle.pn_stream.specs.Lines.{Gathered, IsWhole, first_fault as fault_before};
 ghost use Rattle.pn_stream.specs.declared.reader.TheConstants.{MAX_MESSAGES};
 
@@ -60,17 +58,7 @@ impl<S: Source + Drop> StreamReader<S> {
     ) -> (Vec<Image>, Option<StreamFault>)
         requires some { 1 ≤ most }
         requires few { most ≤ MAX_MESSAGES }
-        ensures within { length result.0.items ≤ most }
-        ensures positions { self.old.position + length result.0.items ≤ LAST_POSITION }
-        ensures run { IfSome (S.left self.old.source) (λ text.
-            Batch 1 most self.old.position (self.old.part ++ text) result.0.items result.1 self.new.part (S.left self.new.source)) }
-        ensures read { result.1 ≡ Some StreamFault.Read → S.may_fail }
-        ensures gives_up { result.1 ≡ Some StreamFault.Memory → M.may_give_up }
-        ensures not_failed { result.1 ≢ Some StreamFault.Failed }
-        ensures name { self.new.name ≡ self.old.name }
-        ensures position { self.new.position ≡ self.old.position }
-        ensures fault { self.new.fault ≡ self.old.fault }
-        ensures part { length self.new.part ≤ max_line_bytes }
+        ensures { Takes S.left S.may_fail M.may_give_up 1 most self.old result.0.items result.1 self.new }
     {
         let position = self.position();
         let (lines, end) = self.lines_at_hand(memory, most);

@@ -8,9 +8,8 @@ ghost use Rattle.pn_scan.specs.Parts.{looked_in, part_at};
 ghost use Rattle.pn_scan.specs.Views.{IsStateOf, IsFoundIn, Answers, rows_at, cell_at};
 
 use pn_record::{Cell, Key};
-use pn_scan::{PartResult, Query, ScanFault, View, cell_of, part_of};
+use pn_scan::{Budget, PartResult, Query, ScanFault, View, cell_of, part_of};
 use pn_tablet::{Layout, TabletState};
-use std::alloc::Global;
 use std::mem;
 
 /// Each read finds the tablets that the read before did not find.
@@ -49,21 +48,14 @@ impl TakesTurns {
         }
     }
 
-    fn part_now(
-        &self,
-        alloc: Global,
-        tablet: usize,
-        query: &Query,
-        room: usize,
-        records: usize,
-    ) -> PartResult
+    fn part_now(&self, tablet: usize, query: &Query, room: usize, budget: Budget) -> PartResult
         ensures look { (found : Option TabletStateValue)
             × IsFoundIn self.now.layout (tablet, found)
             × Answers (part_at query.now) result (rows_at query.now room (tablet, found)) }
-        ensures few { IfOk result (λ part. looked_in records part ≤ records) }
+        ensures few { IfOk result (λ part. looked_in budget.records part ≤ budget.records) }
     {
         match self.state(tablet) {
-            Some(state) => part_of(alloc, state, tablet, query, room, records),
+            Some(state) => part_of(state, tablet, query, room, budget),
             None => Err(ScanFault::NoEntry),
         }
     }
@@ -113,16 +105,9 @@ impl View for TakesTurns {
         &self.layout
     }
 
-    fn part(
-        &mut self,
-        alloc: Global,
-        tablet: usize,
-        query: &Query,
-        room: usize,
-        records: usize,
-    ) -> PartResult {
+    fn part(&mut self, tablet: usize, query: &Query, room: usize, budget: Budget) -> PartResult {
         self.rooms = [self.rooms[1], room];
-        let part = self.part_now(alloc, tablet, query, room, records);
+        let part = self.part_now(tablet, query, room, budget);
         mem::swap(&mut self.tablets, &mut self.others);
         part
     }

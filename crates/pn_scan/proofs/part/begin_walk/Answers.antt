@@ -11,7 +11,7 @@ returns-in-All-clause-same c =
     let cells : Entries = c.args.cells.now in
     let index = c.first_index-index.result in
     let walked = rw c.in-All.is at c.in_ok-more.ensures in
-    all_answer query (drop index cells) index c.args.records c.args.room _ _ _ _ walked ∙ begun_answer query cells index c.args.room _ c.in_ok-rows.ensures.items c.first_index-index.ensures.shown
+    all_answer query (drop index cells) index c.args.budget.records c.args.room _ _ _ _ walked ∙ begun_answer query cells index c.args.room _ c.in_ok-rows.ensures.items c.first_index-index.ensures.shown
 
 pub take_rest-requires-clause-index : goal.take_rest-requires-clause-index
 take_rest-requires-clause-index c =
@@ -28,11 +28,11 @@ returns-in-To-clause-same c =
     let cells : Entries = c.args.cells.now in
     let index = c.first_index-index.result in
     let walked = rw c.in-To.is at c.in_ok-more.ensures in
-    let same = to_answer query cells index c.args.records c.args.room _ _ c.in-To.next walked ∙ begun_answer query cells index c.args.room _ c.in_ok-rows.ensures.items c.first_index-index.ensures.shown in
+    let same = to_answer query cells index c.args.budget.records c.args.room _ _ c.in-To.next walked ∙ begun_answer query cells index c.args.room _ c.in_ok-rows.ensures.items c.first_index-index.ensures.shown in
     IfOk-weaker c.take_rest.result _ _ (λ part is. is ∙ same) c.take_rest.ensures.same
 
 pub returns-in-All-clause-few : goal.returns-in-All-clause-few
 returns-in-All-clause-few c = (rw c.in-All.is at c.in_ok-more.ensures).2
 
 pub returns-in-To-clause-few : goal.returns-in-To-clause-few
-returns-in-To-clause-few c = IfOk-weaker c.take_rest.result _ _ (λ part is. omega (arith, is c.args.records)) c.take_rest.ensures.rest
+returns-in-To-clause-few c = IfOk-weaker c.take_rest.result _ _ (λ part is. omega (arith, is c.args.budget.records)) c.take_rest.ensures.rest

@@ -17,7 +17,7 @@ use crate::script::line_loop::state::Stage;
 use crate::script::line_loop::steps::{records_of, units_of, units_of_records};
 use crate::script::line_loop::{LineLoop, TURN_UNITS};
 use crate::sessions::going::Going;
-use pn_protocol::{Reply, ReplyText};
+use pn_protocol::Reply;
 
 impl LineLoop {
     /// Answers the line that was read. How many units that took.
@@ -110,7 +110,7 @@ impl LineLoop {
         ensures few { result ≤ 128 }
     {
         self.state.take_reply(&reply, is_line);
-        self.state.set_text(Some(ReplyText::new(reply)));
+        self.state.set_text(reply);
         self.make_text()
     }
 
@@ -124,9 +124,7 @@ impl LineLoop {
         ensures few { result ≤ 128 }
     {
         let before = self.replies.len();
-        let text = self.state.take_text();
-        let left = self.replies.fill(text);
-        self.state.set_text(left);
+        self.state.make_text(&mut self.replies);
         units_of(self.replies.len() - before)
     }
 }

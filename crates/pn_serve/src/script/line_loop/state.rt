@@ -1,22 +1,19 @@
-//! Where a line loop is between two steps, and how it is put aside while its buffers serve another.
+//! Where a line loop is between two steps.
 
-ghost use Rattle.std.specs.Prelude.{ℕ, ◌+◌, ◌-◌, ◌^◌, min, List, ◌≡◌, ◌≢◌, ◌↔◌, false, true, IsFalse, IsTrue, []};
-ghost use Rattle.pn_line.specs.Prelude.{so_far};
-ghost use Rattle.pn_protocol.specs.Prelude.{is_refusal as refuses};
+ghost use Rattle.std.specs.Prelude.{ℕ, ◌+◌, ◌-◌, ◌^◌, ◌<◌, ◌≤◌, ◌++◌, min, List, ◌≡◌, ◌≢◌, ◌↔◌, false, true, length, IsTrue, []};
+ghost use Rattle.pn_protocol.specs.Prelude.{is_refusal as refuses, reply_text};
 ghost use Rattle.pn_protocol.specs.declared.refusal.Refusal.TheVariants.{Memory};
 ghost use Rattle.pn_protocol.specs.declared.reply.Reply.TheVariants.{Refused};
 ghost use Rattle.pn_serve.specs.Lines.After.{After};
 ghost use Rattle.pn_serve.specs.declared.sessions.going.Going.{Going};
-ghost use Rattle.pn_serve.specs.Lines.Sending.{text_left};
-ghost use Rattle.pn_serve.specs.Lines.States.{counted, new_state, waits_in};
+ghost use Rattle.pn_serve.specs.declared.script.replies.TheConstants.{BLOCK};
+ghost use Rattle.pn_serve.specs.Lines.States.{counted, new_state};
 ghost use Rattle.pn_serve.specs.Lines.Taking.{stage_after};
 
 use crate::machine::line_handler::{LineHandler, is_refusal};
-use crate::script::line_loop::LineLoop;
 use crate::script::replies::ReplyBuffer;
 use crate::sessions::going::Going;
 use crate::{Counts, RunFault};
-use pn_line::LineBuffer;
 use pn_protocol::{Reply, ReplyText};
 use std::marker::Model;
 use std::mem;
@@ -87,6 +84,9 @@ impl LineState {
         ensures stage { result ≡ self.old.stage }
         ensures reads { self.new ≡ record self.old { stage = Stage.Reading } }
     {
+        if self.is_reading() {
+            return Stage::Reading;
+        }
         mem::replace(&mut self.stage, Stage::Reading)
     }
 
@@ -127,19 +127,39 @@ impl LineState {
         }
     }
 
-    /// The text that is still to be made. The state then has none.
-    pub(super) fn take_text(&mut self) -> Option<ReplyText>
-        ensures text { text_left result ≡ self.old.left }
-        ensures taken { self.new ≡ record self.old { left = [] } }
+    /// The text of this reply is still to be made.
+    pub(super) fn set_text(&mut self, reply: Reply)
+        ensures { self.new ≡ record self.old { left = reply_text reply } }
     {
-        self.text.take()
+        self.text = Some(ReplyText::new(reply));
     }
 
-    /// This text is still to be made.
-    pub(super) fn set_text(&mut self, text: Option<ReplyText>)
-        ensures { self.new ≡ record self.old { left = text_left text } }
+    /// Makes the text that is still to be made where it is, while the replies have room.
+    pub(super) fn make_text(&mut self, replies: &mut ReplyBuffer)
+        ensures whole { replies.new ++ self.new.left ≡ replies.old ++ self.old.left }
+        ensures grows { length replies.old ≤ length replies.new }
+        ensures some { length replies.old < BLOCK → self.old.left ≢ [] → length self.new.left < length self.old.left }
+        ensures others { self.new ≡ record self.old { left = self.new.left } }
     {
-        self.text = text;
+        let Some(text) = &mut self.text else { return };
+        replies.fill(text);
+        if text.is_made() {
+            self.text = None;
+        }
+    }
+
+    /// Changes places with another. Where both read and have no text to make, little is moved.
+    pub(super) fn swap(&mut self, other: &mut LineState)
+        ensures { (self.new ≡ other.old) × (other.new ≡ self.old) }
+    {
+        if !self.is_reading() || self.has_text() || !other.is_reading() || other.has_text() {
+            return mem::swap(self, other);
+        }
+        mem::swap(&mut self.more, &mut other.more);
+        mem::swap(&mut self.is_out, &mut other.is_out);
+        mem::swap(&mut self.is_last, &mut other.is_last);
+        mem::swap(&mut self.counts, &mut other.counts);
+        mem::swap(&mut self.looked, &mut other.looked);
     }
 
     /// Whether a further line was seen.
@@ -208,83 +228,5 @@ impl LineState {
         if self.is_last {
             self.stage = Stage::Ending(Ok(self.counts));
         }
-    }
-}
-
-impl LineLoop {
-    /// The line that is read.
-    pub fn line(&self) -> &LineBuffer
-        ensures { result.now ≡ self.now.line }
-    {
-        &self.line
-    }
-
-    /// How many lines were answered, and how many refused.
-    pub fn counts(&self) -> Counts
-        ensures { result ≡ self.now.state.counts }
-    {
-        self.state.counts()
-    }
-
-    /// Whether no bytes wait.
-    pub fn is_sent(&self) -> bool
-        ensures { IsTrue result ↔ (self.now.replies ≡ []) }
-    {
-        self.replies.is_empty()
-    }
-
-    /// Whether bytes wait, or text of a reply is still to be made.
-    pub fn has_replies(&self) -> bool
-        ensures { IsFalse result ↔ (waits_in self.now ≡ []) }
-    {
-        !self.replies.is_empty() || self.state.has_text()
-    }
-
-    /// Whether replies that the output does not take at once can be kept from now on. Where not, long ones are refused.
-    pub fn set_scarce(&mut self, is_scarce: bool)
-        ensures { self.new ≡ self.old }
-    {
-        self.is_scarce = is_scarce;
-    }
-
-    /// Begins a new line.
-    pub fn begin_line(&mut self)
-        ensures { self.new ≡ record self.old { line = so_far [] } }
-    {
-        self.line.start();
-    }
-
-    /// Begins a new line, unless one is read.
-    pub fn begin_unless_reading(&mut self)
-        ensures reading { self.old.state.stage ≡ Stage.Reading → self.new ≡ self.old }
-        ensures begun { self.old.state.stage ≢ Stage.Reading → self.new ≡ record self.old { line = so_far [] } }
-    {
-        if !self.state.is_reading() {
-            self.line.start();
-        }
-    }
-
-    /// Goes on with another line, and gives the one that is read.
-    pub fn swap_line(&mut self, line: &mut LineBuffer)
-        ensures line { self.new ≡ record self.old { line = line.old } }
-        ensures given { line.new ≡ self.old.line }
-    {
-        mem::swap(&mut self.line, line);
-    }
-
-    /// Goes on from another state, and gives its own.
-    pub fn swap_state(&mut self, state: &mut LineState)
-        ensures state { self.new ≡ record self.old { state = state.old } }
-        ensures given { state.new ≡ self.old.state }
-    {
-        mem::swap(&mut self.state, state);
-    }
-
-    /// Goes on with another buffer of replies, and gives its own.
-    pub fn swap_replies(&mut self, replies: &mut ReplyBuffer)
-        ensures replies { self.new ≡ record self.old { replies = replies.old } }
-        ensures given { replies.new ≡ self.old.replies }
-    {
-        mem::swap(&mut self.replies, replies);
     }
 }

@@ -5,8 +5,8 @@ use Rattle.pn_stream.proofs.Runs.{handed_on}
 use Rattle.pn_stream.proofs.chunks.push_message.Goals as goal
 
 pub returns-clause-ok : goal.returns-clause-ok
-returns-clause-ok c = record { image = c.in_ok-image.image; said = c.in_ok-image.ensures.ok; grown = c.in_ok-push_image.ensures.ok }
+returns-clause-ok c = record { image = c.in_ok-image.image; said = c.in_ok-image.ensures.ok; grown = c.in_ok-push_one.ensures.ok }
 
-pub returns-in_err-push_image-clause-err : goal.returns-in_err-push_image-clause-err
-returns-in_err-push_image-clause-err c =
-    handed_on c.from_residual-in_err-push_image.result Memory (λ fault. Refuses c.args.wanted c.args.line.now fault) c.from_residual-in_err-push_image.ensures.1 tt
+pub returns-in_err-push_one-clause-err : goal.returns-in_err-push_one-clause-err
+returns-in_err-push_one-clause-err c =
+    handed_on c.from_residual-in_err-push_one.result Memory (λ fault. Refuses c.args.wanted c.args.line.now fault) c.from_residual-in_err-push_one.ensures.1 tt

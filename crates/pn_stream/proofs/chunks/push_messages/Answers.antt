@@ -18,7 +18,7 @@ loop-line-preserved c =
     let due : c.args.position + c.len.result + 1 ≡ c.args.position + length was.images.items + 1 = search (rules, arith) in
     record {
       in_step = read_more c.args.position c.args.lines.now was.images.items c.push_message.new.images.items was.line-index (c.args.position + c.len.result + 1) c.line-item.result
-          c.requires.whole c.loop-line-test.true c.line-item.is due was.invariant.in_step (rw c.bytes.ensures at adds);
+          c.requires.lines.0 c.loop-line-test.true c.line-item.is due was.invariant.in_step (rw c.bytes.ensures at adds);
       count = ap length adds.grown ∙ length_push _ _ ∙ ap (λ n. n + 1) was.invariant.count;
     }
 

@@ -36,8 +36,8 @@ returns-in_err-next-clause-err g c =
 pub lines-preserved : goal.lines-preserved
 lines-preserved g c =
     let few : length c.lines.lines.items < c.args.size.most = search (rules, arith) in
-    let grown : c.push_line.new.lines.items ≡ c.lines.lines.items ++ c.in-Some.next.line ∷ [] = search rules in
-    let count : length c.push_line.new.lines.items ≡ length c.lines.lines.items + 1 = ap length grown ∙ length_push _ _ in
+    let grown : c.push_one.new.list.items ≡ c.lines.lines.items ++ c.in-Some.next.line ∷ [] = search rules in
+    let count : length c.push_one.new.list.items ≡ length c.lines.lines.items + 1 = ap length grown ∙ length_push _ _ in
     record {
       within = omega (arith, count, few);
       whole = rw grown (All-push IsWhole _ _ c.lines.invariant.whole (rw c.in-Some.is at c.in_ok-next.ensures.whole));
@@ -48,11 +48,11 @@ lines-preserved g c =
       so_far = rw grown (lines_more _ _ _ _ c.in-Some.next _ _ _ c.lines.invariant.so_far (rw c.in-Some.is at c.in_ok-next.ensures.next));
     }
 
-pub returns-in_err-push_line-in-Some-clause-err : goal.returns-in_err-push_line-in-Some-clause-err
-returns-in_err-push_line-in-Some-clause-err g c =
+pub returns-in_err-push_one-in-Some-clause-err : goal.returns-in_err-push_one-in-Some-clause-err
+returns-in_err-push_one-in-Some-clause-err g c =
     let few : length c.lines.lines.items < c.args.size.most = search (rules, arith) in
-    let same : c.push_line.new.lines.items ≡ c.lines.lines.items = search rules in
-    rw (sym c.in_ok-line.ensures.front) (handed_on c.from_residual-in_err-push_line-in-Some.result Memory _ c.from_residual-in_err-push_line-in-Some.ensures.1 (rw same (gathered_memory _ _ _ _ _ _ _ _ _ few c.lines.invariant.so_far)))
+    let same : c.push_one.new.list.items ≡ c.lines.lines.items = search rules in
+    rw (sym c.in_ok-line.ensures.front) (handed_on c.from_residual-in_err-push_one-in-Some.result Memory _ c.from_residual-in_err-push_one-in-Some.ensures.1 (rw same (gathered_memory _ _ _ _ _ _ _ _ _ few c.lines.invariant.so_far)))
 
 pub returns-in-None-clause-ok : goal.returns-in-None-clause-ok
 returns-in-None-clause-ok g c =

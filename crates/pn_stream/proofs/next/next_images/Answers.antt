@@ -35,8 +35,8 @@ pub images-preserved : goal.images-preserved
 images-preserved g c =
     let few : length c.images.images.items < c.args.size.most = search (rules, arith) in
     let is : c.args.position + c.len-in-images.result + 1 ≡ c.args.position + length c.images.images.items + 1 = search (rules, arith) in
-    let grown : c.push_image.new.images.items ≡ c.images.images.items ++ c.in-Some.next.image ∷ [] = search rules in
-    let count : length c.push_image.new.images.items ≡ length c.images.images.items + 1 = ap length grown ∙ length_push _ _ in
+    let grown : c.push_one.new.list.items ≡ c.images.images.items ++ c.in-Some.next.image ∷ [] = search rules in
+    let count : length c.push_one.new.list.items ≡ length c.images.images.items + 1 = ap length grown ∙ length_push _ _ in
     let last : c.args.position + c.len-in-images.result + 1 ≤ 10 ^ 15 = (rw c.in-Some.is at c.in_ok-next.ensures.position) refl in
     let at : c.in-Some.next.at ≡ c.args.position + length c.images.images.items + 1 = (rw c.in-Some.is at c.in_ok-next.ensures.at) ∙ is in
     record {
@@ -49,11 +49,11 @@ images-preserved g c =
       so_far = rw grown (SoFar-push _ _ _ _ _ c.in-Some.next _ _ _ at c.images.invariant.so_far (rw c.in-Some.is at c.in_ok-next.ensures.next));
     }
 
-pub returns-in_err-push_image-in-Some-clause-err : goal.returns-in_err-push_image-in-Some-clause-err
-returns-in_err-push_image-in-Some-clause-err g c =
+pub returns-in_err-push_one-in-Some-clause-err : goal.returns-in_err-push_one-in-Some-clause-err
+returns-in_err-push_one-in-Some-clause-err g c =
     let few : length c.images.images.items < c.args.size.most = search (rules, arith) in
-    let same : c.push_image.new.images.items ≡ c.images.images.items = search rules in
-    rw (sym c.in_ok-line.ensures.front) (handed_on c.from_residual-in_err-push_image-in-Some.result Memory _ c.from_residual-in_err-push_image-in-Some.ensures.1 (rw same (Batch-memory _ _ _ _ _ _ _ _ _ _ few c.images.invariant.so_far)))
+    let same : c.push_one.new.list.items ≡ c.images.images.items = search rules in
+    rw (sym c.in_ok-line.ensures.front) (handed_on c.from_residual-in_err-push_one-in-Some.result Memory _ c.from_residual-in_err-push_one-in-Some.ensures.1 (rw same (Batch-memory _ _ _ _ _ _ _ _ _ _ few c.images.invariant.so_far)))
 
 pub returns-in-None-clause-ok : goal.returns-in-None-clause-ok
 returns-in-None-clause-ok g c =

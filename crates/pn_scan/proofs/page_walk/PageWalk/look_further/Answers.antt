@@ -101,7 +101,7 @@ returns-clause-looked g c = let look = c.in_ok-part.ensures.look in let made : L
 
 pub returns-clause-few : goal.returns-clause-few
 returns-clause-few g c =
-    let most = max c.args.records LOOK_RECORDS in
+    let most = max c.args.budget.records LOOK_RECORDS in
     let part = c.in_ok-part.part in
     let few : looked_in (g.V.View.most most) part ≤ g.V.View.most most = subst (λ (n : ℕ). looked_in (g.V.View.most n) part ≤ g.V.View.most n) c.max-most.ensures c.in_ok-part.ensures.few in
     counted_first most _ _ _ _ part (ap records_left c.requires) (c.in_ok-with_part.ensures.looked ∙ ap (λ (n : ℕ). looked_in n part) c.max-most.ensures) few

@@ -3,4 +3,4 @@ use Rattle.pn_serve.proofs.Announcing.{came_part}
 use Rattle.pn_serve.proofs.machine.adoption.take_last_part.Goals as goal
 
 pub returns : goal.returns
-returns c = came_part c.args.region.now c.adopt.new.region c.args.announced c.args.part.now _ _ c.end.ensures c.adopt.ensures
+returns g c = came_part c.args.region.now c.adopt.new.region c.args.announced c.args.part.now _ _ c.end.ensures c.adopt.ensures

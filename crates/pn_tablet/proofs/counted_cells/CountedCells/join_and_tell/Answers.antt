@@ -11,8 +11,8 @@ count_after-self-inside-requires c =
     let new = c.join_and_tell.new.records in
     let told = c.in_ok-told.told.items in
     let counted = joined_count old c.args.other.now new told c.recall_table.ensures c.recall_table-2.ensures joins.changes joins.rising.0 joins.joined in
-    let come_is : c.count_come.result ≡ come told = c.count_come.ensures ∙ ap come c.deref.ensures.value in
-    let gone_is : c.count_gone.result ≡ gone told = c.count_gone.ensures ∙ ap gone c.deref-2.ensures.value in (
+    let come_is : c.count_moved-come.result.0 ≡ come told = c.count_moved-come.ensures.come ∙ ap come c.deref.ensures.value in
+    let gone_is : c.count_moved-come.result.1 ≡ gone told = c.count_moved-come.ensures.gone ∙ ap gone c.deref.ensures.value in (
       deleted_in new,
       omega (arith, few_deleted new, c.len-count.ensures.count),
       omega (arith, counted, come_is, gone_is, c.self.invariant),
@@ -25,6 +25,6 @@ invariant_of-self-2 c =
     let new = c.join_and_tell.new.records in
     let told = c.in_ok-told.told.items in
     let counted = joined_count old c.args.other.now new told c.recall_table.ensures c.recall_table-2.ensures joins.changes joins.rising.0 joins.joined in
-    let come_is : c.count_come.result ≡ come told = c.count_come.ensures ∙ ap come c.deref.ensures.value in
-    let gone_is : c.count_gone.result ≡ gone told = c.count_gone.ensures ∙ ap gone c.deref-2.ensures.value in
+    let come_is : c.count_moved-come.result.0 ≡ come told = c.count_moved-come.ensures.come ∙ ap come c.deref.ensures.value in
+    let gone_is : c.count_moved-come.result.1 ≡ gone told = c.count_moved-come.ensures.gone ∙ ap gone c.deref.ensures.value in
     omega (arith, counted, come_is, gone_is, c.self.invariant, c.count_after-self-inside.ensures)

@@ -1,273 +1,300 @@
--- Replies are handed on, or there is too much, or the source has more, no more, or failed.
-use Rattle.std.proofs.Common.{◌≡◌, length, true, false, refl, sym, ap, ◌∙◌, subst, arith}
-use Rattle.std.specs.Prelude.{Ok}
-use Rattle.pn_serve.specs.declared.script.Counts.{Counts}
-use Rattle.pn_serve.specs.declared.script.RunFault.TheVariants.{Read, TooManyTurns, Write}
+-- Replies are handed on, a piece of a line was read, the line was answered, no input is at hand, or no more is read.
+use Rattle.std.proofs.Common.{◌≡◌, ◌<◌, ◌≤◌, length, true, false, [], ◌∷◌, OnSome, inl, inr, refl, sym, ap, ap₂, ◌||◌, ◌∙◌, subst, arith, ⊎_elim}
+use Rattle.std.specs.Prelude.{Ok, Err}
+use Rattle.pn_line.specs.declared.line_buffer.TheConstants.{ENDLESS}
+use Rattle.pn_line.specs.declared.piece.Piece.{Piece}
+use Rattle.pn_line.specs.declared.piece.Piece.TheVariants.{Part, Ended, NoMore}
+use Rattle.pn_line.specs.Line.{LineBufferValue, so_far}
+use Rattle.pn_line.specs.Reads.{HasMore, HasShown, Takes as ReadTakes, newline_after}
+use Rattle.pn_serve.specs.declared.script.RunFault.{RunFault}
+use Rattle.pn_serve.specs.declared.script.RunFault.TheVariants.{Read, Write}
+use Rattle.pn_serve.specs.declared.script.TheConstants.{MAX_LINES}
+use Rattle.pn_serve.specs.declared.script.line_loop.state.Stage.TheVariants.{Reading, Ending}
 use Rattle.pn_serve.specs.declared.script.line_loop.steps.Step.{Step}
 use Rattle.pn_serve.specs.declared.script.line_loop.steps.Step.TheVariants.{Next}
-use Rattle.pn_serve.specs.Lines.Bounds.{ReadsOn}
-use Rattle.pn_serve.specs.Lines.Made.{made_by}
-use Rattle.pn_serve.specs.Lines.States.{LineLoopValue}
-use Rattle.pn_serve.specs.Lines.Stepping.{Stands, StepsTo, by, with_rest}
+use Rattle.pn_serve.specs.Lines.Bounds.{Foresees, ForeseesStep, IsOutAs, ReadsOn}
+use Rattle.pn_serve.specs.Lines.Faults.{StopsBy}
+use Rattle.pn_serve.specs.Lines.Going.{AnswersWith}
+use Rattle.pn_serve.specs.Lines.Made.{MakesAtMost, made_by, made_in}
+use Rattle.pn_serve.specs.Lines.States.{LineLoopValue, LineStateValue}
+use Rattle.pn_serve.specs.Lines.Stepping.{StepsTo, by, with_rest}
+use Rattle.pn_serve.specs.Lines.Taking.{Takes, TakesLine}
+use Rattle.pn_serve.proofs.Bounded.{counts_nothing, is_not_last, out_of, piece_foresees, sends_counted, shown_rest, stops_foresees, takes_foresees, takes_grows, takes_lines, takes_looked, takes_out, waits_counted, waits_foresees, waits_idle}
+use Rattle.pn_serve.proofs.Faults.{ends_by_found, reads_on, sends_failed, sends_next_on, sends_no_read, takes_on, waits_failed, waits_no_next, waits_no_read}
 use Rattle.pn_serve.proofs.Knowing.{knows_itself}
-use Rattle.pn_serve.proofs.Bounded.{counts_nothing, sends_counted, some_rest, waits_counted}
-use Rattle.pn_serve.proofs.Faults.{ends_by_found, no_read, no_write, read_no_write, sends_failed, sends_next_on, sends_no_read, waits_failed, waits_no_next, waits_no_read}
 use Rattle.pn_serve.proofs.Made.{makes_none, makes_unwritten}
-use Rattle.pn_serve.proofs.Measured.{fault_nearer, out_nearer, waits_nearer}
-use Rattle.pn_serve.proofs.Standing.{Keeps-rest, Steps-put_out, Steps-waited}
-use Rattle.pn_serve.proofs.Steps.{Steps-endless, Steps-kept, Steps-many, Steps-read_fault}
-use Rattle.pn_serve.proofs.script.line_loop.LineLoop.read_on.Goals.{else-not-has_more-via-then-not-has_more+else-not-is_out, else-not-has_more-via-else-not-has_more}
+use Rattle.pn_serve.proofs.Measured.{answer_nearer, fault_nearer, out_nearer, part_nearer, waits_nearer}
+use Rattle.pn_serve.proofs.Stages.{loop_of}
+use Rattle.pn_serve.proofs.Standing.{Steps-put_out, Steps-waited, Takes-rest}
+use Rattle.pn_serve.proofs.Steps.{Steps-line, Steps-piece, Steps-stopped}
 use Rattle.pn_serve.proofs.script.line_loop.LineLoop.read_on.Goals as goal
 
-pub returns-then-not-is_out-clause-steps : goal.returns-then-not-is_out-clause-steps
-returns-then-not-is_out-clause-steps g c =
+-- ---- replies are handed on
+
+pub returns-then-not-may_read-clause-steps : goal.returns-then-not-may_read-clause-steps
+returns-then-not-may_read-clause-steps g c =
+    let M = g.M.LineHandler in
+    λ start rest steady stands.
+    Steps-put_out (by M.moves M.makes M.ends M.goes M.goes_last) steady.preorder start (with_rest (g.S.Source.left c.args.input.now) rest) _ _ c.args.machine.now c.args.self.now c.put_out.new.self stands c.put_out.result c.requires.reading c.put_out.ensures.sends
+
+pub returns-then-not-may_read-clause-reads : goal.returns-then-not-may_read-clause-reads
+returns-then-not-may_read-clause-reads g c =
+    let not_out = out_of c.args.self.now.state.more c.args.self.now.state.out (sym c.may_read.ensures ∙ c.if-not-may_read.true) in
+    out_nearer c.args.self.now c.put_out.new.self _ _ (g.S.Source.looks c.args.input.now) c.put_out.result c.requires.reading c.put_out.ensures.sends not_out c.put_out.ensures.all
+
+pub returns-then-not-may_read-clause-written : goal.returns-then-not-may_read-clause-written
+returns-then-not-may_read-clause-written g c = makes_none (made_by c.put_out.result) _ _ _ _ c.put_out.ensures.written
+
+pub returns-then-not-may_read-clause-counted : goal.returns-then-not-may_read-clause-counted
+returns-then-not-may_read-clause-counted g c = sends_counted c.args.self.now c.put_out.new.self _ _ c.put_out.result c.requires.made c.put_out.ensures.sends c.put_out.ensures.same c.put_out.ensures.written
+
+pub returns-then-not-may_read-clause-looked : goal.returns-then-not-may_read-clause-looked
+returns-then-not-may_read-clause-looked g c = c.put_out.ensures.same.looked
+
+pub returns-then-not-may_read-clause-read_fault : goal.returns-then-not-may_read-clause-read_fault
+returns-then-not-may_read-clause-read_fault g c = λ ends. absurd (sends_no_read c.args.self.now c.put_out.new.self _ _ c.requires.reading c.put_out.result c.put_out.ensures.sends ends)
+
+pub returns-then-not-may_read-clause-write_fault : goal.returns-then-not-may_read-clause-write_fault
+returns-then-not-may_read-clause-write_fault g c = λ ends. sends_failed c.args.self.now c.put_out.new.self _ _ c.requires.reading (g.W.Sink.has_failed c.put_out.new.output) c.put_out.result c.put_out.ensures.failed c.put_out.ensures.sends ends
+
+pub returns-then-not-may_read-clause-write_stage : goal.returns-then-not-may_read-clause-write_stage
+returns-then-not-may_read-clause-write_stage g c = λ units is ends. sends_next_on c.args.self.now c.put_out.new.self _ _ c.requires.reading Write c.put_out.result c.put_out.ensures.sends units is ends
+
+pub returns-then-not-may_read-clause-knows : goal.returns-then-not-may_read-clause-knows
+returns-then-not-may_read-clause-knows g c = knows_itself _
+
+-- ---- a piece of a line was read
+
+pub returns-in-Ok-Part-clause-steps : goal.returns-in-Ok-Part-clause-steps
+returns-in-Ok-Part-clause-steps g c =
+    let M = g.M.LineHandler in
+    λ start rest steady stands.
+    Steps-piece (by M.moves M.makes M.ends M.goes M.goes_last) steady.preorder start (g.S.Source.left c.args.input.now) (g.S.Source.left c.read_piece.new.input) rest (g.W.Sink.contents c.args.output.now) c.args.machine.now c.args.self.now c.read_piece.new.self c.in-Ok-Part.field-0 c.requires.reading stands
+    c.read_piece.ensures.line c.in-Ok-Part.ensures.takes (ap newline_after c.in-Ok-Part.field-0-is) c.in-Ok-Part.ensures.bound
+
+pub returns-in-Ok-Part-clause-reads : goal.returns-in-Ok-Part-clause-reads
+returns-in-Ok-Part-clause-reads g c =
+    let old = c.args.self.now in
+    let mid = c.read_piece.new.self in
+    let most : mid.line.count ≤ ENDLESS = omega (arith, c.len.ensures.count, c.len.ensures.bounded, ap (λ (r : LineLoopValue). r.line.count) c.self-in-Ok-Part.view_is) in
+    let few : old.state.counts.lines < MAX_LINES = ⊎_elim (λ few. few) (λ none. absurd (let no : Part ≡ NoMore = sym c.in-Ok-Part.field-0-is ∙ none.0 in let never : ⊥ = cc in never)) c.in-Ok-Part.ensures.bound in
+    subst (λ (r : LineLoopValue). ReadsOn (g.S.Source.looks c.args.input.now) (g.S.Source.looks c.read_piece.new.input) old r (Next c.units_of.result)) (sym c.read_piece.ensures.line)
+    (part_nearer old mid.line (g.S.Source.looks c.args.input.now) (g.S.Source.looks c.read_piece.new.input) c.units_of.result c.requires.reading few most (c.in-Ok-Part.ensures.part (ap Ok c.in-Ok-Part.field-0-is)) c.in-Ok-Part.ensures.looks)
+
+pub returns-in-Ok-Part-clause-waits : goal.returns-in-Ok-Part-clause-waits
+returns-in-Ok-Part-clause-waits g c = λ more out. let no : true ≡ false = sym c.if-not-may_read.false ∙ c.may_read.ensures ∙ ap₂ (λ a b. a || b) more out in cc
+
+pub returns-in-Ok-Part-clause-foresees : goal.returns-in-Ok-Part-clause-foresees
+returns-in-Ok-Part-clause-foresees g c = λ was. piece_foresees g.S.Source.may_fail g.W.Sink.may_fail g.S.Source.may_end c.args.self.now c.read_piece.new.self c.requires.reading c.read_piece.ensures.line (⊎_elim (λ few. inl few) (λ none. inr none.1) c.in-Ok-Part.ensures.bound) was
+
+pub returns-in-Ok-Part-clause-out : goal.returns-in-Ok-Part-clause-out
+returns-in-Ok-Part-clause-out g c = λ is. subst (λ (r : LineLoopValue). IsOutAs r (g.W.Sink.is_handed_on c.args.output.now)) (sym c.read_piece.ensures.line) is
+
+pub returns-in-Ok-Part-clause-few : goal.returns-in-Ok-Part-clause-few
+returns-in-Ok-Part-clause-few g c = omega (arith, ap (λ (r : LineLoopValue). length r.replies) c.read_piece.ensures.line)
+
+pub returns-in-Ok-Part-clause-written : goal.returns-in-Ok-Part-clause-written
+returns-in-Ok-Part-clause-written g c = makes_unwritten (made_in c.units_of.result) _ _ _ (omega (arith, ap (λ (r : LineLoopValue). length r.replies) c.read_piece.ensures.line))
+
+pub returns-in-Ok-Part-clause-counted : goal.returns-in-Ok-Part-clause-counted
+returns-in-Ok-Part-clause-counted g c =
+    let is = c.read_piece.ensures.line in
+    (omega (arith, ap (λ (r : LineLoopValue). r.state.counts.lines) is), omega (arith, ap (λ (r : LineLoopValue). length r.replies) is, ap (λ (l : LineBufferValue). l.count) c.in-Ok-Part.ensures.takes.line))
+
+pub returns-in-Ok-Part-clause-looked : goal.returns-in-Ok-Part-clause-looked
+returns-in-Ok-Part-clause-looked g c = ap (λ (r : LineLoopValue). r.state.looked) c.read_piece.ensures.line
+
+pub returns-in-Ok-Part-clause-read_fault : goal.returns-in-Ok-Part-clause-read_fault
+returns-in-Ok-Part-clause-read_fault g c = λ ends. absurd (reads_on Read c.read_piece.new.self.state.stage (ap (λ (r : LineLoopValue). r.state.stage) c.read_piece.ensures.line ∙ c.requires.reading) ends)
+
+pub returns-in-Ok-Part-clause-write_fault : goal.returns-in-Ok-Part-clause-write_fault
+returns-in-Ok-Part-clause-write_fault g c = λ ends. absurd (reads_on Write c.read_piece.new.self.state.stage (ap (λ (r : LineLoopValue). r.state.stage) c.read_piece.ensures.line ∙ c.requires.reading) ends)
+
+pub returns-in-Ok-Part-clause-write_stage : goal.returns-in-Ok-Part-clause-write_stage
+returns-in-Ok-Part-clause-write_stage g c = λ units is ends. reads_on Write c.read_piece.new.self.state.stage (ap (λ (r : LineLoopValue). r.state.stage) c.read_piece.ensures.line ∙ c.requires.reading) ends
+
+pub returns-in-Ok-Part-clause-knows : goal.returns-in-Ok-Part-clause-knows
+returns-in-Ok-Part-clause-knows g c = knows_itself _
+
+-- ---- a line ended: it is answered by a loop that begins a new line
+
+answered : (g : _) (c : goal.After-answer g) → loop_of (so_far []) c.self-in-Ok-Ended.inside.replies c.set_more.new.self ≡ record c.args.self.now { line = so_far []; state = record c.args.self.now.state { more = c.in-Ok-Ended.more } }
+answered g c =
+    ap (λ (s : LineStateValue). loop_of (so_far []) c.self-in-Ok-Ended.inside.replies s) c.set_more.ensures
+    ∙ ap (λ (r : LineLoopValue). let m : LineLoopValue = record r { line = so_far []; state = record r.state { more = c.in-Ok-Ended.more } } in m) (c.self-in-Ok-Ended.view_is ∙ c.read_piece.ensures.line)
+
+took : (g : _) (c : goal.After-answer g) → Takes true (record c.args.self.now { line = so_far []; state = record c.args.self.now.state { more = c.in-Ok-Ended.more } }) c.answer.new.self
+took g c = subst (λ (r : LineLoopValue). Takes true r c.answer.new.self) (answered g c) c.answer.ensures.takes
+
+few_left : (g : _) (c : goal.After-answer g) → c.args.self.now.state.counts.lines < MAX_LINES
+few_left g c = ⊎_elim (λ few. few) (λ none. absurd (let no : Ended c.in-Ok-Ended.more ≡ NoMore = cc in let never : ⊥ = cc in never)) c.in-Ok-Ended.ensures.bound
+
+pub returns-in-Ok-Ended-clause-steps : goal.returns-in-Ok-Ended-clause-steps
+returns-in-Ok-Ended-clause-steps g c =
     let M = g.M.LineHandler in
     let left = g.S.Source.left c.args.input.now in
-    let before = g.W.Sink.contents c.args.output.now in
-    let after = g.W.Sink.contents c.put_out.new.output in
+    let leaves = g.S.Source.left c.read_piece.new.input in
+    let line = c.read_piece.new.self.line in
+    let more = c.in-Ok-Ended.more in
+    let piece_is : c.in-Ok-Ended.field-0 ≡ Ended more = cc in
+    let takes : ReadTakes c.args.self.now.line line left leaves (10 ∷ []) = subst (λ (p : Piece). ReadTakes c.args.self.now.line line left leaves (newline_after p)) piece_is c.in-Ok-Ended.ensures.takes in
+    let shown : OnSome left (HasShown more leaves) = subst (λ (p : Piece). OnSome left (HasMore p leaves)) piece_is c.in-Ok-Ended.ensures.more in
     λ start rest steady stands.
-    Steps-put_out (by M.moves M.makes M.ends M.goes M.goes_last) steady.preorder start (with_rest left rest) before after c.args.machine.now c.args.self.now c.put_out.new.self stands c.put_out.result c.requires.reading c.put_out.ensures.sends
+    Steps-line (by M.moves M.makes M.ends M.goes M.goes_last) steady.preorder start (with_rest left rest) (with_rest leaves rest) (g.W.Sink.contents c.args.output.now) c.args.machine.now c.args.self.now c.requires.reading stands c.answer.new.machine c.answer.new.self line more
+    (Takes-rest left leaves rest c.args.self.now.line line (10 ∷ []) takes) (c.in-Ok-Ended.ensures.below (λ same. cc)) (few_left g c) c.requires.made (shown_rest more left leaves rest shown) (took g c)
+    (λ text is. subst (λ (r : LineLoopValue). TakesLine (AnswersWith M.makes M.goes) true c.args.machine.now text c.answer.new.machine r c.answer.new.self) (answered g c) (c.answer.ensures.line text (ap (λ (r : LineLoopValue). r.line) c.self-in-Ok-Ended.view_is ∙ is)))
 
-pub returns-then-not-is_out-clause-reads : goal.returns-then-not-is_out-clause-reads
-returns-then-not-is_out-clause-reads g c =
-    let before = g.W.Sink.contents c.args.output.now in
-    let after = g.W.Sink.contents c.put_out.new.output in
-    let out_is = ap (λ (r : LineLoopValue). r.state.out) c.self.view_is in
-    let not_out : c.args.self.now.state.out ≡ false = cc in
-    out_nearer c.args.self.now c.put_out.new.self before after (g.S.Source.looks c.args.input.now) c.put_out.result c.requires.reading c.put_out.ensures.sends not_out c.put_out.ensures.all
+pub returns-in-Ok-Ended-clause-reads : goal.returns-in-Ok-Ended-clause-reads
+returns-in-Ok-Ended-clause-reads g c =
+    let below : c.args.self.now.line.count < ENDLESS = omega (arith, c.in-Ok-Ended.ensures.below (λ same. cc), ap (λ (l : LineBufferValue). l.count) c.in-Ok-Ended.ensures.takes.line) in
+    answer_nearer c.args.self.now _ c.answer.new.self (g.S.Source.looks c.args.input.now) (g.S.Source.looks c.read_piece.new.input) c.answer.result c.requires.reading (few_left g c) below c.in-Ok-Ended.ensures.looks refl refl (took g c)
 
-pub returns-then-len-ge-ENDLESS-clause-steps : goal.returns-then-len-ge-ENDLESS-clause-steps
-returns-then-len-ge-ENDLESS-clause-steps g c =
+pub returns-in-Ok-Ended-clause-foresees : goal.returns-in-Ok-Ended-clause-foresees
+returns-in-Ok-Ended-clause-foresees g c =
+    λ was.
+    let on = is_not_last g.S.Source.may_fail g.W.Sink.may_fail g.S.Source.may_end c.args.self.now c.requires.reading was in
+    takes_foresees true _ c.answer.new.self g.S.Source.may_fail g.W.Sink.may_fail g.S.Source.may_end (took g c) (few_left g c) refl (λ last. absurd (let no : true ≡ false = sym last ∙ on in let never : ⊥ = cc in never))
+
+pub returns-in-Ok-Ended-clause-out : goal.returns-in-Ok-Ended-clause-out
+returns-in-Ok-Ended-clause-out g c = λ is. takes_out true _ c.answer.new.self (g.W.Sink.is_handed_on c.args.output.now) (took g c) is
+
+pub returns-in-Ok-Ended-clause-few : goal.returns-in-Ok-Ended-clause-few
+returns-in-Ok-Ended-clause-few g c = omega (arith, takes_grows true _ c.answer.new.self (took g c))
+
+pub returns-in-Ok-Ended-clause-counted : goal.returns-in-Ok-Ended-clause-counted
+returns-in-Ok-Ended-clause-counted g c =
+    let is = c.self-in-Ok-Ended.view_is ∙ c.read_piece.ensures.line in
+    let longer = ap (λ (l : LineBufferValue). l.count) c.in-Ok-Ended.ensures.takes.line in
+    (takes_lines true _ c.answer.new.self (took g c), omega (arith, c.answer.ensures.units, ap (λ (r : LineLoopValue). r.line.count) c.self-in-Ok-Ended.view_is, longer, ap (λ (r : LineLoopValue). length r.replies) is))
+
+pub returns-in-Ok-Ended-clause-written : goal.returns-in-Ok-Ended-clause-written
+returns-in-Ok-Ended-clause-written g c = makes_unwritten (made_in c.answer.result) _ _ _ (omega (arith, c.answer.ensures.makes, ap (λ (r : LineLoopValue). length r.replies) (c.self-in-Ok-Ended.view_is ∙ c.read_piece.ensures.line)))
+
+pub returns-in-Ok-Ended-clause-looked : goal.returns-in-Ok-Ended-clause-looked
+returns-in-Ok-Ended-clause-looked g c = takes_looked true _ c.answer.new.self (took g c)
+
+pub returns-in-Ok-Ended-clause-read_fault : goal.returns-in-Ok-Ended-clause-read_fault
+returns-in-Ok-Ended-clause-read_fault g c = λ ends. absurd (takes_on true _ c.answer.new.self Read c.answer.ensures.takes ends)
+
+pub returns-in-Ok-Ended-clause-write_fault : goal.returns-in-Ok-Ended-clause-write_fault
+returns-in-Ok-Ended-clause-write_fault g c = λ ends. absurd (takes_on true _ c.answer.new.self Write c.answer.ensures.takes ends)
+
+pub returns-in-Ok-Ended-clause-write_stage : goal.returns-in-Ok-Ended-clause-write_stage
+returns-in-Ok-Ended-clause-write_stage g c = λ units is ends. takes_on true _ c.answer.new.self Write c.answer.ensures.takes ends
+
+-- ---- no input is at hand
+
+read_none : (g : _) (c : goal.After-wait_for_input g) → c.read_piece.new.self.state.stage ≡ Reading
+read_none g c = ap (λ (r : LineLoopValue). r.state.stage) c.read_piece.ensures.line ∙ c.requires.reading
+
+pub wait_for_input-requires : goal.wait_for_input-requires
+wait_for_input-requires g c = record { made = ap (λ (r : LineLoopValue). r.state.left) c.read_piece.ensures.line ∙ c.requires.made }
+
+pub returns-in-Ok-NoMore-clause-steps : goal.returns-in-Ok-NoMore-clause-steps
+returns-in-Ok-NoMore-clause-steps g c =
     let M = g.M.LineHandler in
-    let left = g.S.Source.left c.args.input.now in
-    let leaves = g.S.Source.left c.args.input.now in
-    let written = g.W.Sink.contents c.args.output.now in
-    let old = c.args.self.now in
+    let leaves = g.S.Source.left c.read_piece.new.input in
+    let mid = c.read_piece.new.self in
     λ start rest steady stands.
-    subst (λ (s : Step). StepsTo (by M.moves M.makes M.ends M.goes M.goes_last) start (with_rest leaves rest) written c.args.machine.now c.end_reading.new.self s) (sym c.end_reading.ensures.step)
-    (subst (λ (r : LineLoopValue). Stands (by M.moves M.makes M.ends M.goes M.goes_last) start (with_rest leaves rest) written c.args.machine.now r) (sym c.end_reading.ensures.ends)
-    (Steps-endless (by M.moves M.makes M.ends M.goes M.goes_last) steady.preorder start (with_rest left rest) (with_rest leaves rest) written c.args.machine.now old c.requires.reading stands
-    (omega (arith, c.len.ensures.count, c.if-len-ge-ENDLESS.true, ap (λ (r : LineLoopValue). r.line.count) c.self.view_is)) (omega (arith, c.len.ensures.count, c.len.ensures.bounded, ap (λ (r : LineLoopValue). r.line.count) c.self.view_is))))
+    let at = Steps-piece (by M.moves M.makes M.ends M.goes M.goes_last) steady.preorder start (g.S.Source.left c.args.input.now) leaves rest (g.W.Sink.contents c.args.output.now) c.args.machine.now c.args.self.now mid c.in-Ok-NoMore.field-0 c.requires.reading stands
+    c.read_piece.ensures.line c.in-Ok-NoMore.ensures.takes (ap newline_after c.in-Ok-NoMore.field-0-is) c.in-Ok-NoMore.ensures.bound in
+    Steps-waited (by M.moves M.makes M.ends M.goes M.goes_last) steady.preorder start (with_rest leaves rest) _ _ c.args.machine.now mid c.wait_for_input.new.self at c.wait_for_input.result (read_none g c) c.wait_for_input.ensures.waits
 
-pub returns-then-len-ge-ENDLESS-clause-reads : goal.returns-then-len-ge-ENDLESS-clause-reads
-returns-then-len-ge-ENDLESS-clause-reads g c =
-    let was = g.S.Source.looks c.args.input.now in
-    let now = g.S.Source.looks c.args.input.now in
-    let old = c.args.self.now in
-    subst (λ (s : Step). ReadsOn was now old c.end_reading.new.self s) (sym c.end_reading.ensures.step)
-    (subst (λ (r : LineLoopValue). ReadsOn was now old r (Next 0)) (sym c.end_reading.ensures.ends) (fault_nearer old TooManyTurns was now 0 c.requires.reading (omega arith)))
+pub returns-in-Ok-NoMore-clause-reads : goal.returns-in-Ok-NoMore-clause-reads
+returns-in-Ok-NoMore-clause-reads g c =
+    waits_nearer c.args.self.now c.read_piece.new.self c.wait_for_input.new.self _ _ (g.S.Source.looks c.args.input.now) (g.S.Source.looks c.read_piece.new.input) c.wait_for_input.result c.requires.reading c.in-Ok-NoMore.ensures.looks c.wait_for_input.ensures.waits
 
-pub returns-in-Ok-true-clause-steps : goal.returns-in-Ok-true-clause-steps
-returns-in-Ok-true-clause-steps g c =
-    let M = g.M.LineHandler in
-    let left = g.S.Source.left c.args.input.now in
-    let leaves = g.S.Source.left c.has_more-then-counts-ge-MAX_LINES.new.self in
-    let written = g.W.Sink.contents c.args.output.now in
-    let old = c.args.self.now in
-    λ start rest steady stands.
-    subst (λ (s : Step). StepsTo (by M.moves M.makes M.ends M.goes M.goes_last) start (with_rest leaves rest) written c.args.machine.now c.end_reading-in-Ok-true.new.self s) (sym c.end_reading-in-Ok-true.ensures.step)
-    (subst (λ (r : LineLoopValue). Stands (by M.moves M.makes M.ends M.goes M.goes_last) start (with_rest leaves rest) written c.args.machine.now r) (sym c.end_reading-in-Ok-true.ensures.ends)
-    (Steps-many (by M.moves M.makes M.ends M.goes M.goes_last) steady.preorder start (with_rest left rest) (with_rest leaves rest) written c.args.machine.now old c.requires.reading stands
-    (omega (arith, ap (λ (n : Counts). n.lines) c.counts.ensures, c.if-counts-ge-MAX_LINES.true, ap (λ (r : LineLoopValue). r.state.counts.lines) c.self.view_is)) (some_rest left rest (c.in-Ok-true.ensures.more (ap Ok c.in-Ok-true.field-0-test))) (Keeps-rest left leaves rest c.in-Ok-true.ensures.kept)))
+pub returns-in-Ok-NoMore-clause-waits : goal.returns-in-Ok-NoMore-clause-waits
+returns-in-Ok-NoMore-clause-waits g c = λ more out. let no : true ≡ false = sym c.if-not-may_read.false ∙ c.may_read.ensures ∙ ap₂ (λ a b. a || b) more out in cc
 
-pub returns-in-Ok-true-clause-reads : goal.returns-in-Ok-true-clause-reads
-returns-in-Ok-true-clause-reads g c =
-    let was = g.S.Source.looks c.args.input.now in
-    let now = g.S.Source.looks c.has_more-then-counts-ge-MAX_LINES.new.self in
-    let old = c.args.self.now in
-    subst (λ (s : Step). ReadsOn was now old c.end_reading-in-Ok-true.new.self s) (sym c.end_reading-in-Ok-true.ensures.step)
-    (subst (λ (r : LineLoopValue). ReadsOn was now old r (Next 0)) (sym c.end_reading-in-Ok-true.ensures.ends) (fault_nearer old TooManyTurns was now 0 c.requires.reading c.in-Ok-true.ensures.looks))
+pub returns-in-Ok-NoMore-clause-idle : goal.returns-in-Ok-NoMore-clause-idle
+returns-in-Ok-NoMore-clause-idle g c =
+    waits_idle c.read_piece.new.self c.wait_for_input.new.self _ _ c.wait_for_input.result (read_none g c) (c.in-Ok-NoMore.ensures.below (λ part. let no : NoMore ≡ Part = sym c.in-Ok-NoMore.field-0-is ∙ part in cc)) c.wait_for_input.ensures.idle c.wait_for_input.ensures.waits
+
+pub returns-in-Ok-NoMore-clause-out : goal.returns-in-Ok-NoMore-clause-out
+returns-in-Ok-NoMore-clause-out g c = λ is. c.wait_for_input.ensures.out (subst (λ (r : LineLoopValue). IsOutAs r (g.W.Sink.is_handed_on c.args.output.now)) (sym c.read_piece.ensures.line) is)
+
+pub returns-in-Ok-NoMore-clause-few : goal.returns-in-Ok-NoMore-clause-few
+returns-in-Ok-NoMore-clause-few g c = omega (arith, c.wait_for_input.ensures.few, ap (λ (r : LineLoopValue). length r.replies) c.read_piece.ensures.line)
+
+pub returns-in-Ok-NoMore-clause-foresees : goal.returns-in-Ok-NoMore-clause-foresees
+returns-in-Ok-NoMore-clause-foresees g c =
+    λ was.
+    let at = piece_foresees g.S.Source.may_fail g.W.Sink.may_fail g.S.Source.may_end c.args.self.now c.read_piece.new.self c.requires.reading c.read_piece.ensures.line (⊎_elim (λ few. inl few) (λ none. inr none.1) c.in-Ok-NoMore.ensures.bound) was in
+    waits_foresees c.read_piece.new.self c.wait_for_input.new.self _ _ g.S.Source.may_fail g.W.Sink.may_fail g.S.Source.may_end c.wait_for_input.result c.wait_for_input.ensures.fault c.wait_for_input.ensures.waits at
+
+pub returns-in-Ok-NoMore-clause-counted : goal.returns-in-Ok-NoMore-clause-counted
+returns-in-Ok-NoMore-clause-counted g c =
+    let longer : c.args.self.now.line.count ≤ c.read_piece.new.self.line.count = omega (arith, ap (λ (l : LineBufferValue). l.count) c.in-Ok-NoMore.ensures.takes.line) in
+    waits_counted c.read_piece.new.self c.wait_for_input.new.self _ _ c.args.self.now c.wait_for_input.result c.wait_for_input.ensures.waits
+    (counts_nothing c.read_piece.new.self c.wait_for_input.new.self _ _ c.args.self.now longer (sym (ap (λ (r : LineLoopValue). r.state.counts) c.read_piece.ensures.line)) (omega (arith, ap (λ (r : LineLoopValue). length r.replies) c.read_piece.ensures.line)) c.wait_for_input.ensures.same c.wait_for_input.ensures.written)
+
+pub returns-in-Ok-NoMore-clause-looked : goal.returns-in-Ok-NoMore-clause-looked
+returns-in-Ok-NoMore-clause-looked g c = c.wait_for_input.ensures.same.looked ∙ ap (λ (r : LineLoopValue). r.state.looked) c.read_piece.ensures.line
+
+pub returns-in-Ok-NoMore-clause-written : goal.returns-in-Ok-NoMore-clause-written
+returns-in-Ok-NoMore-clause-written g c = makes_none (made_by c.wait_for_input.result) _ _ _ _ (subst (λ (r : LineLoopValue). MakesAtMost 0 (g.W.Sink.contents c.args.output.now) (g.W.Sink.contents c.wait_for_input.new.output) r.replies c.wait_for_input.new.self.replies) c.read_piece.ensures.line c.wait_for_input.ensures.written)
+
+pub returns-in-Ok-NoMore-clause-read_fault : goal.returns-in-Ok-NoMore-clause-read_fault
+returns-in-Ok-NoMore-clause-read_fault g c =
+    λ ends. absurd (waits_no_read c.read_piece.new.self c.wait_for_input.new.self _ _ (read_none g c) c.wait_for_input.result c.wait_for_input.ensures.waits ends)
+
+pub returns-in-Ok-NoMore-clause-write_fault : goal.returns-in-Ok-NoMore-clause-write_fault
+returns-in-Ok-NoMore-clause-write_fault g c =
+    λ ends. waits_failed c.read_piece.new.self c.wait_for_input.new.self _ _ (read_none g c) (g.W.Sink.has_failed c.wait_for_input.new.output) c.wait_for_input.result c.wait_for_input.ensures.failed c.wait_for_input.ensures.waits ends
+
+pub returns-in-Ok-NoMore-clause-write_stage : goal.returns-in-Ok-NoMore-clause-write_stage
+returns-in-Ok-NoMore-clause-write_stage g c =
+    λ units is ends. waits_no_next _ c.wait_for_input.new.self _ _ c.wait_for_input.result c.wait_for_input.ensures.waits units is
+
+pub returns-in-Ok-NoMore-clause-knows : goal.returns-in-Ok-NoMore-clause-knows
+returns-in-Ok-NoMore-clause-knows g c = knows_itself _
+
+-- ---- no more is read
+
+stops : (g : _) (c : goal.After-end_reading g) → c.end_reading.new.self ≡ record c.args.self.now { state = record c.args.self.now.state { stage = Ending (Err c.in-Err.fault) } }
+stops g c = c.end_reading.ensures.ends ∙ ap (λ (r : LineLoopValue). let m : LineLoopValue = record r { state = record r.state { stage = Ending (Err c.in-Err.fault) } } in m) c.in-Err.ensures.kept.0
+
+stops_by : (g : _) (c : goal.After-end_reading g) (fault : RunFault) → c.in-Err.fault ≡ fault → StopsBy fault g.S.Source.may_fail (g.S.Source.left c.args.input.now) c.args.self.now
+stops_by g c fault is = subst (λ (f : RunFault). StopsBy f g.S.Source.may_fail (g.S.Source.left c.args.input.now) c.args.self.now) is c.in-Err.ensures.fault
 
 pub returns-in-Err-clause-steps : goal.returns-in-Err-clause-steps
 returns-in-Err-clause-steps g c =
     let M = g.M.LineHandler in
-    let left = g.S.Source.left c.args.input.now in
-    let leaves = g.S.Source.left c.has_more-then-counts-ge-MAX_LINES.new.self in
-    let written = g.W.Sink.contents c.args.output.now in
-    let old = c.args.self.now in
+    let leaves = g.S.Source.left c.read_piece.new.input in
     λ start rest steady stands.
-    subst (λ (s : Step). StepsTo (by M.moves M.makes M.ends M.goes M.goes_last) start (with_rest leaves rest) written c.args.machine.now c.end_reading-in-Err.new.self s) (sym c.end_reading-in-Err.ensures.step)
-    (subst (λ (r : LineLoopValue). Stands (by M.moves M.makes M.ends M.goes M.goes_last) start (with_rest leaves rest) written c.args.machine.now r) (sym c.end_reading-in-Err.ensures.ends)
-    (Steps-read_fault (by M.moves M.makes M.ends M.goes M.goes_last) steady.preorder start (with_rest left rest) (with_rest leaves rest) written c.args.machine.now old c.requires.reading stands
-    (Keeps-rest left leaves rest c.in-Err.ensures.kept)))
+    subst (λ (s : Step). StepsTo (by M.moves M.makes M.ends M.goes M.goes_last) start (with_rest leaves rest) (g.W.Sink.contents c.args.output.now) c.args.machine.now c.end_reading.new.self s) (sym c.end_reading.ensures.step)
+    (Steps-stopped (by M.moves M.makes M.ends M.goes M.goes_last) steady.preorder start (g.S.Source.left c.args.input.now) leaves rest (g.W.Sink.contents c.args.output.now) c.args.machine.now c.args.self.now c.end_reading.new.self c.in-Err.fault g.S.Source.may_fail c.requires.reading stands (stops g c) c.in-Err.ensures.fault c.in-Err.ensures.kept.1)
 
 pub returns-in-Err-clause-reads : goal.returns-in-Err-clause-reads
 returns-in-Err-clause-reads g c =
-    let was = g.S.Source.looks c.args.input.now in
-    let now = g.S.Source.looks c.has_more-then-counts-ge-MAX_LINES.new.self in
-    let old = c.args.self.now in
-    subst (λ (s : Step). ReadsOn was now old c.end_reading-in-Err.new.self s) (sym c.end_reading-in-Err.ensures.step)
-    (subst (λ (r : LineLoopValue). ReadsOn was now old r (Next 0)) (sym c.end_reading-in-Err.ensures.ends) (fault_nearer old Read was now 0 c.requires.reading c.in-Err.ensures.looks))
+    subst (λ (s : Step). ReadsOn (g.S.Source.looks c.args.input.now) (g.S.Source.looks c.read_piece.new.input) c.args.self.now c.end_reading.new.self s) (sym c.end_reading.ensures.step)
+    (subst (λ (r : LineLoopValue). ReadsOn (g.S.Source.looks c.args.input.now) (g.S.Source.looks c.read_piece.new.input) c.args.self.now r (Next 0)) (sym (stops g c)) (fault_nearer c.args.self.now c.in-Err.fault (g.S.Source.looks c.args.input.now) (g.S.Source.looks c.read_piece.new.input) 0 c.requires.reading c.in-Err.ensures.looks))
 
-pub returns-in-Ok-false-clause-steps : goal.returns-in-Ok-false-clause-steps
-returns-in-Ok-false-clause-steps g c =
-    let M = g.M.LineHandler in
-    let left = g.S.Source.left c.args.input.now in
-    let leaves = g.S.Source.left c.has_more-then-counts-ge-MAX_LINES.new.self in
-    let before = g.W.Sink.contents c.args.output.now in
-    let after = g.W.Sink.contents c.wait_for_input.new.output in
-    let old = c.args.self.now in
-    λ start rest steady stands.
-    let at : Stands (by M.moves M.makes M.ends M.goes M.goes_last) start (with_rest leaves rest) before c.args.machine.now old =
-    Steps-kept (by M.moves M.makes M.ends M.goes M.goes_last) steady.preorder start (with_rest left rest) (with_rest leaves rest) before c.args.machine.now old c.requires.reading stands (Keeps-rest left leaves rest c.in-Ok-false.ensures.kept) in
-    Steps-waited (by M.moves M.makes M.ends M.goes M.goes_last) steady.preorder start (with_rest leaves rest) before after c.args.machine.now old c.wait_for_input.new.self at c.wait_for_input.result c.requires.reading c.wait_for_input.ensures.waits
+pub returns-in-Err-clause-waits : goal.returns-in-Err-clause-waits
+returns-in-Err-clause-waits g c = λ more out. let no : true ≡ false = sym c.if-not-may_read.false ∙ c.may_read.ensures ∙ ap₂ (λ a b. a || b) more out in cc
 
-pub returns-in-Ok-false-clause-reads : goal.returns-in-Ok-false-clause-reads
-returns-in-Ok-false-clause-reads g c =
-    let before = g.W.Sink.contents c.args.output.now in
-    let after = g.W.Sink.contents c.wait_for_input.new.output in
-    waits_nearer c.args.self.now c.args.self.now c.wait_for_input.new.self before after (g.S.Source.looks c.args.input.now) (g.S.Source.looks c.has_more-then-counts-ge-MAX_LINES.new.self) c.wait_for_input.result c.requires.reading
-    c.in-Ok-false.ensures.looks c.wait_for_input.ensures.waits
+pub returns-in-Err-clause-read_fault : goal.returns-in-Err-clause-read_fault
+returns-in-Err-clause-read_fault g c = λ ends. stops_by g c Read (ends_by_found Read c.in-Err.fault c.end_reading.new.self c.end_reading.result c.end_reading.ensures.step (ap (λ (r : LineLoopValue). r.state.stage) (stops g c)) ends)
 
-pub returns-then-not-is_out-clause-knows : goal.returns-then-not-is_out-clause-knows
-returns-then-not-is_out-clause-knows g c = knows_itself _
+pub returns-in-Err-clause-write_fault : goal.returns-in-Err-clause-write_fault
+returns-in-Err-clause-write_fault g c = λ ends. absurd (stops_by g c Write (ends_by_found Write c.in-Err.fault c.end_reading.new.self c.end_reading.result c.end_reading.ensures.step (ap (λ (r : LineLoopValue). r.state.stage) (stops g c)) ends))
 
-pub returns-then-len-ge-ENDLESS-clause-knows : goal.returns-then-len-ge-ENDLESS-clause-knows
-returns-then-len-ge-ENDLESS-clause-knows g c = knows_itself _
-
-pub returns-in-Ok-true-clause-knows : goal.returns-in-Ok-true-clause-knows
-returns-in-Ok-true-clause-knows g c = knows_itself _
-
-pub returns-in-Ok-false-clause-knows : goal.returns-in-Ok-false-clause-knows
-returns-in-Ok-false-clause-knows g c = knows_itself _
+pub returns-in-Err-clause-write_stage : goal.returns-in-Err-clause-write_stage
+returns-in-Err-clause-write_stage g c = λ units is ends. stops_by g c Write (ends_by_found Write c.in-Err.fault c.end_reading.new.self (Next 0) refl (ap (λ (r : LineLoopValue). r.state.stage) (stops g c)) ends)
 
 pub returns-in-Err-clause-knows : goal.returns-in-Err-clause-knows
 returns-in-Err-clause-knows g c = knows_itself _
 
-pub returns-in-Ok-true-clause-waits : goal.returns-in-Ok-true-clause-waits
-returns-in-Ok-true-clause-waits g c = λ more out. elim c.else-not-has_more.branch [
-  | else-not-has_more-via-then-not-has_more+else-not-is_out w ↦ let no : true ≡ false = sym w.if-not-is_out.false ∙ w.is_out.ensures ∙ ap (λ (r : LineLoopValue). r.state.out) c.self.view_is ∙ out in cc
-  | else-not-has_more-via-else-not-has_more w ↦ let no : true ≡ false = sym w.if-not-has_more.false ∙ c.has_more.ensures ∙ ap (λ (r : LineLoopValue). r.state.more) c.self.view_is ∙ more in cc
-]
-
-pub returns-in-Ok-false-clause-waits : goal.returns-in-Ok-false-clause-waits
-returns-in-Ok-false-clause-waits g c = λ more out. elim c.else-not-has_more.branch [
-  | else-not-has_more-via-then-not-has_more+else-not-is_out w ↦ let no : true ≡ false = sym w.if-not-is_out.false ∙ w.is_out.ensures ∙ ap (λ (r : LineLoopValue). r.state.out) c.self.view_is ∙ out in cc
-  | else-not-has_more-via-else-not-has_more w ↦ let no : true ≡ false = sym w.if-not-has_more.false ∙ c.has_more.ensures ∙ ap (λ (r : LineLoopValue). r.state.more) c.self.view_is ∙ more in cc
-]
-
-pub returns-in-Err-clause-waits : goal.returns-in-Err-clause-waits
-returns-in-Err-clause-waits g c = λ more out. elim c.else-not-has_more.branch [
-  | else-not-has_more-via-then-not-has_more+else-not-is_out w ↦ let no : true ≡ false = sym w.if-not-is_out.false ∙ w.is_out.ensures ∙ ap (λ (r : LineLoopValue). r.state.out) c.self.view_is ∙ out in cc
-  | else-not-has_more-via-else-not-has_more w ↦ let no : true ≡ false = sym w.if-not-has_more.false ∙ c.has_more.ensures ∙ ap (λ (r : LineLoopValue). r.state.more) c.self.view_is ∙ more in cc
-]
-
-pub returns-then-not-is_out-clause-written : goal.returns-then-not-is_out-clause-written
-returns-then-not-is_out-clause-written g c = makes_none (made_by c.put_out.result) _ _ _ _ c.put_out.ensures.written
-
-pub returns-then-len-ge-ENDLESS-clause-written : goal.returns-then-len-ge-ENDLESS-clause-written
-returns-then-len-ge-ENDLESS-clause-written g c = makes_unwritten (made_by c.end_reading.result) _ _ _ (omega (arith, ap (λ (r : LineLoopValue). length r.replies) c.end_reading.ensures.ends))
-
-pub returns-in-Ok-true-clause-written : goal.returns-in-Ok-true-clause-written
-returns-in-Ok-true-clause-written g c = makes_unwritten (made_by c.end_reading-in-Ok-true.result) _ _ _ (omega (arith, ap (λ (r : LineLoopValue). length r.replies) c.end_reading-in-Ok-true.ensures.ends))
+pub returns-in-Err-clause-foresees : goal.returns-in-Err-clause-foresees
+returns-in-Err-clause-foresees g c =
+    λ was.
+    let can = stops_foresees c.in-Err.fault g.S.Source.may_fail g.W.Sink.may_fail g.S.Source.may_end _ _ c.in-Err.ensures.fault in
+    subst (λ (s : Step). ForeseesStep g.S.Source.may_fail g.W.Sink.may_fail g.S.Source.may_end c.end_reading.new.self s) (sym c.end_reading.ensures.step)
+    (subst (λ (r : LineLoopValue). Foresees g.S.Source.may_fail g.W.Sink.may_fail g.S.Source.may_end r) (sym (stops g c)) can)
 
 pub returns-in-Err-clause-written : goal.returns-in-Err-clause-written
-returns-in-Err-clause-written g c = makes_unwritten (made_by c.end_reading-in-Err.result) _ _ _ (omega (arith, ap (λ (r : LineLoopValue). length r.replies) c.end_reading-in-Err.ensures.ends))
-
-pub returns-in-Ok-false-clause-written : goal.returns-in-Ok-false-clause-written
-returns-in-Ok-false-clause-written g c = makes_none (made_by c.wait_for_input.result) _ _ _ _ c.wait_for_input.ensures.written
-
-pub returns-then-not-is_out-clause-counted : goal.returns-then-not-is_out-clause-counted
-returns-then-not-is_out-clause-counted g c =
-    let before = g.W.Sink.contents c.args.output.now in
-    let after = g.W.Sink.contents c.put_out.new.output in
-    sends_counted c.args.self.now c.put_out.new.self before after c.put_out.result c.requires.made c.put_out.ensures.sends c.put_out.ensures.same c.put_out.ensures.written
-
-pub returns-in-Ok-false-clause-counted : goal.returns-in-Ok-false-clause-counted
-returns-in-Ok-false-clause-counted g c =
-    let old = c.args.self.now in
-    let new = c.wait_for_input.new.self in
-    let before = g.W.Sink.contents c.args.output.now in
-    let after = g.W.Sink.contents c.wait_for_input.new.output in
-    waits_counted old new before after old c.wait_for_input.result c.wait_for_input.ensures.waits
-    (counts_nothing old new before after old (omega arith) refl (omega arith) c.wait_for_input.ensures.same c.wait_for_input.ensures.written)
-
-pub returns-then-not-is_out-clause-looked : goal.returns-then-not-is_out-clause-looked
-returns-then-not-is_out-clause-looked g c = c.put_out.ensures.same.looked
-
-pub returns-then-len-ge-ENDLESS-clause-looked : goal.returns-then-len-ge-ENDLESS-clause-looked
-returns-then-len-ge-ENDLESS-clause-looked g c = ap (λ (r : LineLoopValue). r.state.looked) c.end_reading.ensures.ends
-
-pub returns-in-Ok-false-clause-looked : goal.returns-in-Ok-false-clause-looked
-returns-in-Ok-false-clause-looked g c = c.wait_for_input.ensures.same.looked
-
-pub returns-in-Ok-true-clause-looked : goal.returns-in-Ok-true-clause-looked
-returns-in-Ok-true-clause-looked g c = ap (λ (r : LineLoopValue). r.state.looked) c.end_reading-in-Ok-true.ensures.ends
+returns-in-Err-clause-written g c = makes_unwritten (made_by c.end_reading.result) _ _ _ (omega (arith, ap (λ (r : LineLoopValue). length r.replies) (stops g c)))
 
 pub returns-in-Err-clause-looked : goal.returns-in-Err-clause-looked
-returns-in-Err-clause-looked g c = ap (λ (r : LineLoopValue). r.state.looked) c.end_reading-in-Err.ensures.ends
-
-pub returns-then-not-is_out-clause-read_fault : goal.returns-then-not-is_out-clause-read_fault
-returns-then-not-is_out-clause-read_fault g c =
-    let before = g.W.Sink.contents c.args.output.now in
-    let after = g.W.Sink.contents c.put_out.new.output in
-    λ ends. absurd (sends_no_read c.args.self.now c.put_out.new.self before after c.requires.reading c.put_out.result c.put_out.ensures.sends ends)
-
-pub returns-then-not-is_out-clause-write_fault : goal.returns-then-not-is_out-clause-write_fault
-returns-then-not-is_out-clause-write_fault g c =
-    let before = g.W.Sink.contents c.args.output.now in
-    let after = g.W.Sink.contents c.put_out.new.output in
-    λ ends. sends_failed c.args.self.now c.put_out.new.self before after c.requires.reading (g.W.Sink.has_failed c.put_out.new.output) c.put_out.result c.put_out.ensures.failed c.put_out.ensures.sends ends
-
-pub returns-then-len-ge-ENDLESS-clause-read_fault : goal.returns-then-len-ge-ENDLESS-clause-read_fault
-returns-then-len-ge-ENDLESS-clause-read_fault g c =
-    λ ends. absurd (no_read (ends_by_found Read TooManyTurns c.end_reading.new.self c.end_reading.result c.end_reading.ensures.step (ap (λ (r : LineLoopValue). r.state.stage) c.end_reading.ensures.ends) ends))
-
-pub returns-then-len-ge-ENDLESS-clause-write_fault : goal.returns-then-len-ge-ENDLESS-clause-write_fault
-returns-then-len-ge-ENDLESS-clause-write_fault g c =
-    λ ends. absurd (no_write (ends_by_found Write TooManyTurns c.end_reading.new.self c.end_reading.result c.end_reading.ensures.step (ap (λ (r : LineLoopValue). r.state.stage) c.end_reading.ensures.ends) ends))
-
-pub returns-in-Ok-true-clause-read_fault : goal.returns-in-Ok-true-clause-read_fault
-returns-in-Ok-true-clause-read_fault g c =
-    λ ends.
-    absurd (no_read (ends_by_found Read TooManyTurns c.end_reading-in-Ok-true.new.self c.end_reading-in-Ok-true.result c.end_reading-in-Ok-true.ensures.step (ap (λ (r : LineLoopValue). r.state.stage) c.end_reading-in-Ok-true.ensures.ends) ends))
-
-pub returns-in-Ok-true-clause-write_fault : goal.returns-in-Ok-true-clause-write_fault
-returns-in-Ok-true-clause-write_fault g c =
-    λ ends.
-    absurd (no_write (ends_by_found Write TooManyTurns c.end_reading-in-Ok-true.new.self c.end_reading-in-Ok-true.result c.end_reading-in-Ok-true.ensures.step (ap (λ (r : LineLoopValue). r.state.stage) c.end_reading-in-Ok-true.ensures.ends) ends))
-
-pub returns-in-Err-clause-read_fault : goal.returns-in-Err-clause-read_fault
-returns-in-Err-clause-read_fault g c = λ ends. c.in-Err.ensures.fault
-
-pub returns-in-Err-clause-write_fault : goal.returns-in-Err-clause-write_fault
-returns-in-Err-clause-write_fault g c =
-    λ ends.
-    absurd (read_no_write (ends_by_found Write Read c.end_reading-in-Err.new.self c.end_reading-in-Err.result c.end_reading-in-Err.ensures.step (ap (λ (r : LineLoopValue). r.state.stage) c.end_reading-in-Err.ensures.ends) ends))
-
-pub returns-in-Ok-false-clause-read_fault : goal.returns-in-Ok-false-clause-read_fault
-returns-in-Ok-false-clause-read_fault g c =
-    let before = g.W.Sink.contents c.args.output.now in
-    let after = g.W.Sink.contents c.wait_for_input.new.output in
-    λ ends. absurd (waits_no_read c.args.self.now c.wait_for_input.new.self before after c.requires.reading c.wait_for_input.result c.wait_for_input.ensures.waits ends)
-
-pub returns-in-Ok-false-clause-write_fault : goal.returns-in-Ok-false-clause-write_fault
-returns-in-Ok-false-clause-write_fault g c =
-    let before = g.W.Sink.contents c.args.output.now in
-    let after = g.W.Sink.contents c.wait_for_input.new.output in
-    λ ends.
-    waits_failed c.args.self.now c.wait_for_input.new.self before after c.requires.reading (g.W.Sink.has_failed c.wait_for_input.new.output) c.wait_for_input.result c.wait_for_input.ensures.failed c.wait_for_input.ensures.waits ends
-
-pub returns-then-not-is_out-clause-write_stage : goal.returns-then-not-is_out-clause-write_stage
-returns-then-not-is_out-clause-write_stage g c =
-    let before = g.W.Sink.contents c.args.output.now in
-    let after = g.W.Sink.contents c.put_out.new.output in
-    λ units is ends. sends_next_on c.args.self.now c.put_out.new.self before after c.requires.reading Write c.put_out.result c.put_out.ensures.sends units is ends
-
-pub returns-then-len-ge-ENDLESS-clause-write_stage : goal.returns-then-len-ge-ENDLESS-clause-write_stage
-returns-then-len-ge-ENDLESS-clause-write_stage g c =
-    λ units is ends. no_write (ends_by_found Write TooManyTurns c.end_reading.new.self (Next 0) refl (ap (λ (r : LineLoopValue). r.state.stage) c.end_reading.ensures.ends) ends)
-
-pub returns-in-Ok-true-clause-write_stage : goal.returns-in-Ok-true-clause-write_stage
-returns-in-Ok-true-clause-write_stage g c =
-    λ units is ends. no_write (ends_by_found Write TooManyTurns c.end_reading-in-Ok-true.new.self (Next 0) refl (ap (λ (r : LineLoopValue). r.state.stage) c.end_reading-in-Ok-true.ensures.ends) ends)
-
-pub returns-in-Err-clause-write_stage : goal.returns-in-Err-clause-write_stage
-returns-in-Err-clause-write_stage g c =
-    λ units is ends. read_no_write (ends_by_found Write Read c.end_reading-in-Err.new.self (Next 0) refl (ap (λ (r : LineLoopValue). r.state.stage) c.end_reading-in-Err.ensures.ends) ends)
-
-pub returns-in-Ok-false-clause-write_stage : goal.returns-in-Ok-false-clause-write_stage
-returns-in-Ok-false-clause-write_stage g c =
-    let before = g.W.Sink.contents c.args.output.now in
-    let after = g.W.Sink.contents c.wait_for_input.new.output in
-    λ units is ends. waits_no_next c.args.self.now c.wait_for_input.new.self before after c.wait_for_input.result c.wait_for_input.ensures.waits units is
+returns-in-Err-clause-looked g c = ap (λ (r : LineLoopValue). r.state.looked) (stops g c)

@@ -1,0 +1,12 @@
+-- The changes so far and those of the rest are all changes.
+use Rattle.std.proofs.Common.{◌≡◌, ◌+◌, ◌≤◌, drop}
+use Rattle.pn_tablet.proofs.Counting.{come, gone}
+use Rattle.pn_tablet.proofs.counted_cells.count_moved.Given as goal
+
+abbrev pub invariant-loop-change : goal.invariant-loop-change
+invariant-loop-change l = record {
+  all_come : l.come + come (drop l.change-index l.told) ≡ come l.told;
+  all_gone : l.gone + gone (drop l.change-index l.told) ≡ gone l.told;
+  few_come : l.come ≤ l.change-index;
+  few_gone : l.gone ≤ l.change-index;
+}
