@@ -91,7 +91,7 @@ impl Connection {
     }
 }
 
-/// For how many quarters of a second a client was idle: no reply went to it, and no turn of it had more to do or no memory.
+/// For how many quarters of a second a client was idle: no reply went to it, and no turn of it had more to do, or wanted memory.
 #[derive(Drop)]
 pub struct IdleTimeout {
     quarters: u32,
