@@ -12,8 +12,8 @@ are commands, each with a refusal.
 
 Some scripts are also sent in one input, each command twice; in one a refused round comes again only after the layout was
 changed; and in others all allocations are refused from one on, so that commands do not come again. Rounds as wide as a line
-allows, where threads are started, have each allocation refused from the start of a thread on. A case of live regions ends well
-whichever allocation is refused, unless the line that asks for it cannot be read or answered.
+allows, where threads are started, have each allocation refused from the start of a thread on. A case of live regions, and one of a
+connection that keeps input, end well whichever allocation is refused, unless the line that asks for it cannot be read or answered.
 
 Exit status 0 where that holds for each allocation.
 """
@@ -29,9 +29,9 @@ from faults.refusing import FOR_GOOD, IN_THREADS, ONE, FindFault, Refusals
 from replies.stored import Stored, stored, stored_scripts
 from replies.wide_rounds import wide_rounds
 
-# A case of live regions in which a refused call comes again, and its answers: none where the line is not read or answered.
-RETRIED = b"live memory\n"
-ENDS = {0: b"well\n", 1: b""}
+# Cases that end so whichever allocation is refused: one of live regions in which a refused call comes again, and one of a connection
+# whose input is kept between turns. There is no answer where the line is not read or answered.
+ENDS_WELL = {"live region": (b"live memory\n", b"well\n"), "kept input": (b"stay keeps on++e|tw++o|\n", b"ii of 2 lines\n")}
 WORKERS = [1, 2, 16]
 SENT_TWICE = ["first-run", "equal-versions-conflict", "overlap-taken", "get-and-behind", "pages-of-one-tablet",
               "two-tablets-with-2-workers", "four-tablets-with-4-workers"]
@@ -45,10 +45,10 @@ NO_TALKS = ["fewer-lines-than-announced", "no-lines-behind-an-adoption", "no-new
             "lines-of-an-adoption-are-its-own", "one-to-64-tablets-and-back"]
 
 
-def case_fault(program: str, line: bytes, given: dict[str, str]) -> str | None:
-    """What is wrong with a case that is to end well, whichever allocation is refused."""
+def case_fault(program: str, line: bytes, answer: bytes, given: dict[str, str]) -> str | None:
+    """What is wrong with a case that is to end so, whichever allocation is refused."""
     ended = subprocess.run([program], input=line, capture_output=True, env=given, timeout=SECONDS)
-    is_well = ended.stdout == ENDS.get(ended.returncode)
+    is_well = ended.stdout == {0: answer, 1: b""}.get(ended.returncode)
     return None if is_well else f"status {ended.returncode}, {ended.stderr!r}\n{ended.stdout.decode()}"
 
 
@@ -80,7 +80,8 @@ def cases(program: str, live: str) -> Iterator[Case]:
     for name in SENT_FOR_GOOD:
         script = Script(program, stored(name))
         yield f"{name}, for good", lambda given, it=script: it.fault(given, False), FOR_GOOD
-    yield "live region", lambda given: case_fault(live, RETRIED, given), ONE
+    for name, (line, answer) in ENDS_WELL.items():
+        yield name, lambda given, line=line, answer=answer: case_fault(live, line, answer, given), ONE
 
 
 def main(words: list[str]) -> int:

@@ -9,7 +9,7 @@ mod stopped;
 mod talks;
 mod writers;
 
-use clients::{count_input, read_input, take_turns};
+use clients::{count_input, keep_input, read_input, take_turns};
 use echo::Echo;
 use pn_stay::every_way_of_coming_and_going;
 use served::{answer_flood, listen_twice, serve_session, stay_until_idle};
@@ -48,6 +48,7 @@ where
     let (word, rest) = line.as_str().split_once(' ').unwrap_or((line.as_str(), ""));
     match word {
         "turns" => take_turns(alloc, rest),
+        "keeps" => keep_input(alloc, rest),
         "input" => read_input(alloc, rest),
         "counted" => count_input(alloc, rest),
         "listens" => listen_twice(rt, alloc),

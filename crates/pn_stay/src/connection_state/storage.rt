@@ -1,10 +1,12 @@
 //! What a connection keeps is loaded into the buffers of its thread, and stored again after a turn.
 
-ghost use Rattle.std.specs.Prelude.{◌≡◌, ◌+◌, ◌≤◌, [], ◌++◌, Option, length, vec_len, IfOk, IfSome, IsTrue, MatchBool};
-ghost use Rattle.pn_stay.specs.Connections.{DoesNotFit, SameInput, line_in, replies_in};
+ghost use Rattle.std.specs.Prelude.{◌≡◌, ◌≢◌, ◌+◌, ◌≤◌, [], ◌++◌, None, false, length, vec_len, IfOk, IsFalse, IsTrue, MatchBool, OnErr};
+ghost use Rattle.pn_line.specs.Prelude.{so_far};
 ghost use Rattle.pn_line.specs.declared.line_buffer.TheConstants.{MAX_LINE_BYTES};
+ghost use Rattle.pn_stay.specs.Connections.{DoesNotFit, IsOwn, SameInput, is_spare, line_in, replies_in};
 ghost use Rattle.pn_stay.specs.Turns.{in_buffers, KeepsOr, PausesWell, StopsWell, Stores};
 
+use crate::connection_state::input_memory::{InputMemory, StoredInput};
 use crate::connection_state::{ConnectionState, Pause, ThreadBuffers, TurnOutcome};
 use crate::input_buffer::INPUT_CAPACITY;
 use pn_line::{Discard, LineBuffer};
@@ -14,39 +16,64 @@ use std::mem;
 
 impl ConnectionState {
     // Loads what it keeps into the buffers. Where there is no memory for replies that it may have to keep, long ones are refused.
-    pub(super) fn load(&mut self, buffers: &mut ThreadBuffers)
-        ensures { in_buffers buffers.new ≡ self.old }
+    // Answers where its input is after the turn.
+    pub(super) fn load(&mut self, buffers: &mut ThreadBuffers) -> InputMemory
+        ensures loaded { in_buffers buffers.new ≡ self.old }
+        ensures own { IsOwn result buffers.new.lines.line buffers.new.input }
     {
         drop_replies(&mut buffers.lines);
-        load_line(&mut buffers.lines, self.line.take());
+        let line = load_line(&mut buffers.lines, self.line.take());
         buffers.lines.swap_state(&mut self.state);
         buffers.input.fill(&self.held);
-        self.held = Vec::new(self.alloc);
+        let held = mem::replace(&mut self.held, Vec::new(self.alloc));
         let can_keep = load_replies(self.alloc, buffers, &mut self.replies);
         buffers.lines.set_scarce(!can_keep);
+        let own = StoredInput { line, held };
+        InputMemory::find(self.alloc, &mut buffers.spare_input, own)
     }
 
     // Stores it until its next turn, unless it has ended.
-    pub(super) fn store(&mut self, buffers: &mut ThreadBuffers, step: Step) -> TurnOutcome
+    pub(super) fn store(
+        &mut self,
+        buffers: &mut ThreadBuffers,
+        memory: InputMemory,
+        step: Step,
+    ) -> TurnOutcome
+        requires own { IsOwn memory buffers.old.lines.line buffers.old.input }
         ensures stores { Stores (in_buffers buffers.old) step self.new result }
         ensures pauses { StopsWell (in_buffers buffers.old) step → PausesWell self.new result }
+        ensures short { result ≡ TurnOutcome.Goes Pause.Memory → (is_spare memory ≡ false) × (self.new.held ≡ buffers.old.input) }
     {
         match step {
-            Step::Next(_) => self.keep(buffers, Pause::Turn),
-            Step::NoInput => self.keep(buffers, Pause::Input),
-            Step::NoRoom => self.keep(buffers, Pause::Output),
-            Step::Ends(ended) => TurnOutcome::Ended(ended),
+            Step::Next(_) => {
+                let is_spare = memory.is_spare();
+                if is_spare {
+                    return self.keep(buffers, memory, Pause::Turn);
+                }
+                self.keep(buffers, memory, Pause::Memory)
+            }
+            Step::NoInput => self.keep(buffers, memory, Pause::Input),
+            Step::NoRoom => self.keep(buffers, memory, Pause::Output),
+            Step::Ends(ended) => {
+                memory.give_back(&mut buffers.spare_input);
+                TurnOutcome::Ended(ended)
+            }
         }
     }
 
-    // Keeps it in a pause, if there is memory for that.
-    fn keep(&mut self, buffers: &mut ThreadBuffers, pause: Pause) -> TurnOutcome
-        ensures { KeepsOr (in_buffers buffers.old) pause self.new result }
+    // Keeps it in a pause, if there is memory for replies that wait.
+    fn keep(
+        &mut self,
+        buffers: &mut ThreadBuffers,
+        memory: InputMemory,
+        pause: Pause,
+    ) -> TurnOutcome
+        requires own { IsOwn memory buffers.old.lines.line buffers.old.input }
+        ensures keeps { KeepsOr (in_buffers buffers.old) pause self.new result }
+        ensures own { is_spare memory ≡ false → self.new.held ≡ buffers.old.input }
     {
         buffers.lines.begin_unless_reading();
-        let Ok(stored) = unload_input(self.alloc, buffers) else {
-            return TurnOutcome::OutOfMemory;
-        };
+        let stored = unload_input(self.alloc, buffers, memory);
         self.line = stored.line;
         self.held = stored.held;
         if !keep_replies(buffers, &mut self.replies) {
@@ -64,16 +91,21 @@ fn drop_replies(lines: &mut LineLoop)
     let _ = lines.flush(&mut Discard);
 }
 
-// Goes on with a line that was begun, or with none.
-fn load_line(lines: &mut LineLoop, line: Option<LineBuffer>)
-    ensures { lines.new ≡ record lines.old { line = line_in line } }
+// Goes on with a line that was begun, in whose place there is the thread's meanwhile, or with none.
+fn load_line(lines: &mut LineLoop, line: Option<LineBuffer>) -> Option<LineBuffer>
+    ensures loaded { lines.new ≡ record lines.old { line = line_in line } }
+    ensures none { result ≡ None → line_in line ≡ so_far [] }
 {
     match line {
         Some(line) => {
             let mut line = line;
             lines.swap_line(&mut line);
+            Some(line)
         }
-        None => lines.begin_line(),
+        None => {
+            lines.begin_line();
+            None
+        }
     }
 }
 
@@ -98,9 +130,11 @@ fn load_replies(alloc: Global, buffers: &mut ThreadBuffers, kept: &mut Option<Re
     }
 }
 
-// Keeps the buffer of replies where some wait or are still to be made. False where the thread has no other.
+// Keeps the buffer of replies where some wait or are still to be made, if the thread has another. False where it has none, and
+// bytes wait.
 fn keep_replies(buffers: &mut ThreadBuffers, kept: &mut Option<ReplyBuffer>) -> bool
     ensures kept { IsTrue result → replies_in kept.new ≡ buffers.old.lines.replies }
+    ensures lost { IsFalse result → buffers.old.lines.replies ≢ [] }
     ensures state { buffers.new.lines.state ≡ buffers.old.lines.state }
 {
     let others = match kept.take() {
@@ -111,51 +145,101 @@ fn keep_replies(buffers: &mut ThreadBuffers, kept: &mut Option<ReplyBuffer>) -> 
         buffers.spare = others;
         return true;
     }
-    *kept = swap_replies(&mut buffers.lines, others);
-    kept.is_some()
+    match others {
+        Some(others) => {
+            *kept = Some(swap_replies(&mut buffers.lines, others));
+            true
+        }
+        None => buffers.lines.is_sent(),
+    }
 }
 
-// Gives the replies that wait, where there is another buffer to go on with.
-fn swap_replies(lines: &mut LineLoop, others: Option<ReplyBuffer>) -> Option<ReplyBuffer>
-    ensures given { IfSome result (λ replies. replies ≡ lines.old.replies) }
+// Gives the replies that wait, and goes on with another buffer.
+fn swap_replies(lines: &mut LineLoop, others: ReplyBuffer) -> ReplyBuffer
+    ensures given { result ≡ lines.old.replies }
     ensures state { lines.new.state ≡ lines.old.state }
 {
-    let mut replies = others?;
+    let mut replies = others;
     lines.swap_replies(&mut replies);
-    Some(replies)
+    replies
 }
 
-// The input of a connection between two turns.
-#[derive(Drop)]
-struct StoredInput {
-    line: Option<LineBuffer>,
-    held: Vec<u8>,
-}
-
-// Takes the input out of the buffers: as bytes, and the line in its own buffer where it is too long for them.
-fn unload_input(alloc: Global, buffers: &mut ThreadBuffers) -> Result<StoredInput, AllocError>
-    ensures same { IfOk result (λ stored. SameInput buffers.old.lines.line buffers.old.input (line_in stored.line) stored.held.items) }
-    ensures fits { IfOk result (λ stored. vec_len stored.held ≤ INPUT_CAPACITY) }
-    ensures kept { buffers.new.lines.state ≡ buffers.old.lines.state }
+// Takes the input out of the buffers.
+fn unload_input(alloc: Global, buffers: &mut ThreadBuffers, memory: InputMemory) -> StoredInput
+    requires own { IsOwn memory buffers.old.lines.line buffers.old.input }
+    ensures same { SameInput buffers.old.lines.line buffers.old.input (line_in result.line) result.held.items }
+    ensures own { is_spare memory ≡ false → result.held.items ≡ buffers.old.input }
+    ensures fits { vec_len result.held ≤ INPUT_CAPACITY }
+    ensures state { buffers.new.lines.state ≡ buffers.old.lines.state }
     ensures replies { buffers.new.lines.replies ≡ buffers.old.lines.replies }
 {
-    let unread = buffers.input.bytes();
-    let part = buffers.lines.line();
+    match memory {
+        InputMemory::Own(own) => put_back(&mut buffers.lines, own),
+        InputMemory::Spare(spare) => {
+            let unread = buffers.input.bytes();
+            match store_input(alloc, &mut buffers.lines, unread) {
+                Ok(stored) => {
+                    buffers.spare_input = Some(spare);
+                    stored
+                }
+                Err(_) => spare.take(&mut buffers.lines, unread),
+            }
+        }
+    }
+}
+
+// The line is in its own buffer again, beside the input that has stayed in its place.
+fn put_back(lines: &mut LineLoop, own: StoredInput) -> StoredInput
+    requires none { own.line ≡ None → lines.old.line ≡ so_far [] }
+    ensures line { line_in result.line ≡ lines.old.line }
+    ensures held { result.held ≡ own.held }
+    ensures state { lines.new.state ≡ lines.old.state }
+    ensures replies { lines.new.replies ≡ lines.old.replies }
+{
+    let StoredInput { line, held } = own;
+    match line {
+        Some(buffer) => {
+            let mut buffer = buffer;
+            lines.swap_line(&mut buffer);
+            StoredInput {
+                line: Some(buffer),
+                held,
+            }
+        }
+        None => StoredInput { line: None, held },
+    }
+}
+
+// Takes the input of a loop: as bytes, in memory of their size, and the line in its own buffer where it is too long for them.
+fn store_input(
+    alloc: Global,
+    lines: &mut LineLoop,
+    unread: &[u8],
+) -> Result<StoredInput, AllocError>
+    requires { length unread.now ≤ INPUT_CAPACITY }
+    ensures same { IfOk result (λ stored. SameInput lines.old.line unread.now (line_in stored.line) stored.held.items) }
+    ensures long { IfOk result (λ stored. stored.line ≢ None → DoesNotFit lines.old.line unread.now) }
+    ensures fits { IfOk result (λ stored. vec_len stored.held ≤ INPUT_CAPACITY) }
+    ensures state { lines.new.state ≡ lines.old.state }
+    ensures replies { lines.new.replies ≡ lines.old.replies }
+    ensures err { OnErr result (lines.new ≡ lines.old) }
+{
+    let part = lines.line();
     if fits(part, unread) {
         let held = concat(alloc, part.bytes(), unread)?;
         return Ok(StoredInput { line: None, held });
     }
     let held = Vec::from_slice(alloc, unread)?;
     let mut line = LineBuffer::new(alloc)?;
-    buffers.lines.swap_line(&mut line);
+    lines.swap_line(&mut line);
     Ok(StoredInput {
         line: Some(line),
         held,
     })
 }
 
-// Whether a part of a line is not too long, and fits before the input that is held.
-fn fits(part: &LineBuffer, held: &[u8]) -> bool
+/// Whether a part of a line is not too long, and fits before the input that is held.
+pub(super) fn fits(part: &LineBuffer, held: &[u8]) -> bool
     requires { length held.now ≤ INPUT_CAPACITY }
     ensures { MatchBool result ((part.now.count ≤ MAX_LINE_BYTES) × (length part.now.bytes + length held.now ≤ INPUT_CAPACITY)) (DoesNotFit part.now held.now) }
 {

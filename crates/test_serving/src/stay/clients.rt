@@ -3,7 +3,7 @@
 use crate::stay::echo::Echo;
 use crate::stay::{TURNS, read_pieces, read_takes, show};
 use pn_join::{Name, NoMemory};
-use pn_line::{InMemory, LineBuffer, LineEnd, Sink, Source, read_line};
+use pn_line::{Discard, InMemory, LineBuffer, LineEnd, Sink, Source, read_line};
 use pn_stay::{
     ConnectionState, Counters, CountingSource, InputBuffer, InputCounters, Pause, ScriptedSink,
     ScriptedSource, StreamCounters, ThreadBuffers, TurnOutcome,
@@ -18,20 +18,36 @@ pub(crate) fn take_turns(alloc: Global, line: &str) -> Result<String, Fail> {
     let (takes, text) = line.split_once(' ').unwrap_or(("", ""));
     let pieces = read_pieces(alloc, text)?;
     let takes = read_takes(alloc, takes)?;
-    let mut input = ScriptedSource::new(&pieces);
     let mut output = ScriptedSink::new(alloc, &takes);
+    let (pauses, lines) = give_turns(alloc, &pieces, &mut output)?;
+    let taken = show(alloc, output.bytes())?;
+    Ok(format!(in alloc; "{pauses} {taken} of {lines} lines")?)
+}
+
+/// How each turn of a connection paused whose socket takes all, and how many lines were answered.
+pub(crate) fn keep_input(alloc: Global, text: &str) -> Result<String, Fail> {
+    let pieces = read_pieces(alloc, text)?;
+    let (pauses, lines) = give_turns(alloc, &pieces, &mut Discard)?;
+    Ok(format!(in alloc; "{pauses} of {lines} lines")?)
+}
+
+// Gives a connection turns until it ends: how each paused, and how many lines were answered.
+fn give_turns<W: Sink>(
+    alloc: Global,
+    pieces: &[Vec<u8>],
+    output: &mut W,
+) -> Result<(String, u64), Fail> {
+    let mut input = ScriptedSource::new(pieces);
     let mut buffers = ThreadBuffers::new(alloc)?;
     let mut state = ConnectionState::new(alloc);
     let mut pauses = String::new(alloc);
     for _ in 0..TURNS {
-        match state.turn(&mut buffers, &mut Echo, &mut input, &mut output) {
+        match state.turn(&mut buffers, &mut Echo, &mut input, output) {
             TurnOutcome::Goes(pause) => pauses.push(sign(pause))?,
             TurnOutcome::Ended(_) | TurnOutcome::OutOfMemory => break,
         }
     }
-    let taken = show(alloc, output.bytes())?;
-    let lines = buffers.take_line_counts().answered;
-    Ok(format!(in alloc; "{pauses} {taken} of {lines} lines")?)
+    Ok((pauses, buffers.take_line_counts().answered))
 }
 
 fn sign(pause: Pause) -> char {
@@ -39,6 +55,7 @@ fn sign(pause: Pause) -> char {
         Pause::Turn => 't',
         Pause::Input => 'i',
         Pause::Output => 'o',
+        Pause::Memory => 'm',
     }
 }
 

@@ -1,7 +1,4 @@
 -- A read of pieces is one of their bytes.
-use Rattle.std.specs.IoError.{error_kind}
-use Rattle.std.specs.declared.io.ErrorKind.TheVariants.{WouldBlock}
-use Rattle.std.proofs.Common.{◌≡◌}
 use Rattle.pn_stay.proofs.Pieces.{reads_bytes}
 use Rattle.pn_stay.proofs.scripted.ScriptedSourceRead.read.Goals as goal
 
