@@ -1,6 +1,6 @@
 //! What a connection keeps is loaded into the buffers of its thread, and stored again after a turn.
 
-ghost use Rattle.std.specs.Prelude.{◌≡◌, ◌≢◌, ◌+◌, ◌≤◌, [], ◌++◌, None, false, length, vec_len, IfOk, IsFalse, IsTrue, MatchBool, OnErr};
+ghost use Rattle.std.specs.Prelude.{◌≡◌, ◌≢◌, ◌+◌, ◌≤◌, [], ◌++◌, None, true, false, length, vec_len, IfOk, IfSome, IsFalse, IsTrue, MatchBool, OnErr};
 ghost use Rattle.pn_line.specs.Prelude.{so_far};
 ghost use Rattle.pn_line.specs.declared.line_buffer.TheConstants.{MAX_LINE_BYTES};
 ghost use Rattle.pn_stay.specs.Connections.{DoesNotFit, IsOwn, SameInput, is_spare, line_in, replies_in};
@@ -73,7 +73,9 @@ impl ConnectionState {
         ensures own { is_spare memory ≡ false → self.new.held ≡ buffers.old.input }
     {
         buffers.lines.begin_unless_reading();
-        let stored = unload_input(self.alloc, buffers, memory);
+        let Some(stored) = unload_input(self.alloc, buffers, memory) else {
+            return TurnOutcome::OutOfMemory;
+        };
         self.line = stored.line;
         self.held = stored.held;
         if !keep_replies(buffers, &mut self.replies) {
@@ -164,25 +166,37 @@ fn swap_replies(lines: &mut LineLoop, others: ReplyBuffer) -> ReplyBuffer
     replies
 }
 
-// Takes the input out of the buffers.
-fn unload_input(alloc: Global, buffers: &mut ThreadBuffers, memory: InputMemory) -> StoredInput
+// Takes the input out of the buffers. None where there is no memory of its size, and bytes wait: what a client that takes none of
+// them has sent is not kept in the thread's memory.
+fn unload_input(
+    alloc: Global,
+    buffers: &mut ThreadBuffers,
+    memory: InputMemory,
+) -> Option<StoredInput>
     requires own { IsOwn memory buffers.old.lines.line buffers.old.input }
-    ensures same { SameInput buffers.old.lines.line buffers.old.input (line_in result.line) result.held.items }
-    ensures own { is_spare memory ≡ false → result.held.items ≡ buffers.old.input }
-    ensures fits { vec_len result.held ≤ INPUT_CAPACITY }
+    ensures same { IfSome result (λ stored. SameInput buffers.old.lines.line buffers.old.input (line_in stored.line) stored.held.items) }
+    ensures own { IfSome result (λ stored. is_spare memory ≡ false → stored.held.items ≡ buffers.old.input) }
+    ensures fits { IfSome result (λ stored. vec_len stored.held ≤ INPUT_CAPACITY) }
+    ensures lost { result ≡ None → (is_spare memory ≡ true) × (buffers.old.lines.replies ≢ []) }
     ensures state { buffers.new.lines.state ≡ buffers.old.lines.state }
     ensures replies { buffers.new.lines.replies ≡ buffers.old.lines.replies }
 {
     match memory {
-        InputMemory::Own(own) => put_back(&mut buffers.lines, own),
+        InputMemory::Own(own) => Some(put_back(&mut buffers.lines, own)),
         InputMemory::Spare(spare) => {
             let unread = buffers.input.bytes();
             match store_input(alloc, &mut buffers.lines, unread) {
                 Ok(stored) => {
                     buffers.spare_input = Some(spare);
-                    stored
+                    Some(stored)
                 }
-                Err(_) => spare.take(&mut buffers.lines, unread),
+                Err(_) => {
+                    if buffers.lines.is_sent() {
+                        return Some(spare.take(&mut buffers.lines, unread));
+                    }
+                    buffers.spare_input = Some(spare);
+                    None
+                }
             }
         }
     }

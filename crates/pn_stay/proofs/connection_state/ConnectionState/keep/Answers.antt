@@ -4,8 +4,8 @@ use Rattle.pn_stay.specs.Turns.{in_buffers}
 use Rattle.pn_stay.proofs.Storing.{begun_apart, kept_input, own_begun}
 use Rattle.pn_stay.proofs.connection_state.ConnectionState.keep.Goals as goal
 
-pub unload_input-stored-requires : goal.unload_input-stored-requires
-unload_input-stored-requires c = record {
+pub unload_input-requires : goal.unload_input-requires
+unload_input-requires c = record {
   own = own_begun c.args.memory c.args.buffers.now.input c.args.buffers.now.lines c.begin_unless_reading.new.self c.args.buffers.now.lines.state.stage c.begin_unless_reading.ensures.reading c.begin_unless_reading.ensures.begun c.requires.own;
 }
 
@@ -13,8 +13,8 @@ pub returns-then-not-keep_replies : goal.returns-then-not-keep_replies
 returns-then-not-keep_replies c =
     let none : IsFalse c.keep_replies.result = search rules in
     let same = begun_apart c.args.buffers.now.lines c.begin_unless_reading.new.self c.args.buffers.now.lines.state.stage c.begin_unless_reading.ensures.reading c.begin_unless_reading.ensures.begun in record {
-      keeps = λ sent. c.keep_replies.ensures.lost none (c.unload_input-stored.ensures.replies ∙ same.1 ∙ sent);
-      own = c.unload_input-stored.ensures.own;
+      keeps = λ sent. c.keep_replies.ensures.lost none (c.unload_input.ensures.replies ∙ same.1 ∙ sent);
+      own = c.in-Some.ensures.own;
     }
 
 pub returns : goal.returns
@@ -22,8 +22,8 @@ returns c =
     let taken : IsTrue c.keep_replies.result = search rules in record {
       keeps = (
         refl,
-        kept_input (in_buffers c.args.buffers.now) _ c.begin_unless_reading.new.self c.begin_unless_reading.ensures.reading c.begin_unless_reading.ensures.begun c.unload_input-stored.ensures.same
-            (c.swap_state.ensures.given ∙ c.keep_replies.ensures.state ∙ c.unload_input-stored.ensures.state) (c.keep_replies.ensures.kept taken ∙ c.unload_input-stored.ensures.replies),
+        kept_input (in_buffers c.args.buffers.now) _ c.begin_unless_reading.new.self c.begin_unless_reading.ensures.reading c.begin_unless_reading.ensures.begun c.in-Some.ensures.same
+            (c.swap_state.ensures.given ∙ c.keep_replies.ensures.state ∙ c.unload_input.ensures.state) (c.keep_replies.ensures.kept taken ∙ c.unload_input.ensures.replies),
       );
-      own = c.unload_input-stored.ensures.own;
+      own = c.in-Some.ensures.own;
     }
