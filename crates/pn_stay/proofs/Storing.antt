@@ -22,14 +22,11 @@ use Rattle.pn_serve.specs.Lines.Faults.{EndsByAt, EndsByStep}
 use Rattle.pn_serve.specs.Lines.States.{LineLoopValue, LineStateValue, Start}
 use Rattle.pn_serve.specs.Lines.Stepping.{Handling, HasEnded, IsLooking, IsReading, Stands, StandsAt, StepsTo}
 use Rattle.pn_serve.proofs.Serving.{OnTold}
-use Rattle.pn_stay.specs.Connections.{ConnectionValue, IsKept, IsLoaded, IsOwn, SameInput, StaysOwn, is_spare, loop_of}
+use Rattle.pn_stay.specs.Connections.{ConnectionValue, IsKept, SameInput, loop_of}
 use Rattle.pn_stay.specs.Outputs.{AnswersAtMost, LooksFew}
 use Rattle.pn_stay.specs.Turns.{AnswersFew, Continues, EndsTurnBy, KeepsOr, LooksWithin, Stores, TurnsTo}
-use Rattle.pn_stay.specs.declared.connection_state.input_memory.InputMemory.{InputMemory}
-use Rattle.pn_stay.specs.declared.connection_state.input_memory.InputMemory.TheVariants.{Spare, Own}
-use Rattle.pn_stay.specs.declared.connection_state.input_memory.StoredInput.{StoredInput}
 use Rattle.pn_stay.specs.declared.connection_state.Pause.{Pause}
-use Rattle.pn_stay.specs.declared.connection_state.Pause.TheVariants.{Turn, Input, Output, Memory}
+use Rattle.pn_stay.specs.declared.connection_state.Pause.TheVariants.{Turn, Input, Output}
 use Rattle.pn_stay.specs.declared.connection_state.TurnOutcome.{TurnOutcome}
 use Rattle.pn_stay.specs.declared.connection_state.TurnOutcome.TheVariants.{Goes, Ended, OutOfMemory}
 
@@ -99,7 +96,7 @@ module _ {V : Type 0} (handling : Handling V) (start : Start V) (left written : 
 
     reading_put : (script : List ℕ) → SameInput line held new_line new_held → IsReading handling start script (prepend_known held left) written machine (record { line = line; replies = replies; state = state })
         → IsReading handling start script (prepend_known new_held left) written machine (record { line = new_line; replies = replies; state = state })
-    reading_put script (inl same) is = reading_same script same.0 same.1 is
+    reading_put script (inl same) is = reading_same script same.1 same.2 is
     reading_put script (inr put) is = reading_back script put.0 put.1 put.2 is
 
     looking_put : (going : Going) (script : List ℕ) → new_line ≡ so_far [] → new_held ≡ held → IsLooking handling start script (prepend_known held left) written machine (record { line = line; replies = replies; state = state }) going
@@ -125,20 +122,19 @@ module _ {V : Type 0} (handling : Handling V) (start : Start V) (left written : 
       let replied = subst (λ (r : List ℕ). Stands handling start (prepend_known new.held left) written machine (record { line = new.line; replies = r; state = old.state })) (sym kept.replies) put in
       subst (λ (s : LineStateValue). Stands handling start (prepend_known new.held left) written machine (record { line = new.line; replies = new.replies; state = s })) (sym kept.state) replied
 
-  -- it is kept, or bytes wait for which there was no memory
+  -- it is kept, or there was no memory
   kept_or : (old new : ConnectionValue) (pause : Pause) (outcome : TurnOutcome) → KeepsOr old pause new outcome → Continues handling start left written machine old
       → HasEnded handling start (prepend_known old.held left) written machine (Err Write) → TurnsTo handling start left written machine new outcome
   kept_or old new pause (Goes other) keeps stands cut = Continues-kept old new keeps.1 stands
   kept_or old new pause (Ended ended) keeps stands cut = absurd keeps
-  kept_or old new pause OutOfMemory keeps stands cut = (old, keeps, stands, cut)
+  kept_or old new pause OutOfMemory keeps stands cut = (old.held, cut)
 
   ended_so : (old new : ConnectionValue) (ended : Result Counts RunFault) (outcome : TurnOutcome) → outcome ≡ Ended ended → HasEnded handling start (prepend_known old.held left) written machine ended → TurnsTo handling start left written machine new outcome
   ended_so old new ended outcome is has = subst (λ (o : TurnOutcome). TurnsTo handling start left written machine new o) (sym is) (old.held, has)
 
   pub Turns-stored : (old new : ConnectionValue) (step : Step) (outcome : TurnOutcome) → Stores old step new outcome → StepsTo handling start (prepend_known old.held left) written machine (loop_of old) step
       → (Continues handling start left written machine old → HasEnded handling start (prepend_known old.held left) written machine (Err Write)) → TurnsTo handling start left written machine new outcome
-  Turns-stored old new (Next units) outcome (inl stores) steps cut = kept_or old new Turn outcome stores steps (cut steps)
-  Turns-stored old new (Next units) outcome (inr stores) steps cut = kept_or old new Memory outcome stores steps (cut steps)
+  Turns-stored old new (Next units) outcome stores steps cut = kept_or old new Turn outcome stores steps (cut steps)
   Turns-stored old new NoInput outcome stores steps cut = kept_or old new Input outcome stores steps (cut steps)
   Turns-stored old new NoRoom outcome stores steps cut = kept_or old new Output outcome stores steps.0 steps.2
   Turns-stored old new (Ends ended) outcome stores steps cut = ended_so old new ended outcome stores steps
@@ -157,8 +153,7 @@ module _ (most : ℕ) (before loaded after new : ConnectionValue) (same : loaded
 
   -- are as many after the connection is stored
   pub answers_stored : (step : Step) (outcome : TurnOutcome) → Stores after step new outcome → AnswersFew most before new outcome
-  answers_stored (Next units) outcome (inl stores) = kept_answers Turn outcome stores
-  answers_stored (Next units) outcome (inr stores) = kept_answers Memory outcome stores
+  answers_stored (Next units) outcome stores = kept_answers Turn outcome stores
   answers_stored NoInput outcome stores = kept_answers Input outcome stores
   answers_stored NoRoom outcome stores = kept_answers Output outcome stores
   answers_stored (Ends ended) outcome stores = subst (λ (o : TurnOutcome). AnswersFew most before new o) (sym stores) tt
@@ -173,8 +168,7 @@ module _ (most : ℕ) (before loaded after new : ConnectionValue) (same : loaded
 
   -- are as many after the connection is stored
   pub looked_stored : (step : Step) (outcome : TurnOutcome) → Stores after step new outcome → LooksWithin most before new outcome
-  looked_stored (Next units) outcome (inl stores) = kept_looked Turn outcome stores
-  looked_stored (Next units) outcome (inr stores) = kept_looked Memory outcome stores
+  looked_stored (Next units) outcome stores = kept_looked Turn outcome stores
   looked_stored NoInput outcome stores = kept_looked Input outcome stores
   looked_stored NoRoom outcome stores = kept_looked Output outcome stores
   looked_stored (Ends ended) outcome stores = subst (λ (o : TurnOutcome). LooksWithin most before new o) (sym stores) tt
@@ -189,8 +183,7 @@ module _ (fault : RunFault) (old new : ConnectionValue) where
 
   -- is that of its last step
   pub fault_stored : (step : Step) (outcome : TurnOutcome) → Stores old step new outcome → EndsTurnBy fault new outcome → EndsByStep fault (loop_of old) step
-  fault_stored (Next units) outcome (inl stores) ends = kept_fault Turn outcome stores ends
-  fault_stored (Next units) outcome (inr stores) ends = kept_fault Memory outcome stores ends
+  fault_stored (Next units) outcome stores ends = kept_fault Turn outcome stores ends
   fault_stored NoInput outcome stores ends = kept_fault Input outcome stores ends
   fault_stored NoRoom outcome stores ends = kept_fault Output outcome stores ends
   fault_stored (Ends ended) outcome stores ends = subst (λ (o : TurnOutcome). EndsTurnBy fault new o) stores ends
@@ -199,12 +192,12 @@ module _ (fault : RunFault) (old new : ConnectionValue) where
 
 -- of a line that was begun nothing is held
 begun_input : (line new_line : LineBufferValue) (held new_held : List ℕ) → line ≡ so_far [] → SameInput line held new_line new_held → (new_line ≡ so_far []) × (new_held ≡ held)
-begun_input line new_line held new_held none (inl same) = (same.0 ∙ none, same.1)
+begun_input line new_line held new_held none (inl same) = (same.1 ∙ none, same.2)
 begun_input line new_line held new_held none (inr put) = (put.1, put.2 ∙ ap (λ (b : List ℕ). b ++ held) (ap (λ (l : LineBufferValue). l.bytes) none ∙ take-nil max_kept))
 
 -- a loop that reads, or has begun a line
 module _ (run now : LineLoopValue) where
-  pub begun_apart : (stage : Stage) → (stage ≡ Reading → now ≡ run) → (stage ≢ Reading → now ≡ record run { line = so_far [] }) → (now.state ≡ run.state) × (now.replies ≡ run.replies)
+  begun_apart : (stage : Stage) → (stage ≡ Reading → now ≡ run) → (stage ≢ Reading → now ≡ record run { line = so_far [] }) → (now.state ≡ run.state) × (now.replies ≡ run.replies)
   begun_apart Reading reading begun = let same = reading refl in (ap (λ (l : LineLoopValue). l.state) same, ap (λ (l : LineLoopValue). l.replies) same)
   begun_apart (Looking going) reading begun = let same = begun (λ is. cc) in (ap (λ (l : LineLoopValue). l.state) same, ap (λ (l : LineLoopValue). l.replies) same)
   begun_apart (Ending ended) reading begun = let same = begun (λ is. cc) in (ap (λ (l : LineLoopValue). l.state) same, ap (λ (l : LineLoopValue). l.replies) same)
@@ -219,29 +212,3 @@ kept_input old new now reading begun same state replies =
       input = λ reads. subst (λ (l : LineBufferValue). SameInput l old.held new.line new.held) (ap (λ (l : LineLoopValue). l.line) (reading reads)) same;
       none = λ looks. begun_input now.line new.line old.held new.held (ap (λ (l : LineLoopValue). l.line) (begun looks)) same;
     }
-
--- ---- input that has stayed where it was
-
--- is what was loaded
-pub own_stays : (memory : InputMemory) (own : StoredInput) (line : LineBufferValue) (held : List ℕ) → StaysOwn memory own → IsLoaded own line held → IsOwn memory line held
-own_stays (Spare memory) own line held stays loaded = tt
-own_stays (Own stored) own line held stays loaded = subst (λ (s : StoredInput). IsLoaded s line held) (sym stays) loaded
-
--- is the same while neither the line nor what is held changes
-pub own_untaken : (memory : InputMemory) (line now : LineBufferValue) (held holds : List ℕ) → IsOwn memory line held → (is_spare memory ≡ false → (now ≡ line) × (holds ≡ held)) → IsOwn memory now holds
-own_untaken (Spare memory) line now held holds own same = tt
-own_untaken (Own stored) line now held holds own same = let is = same refl in ((λ none. is.0 ∙ own.0 none), own.1 ∙ sym is.1, own.2)
-
--- and once a line is begun
-module _ (memory : InputMemory) (held : List ℕ) (run now : LineLoopValue) where
-  own_line : now.line ≡ so_far [] → IsOwn memory run.line held → IsOwn memory now.line held
-  own_line begun own = at memory own
-    where
-      at : (memory : InputMemory) → IsOwn memory run.line held → IsOwn memory now.line held
-      at (Spare memory) own = tt
-      at (Own stored) own = ((λ none. begun), own.1, own.2)
-
-  pub own_begun : (stage : Stage) → (stage ≡ Reading → now ≡ run) → (stage ≢ Reading → now ≡ record run { line = so_far [] }) → IsOwn memory run.line held → IsOwn memory now.line held
-  own_begun Reading reading begun own = subst (λ (l : LineLoopValue). IsOwn memory l.line held) (sym (reading refl)) own
-  own_begun (Looking going) reading begun own = own_line (ap (λ (l : LineLoopValue). l.line) (begun (λ is. cc))) own
-  own_begun (Ending ended) reading begun own = own_line (ap (λ (l : LineLoopValue). l.line) (begun (λ is. cc))) own

@@ -1,11 +1,8 @@
 -- What a connection keeps between two turns.
-use Rattle.std.specs.Prelude.{◌≡◌, ◌≢◌, ◌<◌, ◌≤◌, ◌+◌, ◌⊎◌, ℕ, Bool, true, false, List, [], ◌++◌, length, vec_len, Option, None, Some}
+use Rattle.std.specs.Prelude.{◌≡◌, ◌≢◌, ◌<◌, ◌≤◌, ◌+◌, ◌⊎◌, ℕ, List, [], ◌++◌, length, Option, None, Some}
 use Rattle.pn_line.specs.Line.{LineBufferValue, so_far, max_line_bytes}
 use Rattle.pn_serve.specs.declared.script.line_loop.state.Stage.TheVariants.{Reading}
 use Rattle.pn_serve.specs.Lines.States.{LineLoopValue, LineStateValue, new_state}
-use Rattle.pn_stay.specs.declared.connection_state.input_memory.InputMemory.{InputMemory}
-use Rattle.pn_stay.specs.declared.connection_state.input_memory.InputMemory.TheVariants.{Spare, Own}
-use Rattle.pn_stay.specs.declared.connection_state.input_memory.StoredInput.{StoredInput}
 use Rattle.pn_stay.specs.declared.input_buffer.TheConstants.{INPUT_CAPACITY}
 
 -- the line that is being read, the input that is read after it, the replies that its socket has not taken, and where its loop is
@@ -37,28 +34,9 @@ replies_in (Some replies) = replies
 abbrev pub DoesNotFit : LineBufferValue → List ℕ → Type 0
 DoesNotFit line held = (max_line_bytes < line.count) ⊎ (INPUT_CAPACITY < length line.bytes + length held)
 
--- the same input: the line and what is held as they were, or the bytes of the line before what was held
+-- the same input: the line as it was, only where it does not fit; or else its bytes before what was held
 abbrev pub SameInput : LineBufferValue → List ℕ → LineBufferValue → List ℕ → Type 0
-SameInput line held new_line new_held = ((new_line ≡ line) × (new_held ≡ held)) ⊎ ((line.count ≤ max_line_bytes) × (new_line ≡ so_far []) × (new_held ≡ line.bytes ++ held))
-
--- memory of the thread for input, and none of the connection's
-abbrev pub is_spare : InputMemory → Bool
-is_spare (Spare memory) = true
-is_spare (Own stored) = false
-
--- input was this when it was loaded: what is held, and the line, which was begun where it had no buffer
-abbrev pub IsLoaded : StoredInput → LineBufferValue → List ℕ → Type 0
-IsLoaded stored line held = (stored.line ≡ None → line ≡ so_far []) × (stored.held.items ≡ held) × (vec_len stored.held ≤ INPUT_CAPACITY)
-
--- input that has stayed where it was is this
-abbrev pub IsOwn : InputMemory → LineBufferValue → List ℕ → Type 0
-IsOwn (Spare memory) line held = Unit {0}
-IsOwn (Own stored) line held = IsLoaded stored line held
-
--- what has stayed where it was is this
-abbrev pub StaysOwn : InputMemory → StoredInput → Type 0
-StaysOwn (Spare memory) own = Unit {0}
-StaysOwn (Own stored) own = stored ≡ own
+SameInput line held new_line new_held = (DoesNotFit line held × (new_line ≡ line) × (new_held ≡ held)) ⊎ ((line.count ≤ max_line_bytes) × (new_line ≡ so_far []) × (new_held ≡ line.bytes ++ held))
 
 -- the connection is the same: its input as far as it reads, and its line is none else
 pub record IsKept (old new : ConnectionValue) : Type 0 where

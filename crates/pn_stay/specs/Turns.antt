@@ -16,7 +16,7 @@ use Rattle.pn_stay.specs.Connections.{ConnectionValue, IsKept, loop_of}
 use Rattle.pn_stay.specs.Outputs.{AnswersAtMost, LooksFew}
 use Rattle.pn_stay.specs.declared.connection_state.ThreadBuffers.{ThreadBuffers}
 use Rattle.pn_stay.specs.declared.connection_state.Pause.{Pause}
-use Rattle.pn_stay.specs.declared.connection_state.Pause.TheVariants.{Turn, Input, Output, Memory}
+use Rattle.pn_stay.specs.declared.connection_state.Pause.TheVariants.{Turn, Input, Output}
 use Rattle.pn_stay.specs.declared.connection_state.TurnOutcome.{TurnOutcome}
 use Rattle.pn_stay.specs.declared.connection_state.TurnOutcome.TheVariants.{Goes, Ended, OutOfMemory}
 use Rattle.pn_stay.specs.declared.steps.Came.{Came}
@@ -37,7 +37,6 @@ abbrev pub Pauses : ConnectionValue → Pause → Type 0
 Pauses kept Turn = kept.replies ≡ []
 Pauses kept Input = (waits_in (loop_of kept) ≡ []) × (kept.state.stage ≡ Reading)
 Pauses kept Output = kept.replies ≢ []
-Pauses kept Memory = kept.replies ≡ []
 
 -- where it goes on it pauses so
 abbrev pub PausesWell : ConnectionValue → TurnOutcome → Type 0
@@ -77,15 +76,15 @@ LooksWithin most old new (Goes pause) = LooksFew most old.state new.state
 LooksWithin most old new (Ended ended) = Unit {0}
 LooksWithin most old new OutOfMemory = Unit {0}
 
--- the connection is kept in a pause, or bytes wait for which there was no memory
+-- the connection is kept in a pause, or there was no memory for that
 abbrev pub KeepsOr : ConnectionValue → Pause → ConnectionValue → TurnOutcome → Type 0
 KeepsOr old pause new (Goes other) = (other ≡ pause) × IsKept old new
 KeepsOr old pause new (Ended ended) = ⊥
-KeepsOr old pause new OutOfMemory = old.replies ≢ []
+KeepsOr old pause new OutOfMemory = Unit {0}
 
--- the connection is kept after a step, unless it has ended; where there is more to do, until others had their turns, or there is memory
+-- the connection is kept after a step, unless it has ended
 abbrev pub Stores : ConnectionValue → Step → ConnectionValue → TurnOutcome → Type 0
-Stores old (Next units) new outcome = KeepsOr old Turn new outcome ⊎ KeepsOr old Memory new outcome
+Stores old (Next units) new outcome = KeepsOr old Turn new outcome
 Stores old NoInput new outcome = KeepsOr old Input new outcome
 Stores old NoRoom new outcome = KeepsOr old Output new outcome
 Stores old (Ends ended) new outcome = outcome ≡ Ended ended
@@ -99,8 +98,8 @@ module _ {V : Type 0} (handling : Handling V) where
   abbrev pub StepsIn : Start V → Option (List ℕ) → Option (List ℕ) → V → ThreadBuffers → Step → Type 0
   StepsIn start left written machine buffers step = LoopStepsTo handling start (prepend_known buffers.input left) written machine (loop_of (in_buffers buffers)) step
 
-  -- the connection goes on, or has ended as its session ends; without memory, as one whose writer fails while bytes wait
+  -- the connection goes on, or has ended as its session ends; without memory, as one whose writer fails
   abbrev pub TurnsTo : Start V → Option (List ℕ) → Option (List ℕ) → V → ConnectionValue → TurnOutcome → Type 0
   TurnsTo start left written machine kept (Goes pause) = Continues start left written machine kept
   TurnsTo start left written machine kept (Ended ended) = (held : List ℕ) × HasEnded handling start (prepend_known held left) written machine ended
-  TurnsTo start left written machine kept OutOfMemory = (last : ConnectionValue) × (last.replies ≢ []) × Continues start left written machine last × HasEnded handling start (prepend_known last.held left) written machine (Err Write)
+  TurnsTo start left written machine kept OutOfMemory = (held : List ℕ) × HasEnded handling start (prepend_known held left) written machine (Err Write)

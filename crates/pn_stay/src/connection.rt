@@ -18,7 +18,7 @@ pub(crate) struct Connection {
     socket: Socket,
     state: ConnectionState,
     pub(crate) idle: IdleTimeout,
-    /// Whether its replies wait for the socket, or its input for memory.
+    /// Whether its replies wait for the socket.
     pub(crate) is_held_up: bool,
     /// Whether it is among those that are to have a turn.
     pub(crate) is_ready: bool,
@@ -76,10 +76,9 @@ impl Connection {
         let mut input = PolledInput::new(socket, !self.is_ending && !self.is_closed);
         let mut output = TrackedSocket::new(&self.socket);
         let turned = self.state.turn(buffers, machine, &mut input, &mut output);
-        let is_short = turned == TurnOutcome::Goes(Pause::Memory);
-        let is_busy = is_short || turned == TurnOutcome::Goes(Pause::Turn);
+        let is_busy = turned == TurnOutcome::Goes(Pause::Turn);
         self.idle.note_activity(is_busy || output.has_moved());
-        self.is_held_up = is_short || turned == TurnOutcome::Goes(Pause::Output);
+        self.is_held_up = turned == TurnOutcome::Goes(Pause::Output);
         match turned {
             TurnOutcome::Goes(pause) => Some(pause),
             TurnOutcome::Ended(ended) => {
@@ -91,7 +90,7 @@ impl Connection {
     }
 }
 
-/// For how many quarters of a second a client was idle: no reply went to it, and no turn of it had more to do, or wanted memory.
+/// For how many quarters of a second a client was idle: no reply went to it, and no turn of it had more to do.
 #[derive(Drop)]
 pub struct IdleTimeout {
     quarters: u32,

@@ -1,6 +1,6 @@
 //! The state of a connection: it is answered as a session is, in turns, between which it keeps as little as it can.
 
-ghost use Rattle.std.specs.Prelude.{◌≡◌, ◌⊎◌, ◌+◌, ◌-◌, ◌^◌, ◌≤◌, ℕ, List, Option, false, min};
+ghost use Rattle.std.specs.Prelude.{◌≡◌, ◌⊎◌, ◌+◌, ◌-◌, ◌^◌, ◌≤◌, ℕ, List, Option, min};
 ghost use Rattle.pn_serve.specs.Lines.Stepping.{by, Stands, StepsTo};
 ghost use Rattle.pn_serve.specs.Lines.Bounds.{HandsOnAtMost, KeepsLine};
 ghost use Rattle.pn_serve.specs.Lines.Faults.{EndsByAt, EndsByStep};
@@ -14,10 +14,10 @@ ghost use Rattle.pn_stay.specs.Inputs.{most_taken, TakesAtMost};
 ghost use Rattle.pn_stay.specs.Outputs.{AnswersAtMost, LooksFew, most_looked, most_made, most_written};
 ghost use Rattle.pn_serve.specs.Session.Knowing.{IsSteady, KnowsNoLess};
 
-mod input_memory;
+mod spare_input;
 mod storage;
 
-use crate::connection_state::input_memory::SpareInput;
+use crate::connection_state::spare_input::SpareInput;
 use crate::input::Input;
 use crate::input_buffer::InputBuffer;
 use crate::steps::take_steps;
@@ -109,8 +109,6 @@ pub enum Pause {
     Input,
     /// The socket takes no more replies for now.
     Output,
-    /// There is no memory to keep more input. It is to try again a little later.
-    Memory,
 }
 
 /// What a turn came to.
@@ -120,7 +118,7 @@ pub enum TurnOutcome {
     Goes(Pause),
     /// The connection has ended, as a session ends.
     Ended(Result<Counts, RunFault>),
-    /// The connection has ended, since there is no memory for replies that its socket has not taken.
+    /// The connection has ended, since there is no memory in which to keep it.
     OutOfMemory,
 }
 
@@ -141,8 +139,7 @@ impl ConnectionState {
     /// One turn: goes on where the last one stopped, with a bounded number of lines, of records that are looked at, and of bytes
     /// that are read, made and written.
     ///
-    /// Where the socket leaves replies nothing is read: at most 128 KB of them wait. Where there is no memory to keep what would be
-    /// left of the input, a turn takes none of it, and only sends what waits.
+    /// Where the socket leaves replies nothing is read: at most 128 KB of them wait.
     pub fn turn<M: LineHandler, R: Input, W: Sink>(
         &mut self,
         buffers: &mut ThreadBuffers,
@@ -160,26 +157,24 @@ impl ConnectionState {
         ensures looked { LooksWithin most_looked self.old self.new result }
         ensures read_fault { EndsTurnBy RunFault.Read self.new result → EndsByAt RunFault.Read self.old.state.stage ⊎ R.has_failed input.new }
         ensures write_fault { EndsTurnBy RunFault.Write self.new result → EndsByAt RunFault.Write self.old.state.stage ⊎ W.has_failed output.new }
-        ensures unread { result ≡ TurnOutcome.Goes Pause.Memory → (input.new ≡ input.old) × (self.new.held ≡ self.old.held) }
         ensures knows { KnowsNoLess (M.reader machine.old) (M.reader machine.new) }
     {
-        let memory = self.load(buffers);
+        self.load(buffers);
         let before = buffers.lines.counts();
-        let step = send_and_step(buffers, machine, input, output, memory.is_spare());
+        let step = send_and_step(buffers, machine, input, output);
         let after = buffers.lines.counts();
         add_lines(&mut buffers.answered, before, after);
         buffers.lines.recall_cut(&*machine);
-        self.store(buffers, memory, step)
+        self.store(buffers, step)
     }
 }
 
-// Sends what waits, and takes the steps of a turn where nothing is left of it, if more input can be kept.
+// Sends what waits, and takes the steps of a turn where nothing is left of it.
 fn send_and_step<M: LineHandler, R: Input, W: Sink>(
     buffers: &mut ThreadBuffers,
     machine: &mut M,
     input: &mut R,
     output: &mut W,
-    can_take: bool,
 ) -> Step
     requires ready { M.ready }
     ensures steps { (start : Start M) → IsSteady M.reader M.moves → Continues (by M.moves M.makes M.ends M.goes M.goes_last) start (R.remaining input.old) (W.contents output.old) machine.old (in_buffers buffers.old)
@@ -191,11 +186,10 @@ fn send_and_step<M: LineHandler, R: Input, W: Sink>(
     ensures looked { LooksFew most_looked buffers.old.lines.state buffers.new.lines.state }
     ensures read_fault { EndsByStep RunFault.Read buffers.new.lines result → EndsByAt RunFault.Read buffers.old.lines.state.stage ⊎ R.has_failed input.new }
     ensures write_fault { EndsByStep RunFault.Write buffers.new.lines result → EndsByAt RunFault.Write buffers.old.lines.state.stage ⊎ W.has_failed output.new }
-    ensures untaken { can_take ≡ false → (buffers.new.lines.line ≡ buffers.old.lines.line) × (buffers.new.input ≡ buffers.old.input) × (input.new ≡ input.old) }
     ensures knows { KnowsNoLess (M.reader machine.old) (M.reader machine.new) }
 {
     match send_waiting(buffers, &*machine, output) {
-        Step::Next(_) if can_take => step_and_send(buffers, machine, input, output),
+        Step::Next(_) => step_and_send(buffers, machine, input, output),
         step => step,
     }
 }

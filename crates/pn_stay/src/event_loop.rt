@@ -36,8 +36,8 @@ pub(crate) struct EventLoop {
     events: Events,
     buffers: ThreadBuffers,
     connections: Slab<Connection>,
-    // For how many quarters of a second a client may be idle: for the most there are, thirty-four years, where it may be for ever.
-    idle: u32,
+    // For how many quarters of a second a client may be idle.
+    idle: Option<u32>,
     counters: Arc<Counters>,
     // The keys of connections that are to have a turn, each once. A key may have passed to another connection since.
     ready: Vec<usize>,
@@ -66,8 +66,8 @@ impl EventLoop {
             buffers,
             connections: Slab::new(alloc),
             idle: match idle {
-                Some(seconds) => seconds.saturating_mul(QUARTERS),
-                None => u32::MAX,
+                Some(seconds) => Some(seconds.saturating_mul(QUARTERS)),
+                None => None,
             },
             counters,
             ready: Vec::new(alloc),
@@ -90,7 +90,7 @@ impl EventLoop {
         'rounds: for _ in rt.forever() {
             if self.wait()? {
                 self.add_accepted(rt, mailbox);
-                self.end_quarters(rt, mailbox);
+                self.end_idle(rt, mailbox);
                 self.end_inputs(rt, mailbox);
             }
             self.take_turns(rt, mailbox, machine);
@@ -202,10 +202,11 @@ impl EventLoop {
         }
     }
 
-    // Four times a second ends the connections whose clients are idle for too long, and lets those try again that are held up.
-    fn end_quarters<R: Wait>(&mut self, rt: &R, mailbox: &SocketMailbox) {
+    // Four times a second ends the connections whose clients are idle for too long.
+    fn end_idle<R: Wait>(&mut self, rt: &R, mailbox: &SocketMailbox) {
+        let Some(idle) = self.idle else { return };
         if mailbox.take_quarter(rt) {
-            self.end_quarter(rt, mailbox, self.idle);
+            self.end_quarter(rt, mailbox, idle);
         }
     }
 
@@ -244,7 +245,7 @@ impl EventLoop {
         for key in ready.iter() {
             match self.give_turn(*key, machine) {
                 Some(Pause::Turn) => make_ready(&mut self.connections, &mut self.ready, *key),
-                Some(Pause::Input | Pause::Output | Pause::Memory) => {}
+                Some(Pause::Input | Pause::Output) => {}
                 None => self.remove(rt, mailbox, *key),
             }
         }
@@ -269,7 +270,7 @@ impl EventLoop {
 }
 
 // Makes the connection of a key a quarter of a second older. Whether its client is idle for too long. Else, where it is held
-// up, it is to try again: the client may have taken too little for the system to report it, and nothing reports memory.
+// up, it is to try again: the client may have taken too little for the system to report it.
 fn age(connections: &mut Slab<Connection>, ready: &mut Vec<usize>, key: usize, idle: u32) -> bool
     ensures over { IsTrue result ↔ IsIdleFor idle (idle_at connections.new key) }
     ensures here { idle_at connections.new key ≡ quarter_later (idle_at connections.old key) }

@@ -1,12 +1,11 @@
 //! What a connection keeps is loaded into the buffers of its thread, and stored again after a turn.
 
-ghost use Rattle.std.specs.Prelude.{◌≡◌, ◌≢◌, ◌+◌, ◌≤◌, [], ◌++◌, None, true, false, length, vec_len, IfOk, IfSome, IsFalse, IsTrue, MatchBool, OnErr};
-ghost use Rattle.pn_line.specs.Prelude.{so_far};
+ghost use Rattle.std.specs.Prelude.{◌≡◌, ◌≢◌, ◌+◌, ◌≤◌, [], ◌++◌, Option, length, vec_len, IfOk, IfSome, IsFalse, IsTrue, MatchBool, OnErr};
+ghost use Rattle.pn_stay.specs.Connections.{DoesNotFit, SameInput, line_in, replies_in};
 ghost use Rattle.pn_line.specs.declared.line_buffer.TheConstants.{MAX_LINE_BYTES};
-ghost use Rattle.pn_stay.specs.Connections.{DoesNotFit, IsOwn, SameInput, is_spare, line_in, replies_in};
 ghost use Rattle.pn_stay.specs.Turns.{in_buffers, KeepsOr, PausesWell, StopsWell, Stores};
 
-use crate::connection_state::input_memory::{InputMemory, StoredInput};
+use crate::connection_state::spare_input::SpareInput;
 use crate::connection_state::{ConnectionState, Pause, ThreadBuffers, TurnOutcome};
 use crate::input_buffer::INPUT_CAPACITY;
 use pn_line::{Discard, LineBuffer};
@@ -16,64 +15,40 @@ use std::mem;
 
 impl ConnectionState {
     // Loads what it keeps into the buffers. Where there is no memory for replies that it may have to keep, long ones are refused.
-    // Answers where its input is after the turn.
-    pub(super) fn load(&mut self, buffers: &mut ThreadBuffers) -> InputMemory
-        ensures loaded { in_buffers buffers.new ≡ self.old }
-        ensures own { IsOwn result buffers.new.lines.line buffers.new.input }
+    pub(super) fn load(&mut self, buffers: &mut ThreadBuffers)
+        ensures { in_buffers buffers.new ≡ self.old }
     {
         drop_replies(&mut buffers.lines);
-        let line = load_line(&mut buffers.lines, self.line.take());
+        load_line(&mut buffers.lines, self.line.take());
         buffers.lines.swap_state(&mut self.state);
         buffers.input.fill(&self.held);
-        let held = mem::replace(&mut self.held, Vec::new(self.alloc));
+        self.held = Vec::new(self.alloc);
+        if buffers.spare_input.is_none() {
+            buffers.spare_input = SpareInput::new(self.alloc).ok();
+        }
         let can_keep = load_replies(self.alloc, buffers, &mut self.replies);
         buffers.lines.set_scarce(!can_keep);
-        let own = StoredInput { line, held };
-        InputMemory::find(self.alloc, &mut buffers.spare_input, own)
     }
 
     // Stores it until its next turn, unless it has ended.
-    pub(super) fn store(
-        &mut self,
-        buffers: &mut ThreadBuffers,
-        memory: InputMemory,
-        step: Step,
-    ) -> TurnOutcome
-        requires own { IsOwn memory buffers.old.lines.line buffers.old.input }
+    pub(super) fn store(&mut self, buffers: &mut ThreadBuffers, step: Step) -> TurnOutcome
         ensures stores { Stores (in_buffers buffers.old) step self.new result }
         ensures pauses { StopsWell (in_buffers buffers.old) step → PausesWell self.new result }
-        ensures short { result ≡ TurnOutcome.Goes Pause.Memory → (is_spare memory ≡ false) × (self.new.held ≡ buffers.old.input) }
     {
         match step {
-            Step::Next(_) => {
-                let is_spare = memory.is_spare();
-                if is_spare {
-                    return self.keep(buffers, memory, Pause::Turn);
-                }
-                self.keep(buffers, memory, Pause::Memory)
-            }
-            Step::NoInput => self.keep(buffers, memory, Pause::Input),
-            Step::NoRoom => self.keep(buffers, memory, Pause::Output),
-            Step::Ends(ended) => {
-                memory.give_back(&mut buffers.spare_input);
-                TurnOutcome::Ended(ended)
-            }
+            Step::Next(_) => self.keep(buffers, Pause::Turn),
+            Step::NoInput => self.keep(buffers, Pause::Input),
+            Step::NoRoom => self.keep(buffers, Pause::Output),
+            Step::Ends(ended) => TurnOutcome::Ended(ended),
         }
     }
 
-    // Keeps it in a pause, if there is memory for replies that wait.
-    fn keep(
-        &mut self,
-        buffers: &mut ThreadBuffers,
-        memory: InputMemory,
-        pause: Pause,
-    ) -> TurnOutcome
-        requires own { IsOwn memory buffers.old.lines.line buffers.old.input }
-        ensures keeps { KeepsOr (in_buffers buffers.old) pause self.new result }
-        ensures own { is_spare memory ≡ false → self.new.held ≡ buffers.old.input }
+    // Keeps it in a pause, if there is memory for that.
+    fn keep(&mut self, buffers: &mut ThreadBuffers, pause: Pause) -> TurnOutcome
+        ensures { KeepsOr (in_buffers buffers.old) pause self.new result }
     {
         buffers.lines.begin_unless_reading();
-        let Some(stored) = unload_input(self.alloc, buffers, memory) else {
+        let Some(stored) = unload_input(self.alloc, buffers) else {
             return TurnOutcome::OutOfMemory;
         };
         self.line = stored.line;
@@ -93,21 +68,16 @@ fn drop_replies(lines: &mut LineLoop)
     let _ = lines.flush(&mut Discard);
 }
 
-// Goes on with a line that was begun, in whose place there is the thread's meanwhile, or with none.
-fn load_line(lines: &mut LineLoop, line: Option<LineBuffer>) -> Option<LineBuffer>
-    ensures loaded { lines.new ≡ record lines.old { line = line_in line } }
-    ensures none { result ≡ None → line_in line ≡ so_far [] }
+// Goes on with a line that was begun, or with none.
+fn load_line(lines: &mut LineLoop, line: Option<LineBuffer>)
+    ensures { lines.new ≡ record lines.old { line = line_in line } }
 {
     match line {
         Some(line) => {
             let mut line = line;
             lines.swap_line(&mut line);
-            Some(line)
         }
-        None => {
-            lines.begin_line();
-            None
-        }
+        None => lines.begin_line(),
     }
 }
 
@@ -166,62 +136,30 @@ fn swap_replies(lines: &mut LineLoop, others: ReplyBuffer) -> ReplyBuffer
     replies
 }
 
-// Takes the input out of the buffers. None where there is no memory of its size, and bytes wait: what a client that takes none of
-// them has sent is not kept in the thread's memory.
-fn unload_input(
-    alloc: Global,
-    buffers: &mut ThreadBuffers,
-    memory: InputMemory,
-) -> Option<StoredInput>
-    requires own { IsOwn memory buffers.old.lines.line buffers.old.input }
+// The input of a connection between two turns.
+#[derive(Drop)]
+pub(super) struct StoredInput {
+    pub(super) line: Option<LineBuffer>,
+    pub(super) held: Vec<u8>,
+}
+
+// Takes the input out of the buffers. Where there is no memory of its size, it is kept in that which the thread has to spare, unless
+// bytes wait: a client that takes no replies does not get it.
+fn unload_input(alloc: Global, buffers: &mut ThreadBuffers) -> Option<StoredInput>
     ensures same { IfSome result (λ stored. SameInput buffers.old.lines.line buffers.old.input (line_in stored.line) stored.held.items) }
-    ensures own { IfSome result (λ stored. is_spare memory ≡ false → stored.held.items ≡ buffers.old.input) }
     ensures fits { IfSome result (λ stored. vec_len stored.held ≤ INPUT_CAPACITY) }
-    ensures lost { result ≡ None → (is_spare memory ≡ true) × (buffers.old.lines.replies ≢ []) }
     ensures state { buffers.new.lines.state ≡ buffers.old.lines.state }
     ensures replies { buffers.new.lines.replies ≡ buffers.old.lines.replies }
 {
-    match memory {
-        InputMemory::Own(own) => Some(put_back(&mut buffers.lines, own)),
-        InputMemory::Spare(spare) => {
-            let unread = buffers.input.bytes();
-            match store_input(alloc, &mut buffers.lines, unread) {
-                Ok(stored) => {
-                    buffers.spare_input = Some(spare);
-                    Some(stored)
-                }
-                Err(_) => {
-                    if buffers.lines.is_sent() {
-                        return Some(spare.take(&mut buffers.lines, unread));
-                    }
-                    buffers.spare_input = Some(spare);
-                    None
-                }
-            }
-        }
+    let unread = buffers.input.bytes();
+    if let Ok(stored) = store_input(alloc, &mut buffers.lines, unread) {
+        return Some(stored);
     }
-}
-
-// The line is in its own buffer again, beside the input that has stayed in its place.
-fn put_back(lines: &mut LineLoop, own: StoredInput) -> StoredInput
-    requires none { own.line ≡ None → lines.old.line ≡ so_far [] }
-    ensures line { line_in result.line ≡ lines.old.line }
-    ensures held { result.held ≡ own.held }
-    ensures state { lines.new.state ≡ lines.old.state }
-    ensures replies { lines.new.replies ≡ lines.old.replies }
-{
-    let StoredInput { line, held } = own;
-    match line {
-        Some(buffer) => {
-            let mut buffer = buffer;
-            lines.swap_line(&mut buffer);
-            StoredInput {
-                line: Some(buffer),
-                held,
-            }
-        }
-        None => StoredInput { line: None, held },
+    if !buffers.lines.is_sent() {
+        return None;
     }
+    let spare = buffers.spare_input.take()?;
+    Some(spare.take(&mut buffers.lines, unread))
 }
 
 // Takes the input of a loop: as bytes, in memory of their size, and the line in its own buffer where it is too long for them.
@@ -232,7 +170,6 @@ fn store_input(
 ) -> Result<StoredInput, AllocError>
     requires { length unread.now ≤ INPUT_CAPACITY }
     ensures same { IfOk result (λ stored. SameInput lines.old.line unread.now (line_in stored.line) stored.held.items) }
-    ensures long { IfOk result (λ stored. stored.line ≢ None → DoesNotFit lines.old.line unread.now) }
     ensures fits { IfOk result (λ stored. vec_len stored.held ≤ INPUT_CAPACITY) }
     ensures state { lines.new.state ≡ lines.old.state }
     ensures replies { lines.new.replies ≡ lines.old.replies }

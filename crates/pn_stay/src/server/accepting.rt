@@ -92,7 +92,7 @@ where
     spawn_threads(rt, shared, listener, mailboxes, notes)
 }
 
-// Starts the thread that accepts connections, and the one that notes each quarter of a second.
+// Starts the thread that accepts connections, and where clients may not be idle for long the one that notes each quarter.
 fn spawn_threads<R>(
     rt: &R,
     shared: Shared,
@@ -103,7 +103,7 @@ fn spawn_threads<R>(
 where
     R: Threads + Wait + Clock + Copy + Send + 'static,
 {
-    start_quarters(rt, &mailboxes)?;
+    start_quarters(rt, &shared, &mailboxes)?;
     let limit = shared.limit;
     let host = *rt;
     thread::spawn(rt, move || {
@@ -112,14 +112,20 @@ where
     Ok(())
 }
 
-// Starts the thread that notes each quarter of a second.
-fn start_quarters<R>(rt: &R, mailboxes: &Arc<Vec<Arc<SocketMailbox>>>) -> io::Result<()>
+// Starts the thread that notes each quarter of a second, where clients may not be idle for long.
+fn start_quarters<R>(
+    rt: &R,
+    shared: &Shared,
+    mailboxes: &Arc<Vec<Arc<SocketMailbox>>>,
+) -> io::Result<()>
 where
     R: Threads + Wait + Clock + Copy + Send + 'static,
 {
-    let told = Arc::try_clone(mailboxes)?;
-    let host = *rt;
-    thread::spawn(rt, move || tell_quarters(&host, &told))?;
+    if shared.idle.is_some() {
+        let told = Arc::try_clone(mailboxes)?;
+        let host = *rt;
+        thread::spawn(rt, move || tell_quarters(&host, &told))?;
+    }
     Ok(())
 }
 

@@ -55,7 +55,6 @@ fn sign(pause: Pause) -> char {
         Pause::Turn => 't',
         Pause::Input => 'i',
         Pause::Output => 'o',
-        Pause::Memory => 'm',
     }
 }
 

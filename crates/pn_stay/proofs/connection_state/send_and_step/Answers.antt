@@ -45,25 +45,6 @@ returns-in_default g c = record {
   answers = omega (arith, ap (λ (n : Counts). n.lines) c.send_waiting.ensures.same.counts);
   looked = omega (arith, c.send_waiting.ensures.same.looked);
   read_fault = λ ends. inl (c.send_waiting.ensures.read_fault ends);
-  untaken = λ short. (c.send_waiting.ensures.same.line, c.send_waiting.ensures.input, refl);
-  write_fault = c.send_waiting.ensures.write_fault;
-  knows = knows_itself _;
-}
-
-pub returns-in_default-2 : goal.returns-in_default-2
-returns-in_default-2 g c = record {
-  steps = λ start steady stands.
-      let H = by g.M.LineHandler.moves g.M.LineHandler.makes g.M.LineHandler.ends g.M.LineHandler.goes g.M.LineHandler.goes_last in
-      let left = g.R.Input.remaining c.args.input.now in
-      let sent = c.send_waiting.ensures.steps start (prepend_known c.args.buffers.now.input left) steady stands in
-      subst (λ (h : List ℕ). StepsTo H start (prepend_known h left) (g.W.Sink.contents c.send_waiting.new.output) c.args.machine.now c.send_waiting.new.buffers.lines c.send_waiting.result) (sym c.send_waiting.ensures.input) sent;
-  stops = c.send_waiting.ensures.stops;
-  few = takes_nothing _ _;
-  written = writes_held _ _ _ _ c.send_waiting.ensures.few c.send_waiting.ensures.written;
-  answers = omega (arith, ap (λ (n : Counts). n.lines) c.send_waiting.ensures.same.counts);
-  looked = omega (arith, c.send_waiting.ensures.same.looked);
-  read_fault = λ ends. inl (c.send_waiting.ensures.read_fault ends);
-  untaken = λ short. (c.send_waiting.ensures.same.line, c.send_waiting.ensures.input, refl);
   write_fault = c.send_waiting.ensures.write_fault;
   knows = knows_itself _;
 }

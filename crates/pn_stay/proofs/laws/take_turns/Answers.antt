@@ -11,4 +11,4 @@ pub returns-in-Ended : goal.returns-in-Ended
 returns-in-Ended g c = λ start steady continues. c.in-Ended.ensures.turns start steady (c.turns.invariant start steady continues)
 
 pub returns-in-OutOfMemory : goal.returns-in-OutOfMemory
-returns-in-OutOfMemory g c = λ start steady continues. let ended = c.in-OutOfMemory.ensures.turns start steady (c.turns.invariant start steady continues) in (ended.0.held, ended.3)
+returns-in-OutOfMemory g c = λ start steady continues. c.in-OutOfMemory.ensures.turns start steady (c.turns.invariant start steady continues)

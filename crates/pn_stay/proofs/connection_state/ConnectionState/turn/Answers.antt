@@ -1,5 +1,5 @@
 -- A turn begins with what the connection keeps, and ends with what it keeps then.
-use Rattle.std.proofs.Common.{◌∙◌, sym, ap, subst}
+use Rattle.std.proofs.Common.{sym, subst}
 use Rattle.std.specs.Io.KnownBytes.{prepend_known}
 use Rattle.pn_serve.specs.declared.script.line_loop.steps.TheConstants.{TURN_UNITS}
 use Rattle.pn_serve.specs.declared.script.RunFault.TheVariants.{Read, Write}
@@ -10,14 +10,8 @@ use Rattle.pn_stay.specs.Connections.{ConnectionValue, loop_of}
 use Rattle.pn_stay.specs.Outputs.{most_looked}
 use Rattle.pn_stay.specs.Turns.{Continues, in_buffers}
 use Rattle.pn_stay.proofs.Faults.{before_or}
-use Rattle.pn_stay.proofs.Storing.{AppendsPrefix-none, Turns-stored, answers_stored, fault_stored, looked_stored, own_untaken}
+use Rattle.pn_stay.proofs.Storing.{AppendsPrefix-none, Turns-stored, answers_stored, fault_stored, looked_stored}
 use Rattle.pn_stay.proofs.connection_state.ConnectionState.turn.Goals as goal
-
-pub store-requires : goal.store-requires
-store-requires g c = record {
-  own = own_untaken c.load-memory.result c.load-memory.new.buffers.lines.line c.send_and_step-step.new.buffers.lines.line c.load-memory.new.buffers.input c.send_and_step-step.new.buffers.input c.load-memory.ensures.own
-      (λ is. let same = c.send_and_step-step.ensures.untaken (c.is_spare.ensures ∙ is) in (same.0, same.1));
-}
 
 pub returns-clause-turns : goal.returns-clause-turns
 returns-clause-turns g c = λ start steady continues.
@@ -25,7 +19,7 @@ returns-clause-turns g c = λ start steady continues.
     let kept : ConnectionValue = in_buffers c.send_and_step-step.new.buffers in
     let left = g.R.Input.remaining c.send_and_step-step.new.input in
     let written = g.W.Sink.contents c.send_and_step-step.new.output in
-    let loaded = subst (λ (k : ConnectionValue). Continues H start (g.R.Input.remaining c.args.input.now) (g.W.Sink.contents c.args.output.now) c.args.machine.now k) (sym c.load-memory.ensures.loaded) continues in
+    let loaded = subst (λ (k : ConnectionValue). Continues H start (g.R.Input.remaining c.args.input.now) (g.W.Sink.contents c.args.output.now) c.args.machine.now k) (sym c.load.ensures) continues in
     Turns-stored H start left written c.send_and_step-step.new.machine kept c.store.new.self c.send_and_step-step.result c.store.result c.store.ensures.stores (c.send_and_step-step.ensures.steps start steady loaded)
     (λ stands. c.recall_cut.ensures start (prepend_known kept.held left) written written steady stands (AppendsPrefix-none written (waits_in (loop_of kept))))
 
@@ -40,24 +34,18 @@ returns-clause-written g c = c.send_and_step-step.ensures.written
 
 pub returns-clause-answers : goal.returns-clause-answers
 returns-clause-answers g c =
-    answers_stored TURN_UNITS c.args.self.now (in_buffers c.load-memory.new.buffers) (in_buffers c.send_and_step-step.new.buffers) c.store.new.self c.load-memory.ensures.loaded c.send_and_step-step.ensures.answers c.send_and_step-step.result c.store.result c.store.ensures.stores
+    answers_stored TURN_UNITS c.args.self.now (in_buffers c.load.new.buffers) (in_buffers c.send_and_step-step.new.buffers) c.store.new.self c.load.ensures c.send_and_step-step.ensures.answers c.send_and_step-step.result c.store.result c.store.ensures.stores
 
 pub returns-clause-looked : goal.returns-clause-looked
 returns-clause-looked g c =
-    looked_stored most_looked c.args.self.now (in_buffers c.load-memory.new.buffers) (in_buffers c.send_and_step-step.new.buffers) c.store.new.self c.load-memory.ensures.loaded c.send_and_step-step.ensures.looked c.send_and_step-step.result c.store.result c.store.ensures.stores
+    looked_stored most_looked c.args.self.now (in_buffers c.load.new.buffers) (in_buffers c.send_and_step-step.new.buffers) c.store.new.self c.load.ensures c.send_and_step-step.ensures.looked c.send_and_step-step.result c.store.result c.store.ensures.stores
 
 pub returns-clause-read_fault : goal.returns-clause-read_fault
 returns-clause-read_fault g c = λ ends.
     let stepped = fault_stored Read (in_buffers c.send_and_step-step.new.buffers) c.store.new.self c.send_and_step-step.result c.store.result c.store.ensures.stores ends in
-    before_or _ _ _ (λ was. subst (λ (k : ConnectionValue). EndsByAt Read k.state.stage) c.load-memory.ensures.loaded was) (c.send_and_step-step.ensures.read_fault stepped)
+    before_or _ _ _ (λ was. subst (λ (k : ConnectionValue). EndsByAt Read k.state.stage) c.load.ensures was) (c.send_and_step-step.ensures.read_fault stepped)
 
 pub returns-clause-write_fault : goal.returns-clause-write_fault
 returns-clause-write_fault g c = λ ends.
     let stepped = fault_stored Write (in_buffers c.send_and_step-step.new.buffers) c.store.new.self c.send_and_step-step.result c.store.result c.store.ensures.stores ends in
-    before_or _ _ _ (λ was. subst (λ (k : ConnectionValue). EndsByAt Write k.state.stage) c.load-memory.ensures.loaded was) (c.send_and_step-step.ensures.write_fault stepped)
-
-pub returns-clause-unread : goal.returns-clause-unread
-returns-clause-unread g c = λ waits.
-    let short = c.store.ensures.short waits in
-    let same = c.send_and_step-step.ensures.untaken (c.is_spare.ensures ∙ short.0) in
-    (same.2, short.1 ∙ same.1 ∙ ap (λ (k : ConnectionValue). k.held) c.load-memory.ensures.loaded)
+    before_or _ _ _ (λ was. subst (λ (k : ConnectionValue). EndsByAt Write k.state.stage) c.load.ensures was) (c.send_and_step-step.ensures.write_fault stepped)
