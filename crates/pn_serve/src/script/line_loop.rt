@@ -21,6 +21,7 @@ mod answering;
 mod parts;
 mod reading;
 mod running;
+mod skipping;
 mod state;
 mod steps;
 mod writing;
