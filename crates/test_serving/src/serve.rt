@@ -1,8 +1,9 @@
 //! Cases of `pn_serve`.
 //!
 //! `plan` and `says` read words; `run`, `blocks`, `writes` and `sessions` meet slow and failing readers and writers; `session` and
-//! `serve` answer sessions, `kinds` counts lines of one, `skip` answers what was not kept, and `control` answers a control session; `start` opens a region from copies; `read`
-//! reads streams, and `writers` one whose writers come one after another. A bar is a newline.
+//! `serve` answer sessions, `kinds` counts lines of one, `skip` refuses lines that were not kept, and `control` answers a control
+//! session; `start` opens a region from copies; `read` reads streams, and `writers` one whose writers come one after another. A bar is
+//! a newline.
 
 mod control;
 mod copies;
