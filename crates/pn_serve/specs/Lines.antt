@@ -9,6 +9,7 @@ pub mod Made
 pub mod Replies
 pub mod Sending
 pub mod Served
+pub mod Skipped
 pub mod States
 pub mod Stepping
 pub mod Stopped

@@ -25,6 +25,7 @@ pub use control::session::{ControlSession, StatsSource};
 pub use copies::{CopiesFault, CopiesReader, open_copies};
 pub use laws::regions_converge;
 pub use machine::line_handler::{Answer, LineHandler};
+pub use machine::skipping::RefusesSkipped;
 pub use page_laws::{
     a_scan_line_shows_the_page_of_its_region, keys_rise_from_page_to_page_of_a_script,
     pages_of_a_script_are_together_its_rows,

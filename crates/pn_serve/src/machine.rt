@@ -13,6 +13,7 @@ pub(crate) mod command_reader;
 pub(crate) mod line_handler;
 pub(crate) mod lookups;
 pub(crate) mod script_handler;
+pub(crate) mod skipping;
 pub(crate) mod tablets;
 
 use crate::machine::adoption::{Announced, adopt, take_last_part, take_line};

@@ -13,6 +13,7 @@ pub(crate) mod kinds;
 pub(crate) mod lookups;
 
 use crate::machine::line_handler::{Answer, LineHandler};
+use crate::machine::skipping::{RefusesSkipped, refuse_line};
 use crate::script::line_loop::LineLoop;
 use crate::script::{MAX_LINES, answer_lines};
 use crate::sessions::going::Going;
@@ -92,5 +93,11 @@ impl LineHandler for LiveReader {
 
     fn shorten(&self, reply: Reply) -> Reply {
         reply.or_memory()
+    }
+}
+
+impl RefusesSkipped for LiveReader {
+    fn refuse_skipped(&mut self, is_too_long: bool) -> Reply {
+        refuse_line(is_too_long)
     }
 }

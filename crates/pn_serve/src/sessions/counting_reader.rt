@@ -7,6 +7,7 @@ ghost use Rattle.pn_serve.specs.Session.Lines.{AnswersLine};
 ghost use Rattle.pn_serve.specs.Session.Looking.{LooksFor};
 
 use crate::machine::line_handler::{Answer, LineHandler, is_refusal};
+use crate::machine::skipping::{RefusesSkipped, refuse_line};
 use crate::sessions::going::Going;
 use crate::sessions::kinds::{NO_LINES, count_line};
 use crate::sessions::lookups::answer_with_kind;
@@ -127,5 +128,12 @@ impl LineHandler for CountingReader {
 
     fn take_kinds(&mut self) -> LineKinds {
         mem::replace(&mut self.kinds, NO_LINES)
+    }
+}
+
+impl RefusesSkipped for CountingReader {
+    fn refuse_skipped(&mut self, is_too_long: bool) -> Reply {
+        count_line(&mut self.kinds, LineKind::Other, true);
+        refuse_line(is_too_long)
     }
 }
