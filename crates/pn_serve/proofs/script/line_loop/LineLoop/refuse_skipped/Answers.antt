@@ -9,6 +9,11 @@ use Rattle.pn_serve.proofs.Skipping.{Steps-skipped, begun_as, replied_at_once}
 use Rattle.pn_serve.proofs.Writing.{waits_none}
 use Rattle.pn_serve.proofs.script.line_loop.LineLoop.refuse_skipped.Goals as goal
 
+pub take_answer-requires-clause-made : goal.take_answer-requires-clause-made
+take_answer-requires-clause-made g c =
+    let old = c.args.self.now in
+    ap (λ (s : LineStateValue). s.left) c.set_more.ensures ∙ ap (λ (r : LineLoopValue). r.state.left) c.self.view_is ∙ (waits_none old.replies old.state.left c.requires.idle).1
+
 pub returns-clause-stands : goal.returns-clause-stands
 returns-clause-stands g c =
     let M = g.M.LineHandler in
