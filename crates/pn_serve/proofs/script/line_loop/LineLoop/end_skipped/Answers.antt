@@ -1,5 +1,5 @@
 -- The last part of a line, whose bytes were not kept, has its reply.
-use Rattle.std.proofs.Common.{[], length, true, ap, ◌∙◌, subst, arith}
+use Rattle.std.proofs.Common.{true, ap, ◌∙◌, subst}
 use Rattle.pn_serve.specs.Lines.Going.{AnswersLast}
 use Rattle.pn_serve.specs.Lines.States.{LineLoopValue, LineStateValue}
 use Rattle.pn_serve.specs.Lines.Stepping.{by}

@@ -1,5 +1,5 @@
 -- A line whose bytes were not kept has its reply.
-use Rattle.std.proofs.Common.{◌++◌, ◌∷◌, [], length, true, false, ap, ◌∙◌, subst, arith}
+use Rattle.std.proofs.Common.{true, false, ap, ◌∙◌, subst}
 use Rattle.pn_serve.specs.Lines.Going.{AnswersWith}
 use Rattle.pn_serve.specs.Lines.States.{LineLoopValue, LineStateValue}
 use Rattle.pn_serve.specs.Lines.Stepping.{by}
