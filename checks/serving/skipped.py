@@ -2,9 +2,9 @@
 
   checks/run skipped PROGRAM [--clients N]
 
-One session thread. Once 20,000 records are read in, memory is limited to what it has and 256 KB. Each client sends most of a line, and
-some are too long. None may be disconnected: each line is answered as it should be or by `memory`, one too long by `too-long`, and each line
-after it in its order. An honest client reads beside them all the while.
+One session thread. Once 20,000 records are read in and all clients are answered, memory is limited to what it has and 256 KB. Each client
+sends most of a line, and some are too long. None may be disconnected: each line is answered as it should be or by `memory`, one too long by
+`too-long`, and each line after it in its order. An honest client reads beside them all the while.
 
 Exit status 0 where all of that holds, and input was skipped for some of them.
 """
@@ -32,17 +32,21 @@ class Skipped(Client):
 
     def __init__(self, port: int, number: int) -> None:
         super().__init__(port)
-        self.is_too_long = number % 5 == 0
+        self.is_too_long, self.is_last = number % 5 == 0, number % 7 == 0
+        same("a read before memory is limited", self.read("k1"), ROW)
+
+    def begin(self) -> None:
+        """Sends three lines, and most of another."""
         self.send(LINE * 3 + b'{"do":"read","key":"k1"}' + b" " * (LONG if self.is_too_long else SHORT))
 
-    def finish(self, is_last: bool) -> bool:
-        """Ends the line, and asks three others or no more. Whether its input was skipped."""
-        self.send(b"" if is_last else b"\n" + LINE * 3)
+    def finish(self) -> bool:
+        """Ends the line, and asks three others, or ends its input in it. Whether input was skipped."""
+        self.send(b"" if self.is_last else b"\n" + LINE * 3)
         self.end_input()
         replies = [json.loads(line) for line in self.replies]
         before, reply, after = replies[:3], replies[3], replies[4:]
         same("the replies", [got for got in before + after if got not in (ROW, MEMORY)], [])
-        same("how many there are", (len(before), len(after)), (3, 0 if is_last else 3))
+        same("how many there are", (len(before), len(after)), (3, 0 if self.is_last else 3))
         same("the reply to a line in two parts", reply in ([TOO_LONG] if self.is_too_long else [ROW, MEMORY]), True)
         return MEMORY in replies
 
@@ -56,13 +60,15 @@ def try_clients(program: str, folder: str, count: int) -> int:
         honest = stay.enter_context(Client(region.port))
         honest.wait_for(f"k{RECORDS}", row_of(f"k{RECORDS}", RECORDS, "x"))
         idle = seconds_of(lambda: honest.read("k1"))
-        limit_memory(region)
         clients = [stay.enter_context(Skipped(region.port, number)) for number in range(count)]
+        limit_memory(region)
         is_over, slowest = threading.Event(), [0.0]
         beside = threading.Thread(target=read_until, args=[honest, is_over, slowest])
         beside.start()
         try:
-            skipped = sum(client.finish(number % 7 == 0) for number, client in enumerate(clients))
+            for client in clients:
+                client.begin()
+            skipped = sum(client.finish() for client in clients)
         finally:
             is_over.set()
             beside.join()
@@ -83,7 +89,7 @@ def read_until(client: Client, is_over: threading.Event, slowest: list[float]) -
 
 def main(words: list[str]) -> int:
     parser = program_parser(__doc__)
-    parser.add_argument("--clients", metavar="N", type=int, default=1_000)
+    parser.add_argument("--clients", metavar="N", type=int, default=2_000)
     given = parser.parse_args(words)
     raise_descriptors()
     with tempfile.TemporaryDirectory() as folder:
