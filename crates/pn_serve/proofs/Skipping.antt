@@ -1,11 +1,12 @@
--- What a line whose bytes were not kept does to where a line loop stands: as much as if it had been read.
+-- What a line loop does without input: it takes nothing, and a line whose bytes were not kept counts as if it had been read.
 use Rattle.std.proofs.Common.{◌≡◌, ◌≢◌, ◌<◌, ◌≤◌, ℕ, Bool, true, false, Option, None, Some, List, [], ◌∷◌, ◌++◌, length, IfSome, OnSome, refl, sym, ap, ◌∙◌, subst, arith, append-nil}
 use Rattle.std.specs.Prelude.{Err, nat_lt}
-use Rattle.std.specs.Io.KnownBytes.{Consumes, prepend_known}
+use Rattle.std.specs.Io.KnownBytes.{Consumes, Keeps, prepend_known}
 use Rattle.std.proofs.KnownBytes.{Keeps-refl}
 use Rattle.pn_line.specs.declared.line_buffer.TheConstants.{ENDLESS}
 use Rattle.pn_line.specs.Line.{LineBufferValue, so_far, with_bytes}
 use Rattle.pn_line.specs.Reads.{HasShown, IsUnbroken, Takes as ReadTakes}
+use Rattle.pn_line.proofs.LineLaws.{with_bytes-nil}
 use Rattle.pn_protocol.specs.Command.Lines.{is_too_long}
 use Rattle.pn_protocol.specs.declared.reply.Reply.{Reply}
 use Rattle.pn_record.specs.Limits.{max_line_bytes}
@@ -24,6 +25,30 @@ use Rattle.pn_serve.proofs.Replied.{cons_nil, true_false}
 use Rattle.pn_serve.proofs.Stages.{loop_of}
 use Rattle.pn_serve.proofs.Standing.{no_length}
 use Rattle.pn_serve.proofs.Steps.{Steps-end, Steps-endless, Steps-line, Steps-many, Steps-part}
+
+all_none : (xs ys zs : List ℕ) → [] ≡ (xs ++ ys) ++ zs → (xs ≡ []) × (ys ≡ []) × (zs ≡ [])
+all_none [] [] zs none = (refl, refl, sym none)
+all_none [] (y ∷ ys) zs none = cc
+all_none (x ∷ xs) ys zs none = cc
+
+-- from a source with no more a line takes nothing, and does not end
+pub takes_nothing : (old new : LineBufferValue) (left leaves : Option (List ℕ)) (after : List ℕ) → ReadTakes old new left leaves after → left ≡ Some [] → (after ≡ []) × (leaves ≡ Some []) × (new ≡ old)
+takes_nothing old new left leaves after takes none = from leaves (subst (λ (l : Option (List ℕ)). Consumes l leaves (takes.taken ++ after)) none takes.source)
+  where
+    from : (more : Option (List ℕ)) → Consumes (Some []) more (takes.taken ++ after) → (after ≡ []) × (more ≡ Some []) × (new ≡ old)
+    from None consumes = absurd consumes
+    from (Some rest) consumes =
+        let (taken, ended, over) = all_none takes.taken after rest consumes in
+        (ended, ap Some over, takes.line ∙ ap (λ (bs : List ℕ). with_bytes old bs) taken ∙ with_bytes-nil old)
+
+pub keeps_nothing : (left leaves : Option (List ℕ)) → Keeps left leaves → left ≡ Some [] → leaves ≡ Some []
+keeps_nothing left leaves kept none = from leaves (subst (λ (l : Option (List ℕ)). Keeps l leaves) none kept)
+  where
+    from : (more : Option (List ℕ)) → Keeps (Some []) more → more ≡ Some []
+    from None keeps = absurd keeps
+    from (Some rest) keeps = ap Some keeps
+
+-- ---- lines whose bytes were not kept
 
 Consumes-front : (bs : List ℕ) (left : Option (List ℕ)) → Consumes (prepend_known bs left) left bs
 Consumes-front bs None = tt

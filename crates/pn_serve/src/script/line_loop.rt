@@ -98,6 +98,7 @@ impl LineLoop {
         ensures counts { (going : Going) → self.old.state.stage ≡ Stage.Looking going → self.old.state.left ≡ [] → CountsStages going self.new.state.stage self.old.state.looked self.new.state.looked }
         ensures works { self.old.state.left ≢ [] → WorksOn self.old self.new result }
         ensures waits { self.old.state.more ≡ false → self.old.state.out ≡ false → input.new ≡ input.old }
+        ensures begun { S.left input.old ≡ Some [] → self.old.line ≡ so_far [] → (S.left input.new ≡ Some []) × (self.new.line ≡ so_far []) }
         ensures looks { S.looks input.new ≤ S.looks input.old + 1 }
         ensures reads { IsSettled self.old → ReadsOn (S.looks input.old) (S.looks input.new) self.old self.new result }
         ensures end { result ≡ Step.NoInput → S.may_end }

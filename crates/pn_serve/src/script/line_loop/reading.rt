@@ -1,7 +1,8 @@
 //! How a line loop takes what its input has at hand.
 
-ghost use Rattle.std.specs.Prelude.{◌≡◌, ◌≢◌, ◌⊎◌, ◌||◌, ◌+◌, ◌≤◌, ◌<◌, ℕ, false, List, [], Option, Ok, Err, IfErr, IfOk, OnErr, OnSome};
+ghost use Rattle.std.specs.Prelude.{◌≡◌, ◌≢◌, ◌⊎◌, ◌||◌, ◌+◌, ◌≤◌, ◌<◌, ℕ, false, List, [], Option, Some, Ok, Err, IfErr, IfOk, OnErr, OnSome};
 ghost use Rattle.std.specs.Io.KnownBytes.{IsAtEnd, Keeps};
+ghost use Rattle.pn_line.specs.Prelude.{so_far};
 ghost use Rattle.pn_line.specs.Reads.{HasMore, Takes, newline_after};
 ghost use Rattle.pn_line.specs.declared.line_buffer.TheConstants.{ENDLESS};
 ghost use Rattle.pn_serve.specs.Lines.Bounds.{CountsUnits, Foresees, ForeseesStep, HandsOnAtMost, HandsOnStep, IsIdleAt, IsOutAs, ReadsOn};
@@ -41,6 +42,7 @@ impl LineLoop {
         ensures counted { CountsUnits self.old self.new result }
         ensures looked { self.new.state.looked ≡ self.old.state.looked }
         ensures waits { self.old.state.more ≡ false → self.old.state.out ≡ false → input.new ≡ input.old }
+        ensures begun { S.left input.old ≡ Some [] → self.old.line ≡ so_far [] → (S.left input.new ≡ Some []) × (self.new.line ≡ so_far []) }
         ensures looks { S.looks input.new ≤ S.looks input.old + 1 }
         ensures reads { ReadsOn (S.looks input.old) (S.looks input.new) self.old self.new result }
         ensures end { result ≡ Step.NoInput → S.may_end }

@@ -57,8 +57,8 @@ impl LineLoop {
     {
         self.state.set_last();
         self.line.start();
-        let reply = machine.refuse_skipped(is_too_long);
-        self.take_answer(&*machine, Answer::Done(reply), true)
+        let last = machine.refuse_skipped(is_too_long);
+        self.take_answer(&*machine, Answer::Done(last), true)
     }
 
     /// A line whose bytes were not kept is as long as one may be, or comes after as many as may be answered: the loop ends so, once

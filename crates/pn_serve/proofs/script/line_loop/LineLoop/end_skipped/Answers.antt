@@ -14,13 +14,13 @@ returns-clause-stands g c =
     let M = g.M.LineHandler in
     let old = c.args.self.now in
     let new = c.take_answer.new.self in
-    let now = c.refuse_skipped-reply.new.self in
+    let now = c.refuse_skipped-last.new.self in
     let mid_is = begun_as c.self.inside.line c.start.new.self c.self.inside.replies c.self.inside.state c.set_last.new.self (λ (s : LineStateValue). record s { last = true }) old c.start.ensures c.set_last.ensures c.self.view_is in
     λ start left written text steady ended skipped some empty stands.
     Steps-last_skipped (by M.moves M.makes M.ends M.goes M.goes_last) steady.preorder start left written c.args.machine.now old c.requires.reading text empty now new c.args.is_too_long ended skipped some c.requires.few
     (waits_none old.replies old.state.left c.requires.idle).1 stands (subst (λ (r : LineLoopValue). Takes true r new) mid_is c.take_answer.ensures.takes)
     (λ other same some_too. subst (λ (r : LineLoopValue). TakesLine (AnswersLast M.ends M.goes_last) true c.args.machine.now other now r new) mid_is
-    (c.take_answer.ensures.last c.args.machine.now now other (c.refuse_skipped-reply.ensures.ends other same some_too)))
+    (c.take_answer.ensures.last c.args.machine.now now other (c.refuse_skipped-last.ensures.ends other same some_too)))
 
 pub returns-clause-replied : goal.returns-clause-replied
 returns-clause-replied g c =

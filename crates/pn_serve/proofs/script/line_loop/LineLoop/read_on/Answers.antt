@@ -24,6 +24,8 @@ use Rattle.pn_serve.proofs.Faults.{ends_by_found, reads_on, sends_failed, sends_
 use Rattle.pn_serve.proofs.Knowing.{knows_itself}
 use Rattle.pn_serve.proofs.Made.{makes_none, makes_unwritten}
 use Rattle.pn_serve.proofs.Measured.{answer_nearer, fault_nearer, out_nearer, part_nearer, waits_nearer}
+use Rattle.pn_serve.proofs.Replied.{cons_nil}
+use Rattle.pn_serve.proofs.Skipping.{keeps_nothing, takes_nothing}
 use Rattle.pn_serve.proofs.Stages.{loop_of}
 use Rattle.pn_serve.proofs.Standing.{Steps-put_out, Steps-waited, Takes-rest}
 use Rattle.pn_serve.proofs.Steps.{Steps-line, Steps-piece, Steps-stopped}
@@ -34,13 +36,11 @@ use Rattle.pn_serve.proofs.script.line_loop.LineLoop.read_on.Goals as goal
 pub returns-then-not-may_read-clause-steps : goal.returns-then-not-may_read-clause-steps
 returns-then-not-may_read-clause-steps g c =
     let M = g.M.LineHandler in
-    λ start rest steady stands.
-    Steps-put_out (by M.moves M.makes M.ends M.goes M.goes_last) steady.preorder start (with_rest (g.S.Source.left c.args.input.now) rest) _ _ c.args.machine.now c.args.self.now c.put_out.new.self stands c.put_out.result c.requires.reading c.put_out.ensures.sends
+    λ start rest steady stands. Steps-put_out (by M.moves M.makes M.ends M.goes M.goes_last) steady.preorder start (with_rest (g.S.Source.left c.args.input.now) rest) _ _ c.args.machine.now c.args.self.now c.put_out.new.self stands c.put_out.result c.requires.reading c.put_out.ensures.sends
 
 pub returns-then-not-may_read-clause-reads : goal.returns-then-not-may_read-clause-reads
 returns-then-not-may_read-clause-reads g c =
-    let not_out = out_of c.args.self.now.state.more c.args.self.now.state.out (sym c.may_read.ensures ∙ c.if-not-may_read.true) in
-    out_nearer c.args.self.now c.put_out.new.self _ _ (g.S.Source.looks c.args.input.now) c.put_out.result c.requires.reading c.put_out.ensures.sends not_out c.put_out.ensures.all
+    out_nearer c.args.self.now c.put_out.new.self _ _ (g.S.Source.looks c.args.input.now) c.put_out.result c.requires.reading c.put_out.ensures.sends (out_of c.args.self.now.state.more c.args.self.now.state.out (sym c.may_read.ensures ∙ c.if-not-may_read.true)) c.put_out.ensures.all
 
 pub returns-then-not-may_read-clause-written : goal.returns-then-not-may_read-clause-written
 returns-then-not-may_read-clause-written g c = makes_none (made_by c.put_out.result) _ _ _ _ c.put_out.ensures.written
@@ -63,23 +63,24 @@ returns-then-not-may_read-clause-write_stage g c = λ units is ends. sends_next_
 pub returns-then-not-may_read-clause-knows : goal.returns-then-not-may_read-clause-knows
 returns-then-not-may_read-clause-knows g c = knows_itself _
 
+pub returns-then-not-may_read-clause-begun : goal.returns-then-not-may_read-clause-begun
+returns-then-not-may_read-clause-begun g c = λ none empty. (none, c.put_out.ensures.same.line ∙ empty)
+
 -- ---- a piece of a line was read
 
 pub returns-in-Ok-Part-clause-steps : goal.returns-in-Ok-Part-clause-steps
 returns-in-Ok-Part-clause-steps g c =
     let M = g.M.LineHandler in
-    λ start rest steady stands.
-    Steps-piece (by M.moves M.makes M.ends M.goes M.goes_last) steady.preorder start (g.S.Source.left c.args.input.now) (g.S.Source.left c.read_piece.new.input) rest (g.W.Sink.contents c.args.output.now) c.args.machine.now c.args.self.now c.read_piece.new.self c.in-Ok-Part.field-0 c.requires.reading stands
+    λ start rest steady stands. Steps-piece (by M.moves M.makes M.ends M.goes M.goes_last) steady.preorder start (g.S.Source.left c.args.input.now) (g.S.Source.left c.read_piece.new.input) rest (g.W.Sink.contents c.args.output.now) c.args.machine.now c.args.self.now c.read_piece.new.self c.in-Ok-Part.field-0 c.requires.reading stands
     c.read_piece.ensures.line c.in-Ok-Part.ensures.takes (ap newline_after c.in-Ok-Part.field-0-is) c.in-Ok-Part.ensures.bound
 
 pub returns-in-Ok-Part-clause-reads : goal.returns-in-Ok-Part-clause-reads
 returns-in-Ok-Part-clause-reads g c =
     let old = c.args.self.now in
-    let mid = c.read_piece.new.self in
-    let most : mid.line.count ≤ ENDLESS = omega (arith, c.len.ensures.count, c.len.ensures.bounded, ap (λ (r : LineLoopValue). r.line.count) c.self-in-Ok-Part.view_is) in
+    let most : c.read_piece.new.self.line.count ≤ ENDLESS = omega (arith, c.len.ensures.count, c.len.ensures.bounded, ap (λ (r : LineLoopValue). r.line.count) c.self-in-Ok-Part.view_is) in
     let few : old.state.counts.lines < MAX_LINES = ⊎_elim (λ few. few) (λ none. absurd (let no : Part ≡ NoMore = sym c.in-Ok-Part.field-0-is ∙ none.0 in let never : ⊥ = cc in never)) c.in-Ok-Part.ensures.bound in
     subst (λ (r : LineLoopValue). ReadsOn (g.S.Source.looks c.args.input.now) (g.S.Source.looks c.read_piece.new.input) old r (Next c.units_of.result)) (sym c.read_piece.ensures.line)
-    (part_nearer old mid.line (g.S.Source.looks c.args.input.now) (g.S.Source.looks c.read_piece.new.input) c.units_of.result c.requires.reading few most (c.in-Ok-Part.ensures.part (ap Ok c.in-Ok-Part.field-0-is)) c.in-Ok-Part.ensures.looks)
+    (part_nearer old c.read_piece.new.self.line (g.S.Source.looks c.args.input.now) (g.S.Source.looks c.read_piece.new.input) c.units_of.result c.requires.reading few most (c.in-Ok-Part.ensures.part (ap Ok c.in-Ok-Part.field-0-is)) c.in-Ok-Part.ensures.looks)
 
 pub returns-in-Ok-Part-clause-waits : goal.returns-in-Ok-Part-clause-waits
 returns-in-Ok-Part-clause-waits g c = λ more out. let no : true ≡ false = sym c.if-not-may_read.false ∙ c.may_read.ensures ∙ ap₂ (λ a b. a || b) more out in cc
@@ -98,8 +99,7 @@ returns-in-Ok-Part-clause-written g c = makes_unwritten (made_in c.units_of.resu
 
 pub returns-in-Ok-Part-clause-counted : goal.returns-in-Ok-Part-clause-counted
 returns-in-Ok-Part-clause-counted g c =
-    let is = c.read_piece.ensures.line in
-    (omega (arith, ap (λ (r : LineLoopValue). r.state.counts.lines) is), omega (arith, ap (λ (r : LineLoopValue). length r.replies) is, ap (λ (l : LineBufferValue). l.count) c.in-Ok-Part.ensures.takes.line))
+    (omega (arith, ap (λ (r : LineLoopValue). r.state.counts.lines) c.read_piece.ensures.line), omega (arith, ap (λ (r : LineLoopValue). length r.replies) c.read_piece.ensures.line, ap (λ (l : LineBufferValue). l.count) c.in-Ok-Part.ensures.takes.line))
 
 pub returns-in-Ok-Part-clause-looked : goal.returns-in-Ok-Part-clause-looked
 returns-in-Ok-Part-clause-looked g c = ap (λ (r : LineLoopValue). r.state.looked) c.read_piece.ensures.line
@@ -115,6 +115,9 @@ returns-in-Ok-Part-clause-write_stage g c = λ units is ends. reads_on Write c.r
 
 pub returns-in-Ok-Part-clause-knows : goal.returns-in-Ok-Part-clause-knows
 returns-in-Ok-Part-clause-knows g c = knows_itself _
+
+pub returns-in-Ok-Part-clause-begun : goal.returns-in-Ok-Part-clause-begun
+returns-in-Ok-Part-clause-begun g c = λ none empty. let is = takes_nothing _ _ _ _ _ c.in-Ok-Part.ensures.takes none in (is.1, is.2 ∙ empty)
 
 -- ---- a line ended: it is answered by a loop that begins a new line
 
@@ -134,26 +137,21 @@ returns-in-Ok-Ended-clause-steps g c =
     let M = g.M.LineHandler in
     let left = g.S.Source.left c.args.input.now in
     let leaves = g.S.Source.left c.read_piece.new.input in
-    let line = c.read_piece.new.self.line in
-    let more = c.in-Ok-Ended.more in
-    let piece_is : c.in-Ok-Ended.field-0 ≡ Ended more = cc in
-    let takes : ReadTakes c.args.self.now.line line left leaves (10 ∷ []) = subst (λ (p : Piece). ReadTakes c.args.self.now.line line left leaves (newline_after p)) piece_is c.in-Ok-Ended.ensures.takes in
-    let shown : OnSome left (HasShown more leaves) = subst (λ (p : Piece). OnSome left (HasMore p leaves)) piece_is c.in-Ok-Ended.ensures.more in
-    λ start rest steady stands.
-    Steps-line (by M.moves M.makes M.ends M.goes M.goes_last) steady.preorder start (with_rest left rest) (with_rest leaves rest) (g.W.Sink.contents c.args.output.now) c.args.machine.now c.args.self.now c.requires.reading stands c.answer.new.machine c.answer.new.self line more
-    (Takes-rest left leaves rest c.args.self.now.line line (10 ∷ []) takes) (c.in-Ok-Ended.ensures.below (λ same. cc)) (few_left g c) c.requires.made (shown_rest more left leaves rest shown) (took g c)
+    let piece_is : c.in-Ok-Ended.field-0 ≡ Ended c.in-Ok-Ended.more = cc in
+    let takes : ReadTakes c.args.self.now.line c.read_piece.new.self.line left leaves (10 ∷ []) = subst (λ (p : Piece). ReadTakes c.args.self.now.line c.read_piece.new.self.line left leaves (newline_after p)) piece_is c.in-Ok-Ended.ensures.takes in
+    let shown : OnSome left (HasShown c.in-Ok-Ended.more leaves) = subst (λ (p : Piece). OnSome left (HasMore p leaves)) piece_is c.in-Ok-Ended.ensures.more in
+    λ start rest steady stands. Steps-line (by M.moves M.makes M.ends M.goes M.goes_last) steady.preorder start (with_rest left rest) (with_rest leaves rest) (g.W.Sink.contents c.args.output.now) c.args.machine.now c.args.self.now c.requires.reading stands c.answer.new.machine c.answer.new.self c.read_piece.new.self.line c.in-Ok-Ended.more
+    (Takes-rest left leaves rest c.args.self.now.line c.read_piece.new.self.line (10 ∷ []) takes) (c.in-Ok-Ended.ensures.below (λ same. cc)) (few_left g c) c.requires.made (shown_rest c.in-Ok-Ended.more left leaves rest shown) (took g c)
     (λ text is. subst (λ (r : LineLoopValue). TakesLine (AnswersWith M.makes M.goes) true c.args.machine.now text c.answer.new.machine r c.answer.new.self) (answered g c) (c.answer.ensures.line text (ap (λ (r : LineLoopValue). r.line) c.self-in-Ok-Ended.view_is ∙ is)))
 
 pub returns-in-Ok-Ended-clause-reads : goal.returns-in-Ok-Ended-clause-reads
 returns-in-Ok-Ended-clause-reads g c =
-    let below : c.args.self.now.line.count < ENDLESS = omega (arith, c.in-Ok-Ended.ensures.below (λ same. cc), ap (λ (l : LineBufferValue). l.count) c.in-Ok-Ended.ensures.takes.line) in
-    answer_nearer c.args.self.now _ c.answer.new.self (g.S.Source.looks c.args.input.now) (g.S.Source.looks c.read_piece.new.input) c.answer.result c.requires.reading (few_left g c) below c.in-Ok-Ended.ensures.looks refl refl (took g c)
+    answer_nearer c.args.self.now _ c.answer.new.self (g.S.Source.looks c.args.input.now) (g.S.Source.looks c.read_piece.new.input) c.answer.result c.requires.reading (few_left g c) (omega (arith, c.in-Ok-Ended.ensures.below (λ same. cc), ap (λ (l : LineBufferValue). l.count) c.in-Ok-Ended.ensures.takes.line)) c.in-Ok-Ended.ensures.looks refl refl (took g c)
 
 pub returns-in-Ok-Ended-clause-foresees : goal.returns-in-Ok-Ended-clause-foresees
 returns-in-Ok-Ended-clause-foresees g c =
     λ was.
-    let on = is_not_last g.S.Source.may_fail g.W.Sink.may_fail g.S.Source.may_end c.args.self.now c.requires.reading was in
-    takes_foresees true _ c.answer.new.self g.S.Source.may_fail g.W.Sink.may_fail g.S.Source.may_end (took g c) (few_left g c) refl (λ last. absurd (let no : true ≡ false = sym last ∙ on in let never : ⊥ = cc in never))
+    takes_foresees true _ c.answer.new.self g.S.Source.may_fail g.W.Sink.may_fail g.S.Source.may_end (took g c) (few_left g c) refl (λ last. absurd (let no : true ≡ false = sym last ∙ is_not_last g.S.Source.may_fail g.W.Sink.may_fail g.S.Source.may_end c.args.self.now c.requires.reading was in let never : ⊥ = cc in never))
 
 pub returns-in-Ok-Ended-clause-out : goal.returns-in-Ok-Ended-clause-out
 returns-in-Ok-Ended-clause-out g c = λ is. takes_out true _ c.answer.new.self (g.W.Sink.is_handed_on c.args.output.now) (took g c) is
@@ -163,9 +161,7 @@ returns-in-Ok-Ended-clause-few g c = omega (arith, takes_grows true _ c.answer.n
 
 pub returns-in-Ok-Ended-clause-counted : goal.returns-in-Ok-Ended-clause-counted
 returns-in-Ok-Ended-clause-counted g c =
-    let is = c.self-in-Ok-Ended.view_is ∙ c.read_piece.ensures.line in
-    let longer = ap (λ (l : LineBufferValue). l.count) c.in-Ok-Ended.ensures.takes.line in
-    (takes_lines true _ c.answer.new.self (took g c), omega (arith, c.answer.ensures.units, ap (λ (r : LineLoopValue). r.line.count) c.self-in-Ok-Ended.view_is, longer, ap (λ (r : LineLoopValue). length r.replies) is))
+    (takes_lines true _ c.answer.new.self (took g c), omega (arith, c.answer.ensures.units, ap (λ (r : LineLoopValue). r.line.count) c.self-in-Ok-Ended.view_is, ap (λ (l : LineBufferValue). l.count) c.in-Ok-Ended.ensures.takes.line, ap (λ (r : LineLoopValue). length r.replies) (c.self-in-Ok-Ended.view_is ∙ c.read_piece.ensures.line)))
 
 pub returns-in-Ok-Ended-clause-written : goal.returns-in-Ok-Ended-clause-written
 returns-in-Ok-Ended-clause-written g c = makes_unwritten (made_in c.answer.result) _ _ _ (omega (arith, c.answer.ensures.makes, ap (λ (r : LineLoopValue). length r.replies) (c.self-in-Ok-Ended.view_is ∙ c.read_piece.ensures.line)))
@@ -182,6 +178,11 @@ returns-in-Ok-Ended-clause-write_fault g c = λ ends. absurd (takes_on true _ c.
 pub returns-in-Ok-Ended-clause-write_stage : goal.returns-in-Ok-Ended-clause-write_stage
 returns-in-Ok-Ended-clause-write_stage g c = λ units is ends. takes_on true _ c.answer.new.self Write c.answer.ensures.takes ends
 
+pub returns-in-Ok-Ended-clause-begun : goal.returns-in-Ok-Ended-clause-begun
+returns-in-Ok-Ended-clause-begun g c =
+    let piece_is : c.in-Ok-Ended.field-0 ≡ Ended c.in-Ok-Ended.more = cc in
+    λ none empty. absurd (cons_nil 10 [] (sym (ap newline_after piece_is) ∙ (takes_nothing _ _ _ _ _ c.in-Ok-Ended.ensures.takes none).0))
+
 -- ---- no input is at hand
 
 read_none : (g : _) (c : goal.After-wait_for_input g) → c.read_piece.new.self.state.stage ≡ Reading
@@ -194,11 +195,10 @@ pub returns-in-Ok-NoMore-clause-steps : goal.returns-in-Ok-NoMore-clause-steps
 returns-in-Ok-NoMore-clause-steps g c =
     let M = g.M.LineHandler in
     let leaves = g.S.Source.left c.read_piece.new.input in
-    let mid = c.read_piece.new.self in
     λ start rest steady stands.
-    let at = Steps-piece (by M.moves M.makes M.ends M.goes M.goes_last) steady.preorder start (g.S.Source.left c.args.input.now) leaves rest (g.W.Sink.contents c.args.output.now) c.args.machine.now c.args.self.now mid c.in-Ok-NoMore.field-0 c.requires.reading stands
+    let at = Steps-piece (by M.moves M.makes M.ends M.goes M.goes_last) steady.preorder start (g.S.Source.left c.args.input.now) leaves rest (g.W.Sink.contents c.args.output.now) c.args.machine.now c.args.self.now c.read_piece.new.self c.in-Ok-NoMore.field-0 c.requires.reading stands
     c.read_piece.ensures.line c.in-Ok-NoMore.ensures.takes (ap newline_after c.in-Ok-NoMore.field-0-is) c.in-Ok-NoMore.ensures.bound in
-    Steps-waited (by M.moves M.makes M.ends M.goes M.goes_last) steady.preorder start (with_rest leaves rest) _ _ c.args.machine.now mid c.wait_for_input.new.self at c.wait_for_input.result (read_none g c) c.wait_for_input.ensures.waits
+    Steps-waited (by M.moves M.makes M.ends M.goes M.goes_last) steady.preorder start (with_rest leaves rest) _ _ c.args.machine.now c.read_piece.new.self c.wait_for_input.new.self at c.wait_for_input.result (read_none g c) c.wait_for_input.ensures.waits
 
 pub returns-in-Ok-NoMore-clause-reads : goal.returns-in-Ok-NoMore-clause-reads
 returns-in-Ok-NoMore-clause-reads g c =
@@ -219,15 +219,12 @@ returns-in-Ok-NoMore-clause-few g c = omega (arith, c.wait_for_input.ensures.few
 
 pub returns-in-Ok-NoMore-clause-foresees : goal.returns-in-Ok-NoMore-clause-foresees
 returns-in-Ok-NoMore-clause-foresees g c =
-    λ was.
-    let at = piece_foresees g.S.Source.may_fail g.W.Sink.may_fail g.S.Source.may_end c.args.self.now c.read_piece.new.self c.requires.reading c.read_piece.ensures.line (⊎_elim (λ few. inl few) (λ none. inr none.1) c.in-Ok-NoMore.ensures.bound) was in
-    waits_foresees c.read_piece.new.self c.wait_for_input.new.self _ _ g.S.Source.may_fail g.W.Sink.may_fail g.S.Source.may_end c.wait_for_input.result c.wait_for_input.ensures.fault c.wait_for_input.ensures.waits at
+    λ was. waits_foresees c.read_piece.new.self c.wait_for_input.new.self _ _ g.S.Source.may_fail g.W.Sink.may_fail g.S.Source.may_end c.wait_for_input.result c.wait_for_input.ensures.fault c.wait_for_input.ensures.waits (piece_foresees g.S.Source.may_fail g.W.Sink.may_fail g.S.Source.may_end c.args.self.now c.read_piece.new.self c.requires.reading c.read_piece.ensures.line (⊎_elim (λ few. inl few) (λ none. inr none.1) c.in-Ok-NoMore.ensures.bound) was)
 
 pub returns-in-Ok-NoMore-clause-counted : goal.returns-in-Ok-NoMore-clause-counted
 returns-in-Ok-NoMore-clause-counted g c =
-    let longer : c.args.self.now.line.count ≤ c.read_piece.new.self.line.count = omega (arith, ap (λ (l : LineBufferValue). l.count) c.in-Ok-NoMore.ensures.takes.line) in
     waits_counted c.read_piece.new.self c.wait_for_input.new.self _ _ c.args.self.now c.wait_for_input.result c.wait_for_input.ensures.waits
-    (counts_nothing c.read_piece.new.self c.wait_for_input.new.self _ _ c.args.self.now longer (sym (ap (λ (r : LineLoopValue). r.state.counts) c.read_piece.ensures.line)) (omega (arith, ap (λ (r : LineLoopValue). length r.replies) c.read_piece.ensures.line)) c.wait_for_input.ensures.same c.wait_for_input.ensures.written)
+    (counts_nothing c.read_piece.new.self c.wait_for_input.new.self _ _ c.args.self.now (omega (arith, ap (λ (l : LineBufferValue). l.count) c.in-Ok-NoMore.ensures.takes.line)) (sym (ap (λ (r : LineLoopValue). r.state.counts) c.read_piece.ensures.line)) (omega (arith, ap (λ (r : LineLoopValue). length r.replies) c.read_piece.ensures.line)) c.wait_for_input.ensures.same c.wait_for_input.ensures.written)
 
 pub returns-in-Ok-NoMore-clause-looked : goal.returns-in-Ok-NoMore-clause-looked
 returns-in-Ok-NoMore-clause-looked g c = c.wait_for_input.ensures.same.looked ∙ ap (λ (r : LineLoopValue). r.state.looked) c.read_piece.ensures.line
@@ -250,6 +247,9 @@ returns-in-Ok-NoMore-clause-write_stage g c =
 pub returns-in-Ok-NoMore-clause-knows : goal.returns-in-Ok-NoMore-clause-knows
 returns-in-Ok-NoMore-clause-knows g c = knows_itself _
 
+pub returns-in-Ok-NoMore-clause-begun : goal.returns-in-Ok-NoMore-clause-begun
+returns-in-Ok-NoMore-clause-begun g c = λ none empty. let is = takes_nothing _ _ _ _ _ c.in-Ok-NoMore.ensures.takes none in (is.1, c.wait_for_input.ensures.same.line ∙ is.2 ∙ empty)
+
 -- ---- no more is read
 
 stops : (g : _) (c : goal.After-end_reading g) → c.end_reading.new.self ≡ record c.args.self.now { state = record c.args.self.now.state { stage = Ending (Err c.in-Err.fault) } }
@@ -261,10 +261,8 @@ stops_by g c fault is = subst (λ (f : RunFault). StopsBy f g.S.Source.may_fail 
 pub returns-in-Err-clause-steps : goal.returns-in-Err-clause-steps
 returns-in-Err-clause-steps g c =
     let M = g.M.LineHandler in
-    let leaves = g.S.Source.left c.read_piece.new.input in
-    λ start rest steady stands.
-    subst (λ (s : Step). StepsTo (by M.moves M.makes M.ends M.goes M.goes_last) start (with_rest leaves rest) (g.W.Sink.contents c.args.output.now) c.args.machine.now c.end_reading.new.self s) (sym c.end_reading.ensures.step)
-    (Steps-stopped (by M.moves M.makes M.ends M.goes M.goes_last) steady.preorder start (g.S.Source.left c.args.input.now) leaves rest (g.W.Sink.contents c.args.output.now) c.args.machine.now c.args.self.now c.end_reading.new.self c.in-Err.fault g.S.Source.may_fail c.requires.reading stands (stops g c) c.in-Err.ensures.fault c.in-Err.ensures.kept.1)
+    λ start rest steady stands. subst (λ (s : Step). StepsTo (by M.moves M.makes M.ends M.goes M.goes_last) start (with_rest (g.S.Source.left c.read_piece.new.input) rest) (g.W.Sink.contents c.args.output.now) c.args.machine.now c.end_reading.new.self s) (sym c.end_reading.ensures.step)
+    (Steps-stopped (by M.moves M.makes M.ends M.goes M.goes_last) steady.preorder start (g.S.Source.left c.args.input.now) (g.S.Source.left c.read_piece.new.input) rest (g.W.Sink.contents c.args.output.now) c.args.machine.now c.args.self.now c.end_reading.new.self c.in-Err.fault g.S.Source.may_fail c.requires.reading stands (stops g c) c.in-Err.ensures.fault c.in-Err.ensures.kept.1)
 
 pub returns-in-Err-clause-reads : goal.returns-in-Err-clause-reads
 returns-in-Err-clause-reads g c =
@@ -289,12 +287,14 @@ returns-in-Err-clause-knows g c = knows_itself _
 pub returns-in-Err-clause-foresees : goal.returns-in-Err-clause-foresees
 returns-in-Err-clause-foresees g c =
     λ was.
-    let can = stops_foresees c.in-Err.fault g.S.Source.may_fail g.W.Sink.may_fail g.S.Source.may_end _ _ c.in-Err.ensures.fault in
     subst (λ (s : Step). ForeseesStep g.S.Source.may_fail g.W.Sink.may_fail g.S.Source.may_end c.end_reading.new.self s) (sym c.end_reading.ensures.step)
-    (subst (λ (r : LineLoopValue). Foresees g.S.Source.may_fail g.W.Sink.may_fail g.S.Source.may_end r) (sym (stops g c)) can)
+    (subst (λ (r : LineLoopValue). Foresees g.S.Source.may_fail g.W.Sink.may_fail g.S.Source.may_end r) (sym (stops g c)) (stops_foresees c.in-Err.fault g.S.Source.may_fail g.W.Sink.may_fail g.S.Source.may_end _ _ c.in-Err.ensures.fault))
 
 pub returns-in-Err-clause-written : goal.returns-in-Err-clause-written
 returns-in-Err-clause-written g c = makes_unwritten (made_by c.end_reading.result) _ _ _ (omega (arith, ap (λ (r : LineLoopValue). length r.replies) (stops g c)))
 
 pub returns-in-Err-clause-looked : goal.returns-in-Err-clause-looked
 returns-in-Err-clause-looked g c = ap (λ (r : LineLoopValue). r.state.looked) (stops g c)
+
+pub returns-in-Err-clause-begun : goal.returns-in-Err-clause-begun
+returns-in-Err-clause-begun g c = λ none empty. (keeps_nothing _ _ c.in-Err.ensures.kept.1 none, ap (λ (r : LineLoopValue). r.line) (stops g c) ∙ empty)

@@ -33,11 +33,7 @@ some_text g c = subst (λ (r : LineLoopValue). r.state.left ≢ []) c.self.view_
 pub returns-then-has_text-clause-steps : goal.returns-then-has_text-clause-steps
 returns-then-has_text-clause-steps g c =
     let M = g.M.LineHandler in
-    let left = g.S.Source.left c.args.input.now in
-    let before = g.W.Sink.contents c.args.output.now in
-    let after = g.W.Sink.contents c.write_on.new.output in
-    λ start rest steady stands.
-    Steps-written (by M.moves M.makes M.ends M.goes M.goes_last) steady.preorder start (with_rest left rest) before after c.args.machine.now c.args.self.now c.write_on.new.self stands c.write_on.result (some_text g c) c.write_on.ensures.sends
+    λ start rest steady stands. Steps-written (by M.moves M.makes M.ends M.goes M.goes_last) steady.preorder start (with_rest (g.S.Source.left c.args.input.now) rest) _ _ c.args.machine.now c.args.self.now c.write_on.new.self stands c.write_on.result (some_text g c) c.write_on.ensures.sends
 
 pub returns-then-has_text-clause-out : goal.returns-then-has_text-clause-out
 returns-then-has_text-clause-out g c =
@@ -70,6 +66,9 @@ returns-then-has_text-clause-write_fault g c = λ ends. sends_write c.args.self.
 pub returns-then-has_text-clause-write_stage : goal.returns-then-has_text-clause-write_stage
 returns-then-has_text-clause-write_stage g c = λ units is ends. sends_next c.args.self.now c.write_on.new.self _ _ Write c.write_on.result c.write_on.ensures.sends units is ends
 
+pub returns-then-has_text-clause-begun : goal.returns-then-has_text-clause-begun
+returns-then-has_text-clause-begun g c = λ none empty. (none, c.write_on.ensures.same.line ∙ empty)
+
 -- ---- the input is read: the loop is as it was before its stage was taken
 
 as_was : (g : _) (c : goal.After-read_on g) → loop_of c.self.inside.line c.self.inside.replies c.take_stage.new.self ≡ c.args.self.now
@@ -81,10 +80,7 @@ read_on-requires-clause-made g c = ap (λ (s : LineStateValue). s.left) c.take_s
 pub returns-in-Reading-clause-steps : goal.returns-in-Reading-clause-steps
 returns-in-Reading-clause-steps g c =
     let M = g.M.LineHandler in
-    let left = g.S.Source.left c.args.input.now in
-    let before = g.W.Sink.contents c.args.output.now in
-    λ start rest steady stands.
-    c.read_on.ensures.steps start rest steady (subst (λ (r : LineLoopValue). Stands (by M.moves M.makes M.ends M.goes M.goes_last) start (with_rest left rest) before c.args.machine.now r) (sym (as_was g c)) stands)
+    λ start rest steady stands. c.read_on.ensures.steps start rest steady (subst (λ (r : LineLoopValue). Stands (by M.moves M.makes M.ends M.goes M.goes_last) start (with_rest (g.S.Source.left c.args.input.now) rest) (g.W.Sink.contents c.args.output.now) c.args.machine.now r) (sym (as_was g c)) stands)
 
 pub returns-in-Reading-clause-out : goal.returns-in-Reading-clause-out
 returns-in-Reading-clause-out g c = λ is. c.read_on.ensures.out (subst (λ (r : LineLoopValue). IsOutAs r (g.W.Sink.is_handed_on c.args.output.now)) (sym (as_was g c)) is)
@@ -130,6 +126,9 @@ returns-in-Reading-clause-write_fault g c = λ ends. inr (c.read_on.ensures.writ
 pub returns-in-Reading-clause-write_stage : goal.returns-in-Reading-clause-write_stage
 returns-in-Reading-clause-write_stage g c = λ units is ends. absurd (c.read_on.ensures.write_stage units is ends)
 
+pub returns-in-Reading-clause-begun : goal.returns-in-Reading-clause-begun
+returns-in-Reading-clause-begun g c = λ none empty. c.read_on.ensures.begun none (ap (λ (r : LineLoopValue). r.line) (as_was g c) ∙ empty)
+
 -- ---- a look is gone on with: an answer is taken by a loop that reads, and has counted the records
 
 looking : (g : _) (c : goal.After-look_on g) → c.args.self.now.state.stage ≡ Looking c.in-Looking.going
@@ -154,12 +153,10 @@ pub returns-in-Looking-clause-steps : goal.returns-in-Looking-clause-steps
 returns-in-Looking-clause-steps g c =
     let M = g.M.LineHandler in
     let left = g.S.Source.left c.args.input.now in
-    let before = g.W.Sink.contents c.args.output.now in
     let old = c.args.self.now in
     let new = c.look_on.new.self in
-    λ start rest steady stands.
-    Steps-look (by M.moves M.makes M.ends M.goes M.goes_last) steady.preorder start (with_rest left rest) before c.args.machine.now c.look_on.new.machine old new c.in-Looking.going
-    (subst (λ (s : Stage). StandsAt (by M.moves M.makes M.ends M.goes M.goes_last) s start (with_rest left rest) before c.args.machine.now old) (looking g c) stands) (takes g c)
+    λ start rest steady stands. Steps-look (by M.moves M.makes M.ends M.goes M.goes_last) steady.preorder start (with_rest left rest) (g.W.Sink.contents c.args.output.now) c.args.machine.now c.look_on.new.machine old new c.in-Looking.going
+    (subst (λ (s : Stage). StandsAt (by M.moves M.makes M.ends M.goes M.goes_last) s start (with_rest left rest) (g.W.Sink.contents c.args.output.now) c.args.machine.now old) (looking g c) stands) (takes g c)
     (λ begun between text goes moved. subst (λ (r : LineLoopValue). TakesLine (AnswersWith M.makes M.goes) true begun text c.look_on.new.machine r new) (counted_is g c) (c.look_on.ensures.line begun between text goes moved))
     (λ begun between text goes moved. subst (λ (r : LineLoopValue). TakesLine (AnswersLast M.ends M.goes_last) true begun text c.look_on.new.machine r new) (counted_is g c) (c.look_on.ensures.last begun between text goes moved))
 
@@ -211,6 +208,9 @@ returns-in-Looking-clause-write_fault g c = λ ends. absurd (takes_on true _ c.l
 pub returns-in-Looking-clause-write_stage : goal.returns-in-Looking-clause-write_stage
 returns-in-Looking-clause-write_stage g c = λ units is ends. absurd (takes_on true _ c.look_on.new.self Write c.look_on.ensures.takes ends)
 
+pub returns-in-Looking-clause-begun : goal.returns-in-Looking-clause-begun
+returns-in-Looking-clause-begun g c = λ none empty. (none, takes_line true _ c.look_on.new.self (takes g c) ∙ empty)
+
 -- ---- the end is decided: what waits is written by a loop that reads
 
 ending : (g : _) (c : goal.After-end_once_out g) → c.args.self.now.state.stage ≡ Ending c.in-Ending.ended
@@ -231,9 +231,7 @@ returns-in-Ending-clause-steps g c =
     let left = g.S.Source.left c.args.input.now in
     let old = c.args.self.now in
     let before = g.W.Sink.contents c.args.output.now in
-    let after = g.W.Sink.contents c.end_once_out.new.output in
-    λ start rest steady stands.
-    Steps-ended (by M.moves M.makes M.ends M.goes M.goes_last) steady.preorder start (with_rest left rest) before after c.args.machine.now (in_stage old Reading) c.end_once_out.new.self c.in-Ending.ended
+    λ start rest steady stands. Steps-ended (by M.moves M.makes M.ends M.goes M.goes_last) steady.preorder start (with_rest left rest) before _ c.args.machine.now (in_stage old Reading) c.end_once_out.new.self c.in-Ending.ended
     (subst (λ (s : Stage). StandsAt (by M.moves M.makes M.ends M.goes M.goes_last) s start (with_rest left rest) before c.args.machine.now old) (ending g c) stands) c.end_once_out.result (ends g c)
 
 pub returns-in-Ending-clause-idle : goal.returns-in-Ending-clause-idle
@@ -292,9 +290,11 @@ returns-in-Ending-clause-read_fault g c =
 
 pub returns-in-Ending-clause-write_fault : goal.returns-in-Ending-clause-write_fault
 returns-in-Ending-clause-write_fault g c =
-    let failed = g.W.Sink.has_failed c.end_once_out.new.output in
     λ found.
-    subst (λ (s : Stage). EndsByAt Write s ⊎ failed) (sym (ending g c)) (ends_write (in_stage c.args.self.now Reading) c.end_once_out.new.self _ _ c.in-Ending.ended failed c.end_once_out.result c.end_once_out.ensures.failed (ends g c) found)
+    subst (λ (s : Stage). EndsByAt Write s ⊎ g.W.Sink.has_failed c.end_once_out.new.output) (sym (ending g c)) (ends_write (in_stage c.args.self.now Reading) c.end_once_out.new.self _ _ c.in-Ending.ended (g.W.Sink.has_failed c.end_once_out.new.output) c.end_once_out.result c.end_once_out.ensures.failed (ends g c) found)
 
 pub returns-in-Ending-clause-write_stage : goal.returns-in-Ending-clause-write_stage
 returns-in-Ending-clause-write_stage g c = λ units is found. absurd (ends_no_turn (in_stage c.args.self.now Reading) c.end_once_out.new.self _ _ c.in-Ending.ended c.end_once_out.result (ends g c) units is)
+
+pub returns-in-Ending-clause-begun : goal.returns-in-Ending-clause-begun
+returns-in-Ending-clause-begun g c = λ none empty. (none, c.end_once_out.ensures.same.line ∙ ap (λ (r : LineLoopValue). r.line) (reads_is g c) ∙ empty)
