@@ -86,7 +86,10 @@ impl InputBuffer {
         let len = held.len();
         let count = count_unbroken(held).min(most);
         self.start += count;
-        if count == most || count == len {
+        if count == most {
+            return (count, false);
+        }
+        if count == len {
             return (count, false);
         }
         self.start += 1;

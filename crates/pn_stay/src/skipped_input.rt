@@ -1,6 +1,6 @@
 //! Input that there was no memory to keep: how many lines it has, and how long the part after them is.
 
-ghost use Rattle.std.specs.Prelude.{◌≡◌, ◌⊎◌, ◌+◌, ◌<◌, ◌≤◌, ℕ, List, [], ◌∷◌, ◌++◌, length};
+ghost use Rattle.std.specs.Prelude.{◌≡◌, ◌≢◌, ◌⊎◌, ◌+◌, ◌<◌, ◌≤◌, ℕ, nat_lt, List, [], ◌∷◌, ◌++◌, length};
 ghost use Rattle.pn_line.specs.Prelude.{IsUnbroken};
 ghost use Rattle.pn_line.specs.declared.line_buffer.TheConstants.{ENDLESS, MAX_LINE_BYTES};
 ghost use Rattle.pn_stay.specs.Skipping.{HasFirst, Skips, SkipsAll, SkipsInput};
@@ -50,7 +50,7 @@ impl SkippedInput {
         requires few { length bytes.now ≤ MAX_LINE_BYTES }
         ensures { (text : List ℕ) → Skips self.old text → Skips self.new (text ++ bytes.now) }
     {
-        for byte in bytes {
+        'bytes: for byte in bytes {
             self.skip_byte(*byte);
         }
     }
@@ -69,11 +69,20 @@ impl SkippedInput {
             self.part += 1;
             return;
         }
-        if self.lines == 0 {
-            self.is_too_long = self.part > MAX_LINE_BYTES;
-        }
+        self.is_too_long = self.has_long_first();
         self.lines += 1;
         self.part = 0;
+    }
+
+    // Whether the first line is too long once its part has ended.
+    fn has_long_first(&self) -> bool
+        ensures first { self.now.lines ≡ 0 → result ≡ nat_lt MAX_LINE_BYTES self.now.part }
+        ensures later { self.now.lines ≢ 0 → result ≡ self.now.is_too_long }
+    {
+        if self.lines == 0 {
+            return self.part > MAX_LINE_BYTES;
+        }
+        self.is_too_long
     }
 
     /// What is left after the first line. None where that is no byte.
@@ -93,9 +102,12 @@ impl SkippedInput {
     fn or_none(self) -> Option<SkippedInput>
         ensures { (text : List ℕ) → Skips self text → SkipsAll result text }
     {
-        if self.lines == 0 && self.part == 0 {
-            return None;
+        if self.lines > 0 {
+            return Some(self);
         }
-        Some(self)
+        if self.part > 0 {
+            return Some(self);
+        }
+        None
     }
 }

@@ -153,18 +153,29 @@ fn unload_input(alloc: Global, buffers: &mut ThreadBuffers) -> Option<StoredInpu
     ensures state { buffers.new.lines.state ≡ buffers.old.lines.state }
     ensures replies { buffers.new.lines.replies ≡ buffers.old.lines.replies }
 {
-    if buffers.skipped.is_some() {
-        return Some(StoredInput {
+    match buffers.skipped {
+        Some(skipped) => Some(StoredInput {
             line: None,
             held: Vec::new(alloc),
-            skipped: buffers.skipped.take(),
-        });
+            skipped: Some(skipped),
+        }),
+        None => unload_unread(alloc, &mut buffers.lines, buffers.input.bytes()),
     }
-    let unread = buffers.input.bytes();
-    if let Ok(stored) = store_input(alloc, &mut buffers.lines, unread) {
-        return Some(stored);
+}
+
+// Takes the input of a loop. Where there is no memory for it, it is skipped. None where its line would have no end.
+fn unload_unread(alloc: Global, lines: &mut LineLoop, unread: &[u8]) -> Option<StoredInput>
+    requires { length unread.now ≤ INPUT_CAPACITY }
+    ensures keeps { IfSome result (λ stored. KeepsInput None lines.old.line unread.now (line_in stored.line) stored.held.items stored.skipped) }
+    ensures fits { IfSome result (λ stored. vec_len stored.held ≤ INPUT_CAPACITY) }
+    ensures none { OnNone result (ENDLESS ≤ lines.old.line.count + length unread.now) }
+    ensures state { lines.new.state ≡ lines.old.state }
+    ensures replies { lines.new.replies ≡ lines.old.replies }
+{
+    match store_input(alloc, lines, unread) {
+        Ok(stored) => Some(stored),
+        Err(_) => skip_input(alloc, lines.line(), unread),
     }
-    skip_input(alloc, buffers.lines.line(), unread)
 }
 
 // Skips the input of a loop: the line that it reads, and what is read after it. None where the line would have no end.
