@@ -7,4 +7,5 @@ pub mod Outputs
 pub mod Pieces
 pub mod Quarters
 pub mod Skipping
+pub mod SkippingSteps
 pub mod Storing

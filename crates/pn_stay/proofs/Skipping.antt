@@ -149,6 +149,13 @@ held_whole skipped line held none = subst (λ (s : Option SkippedInput). HoldsAs
 pub whole_held : (skipped : Option SkippedInput) (line : LineBufferValue) (held text : List ℕ) → skipped ≡ None → HoldsAs skipped line held text → text ≡ held
 whole_held skipped line held text none is = subst (λ (s : Option SkippedInput). HoldsAs s line held text) none is
 
+-- where something was skipped nothing else is held, and no line is read
+pub held_none : (was : Option SkippedInput) (line : LineBufferValue) (held text : List ℕ) {skipped : SkippedInput} → was ≡ Some skipped → HoldsAs was line held text → held ≡ []
+held_none was line held text some is = (subst (λ (s : Option SkippedInput). HoldsAs s line held text) some is).1
+
+pub held_line : (was : Option SkippedInput) (line : LineBufferValue) (held text : List ℕ) {skipped : SkippedInput} → was ≡ Some skipped → HoldsAs was line held text → line ≡ so_far []
+held_line was line held text some is = (subst (λ (s : Option SkippedInput). HoldsAs s line held text) some is).2
+
 -- the same
 pub held_same : (was now : Option SkippedInput) (line new_line : LineBufferValue) (held new_held text : List ℕ) → now ≡ was → new_line ≡ line → new_held ≡ held → HoldsAs was line held text → HoldsAs now new_line new_held text
 held_same was now line new_line held new_held text skipped begun same is =

@@ -86,19 +86,20 @@ fn refuse_next<M: RefusesSkipped, R: Input>(
         buffers.skipped = skipped.after_first();
         return Step::Next(buffers.lines.refuse_skipped(machine, skipped.is_too_long));
     }
-    skip_more(buffers, skipped.part, machine, input)
+    skip_more(buffers, skipped, machine, input)
 }
 
 // Reads once where a part of a line was skipped.
 fn skip_more<M: RefusesSkipped, R: Input>(
     buffers: &mut ThreadBuffers,
-    part: usize,
+    skipped: SkippedInput,
     machine: &mut M,
     input: &mut R,
 ) -> Step
+    requires some { buffers.old.skipped ≡ Some skipped }
     requires idle { IsIdleAt Step.NoInput buffers.old.lines }
     requires lines { buffers.old.lines.state.counts.lines < MAX_LINES }
-    ensures steps { (start : Start M) (written : Option (List ℕ)) (text : List ℕ) → IsSteady M.reader M.moves → IsPart part text → HoldsAs buffers.old.skipped buffers.old.lines.line buffers.old.input text
+    ensures steps { (start : Start M) (written : Option (List ℕ)) (text : List ℕ) → IsSteady M.reader M.moves → IsPart skipped.part text → HoldsAs buffers.old.skipped buffers.old.lines.line buffers.old.input text
         → Stands (by M.moves M.makes M.ends M.goes M.goes_last) start (prepend_known text (R.remaining input.old)) written machine.old buffers.old.lines
         → StepsIn (by M.moves M.makes M.ends M.goes M.goes_last) start (R.remaining input.new) written machine.new buffers.new result }
     ensures waits { WaitsWell (in_buffers buffers.new) result }
@@ -112,11 +113,12 @@ fn skip_more<M: RefusesSkipped, R: Input>(
 {
     let read = buffers.input.read_from(input);
     match came_of(&read) {
-        Came::Input => Step::Next(skip_line(buffers, part, machine)),
+        Came::Input => Step::Next(skip_line(buffers, skipped.part, machine)),
         Came::Nothing => Step::NoInput,
         Came::End => {
             buffers.skipped = None;
-            Step::Next(buffers.lines.end_skipped(machine, part > MAX_LINE_BYTES))
+            let is_too_long = skipped.part > MAX_LINE_BYTES;
+            Step::Next(buffers.lines.end_skipped(machine, is_too_long))
         }
         Came::Fault => {
             buffers.lines.end_by(Err(RunFault::Read));
