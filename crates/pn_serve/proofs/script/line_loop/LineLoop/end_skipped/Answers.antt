@@ -1,5 +1,5 @@
 -- The last part of a line, whose bytes were not kept, has its reply.
-use Rattle.std.proofs.Common.{[], length, true, ap, ◌∙◌, subst, arith}
+use Rattle.std.proofs.Common.{true, ap, ◌∙◌, subst}
 use Rattle.pn_serve.specs.Lines.Going.{AnswersLast}
 use Rattle.pn_serve.specs.Lines.States.{LineLoopValue, LineStateValue}
 use Rattle.pn_serve.specs.Lines.Stepping.{by}
@@ -8,6 +8,11 @@ use Rattle.pn_serve.proofs.Faults.{takes_on}
 use Rattle.pn_serve.proofs.Skipping.{Steps-last_skipped, begun_as, replied_at_once}
 use Rattle.pn_serve.proofs.Writing.{waits_none}
 use Rattle.pn_serve.proofs.script.line_loop.LineLoop.end_skipped.Goals as goal
+
+pub take_answer-requires-clause-made : goal.take_answer-requires-clause-made
+take_answer-requires-clause-made g c =
+    let old = c.args.self.now in
+    ap (λ (s : LineStateValue). s.left) c.set_last.ensures ∙ ap (λ (r : LineLoopValue). r.state.left) c.self.view_is ∙ (waits_none old.replies old.state.left c.requires.idle).1
 
 pub returns-clause-stands : goal.returns-clause-stands
 returns-clause-stands g c =

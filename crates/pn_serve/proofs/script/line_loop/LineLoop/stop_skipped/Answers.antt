@@ -12,7 +12,7 @@ returns-clause-endless g c =
     let H = by M.moves M.makes M.ends M.goes M.goes_last in
     λ start left written text steady unbroken long few empty stands.
     subst (λ (r : LineLoopValue). Stands H start left written c.args._machine.now r) (sym c.end_by.ensures)
-    (Steps-endless_skipped H steady.preorder start left written c.args._machine.now c.args.self.now c.requires text empty unbroken long few stands)
+    (Steps-endless_skipped H steady.preorder start left written c.args._machine.now c.args.self.now c.requires.reading text empty unbroken long few stands)
 
 pub returns-clause-many : goal.returns-clause-many
 returns-clause-many g c =
@@ -20,4 +20,4 @@ returns-clause-many g c =
     let H = by M.moves M.makes M.ends M.goes M.goes_last in
     λ start left written text steady some many stands.
     subst (λ (r : LineLoopValue). Stands H start (prepend_known text left) written c.args._machine.now r) (sym c.end_by.ensures)
-    (Steps-many_skipped H steady.preorder start left written c.args._machine.now c.args.self.now c.requires text some many stands)
+    (Steps-many_skipped H steady.preorder start left written c.args._machine.now c.args.self.now c.requires.reading text some many stands)
