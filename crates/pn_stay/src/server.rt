@@ -202,7 +202,7 @@ where
     let beside = take_beside(alloc, live, readers, sizes.threads)?;
     let kept = keep_handles(&acceptor)?;
     let control = acceptor.control.take();
-    let controls = start_controls(rt, alloc, control, &kept.counters, beside)?;
+    let controls = start_controls(rt, alloc, control, &kept.counters, beside, sizes.workers)?;
     let answering = start_answering(rt, alloc, acceptor, sizes.connections, live, readers)?;
     Ok(Started {
         running: answering.running,

@@ -14,6 +14,7 @@ use pn_protocol::Reply;
 use std::alloc::Global;
 use std::marker::Model;
 use std::sync::Wait;
+use std::thread::Threads;
 use std::time::Clock;
 
 /// A control session, its reader, and how far it is.
@@ -109,7 +110,8 @@ impl<'a, R, C: Drop> ControlHandler<'a, R, C> {
     }
 }
 
-impl<'a, R: Wait + Clock, C: StatsSource + Drop> LineHandler for ControlHandler<'a, R, C> {
+impl<'a, R: Threads + Wait + Clock, C: StatsSource + Drop> LineHandler
+    for ControlHandler<'a, R, C> {
     ghost use Rattle.pn_scan.specs.Prelude.{Stays};
     ghost use Rattle.pn_serve.specs.Control.Lines.{AnswersControl, EndsControl};
     ghost use Rattle.pn_serve.specs.Session.Knowing.{IsSteady};

@@ -17,6 +17,7 @@ use pn_live::LiveReader;
 use pn_protocol::{Stats, TabletStats};
 use std::alloc::Global;
 use std::sync::{Arc, Wait};
+use std::thread::Threads;
 use std::time::Clock;
 
 /// Says what a server has done so far, and whether the client of a session is still there.
@@ -38,6 +39,8 @@ pub struct ControlSession<C: Drop> {
     /// The number of its mailbox, from 0. No two sessions have the same at once.
     pub number: usize,
     pub stats: C,
+    /// How many workers read the lines of a copy.
+    pub workers: usize,
 }
 
 impl<C: StatsSource + Drop> ControlSession<C> {
@@ -46,7 +49,7 @@ impl<C: StatsSource + Drop> ControlSession<C> {
     /// line, once the writer takes no command any more.
     ///
     /// `Memory` comes only before the first line. Out of memory later is a reply.
-    pub fn answer<R: Wait + Clock, S: Source, W: Sink>(
+    pub fn answer<R: Threads + Wait + Clock, S: Source, W: Sink>(
         &self,
         rt: &R,
         alloc: Global,
@@ -90,7 +93,7 @@ impl<C: StatsSource + Drop> ControlSession<C> {
 }
 
 // Answers all lines of a client, and the end of its input, unless the session is closed before.
-fn answer_lines<R: Wait + Clock, C: StatsSource + Drop, S: Source, W: Sink>(
+fn answer_lines<R: Threads + Wait + Clock, C: StatsSource + Drop, S: Source, W: Sink>(
     handler: &mut ControlHandler<'_, R, C>,
     lines: &mut LineLoop,
     input: &mut S,

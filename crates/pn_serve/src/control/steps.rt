@@ -8,7 +8,7 @@ ghost use Rattle.pn_serve.specs.Machine.Modes.{bytes_of};
 use crate::control::commands::{WriterAnswer, WriterCommand};
 use crate::control::session::{ControlSession, StatsSource};
 use crate::control::tablet_counts::count_tablets;
-use crate::machine::adoption::read_text;
+use crate::machine::adoption::read_text_by;
 use crate::sessions::lookups::look_up;
 use pn_live::LiveReader;
 use pn_protocol::{
@@ -17,6 +17,7 @@ use pn_protocol::{
 };
 use std::alloc::Global;
 use std::sync::Wait;
+use std::thread::Threads;
 use std::time::Clock;
 
 /// What a line comes to.
@@ -50,7 +51,7 @@ impl<C: StatsSource + Drop> ControlSession<C> {
     }
 
     /// Reads the last command and does it. No line that it announces can come.
-    pub(crate) fn last_step<R: Wait + Clock>(
+    pub(crate) fn last_step<R: Threads + Wait + Clock>(
         &self,
         rt: &R,
         alloc: Global,
@@ -66,13 +67,18 @@ impl<C: StatsSource + Drop> ControlSession<C> {
     }
 
     /// Has the copy of a text adopted. None: memory ran out before.
-    pub(crate) fn adopt<R: Wait>(&self, rt: &R, alloc: Global, text: Option<Vec<u8>>) -> Step
+    pub(crate) fn adopt<R: Threads + Wait>(
+        &self,
+        rt: &R,
+        alloc: Global,
+        text: Option<Vec<u8>>,
+    ) -> Step
         ensures { AdoptsText (bytes_of text) result }
     {
         let Some(text) = text else {
             return Step::Replies(Reply::Refused(Refusal::Memory));
         };
-        match read_text(alloc, text) {
+        match read_text_by(rt, alloc, text, self.workers) {
             Ok(copy) => self.ask(rt, alloc, WriterCommand::Adopt(copy)),
             Err(fault) => Step::Replies(refuse(alloc, CommandFault::CopyText(fault))),
         }

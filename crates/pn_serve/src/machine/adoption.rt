@@ -16,7 +16,7 @@ use pn_join::NoMemory;
 use pn_line::MAX_KEPT_BYTES;
 use pn_protocol::{CommandFault, Refusal, Reply, refuse};
 use pn_region::Region;
-use pn_tablet::{CopyTextFault, TabletCopy, read_copy, read_copy_by};
+use pn_tablet::{CopyTextFault, TabletCopy, read_copy_by};
 use std::alloc::Global;
 use std::thread::Threads;
 
@@ -140,15 +140,8 @@ pub(crate) fn adopt<R: Threads>(
     }
 }
 
-/// Parses the copy and frees its text.
-pub(crate) fn read_text(alloc: Global, text: Vec<u8>) -> Result<TabletCopy, CopyTextFault>
-    ensures { IsUnless CopyTextFault.Memory result (copy_at text.items) }
-{
-    read_copy(alloc, &text)
-}
-
-// Parses the copy by this number of workers, and frees its text.
-fn read_text_by<R: Threads>(
+/// Parses the copy by this number of workers, and frees its text.
+pub(crate) fn read_text_by<R: Threads>(
     rt: &R,
     alloc: Global,
     text: Vec<u8>,

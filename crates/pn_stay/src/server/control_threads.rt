@@ -32,13 +32,14 @@ pub(super) struct Controls {
     pub(super) clients: Vec<Arc<ControlClient>>,
 }
 
-/// Starts a thread for each reader, if there is a control socket.
+/// Starts a thread for each reader, if there is a control socket. This number of workers reads the lines of a copy.
 pub(super) fn start_controls<R>(
     rt: &R,
     alloc: Global,
     listener: Option<Listener>,
     counters: &Arc<Counters>,
     readers: Vec<LiveReader>,
+    workers: usize,
 ) -> io::Result<Controls>
 where
     R: Threads + Wait + Clock + Copy + Send + Drop + 'static,
@@ -59,6 +60,7 @@ where
         mailboxes,
         counters,
         started: Instant::now(rt).ok(),
+        workers,
     };
     let clients = start_threads(rt, &setting, readers)?;
     Ok(Controls {
@@ -68,7 +70,8 @@ where
     })
 }
 
-// What control threads share: their socket, their mailboxes, what was counted, and since when.
+// What control threads share: their socket, their mailboxes, what was counted, since when, and how many workers read a
+// copy.
 #[derive(Drop)]
 struct ControlSetting {
     alloc: Global,
@@ -76,6 +79,7 @@ struct ControlSetting {
     mailboxes: Arc<ControlMailboxes>,
     counters: Arc<Counters>,
     started: Option<Instant>,
+    workers: usize,
 }
 
 impl ControlSetting {
@@ -89,6 +93,7 @@ impl ControlSetting {
             mailboxes,
             counters,
             started: self.started,
+            workers: self.workers,
         })
     }
 }
@@ -152,7 +157,7 @@ struct ControlThread {
 // Answers one client after another until the server is to stop.
 fn answer_clients<R>(rt: &R, thread: &ControlThread, reader: LiveReader)
 where
-    R: Wait + Clock + Drop,
+    R: Threads + Wait + Clock + Drop,
 {
     let mut reader = reader;
     for _ in rt.forever() {
@@ -187,7 +192,7 @@ fn begin<R: Wait>(
 // Answers a client to its end. Out of memory it is not answered.
 fn answer<R>(rt: &R, thread: &ControlThread, reader: LiveReader, socket: &Socket) -> LiveReader
 where
-    R: Wait + Clock + Drop,
+    R: Threads + Wait + Clock + Drop,
 {
     let setting = &thread.setting;
     let alloc = setting.alloc;
@@ -203,6 +208,7 @@ where
             started: &setting.started,
             client: socket,
         },
+        workers: setting.workers,
     };
     let input = TrackedSocket::new(socket);
     let Ok(mut input) = BufReader::with_capacity(alloc, CONTROL_READ_SIZE, input) else {

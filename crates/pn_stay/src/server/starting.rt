@@ -15,7 +15,8 @@ use std::sync::Wait;
 use std::thread::Threads;
 use std::time::Clock;
 
-/// How many threads answer connections, how many connections may be open at once, and how many workers a round has.
+/// How many threads answer connections, how many connections may be open at once, and how many workers a round or an
+/// adoption has.
 #[derive(Clone, Copy)]
 pub struct ServerSizes {
     pub threads: usize,

@@ -15,7 +15,10 @@ use std::test::Fail;
 use std::thread;
 use std::thread::Threads;
 use std::time::Clock;
-use test_kit::{bars, layout, newlines};
+use test_kit::{bars, layout, newlines, spell_out};
+
+/// How many workers read the lines of a copy.
+const WORKERS: usize = 4;
 
 /// Says what a server may have done.
 #[derive(Drop)]
@@ -109,14 +112,16 @@ fn new_stream(alloc: Global) -> Result<StreamStats, NoMemory> {
     })
 }
 
-/// The replies of a control session over a region of two tablets that has taken this many messages. A bar is a newline.
+/// The replies of a control session over a region of two tablets that has taken this many messages. A bar is a newline, and
+/// `~3~ab~` is `ababab`.
 pub(crate) fn answer_control<R>(rt: &R, alloc: Global, line: &str) -> Result<String, Fail>
 where
     R: Threads + Wait + Clock + Sync + Copy + Send + Drop + 'static,
 {
     let (count, text) = line.split_once(' ').ok_or(NoMemory)?;
     let count = count.parse::<u64>()?;
-    let lines = newlines(alloc, text)?;
+    let text = spell_out(alloc, text)?;
+    let lines = newlines(alloc, text.as_str())?;
     let written = answer_after(rt, alloc, count, lines).ok_or(NoMemory)?;
     bars(alloc, &written)
 }
@@ -153,6 +158,7 @@ where
         mailboxes: Arc::new(alloc, mailboxes).ok()?,
         number: 0,
         stats: SomeStats,
+        workers: WORKERS,
     };
     answer_beside(rt, alloc, live, (session, reader, lines))
 }
@@ -177,7 +183,7 @@ where
 }
 
 // Answers the lines, and has the writer stop.
-fn answer<R: Wait + Clock>(
+fn answer<R: Threads + Wait + Clock>(
     rt: &R,
     alloc: Global,
     session: &ControlSession<SomeStats>,

@@ -1,0 +1,97 @@
+"""Tries clients whose input a program that stays has no memory to keep.
+
+  checks/run skipped PROGRAM [--clients N]
+
+One session thread. Once 20,000 records are read in, memory is limited to what it has and 256 KB. Each client sends most of a line, and
+some are too long. None may be disconnected: each line is answered as it should be or by `memory`, one too long by `too-long`, and each line
+after it in its order. An honest client reads beside them all the while.
+
+Exit status 0 where all of that holds, and input was skipped for some of them.
+"""
+import contextlib
+import json
+import resource
+import subprocess
+import tempfile
+import threading
+
+from common.served import Client, fifo, in_time, message, row_of, same, seconds_of
+from common.tried import program_parser
+from serving.staying import Staying, raise_descriptors
+
+RECORDS, SPARE_KB = 20_000, 256
+MEMORY, TOO_LONG = {"error": "memory"}, {"error": "too-long"}
+LINE = b'{"do":"read","key":"k1"}\n'
+ROW = {"row": row_of("k1", 1, "x")}
+# Each fifth client sends 70,000 bytes of a line, and no client's part fits with another's into the memory that is left.
+LONG, SHORT = 70_000, 60_000
+
+
+class Skipped(Client):
+    """A client that sends a line in two parts."""
+
+    def __init__(self, port: int, number: int) -> None:
+        super().__init__(port)
+        self.is_too_long = number % 5 == 0
+        self.send(LINE * 3 + b'{"do":"read","key":"k1"}' + b" " * (LONG if self.is_too_long else SHORT))
+
+    def finish(self, is_last: bool) -> bool:
+        """Ends the line, and asks three others or no more. Whether its input was skipped."""
+        self.send(b"" if is_last else b"\n" + LINE * 3)
+        self.end_input()
+        replies = [json.loads(line) for line in self.replies]
+        before, reply, after = replies[:3], replies[3], replies[4:]
+        same("the replies", [got for got in before + after if got not in (ROW, MEMORY)], [])
+        same("how many there are", (len(before), len(after)), (3, 0 if is_last else 3))
+        same("the reply to a line in two parts", reply in ([TOO_LONG] if self.is_too_long else [ROW, MEMORY]), True)
+        return MEMORY in replies
+
+
+def try_clients(program: str, folder: str, count: int) -> int:
+    """How many clients' input was skipped."""
+    path, stream = fifo(folder, "east")
+    with stream, Staying(program, folder, [("east", path)], "--connections", "4096", threads=1) as region, contextlib.ExitStack() as stay:
+        for at in range(1, RECORDS + 1):
+            stream.write(message(at, f"k{at}", at, "x"))
+        honest = stay.enter_context(Client(region.port))
+        honest.wait_for(f"k{RECORDS}", row_of(f"k{RECORDS}", RECORDS, "x"))
+        idle = seconds_of(lambda: honest.read("k1"))
+        limit_memory(region)
+        clients = [stay.enter_context(Skipped(region.port, number)) for number in range(count)]
+        is_over, slowest = threading.Event(), [0.0]
+        beside = threading.Thread(target=read_until, args=[honest, is_over, slowest])
+        beside.start()
+        try:
+            skipped = sum(client.finish(number % 7 == 0) for number, client in enumerate(clients))
+        finally:
+            is_over.set()
+            beside.join()
+        in_time("an honest client's slowest read", slowest[0], 1, idle)
+    return skipped
+
+
+def limit_memory(region: Staying) -> None:
+    with open(f"/proc/{region.process.pid}/statm") as file:
+        size = int(file.read().split()[0]) * resource.getpagesize()
+    resource.prlimit(region.process.pid, resource.RLIMIT_AS, (size + (SPARE_KB << 10),) * 2)
+
+
+def read_until(client: Client, is_over: threading.Event, slowest: list[float]) -> None:
+    while not is_over.wait(0.01):
+        slowest[0] = max(slowest[0], seconds_of(lambda: same("an honest read", client.read("k1"), ROW)))
+
+
+def main(words: list[str]) -> int:
+    parser = program_parser(__doc__)
+    parser.add_argument("--clients", metavar="N", type=int, default=1_000)
+    given = parser.parse_args(words)
+    raise_descriptors()
+    with tempfile.TemporaryDirectory() as folder:
+        try:
+            skipped = try_clients(given.program, folder, given.clients)
+            same("whether input was skipped", skipped > 0, True)
+        except (AssertionError, OSError, IndexError, ValueError, subprocess.SubprocessError) as fault:
+            print(f"WRONG: {fault}")
+            return 1
+    print(f"{skipped:,} of {given.clients:,} clients had a line refused for want of memory; none was disconnected: as it should be")
+    return 0
