@@ -1,5 +1,5 @@
 -- What a read brings to a connection.
-use Rattle.std.proofs.Common.{◌≡◌, ◌≢◌, ℕ, Bool, true, false, Option, None, Some, List, [], IfSome, inl, inr, refl, sym, ap, subst}
+use Rattle.std.proofs.Common.{◌≡◌, ◌≢◌, ℕ, Bool, true, false, Option, None, Some, List, [], ◌++◌, IfSome, inl, inr, refl, sym, ap, ◌∙◌, subst, append_assoc}
 use Rattle.std.specs.Prelude.{◌⊎◌, Result, Ok, Err, IfErr, IfOk, OnErr}
 use Rattle.std.specs.IoError.{error_kind}
 use Rattle.std.specs.Io.KnownBytes.{Consumes, IsAtEnd, Keeps, prepend_known}
@@ -72,27 +72,32 @@ module _ {V : Type 0} (handling : Handling V) (start : Start V) (written : Optio
   from_reading : (left : Option (List ℕ)) → StandsAt handling Reading start left written machine run → Stands handling start left written machine run
   from_reading left stands = subst (λ (s : Stage). StandsAt handling s start left written machine run) (sym reading) stands
 
-  -- some input came
-  pub Stands-came : (left leaves : Option (List ℕ)) (bs : List ℕ) → Consumes left leaves bs → Stands handling start (prepend_known [] left) written machine run → Stands handling start (prepend_known bs leaves) written machine run
-  Stands-came None leaves bs consumes stands =
-      from_reading (prepend_known bs leaves) (told_or start.left _ _ (at_reading None stands) (λ none. at_untold start.left _ none) (λ script told is. absurd (none_known is.read.rest is.read.left_is)))
-  Stands-came (Some x) None bs consumes stands = absurd consumes
-  Stands-came (Some x) (Some y) bs consumes stands = subst (λ (l : List ℕ). Stands handling start (Some l) written machine run) consumes stands
+  -- some input came after what was read and skipped
+  pub Stands-came : (text : List ℕ) (left leaves : Option (List ℕ)) (bs : List ℕ) → Consumes left leaves bs → Stands handling start (prepend_known text left) written machine run → Stands handling start (prepend_known (text ++ bs) leaves) written machine run
+  Stands-came text None leaves bs consumes stands =
+      from_reading (prepend_known (text ++ bs) leaves) (told_or start.left _ _ (at_reading None stands) (λ none. at_untold start.left _ none) (λ script told is. absurd (none_known is.read.rest is.read.left_is)))
+  Stands-came text (Some x) None bs consumes stands = absurd consumes
+  Stands-came text (Some x) (Some y) bs consumes stands =
+      subst (λ (l : List ℕ). Stands handling start (Some l) written machine run) (ap (λ (l : List ℕ). text ++ l) consumes ∙ sym (append_assoc text bs y)) stands
 
   -- at its end none comes
   pub Ends-known : (leaves : Option (List ℕ)) → IsAtEnd leaves → Stands handling start (prepend_known [] leaves) written machine run → IfSome start.left (λ _. prepend_known [] leaves ≡ Some [])
   Ends-known None end stands = told_or start.left _ _ (at_reading None stands) (λ none. at_untold start.left _ none) (λ script told is. absurd (none_known is.read.rest is.read.left_is))
   Ends-known (Some x) end stands = if_known start.left (Some x ≡ Some []) (ap Some end)
 
-pub Keeps-front : (left leaves : Option (List ℕ)) → Keeps left leaves → Keeps (prepend_known [] left) (prepend_known [] leaves)
-Keeps-front None leaves kept = tt
-Keeps-front (Some x) None kept = absurd kept
-Keeps-front (Some x) (Some y) kept = kept
+  pub Ends-left : (text : List ℕ) (leaves : Option (List ℕ)) → IsAtEnd leaves → Stands handling start (prepend_known text leaves) written machine run → IfSome start.left (λ _. leaves ≡ Some [])
+  Ends-left text None end stands = told_or start.left _ _ (at_reading None stands) (λ none. at_untold start.left _ none) (λ script told is. absurd (none_known is.read.rest is.read.left_is))
+  Ends-left text (Some x) end stands = if_known start.left (Some x ≡ Some []) (ap Some end)
+
+pub Keeps-front : (text : List ℕ) (left leaves : Option (List ℕ)) → Keeps left leaves → Keeps (prepend_known text left) (prepend_known text leaves)
+Keeps-front text None leaves kept = tt
+Keeps-front text (Some x) None kept = absurd kept
+Keeps-front text (Some x) (Some y) kept = ap (λ (l : List ℕ). text ++ l) kept
 
 -- a new connection stands at the start of its script
 pub Continues-new : {V : Type 0} (handling : Handling V) (reader : V → LiveReaderValue) → IsSteady reader handling.moves → (machine : V) (left written : Option (List ℕ)) → Continues handling (start_at machine left written) left written machine new_connection
-Continues-new handling reader steady machine None written = Stands-new handling steady.preorder machine None written new_loop refl
-Continues-new handling reader steady machine (Some script) written = Stands-new handling steady.preorder machine (Some script) written new_loop refl
+Continues-new handling reader steady machine None written = ([], refl, Stands-new handling steady.preorder machine None written new_loop refl)
+Continues-new handling reader steady machine (Some script) written = ([], refl, Stands-new handling steady.preorder machine (Some script) written new_loop refl)
 
 -- ---- pauses
 

@@ -6,4 +6,6 @@ pub mod Inputs
 pub mod Outputs
 pub mod Pieces
 pub mod Quarters
+pub mod Skipping
+pub mod SkippingSteps
 pub mod Storing

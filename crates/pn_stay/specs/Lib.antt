@@ -9,4 +9,5 @@ pub mod Outputs
 pub mod Reasons
 pub mod Scripted
 pub mod Servers
+pub mod Skipping
 pub mod Turns

@@ -12,7 +12,7 @@ use Rattle.pn_serve.specs.declared.script.line_loop.steps.Step.TheVariants.{Next
 use Rattle.pn_serve.specs.Lines.Faults.{EndsByAt}
 use Rattle.pn_serve.specs.Lines.States.{Start, waits_in}
 use Rattle.pn_serve.specs.Lines.Stepping.{Handling, HasEnded, Stands, StepsTo as LoopStepsTo}
-use Rattle.pn_stay.specs.Connections.{ConnectionValue, IsKept, loop_of}
+use Rattle.pn_stay.specs.Connections.{ConnectionValue, IsEndless, IsHeld, IsKept, loop_of}
 use Rattle.pn_stay.specs.Outputs.{AnswersAtMost, LooksFew}
 use Rattle.pn_stay.specs.declared.connection_state.ThreadBuffers.{ThreadBuffers}
 use Rattle.pn_stay.specs.declared.connection_state.Pause.{Pause}
@@ -24,7 +24,7 @@ use Rattle.pn_stay.specs.declared.steps.Came.TheVariants as came
 
 -- what the connection at some buffers keeps
 abbrev pub in_buffers : ThreadBuffers → ConnectionValue
-in_buffers buffers = record { line = buffers.lines.line; held = buffers.input; replies = buffers.lines.replies; state = buffers.lines.state }
+in_buffers buffers = record { line = buffers.lines.line; held = buffers.input; skipped = buffers.skipped; replies = buffers.lines.replies; state = buffers.lines.state }
 
 -- what a read brought: input, nothing for now, the end, or a fault
 abbrev pub IsRead : Result Bool Error → Came → Type 0
@@ -76,11 +76,11 @@ LooksWithin most old new (Goes pause) = LooksFew most old.state new.state
 LooksWithin most old new (Ended ended) = Unit {0}
 LooksWithin most old new OutOfMemory = Unit {0}
 
--- the connection is kept in a pause, or there was no memory for that
+-- the connection is kept in a pause, unless bytes wait or its line would have no end, and there was no memory for that
 abbrev pub KeepsOr : ConnectionValue → Pause → ConnectionValue → TurnOutcome → Type 0
 KeepsOr old pause new (Goes other) = (other ≡ pause) × IsKept old new
 KeepsOr old pause new (Ended ended) = ⊥
-KeepsOr old pause new OutOfMemory = Unit {0}
+KeepsOr old pause new OutOfMemory = (old.replies ≢ []) ⊎ IsEndless old
 
 -- the connection is kept after a step, unless it has ended
 abbrev pub Stores : ConnectionValue → Step → ConnectionValue → TurnOutcome → Type 0
@@ -90,13 +90,13 @@ Stores old NoRoom new outcome = KeepsOr old Output new outcome
 Stores old (Ends ended) new outcome = outcome ≡ Ended ended
 
 module _ {V : Type 0} (handling : Handling V) where
-  -- its loop stands over the input that is held and what is left of its source
+  -- its loop stands over the input that it holds or has skipped, and what is left of its source
   abbrev pub Continues : Start V → Option (List ℕ) → Option (List ℕ) → V → ConnectionValue → Type 0
-  Continues start left written machine kept = Stands handling start (prepend_known kept.held left) written machine (loop_of kept)
+  Continues start left written machine kept = (text : List ℕ) × IsHeld kept text × Stands handling start (prepend_known text left) written machine (loop_of kept)
 
   -- so at some buffers after a step
   abbrev pub StepsIn : Start V → Option (List ℕ) → Option (List ℕ) → V → ThreadBuffers → Step → Type 0
-  StepsIn start left written machine buffers step = LoopStepsTo handling start (prepend_known buffers.input left) written machine (loop_of (in_buffers buffers)) step
+  StepsIn start left written machine buffers step = (text : List ℕ) × IsHeld (in_buffers buffers) text × LoopStepsTo handling start (prepend_known text left) written machine (loop_of (in_buffers buffers)) step
 
   -- the connection goes on, or has ended as its session ends; without memory, as one whose writer fails
   abbrev pub TurnsTo : Start V → Option (List ℕ) → Option (List ℕ) → V → ConnectionValue → TurnOutcome → Type 0

@@ -8,7 +8,7 @@ use crate::connection_state::{ConnectionState, Pause, ThreadBuffers, TurnOutcome
 use crate::polled_input::PolledInput;
 use crate::socket::{Socket, TrackedSocket};
 use mio::event::Event;
-use pn_serve::{LineHandler, RunFault};
+use pn_serve::{RefusesSkipped, RunFault};
 use std::alloc::Global;
 use std::marker::Model;
 
@@ -62,7 +62,7 @@ impl Connection {
     }
 
     /// One turn, after which it is not ready. None where the connection has ended.
-    pub(crate) fn turn<M: LineHandler>(
+    pub(crate) fn turn<M: RefusesSkipped>(
         &mut self,
         buffers: &mut ThreadBuffers,
         machine: &mut M,

@@ -14,17 +14,17 @@ ghost use Rattle.pn_stay.specs.Inputs.{most_taken, TakesAtMost};
 ghost use Rattle.pn_stay.specs.Outputs.{AnswersAtMost, LooksFew, most_looked, most_made, most_written};
 ghost use Rattle.pn_serve.specs.Session.Knowing.{IsSteady, KnowsNoLess};
 
-mod spare_input;
 mod storage;
 
-use crate::connection_state::spare_input::SpareInput;
 use crate::input::Input;
 use crate::input_buffer::InputBuffer;
+use crate::skipped_input::SkippedInput;
 use crate::steps::take_steps;
 use pn_join::NoMemory;
 use pn_line::{LineBuffer, Sink};
 use pn_serve::{
-    Counts, LineCounts, LineHandler, LineLoop, LineState, ReplyBuffer, RunFault, SendOutcome, Step,
+    Counts, LineCounts, LineHandler, LineLoop, LineState, RefusesSkipped, ReplyBuffer, RunFault,
+    SendOutcome, Step,
 };
 use std::alloc::Global;
 use std::marker::Model;
@@ -43,8 +43,8 @@ pub struct ThreadBuffers {
     pub(crate) input: InputBuffer,
     // What the thread goes on with once a connection keeps the replies that its socket did not take.
     pub(crate) spare: Option<ReplyBuffer>,
-    // In which a connection keeps its input where there is no memory of just its size.
-    pub(crate) spare_input: Option<SpareInput>,
+    // The input of its connection that was not kept.
+    pub(crate) skipped: Option<SkippedInput>,
     pub(crate) answered: LineCounts,
 }
 
@@ -54,12 +54,11 @@ impl ThreadBuffers {
         let lines = LineLoop::new(alloc)?;
         let input = InputBuffer::new(alloc)?;
         let spare = ReplyBuffer::new(alloc)?;
-        let spare_input = SpareInput::new(alloc)?;
         Ok(ThreadBuffers {
             lines,
             input,
             spare: Some(spare),
-            spare_input: Some(spare_input),
+            skipped: None,
             answered: NO_LINES,
         })
     }
@@ -78,6 +77,8 @@ pub struct ConnectionState {
     line: Option<LineBuffer>,
     // Input that was read and is not answered.
     held: Vec<u8>,
+    // Input that was read and not kept, of which each line is to be refused.
+    skipped: Option<SkippedInput>,
     // The replies that the socket has not taken, if there are any.
     replies: Option<ReplyBuffer>,
     state: LineState,
@@ -95,7 +96,7 @@ impl Model for ConnectionState {
 
     ghost coded = { Prim.hlevel (codes, stages.the_row.coded) };
 
-    ghost view = { λ kept. record { line = line_in kept.line; held = kept.held.items; replies = replies_in kept.replies; state = kept.state } };
+    ghost view = { λ kept. record { line = line_in kept.line; held = kept.held.items; skipped = kept.skipped; replies = replies_in kept.replies; state = kept.state } };
 
     ghost invariant = { λ kept. vec_len kept.held ≤ INPUT_CAPACITY };
 }
@@ -118,7 +119,7 @@ pub enum TurnOutcome {
     Goes(Pause),
     /// The connection has ended, as a session ends.
     Ended(Result<Counts, RunFault>),
-    /// The connection has ended, since there is no memory in which to keep it.
+    /// The connection has ended, since there is no memory for its replies.
     OutOfMemory,
 }
 
@@ -131,6 +132,7 @@ impl ConnectionState {
             alloc,
             line: None,
             held: Vec::new(alloc),
+            skipped: None,
             replies: None,
             state: LineState::new(),
         }
@@ -140,7 +142,7 @@ impl ConnectionState {
     /// that are read, made and written.
     ///
     /// Where the socket leaves replies nothing is read: at most 128 KB of them wait.
-    pub fn turn<M: LineHandler, R: Input, W: Sink>(
+    pub fn turn<M: RefusesSkipped, R: Input, W: Sink>(
         &mut self,
         buffers: &mut ThreadBuffers,
         machine: &mut M,
@@ -170,7 +172,7 @@ impl ConnectionState {
 }
 
 // Sends what waits, and takes the steps of a turn where nothing is left of it.
-fn send_and_step<M: LineHandler, R: Input, W: Sink>(
+fn send_and_step<M: RefusesSkipped, R: Input, W: Sink>(
     buffers: &mut ThreadBuffers,
     machine: &mut M,
     input: &mut R,
@@ -195,7 +197,7 @@ fn send_and_step<M: LineHandler, R: Input, W: Sink>(
 }
 
 // Takes the steps of a turn, and sends what they left.
-fn step_and_send<M: LineHandler, R: Input, W: Sink>(
+fn step_and_send<M: RefusesSkipped, R: Input, W: Sink>(
     buffers: &mut ThreadBuffers,
     machine: &mut M,
     input: &mut R,
@@ -228,6 +230,7 @@ fn send_waiting<M: LineHandler, W: Sink>(
     ensures steps { (start : Start M) (left : Option (List ℕ)) → IsSteady M.reader M.moves → Stands (by M.moves M.makes M.ends M.goes M.goes_last) start left (W.contents output.old) machine.now buffers.old.lines
         → StepsTo (by M.moves M.makes M.ends M.goes M.goes_last) start left (W.contents output.new) machine.now buffers.new.lines result }
     ensures input { buffers.new.input ≡ buffers.old.input }
+    ensures skipped { buffers.new.skipped ≡ buffers.old.skipped }
     ensures stops { StopsWell (in_buffers buffers.new) result }
     ensures few { HandsOnAtMost REPLY_CAPACITY buffers.old.lines buffers.new.lines }
     ensures written { MakesAtMost 0 (W.contents output.old) (W.contents output.new) buffers.old.lines.replies buffers.new.lines.replies }

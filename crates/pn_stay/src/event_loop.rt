@@ -12,7 +12,7 @@ use crate::lingering::LingeringSockets;
 use crate::socket::Socket;
 use crate::socket_mailbox::SocketMailbox;
 use mio::{Events, Poll, Token};
-use pn_serve::LineHandler;
+use pn_serve::RefusesSkipped;
 use slab::Slab;
 use std::alloc::Global;
 use std::sync::{Arc, Wait};
@@ -78,7 +78,7 @@ impl EventLoop {
 
     /// Answers connections until the mailbox is closed and the last has ended. An error is one of the system's wait.
     #[tactic(auto, using(pn_serve::proofs::Knowing::knows_on))]
-    pub(crate) fn run<R: Wait + Clock, M: LineHandler>(
+    pub(crate) fn run<R: Wait + Clock, M: RefusesSkipped>(
         &mut self,
         rt: &R,
         mailbox: &SocketMailbox,
@@ -231,7 +231,7 @@ impl EventLoop {
     }
 
     // Gives each connection that is ready one turn.
-    fn take_turns<R: Wait, M: LineHandler>(
+    fn take_turns<R: Wait, M: RefusesSkipped>(
         &mut self,
         rt: &R,
         mailbox: &SocketMailbox,
@@ -258,7 +258,7 @@ impl EventLoop {
     }
 
     // One turn of the connection of a key. Where it is gone, nothing is at hand.
-    fn give_turn<M: LineHandler>(&mut self, key: usize, machine: &mut M) -> Option<Pause>
+    fn give_turn<M: RefusesSkipped>(&mut self, key: usize, machine: &mut M) -> Option<Pause>
         requires ready { M.ready }
         ensures knows { KnowsNoLess (M.reader machine.old) (M.reader machine.new) }
     {

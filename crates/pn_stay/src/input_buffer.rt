@@ -1,9 +1,10 @@
 //! The input buffer of a session thread, which its connections use one after another.
 
-ghost use Rattle.std.specs.Prelude.{◌≡◌, ◌≢◌, ◌≤◌, ◌<◌, ◌↔◌, ◌⊎◌, [], true, false, length, take, IfErr, IfOk, IsTrue, OnErr};
+ghost use Rattle.std.specs.Prelude.{◌≡◌, ◌≢◌, ◌⊎◌, ◌+◌, ◌≤◌, ◌<◌, ◌↔◌, [], ◌∷◌, true, false, drop, length, take, IfErr, IfOk, IsTrue, OnErr};
 ghost use Rattle.std.specs.Io.KnownBytes.{Consumes, IsAtEnd, Keeps};
 ghost use Rattle.std.specs.IoError.{error_kind};
-ghost use Rattle.pn_line.specs.Reads.{newline_after};
+ghost use Rattle.pn_line.specs.Reads.{IsUnbroken, newline_after};
+ghost use Rattle.pn_stay.specs.Skipping.{SkipsLine};
 
 use crate::input::Input;
 use pn_line::{InMemory, LineBuffer, MAX_LINE_BYTES, Piece, Source};
@@ -77,6 +78,24 @@ impl InputBuffer {
         self.end = bytes.len();
     }
 
+    /// Skips the bytes of a line, but at most so many, and its newline. How many bytes it skipped of the line, and whether its newline.
+    pub(crate) fn skip_line(&mut self, most: usize) -> (usize, bool)
+        ensures { SkipsLine most self.old result.0 result.1 self.new }
+    {
+        let held = self.bytes();
+        let len = held.len();
+        let count = count_unbroken(held).min(most);
+        self.start += count;
+        if count == most {
+            return (count, false);
+        }
+        if count == len {
+            return (count, false);
+        }
+        self.start += 1;
+        (count, true)
+    }
+
     /// Reads once, in place of the input that it holds. False at the end of the input.
     pub fn read_from<R: Input>(&mut self, input: &mut R) -> io::Result<bool>
         ensures came { IfOk result (λ _. Consumes (R.remaining input.old) (R.remaining input.new) self.new) }
@@ -106,6 +125,22 @@ fn read_piece<R: Input>(input: &mut R, bytes: &mut [u8]) -> io::Result<usize>
 {
     let count = input.read_some(&mut bytes[..READ_SIZE])?;
     Ok(count)
+}
+
+// How many bytes come before the first newline, or how many there are.
+fn count_unbroken(bytes: &[u8]) -> usize
+    ensures within { result ≤ length bytes.now }
+    ensures unbroken { IsUnbroken (take result bytes.now) }
+    ensures newline { result < length bytes.now → drop result bytes.now ≡ 10 ∷ drop (result + 1) bytes.now }
+{
+    let mut count = 0;
+    'bytes: for byte in bytes {
+        if *byte == b'\n' {
+            return count;
+        }
+        count += 1;
+    }
+    count
 }
 
 // Writes bytes over the first of others.

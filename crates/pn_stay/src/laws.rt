@@ -13,12 +13,12 @@ use crate::input::Input;
 use crate::scripted::{ScriptedSink, ScriptedSource};
 use pn_join::NoMemory;
 use pn_line::Sink;
-use pn_serve::{Counts, LineHandler, RunFault};
+use pn_serve::{Counts, RefusesSkipped, RunFault};
 use std::alloc::Global;
 
 /// Answers a connection that has its handler alone, until it ends or all `turns` are over. It ends as a session of its
 /// whole input ends. None where the turns were over.
-pub fn answer_in_turns<M: LineHandler, R: Input, W: Sink>(
+pub fn answer_in_turns<M: RefusesSkipped, R: Input, W: Sink>(
     alloc: Global,
     machine: &mut M,
     input: &mut R,
@@ -37,7 +37,7 @@ pub fn answer_in_turns<M: LineHandler, R: Input, W: Sink>(
 
 // Gives a connection turns until it ends, or all are over. The buffers and the connection are the caller's, since a loop that owns
 // them has a long proof.
-fn take_turns<M: LineHandler, R: Input, W: Sink>(
+fn take_turns<M: RefusesSkipped, R: Input, W: Sink>(
     state: &mut ConnectionState,
     buffers: &mut ThreadBuffers,
     machine: &mut M,
@@ -61,7 +61,7 @@ fn take_turns<M: LineHandler, R: Input, W: Sink>(
 
 /// For every list of pieces, with waits among them, and every list of what a sink takes, with waits among them: a
 /// connection that ends leaves what a session of all the bytes leaves.
-pub fn every_way_of_coming_and_going<M: LineHandler>(
+pub fn every_way_of_coming_and_going<M: RefusesSkipped>(
     alloc: Global,
     machine: &mut M,
     pieces: &[Vec<u8>],

@@ -23,6 +23,7 @@ mod scripted;
 mod seldom;
 mod server;
 mod shared;
+mod skipped_input;
 mod socket;
 mod socket_mailbox;
 mod steps;

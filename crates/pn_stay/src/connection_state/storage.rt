@@ -1,14 +1,16 @@
 //! What a connection keeps is loaded into the buffers of its thread, and stored again after a turn.
 
-ghost use Rattle.std.specs.Prelude.{◌≡◌, ◌≢◌, ◌+◌, ◌≤◌, [], ◌++◌, Option, length, vec_len, IfOk, IfSome, IsFalse, IsTrue, MatchBool, OnErr};
-ghost use Rattle.pn_stay.specs.Connections.{DoesNotFit, SameInput, line_in, replies_in};
-ghost use Rattle.pn_line.specs.declared.line_buffer.TheConstants.{MAX_LINE_BYTES};
+ghost use Rattle.std.specs.Prelude.{◌≡◌, ◌≢◌, ◌+◌, ◌≤◌, ◌↔◌, [], ◌++◌, None, length, vec_len, IfOk, IfSome, IsFalse, IsTrue, MatchBool, OnErr, OnNone};
+ghost use Rattle.pn_line.specs.Prelude.{so_far};
+ghost use Rattle.pn_line.specs.declared.line_buffer.TheConstants.{ENDLESS, MAX_LINE_BYTES};
+ghost use Rattle.pn_stay.specs.Connections.{DoesNotFit, KeepsInput, SameInput, line_in, replies_in};
+ghost use Rattle.pn_stay.specs.Skipping.{SkipsInput};
 ghost use Rattle.pn_stay.specs.Turns.{in_buffers, KeepsOr, PausesWell, StopsWell, Stores};
 
-use crate::connection_state::spare_input::SpareInput;
 use crate::connection_state::{ConnectionState, Pause, ThreadBuffers, TurnOutcome};
 use crate::input_buffer::INPUT_CAPACITY;
-use pn_line::{Discard, LineBuffer};
+use crate::skipped_input::SkippedInput;
+use pn_line::{Discard, ENDLESS, LineBuffer};
 use pn_serve::{LineLoop, ReplyBuffer, Step};
 use std::alloc::{AllocError, Global};
 use std::mem;
@@ -23,9 +25,7 @@ impl ConnectionState {
         buffers.lines.swap_state(&mut self.state);
         buffers.input.fill(&self.held);
         self.held = Vec::new(self.alloc);
-        if buffers.spare_input.is_none() {
-            buffers.spare_input = SpareInput::new(self.alloc).ok();
-        }
+        buffers.skipped = self.skipped.take();
         let can_keep = load_replies(self.alloc, buffers, &mut self.replies);
         buffers.lines.set_scarce(!can_keep);
     }
@@ -43,7 +43,7 @@ impl ConnectionState {
         }
     }
 
-    // Keeps it in a pause, if there is memory for that.
+    // Keeps it in a pause. Input that there is no memory for is skipped; replies are not.
     fn keep(&mut self, buffers: &mut ThreadBuffers, pause: Pause) -> TurnOutcome
         ensures { KeepsOr (in_buffers buffers.old) pause self.new result }
     {
@@ -53,6 +53,7 @@ impl ConnectionState {
         };
         self.line = stored.line;
         self.held = stored.held;
+        self.skipped = stored.skipped;
         if !keep_replies(buffers, &mut self.replies) {
             return TurnOutcome::OutOfMemory;
         }
@@ -138,28 +139,61 @@ fn swap_replies(lines: &mut LineLoop, others: ReplyBuffer) -> ReplyBuffer
 
 // The input of a connection between two turns.
 #[derive(Drop)]
-pub(super) struct StoredInput {
-    pub(super) line: Option<LineBuffer>,
-    pub(super) held: Vec<u8>,
+struct StoredInput {
+    line: Option<LineBuffer>,
+    held: Vec<u8>,
+    skipped: Option<SkippedInput>,
 }
 
-// Takes the input out of the buffers. Where there is no memory of its size, it is kept in that which the thread has to spare, unless
-// bytes wait: a client that takes no replies does not get it.
+// Takes the input out of the buffers. Where there is no memory for it, it is skipped. None where its line would have no end.
 fn unload_input(alloc: Global, buffers: &mut ThreadBuffers) -> Option<StoredInput>
-    ensures same { IfSome result (λ stored. SameInput buffers.old.lines.line buffers.old.input (line_in stored.line) stored.held.items) }
+    ensures keeps { IfSome result (λ stored. KeepsInput buffers.old.skipped buffers.old.lines.line buffers.old.input (line_in stored.line) stored.held.items stored.skipped) }
     ensures fits { IfSome result (λ stored. vec_len stored.held ≤ INPUT_CAPACITY) }
+    ensures none { OnNone result (ENDLESS ≤ buffers.old.lines.line.count + length buffers.old.input) }
     ensures state { buffers.new.lines.state ≡ buffers.old.lines.state }
     ensures replies { buffers.new.lines.replies ≡ buffers.old.lines.replies }
 {
-    let unread = buffers.input.bytes();
-    if let Ok(stored) = store_input(alloc, &mut buffers.lines, unread) {
-        return Some(stored);
+    match buffers.skipped {
+        Some(skipped) => Some(StoredInput {
+            line: None,
+            held: Vec::new(alloc),
+            skipped: Some(skipped),
+        }),
+        None => unload_unread(alloc, &mut buffers.lines, buffers.input.bytes()),
     }
-    if !buffers.lines.is_sent() {
+}
+
+// Takes the input of a loop. Where there is no memory for it, it is skipped. None where its line would have no end.
+fn unload_unread(alloc: Global, lines: &mut LineLoop, unread: &[u8]) -> Option<StoredInput>
+    requires { length unread.now ≤ INPUT_CAPACITY }
+    ensures keeps { IfSome result (λ stored. KeepsInput None lines.old.line unread.now (line_in stored.line) stored.held.items stored.skipped) }
+    ensures fits { IfSome result (λ stored. vec_len stored.held ≤ INPUT_CAPACITY) }
+    ensures none { OnNone result (ENDLESS ≤ lines.old.line.count + length unread.now) }
+    ensures state { lines.new.state ≡ lines.old.state }
+    ensures replies { lines.new.replies ≡ lines.old.replies }
+{
+    match store_input(alloc, lines, unread) {
+        Ok(stored) => Some(stored),
+        Err(_) => skip_input(alloc, lines.line(), unread),
+    }
+}
+
+// Skips the input of a loop: the line that it reads, and what is read after it. None where the line would have no end.
+fn skip_input(alloc: Global, line: &LineBuffer, unread: &[u8]) -> Option<StoredInput>
+    requires { length unread.now ≤ INPUT_CAPACITY }
+    ensures skips { IfSome result (λ stored. SkipsInput line.now unread.now stored.skipped) }
+    ensures alone { IfSome result (λ stored. (line_in stored.line ≡ so_far []) × (stored.held.items ≡ [])) }
+    ensures fits { IfSome result (λ stored. vec_len stored.held ≤ INPUT_CAPACITY) }
+    ensures none { OnNone result (ENDLESS ≤ line.now.count + length unread.now) }
+{
+    if line.len() + unread.len() >= ENDLESS {
         return None;
     }
-    let spare = buffers.spare_input.take()?;
-    Some(spare.take(&mut buffers.lines, unread))
+    Some(StoredInput {
+        line: None,
+        held: Vec::new(alloc),
+        skipped: SkippedInput::of_input(line, unread),
+    })
 }
 
 // Takes the input of a loop: as bytes, in memory of their size, and the line in its own buffer where it is too long for them.
@@ -170,6 +204,7 @@ fn store_input(
 ) -> Result<StoredInput, AllocError>
     requires { length unread.now ≤ INPUT_CAPACITY }
     ensures same { IfOk result (λ stored. SameInput lines.old.line unread.now (line_in stored.line) stored.held.items) }
+    ensures kept { IfOk result (λ stored. stored.skipped ≡ None) }
     ensures fits { IfOk result (λ stored. vec_len stored.held ≤ INPUT_CAPACITY) }
     ensures state { lines.new.state ≡ lines.old.state }
     ensures replies { lines.new.replies ≡ lines.old.replies }
@@ -178,7 +213,11 @@ fn store_input(
     let part = lines.line();
     if fits(part, unread) {
         let held = concat(alloc, part.bytes(), unread)?;
-        return Ok(StoredInput { line: None, held });
+        return Ok(StoredInput {
+            line: None,
+            held,
+            skipped: None,
+        });
     }
     let held = Vec::from_slice(alloc, unread)?;
     let mut line = LineBuffer::new(alloc)?;
@@ -186,11 +225,12 @@ fn store_input(
     Ok(StoredInput {
         line: Some(line),
         held,
+        skipped: None,
     })
 }
 
-/// Whether a part of a line is not too long, and fits before the input that is held.
-pub(super) fn fits(part: &LineBuffer, held: &[u8]) -> bool
+// Whether a part of a line is not too long, and fits before the input that is held.
+fn fits(part: &LineBuffer, held: &[u8]) -> bool
     requires { length held.now ≤ INPUT_CAPACITY }
     ensures { MatchBool result ((part.now.count ≤ MAX_LINE_BYTES) × (length part.now.bytes + length held.now ≤ INPUT_CAPACITY)) (DoesNotFit part.now held.now) }
 {

@@ -1,8 +1,8 @@
 //! A handler that answers each line with its own bytes.
 
 use pn_line::LineBuffer;
-use pn_protocol::Reply;
-use pn_serve::{Answer, Going, LineHandler};
+use pn_protocol::{Refusal, Reply};
+use pn_serve::{Answer, Going, LineHandler, RefusesSkipped};
 use std::alloc::Global;
 
 /// Answers each line with as much of it as is kept.
@@ -46,6 +46,12 @@ impl LineHandler for Echo {
     fn recall_moves(&self) {}
 
     fn recall_refused(&self, _going: &Going) {}
+}
+
+impl RefusesSkipped for Echo {
+    fn refuse_skipped(&mut self, _is_too_long: bool) -> Reply {
+        Reply::Refused(Refusal::Memory)
+    }
 }
 
 // As much of a line as is kept, as a line.

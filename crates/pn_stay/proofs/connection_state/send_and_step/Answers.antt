@@ -6,21 +6,19 @@ use Rattle.pn_serve.specs.declared.script.RunFault.TheVariants.{Read, Write}
 use Rattle.pn_serve.specs.declared.script.line_loop.state.Stage.{Stage}
 use Rattle.pn_serve.specs.Lines.Faults.{EndsByAt}
 use Rattle.pn_serve.specs.Lines.Made.{MakesAtMost}
-use Rattle.pn_serve.specs.Lines.Stepping.{Stands, StepsTo, by}
 use Rattle.pn_serve.proofs.Knowing.{knows_itself}
 use Rattle.pn_stay.specs.Outputs.{most_made}
 use Rattle.pn_stay.proofs.Faults.{before_or}
 use Rattle.pn_stay.proofs.Inputs.{takes_nothing}
 use Rattle.pn_stay.proofs.Outputs.{writes_held, writes_on}
+use Rattle.pn_stay.proofs.Skipping.{held_same}
 use Rattle.pn_stay.proofs.connection_state.send_and_step.Goals as goal
 
 pub returns-in-Next-clause-steps : goal.returns-in-Next-clause-steps
-returns-in-Next-clause-steps g c = λ start steady stands.
-    let H = by g.M.LineHandler.moves g.M.LineHandler.makes g.M.LineHandler.ends g.M.LineHandler.goes g.M.LineHandler.goes_last in
-    let left = g.R.Input.remaining c.args.input.now in
-    let sent = c.in-Next.ensures.steps start (prepend_known c.args.buffers.now.input left) steady stands in
-    c.step_and_send.ensures.steps start steady
-    (subst (λ (h : List ℕ). Stands H start (prepend_known h left) (g.W.Sink.contents c.send_waiting.new.output) c.args.machine.now c.send_waiting.new.buffers.lines) (sym c.send_waiting.ensures.input) sent)
+returns-in-Next-clause-steps g c = λ start steady goes.
+    let held = held_same c.args.buffers.now.skipped c.send_waiting.new.buffers.skipped c.args.buffers.now.lines.line c.send_waiting.new.buffers.lines.line c.args.buffers.now.input c.send_waiting.new.buffers.input goes.0
+    c.send_waiting.ensures.skipped c.in-Next.ensures.same.line c.send_waiting.ensures.input goes.1 in
+    c.step_and_send.ensures.steps start steady (goes.0, held, c.in-Next.ensures.steps start (prepend_known goes.0 (g.R.Input.remaining c.args.input.now)) steady goes.2)
 
 pub returns-in-Next-clause-written : goal.returns-in-Next-clause-written
 returns-in-Next-clause-written g c =
@@ -34,11 +32,12 @@ returns-in-Next-clause-answers g c = omega (arith, ap (λ (n : Counts). n.lines)
 
 pub returns-in_default : goal.returns-in_default
 returns-in_default g c = record {
-  steps = λ start steady stands.
-      let H = by g.M.LineHandler.moves g.M.LineHandler.makes g.M.LineHandler.ends g.M.LineHandler.goes g.M.LineHandler.goes_last in
-      let left = g.R.Input.remaining c.args.input.now in
-      let sent = c.send_waiting.ensures.steps start (prepend_known c.args.buffers.now.input left) steady stands in
-      subst (λ (h : List ℕ). StepsTo H start (prepend_known h left) (g.W.Sink.contents c.send_waiting.new.output) c.args.machine.now c.send_waiting.new.buffers.lines c.send_waiting.result) (sym c.send_waiting.ensures.input) sent;
+  steps = λ start steady goes. (
+    goes.0,
+    held_same c.args.buffers.now.skipped c.send_waiting.new.buffers.skipped c.args.buffers.now.lines.line c.send_waiting.new.buffers.lines.line c.args.buffers.now.input c.send_waiting.new.buffers.input goes.0
+        c.send_waiting.ensures.skipped c.send_waiting.ensures.same.line c.send_waiting.ensures.input goes.1,
+    c.send_waiting.ensures.steps start (prepend_known goes.0 (g.R.Input.remaining c.args.input.now)) steady goes.2,
+  );
   stops = c.send_waiting.ensures.stops;
   few = takes_nothing _ _;
   written = writes_held _ _ _ _ c.send_waiting.ensures.few c.send_waiting.ensures.written;

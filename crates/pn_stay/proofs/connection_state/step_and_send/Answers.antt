@@ -2,17 +2,19 @@
 use Rattle.std.proofs.Common.{ℕ, List, refl, sym, ap, subst, arith}
 use Rattle.std.specs.Io.KnownBytes.{prepend_known}
 use Rattle.pn_serve.specs.declared.script.Counts.{Counts}
-use Rattle.pn_serve.specs.Lines.Stepping.{StepsTo, by}
 use Rattle.pn_stay.proofs.Faults.{before_or}
 use Rattle.pn_stay.proofs.Outputs.{makes_then}
+use Rattle.pn_stay.proofs.Skipping.{held_same}
 use Rattle.pn_stay.proofs.connection_state.step_and_send.Goals as goal
 
 pub returns-in-Next-clause-steps : goal.returns-in-Next-clause-steps
-returns-in-Next-clause-steps g c = λ start steady stands.
-    let H = by g.M.LineHandler.moves g.M.LineHandler.makes g.M.LineHandler.ends g.M.LineHandler.goes g.M.LineHandler.goes_last in
-    let left = g.R.Input.remaining c.take_steps.new.input in
-    let sent = c.send_waiting.ensures.steps start (prepend_known c.take_steps.new.buffers.input left) steady (c.in-Next.ensures.steps start steady stands) in
-    subst (λ (h : List ℕ). StepsTo H start (prepend_known h left) (g.W.Sink.contents c.send_waiting.new.output) c.take_steps.new.machine c.send_waiting.new.buffers.lines c.send_waiting.result) (sym c.send_waiting.ensures.input) sent
+returns-in-Next-clause-steps g c = λ start steady goes.
+    let took = c.in-Next.ensures.steps start steady goes in (
+      took.0,
+      held_same c.take_steps.new.buffers.skipped c.send_waiting.new.buffers.skipped c.take_steps.new.buffers.lines.line c.send_waiting.new.buffers.lines.line c.take_steps.new.buffers.input c.send_waiting.new.buffers.input took.0
+          c.send_waiting.ensures.skipped c.send_waiting.ensures.same.line c.send_waiting.ensures.input took.1,
+      c.send_waiting.ensures.steps start (prepend_known took.0 (g.R.Input.remaining c.take_steps.new.input)) steady took.2,
+    )
 
 pub returns-in-Next-clause-written : goal.returns-in-Next-clause-written
 returns-in-Next-clause-written g c = makes_then _ _ _ _ _ _ _ c.in-Next.ensures.written c.send_waiting.ensures.written

@@ -20,8 +20,9 @@ returns-clause-turns g c = λ start steady continues.
     let left = g.R.Input.remaining c.send_and_step-step.new.input in
     let written = g.W.Sink.contents c.send_and_step-step.new.output in
     let loaded = subst (λ (k : ConnectionValue). Continues H start (g.R.Input.remaining c.args.input.now) (g.W.Sink.contents c.args.output.now) c.args.machine.now k) (sym c.load.ensures) continues in
-    Turns-stored H start left written c.send_and_step-step.new.machine kept c.store.new.self c.send_and_step-step.result c.store.result c.store.ensures.stores (c.send_and_step-step.ensures.steps start steady loaded)
-    (λ stands. c.recall_cut.ensures start (prepend_known kept.held left) written written steady stands (AppendsPrefix-none written (waits_in (loop_of kept))))
+    let stepped = c.send_and_step-step.ensures.steps start steady loaded in
+    Turns-stored H start left written c.send_and_step-step.new.machine kept c.store.new.self c.send_and_step-step.result c.store.result stepped.0 c.store.ensures.stores stepped.1 stepped.2
+    (λ stands. c.recall_cut.ensures start (prepend_known stepped.0 left) written written steady stands (AppendsPrefix-none written (waits_in (loop_of kept))))
 
 pub returns-clause-pauses : goal.returns-clause-pauses
 returns-clause-pauses g c = c.store.ensures.pauses c.send_and_step-step.ensures.stops

@@ -1,0 +1,160 @@
+//! The steps of a connection that has skipped input: each line of it is refused, as soon as its end is known.
+
+ghost use Rattle.std.specs.Prelude.{◌≡◌, ◌≢◌, ◌⊎◌, ◌<◌, ◌≤◌, ◌+◌, ◌*◌, ⊥, ℕ, List, [], ◌++◌, length, Option, Some};
+ghost use Rattle.std.specs.Io.KnownBytes.{prepend_known};
+ghost use Rattle.pn_line.specs.Prelude.{so_far};
+ghost use Rattle.pn_serve.specs.Lines.Bounds.{IsIdleAt, records_by, records_in};
+ghost use Rattle.pn_serve.specs.Lines.Faults.{EndsByAt, EndsByStep};
+ghost use Rattle.pn_serve.specs.Lines.Made.{MakesAtMost, made_by, made_in};
+ghost use Rattle.pn_serve.specs.Lines.States.{Start};
+ghost use Rattle.pn_serve.specs.Lines.Stepping.{by, Stands};
+ghost use Rattle.pn_serve.specs.Session.Knowing.{IsSteady, KnowsNoLess};
+ghost use Rattle.pn_serve.specs.declared.script.TheConstants.{MAX_LINES};
+ghost use Rattle.pn_stay.specs.Inputs.{ReadsOnce};
+ghost use Rattle.pn_stay.specs.Outputs.{AnswersAtMost, LooksFew, lines_by};
+ghost use Rattle.pn_stay.specs.Connections.{HoldsAs};
+ghost use Rattle.pn_stay.specs.Skipping.{IsPart};
+ghost use Rattle.pn_stay.specs.Turns.{in_buffers, Continues, StepsIn, WaitsWell};
+ghost use Rattle.pn_stay.specs.declared.input_buffer.TheConstants.{READ_SIZE};
+ghost use Rattle.pn_stay.specs.declared.steps.TheConstants.{UNIT_BYTES};
+
+use crate::connection_state::ThreadBuffers;
+use crate::input::Input;
+use crate::skipped_input::SkippedInput;
+use crate::steps::{Came, came_of, units_of};
+use pn_line::{ENDLESS, InMemory, MAX_LINE_BYTES, Sink};
+use pn_serve::{MAX_LINES, RefusesSkipped, RunFault, Step};
+
+/// One step of the line loop without input, or a refusal of what was skipped.
+pub(super) fn step_skipping<M: RefusesSkipped, R: Input, W: Sink>(
+    buffers: &mut ThreadBuffers,
+    skipped: SkippedInput,
+    machine: &mut M,
+    input: &mut R,
+    output: &mut W,
+    units: u32,
+) -> Step
+    requires ready { M.ready }
+    requires some { buffers.old.skipped ≡ Some skipped }
+    ensures steps { (start : Start M) → IsSteady M.reader M.moves → Continues (by M.moves M.makes M.ends M.goes M.goes_last) start (R.remaining input.old) (W.contents output.old) machine.old (in_buffers buffers.old)
+        → StepsIn (by M.moves M.makes M.ends M.goes M.goes_last) start (R.remaining input.new) (W.contents output.new) machine.new buffers.new result }
+    ensures waits { WaitsWell (in_buffers buffers.new) result }
+    ensures few { ReadsOnce result (R.remaining input.old) (R.remaining input.new) }
+    ensures written { MakesAtMost (made_by result) (W.contents output.old) (W.contents output.new) buffers.old.lines.replies buffers.new.lines.replies }
+    ensures answers { AnswersAtMost (lines_by result) buffers.old.lines.state buffers.new.lines.state }
+    ensures looked { LooksFew (records_in units) buffers.old.lines.state buffers.new.lines.state }
+    ensures records { LooksFew (records_by result) buffers.old.lines.state buffers.new.lines.state }
+    ensures read_fault { EndsByStep RunFault.Read buffers.new.lines result → (EndsByAt RunFault.Read buffers.old.lines.state.stage × (input.new ≡ input.old)) ⊎ R.has_failed input.new }
+    ensures write_fault { EndsByStep RunFault.Write buffers.new.lines result → EndsByAt RunFault.Write buffers.old.lines.state.stage ⊎ W.has_failed output.new }
+    ensures write_stage { (used : ℕ) → result ≡ Step.Next used → EndsByAt RunFault.Write buffers.new.lines.state.stage → EndsByAt RunFault.Write buffers.old.lines.state.stage }
+    ensures knows { KnowsNoLess (M.reader machine.old) (M.reader machine.new) }
+{
+    let step = buffers
+        .lines
+        .step(machine, &mut InMemory::new(b""), output, units);
+    match step {
+        Step::NoInput => refuse_next(buffers, skipped, machine, input),
+        step => step,
+    }
+}
+
+// Refuses the first line that was skipped, or reads on to the end of the only one.
+fn refuse_next<M: RefusesSkipped, R: Input>(
+    buffers: &mut ThreadBuffers,
+    skipped: SkippedInput,
+    machine: &mut M,
+    input: &mut R,
+) -> Step
+    requires some { buffers.old.skipped ≡ Some skipped }
+    requires idle { IsIdleAt Step.NoInput buffers.old.lines }
+    ensures steps { (start : Start M) (written : Option (List ℕ)) → IsSteady M.reader M.moves → Continues (by M.moves M.makes M.ends M.goes M.goes_last) start (R.remaining input.old) written machine.old (in_buffers buffers.old)
+        → StepsIn (by M.moves M.makes M.ends M.goes M.goes_last) start (R.remaining input.new) written machine.new buffers.new result }
+    ensures waits { WaitsWell (in_buffers buffers.new) result }
+    ensures few { ReadsOnce result (R.remaining input.old) (R.remaining input.new) }
+    ensures makes { length buffers.new.lines.replies ≤ length buffers.old.lines.replies + made_by result }
+    ensures answers { AnswersAtMost (lines_by result) buffers.old.lines.state buffers.new.lines.state }
+    ensures looked { buffers.new.lines.state.looked ≡ buffers.old.lines.state.looked }
+    ensures read_fault { EndsByStep RunFault.Read buffers.new.lines result → R.has_failed input.new }
+    ensures write_fault { EndsByStep RunFault.Write buffers.new.lines result → ⊥ }
+    ensures knows { KnowsNoLess (M.reader machine.old) (M.reader machine.new) }
+{
+    if buffers.lines.counts().lines >= MAX_LINES {
+        buffers.lines.stop_skipped(&*machine);
+        return Step::Next(0);
+    }
+    if skipped.lines > 0 {
+        buffers.skipped = skipped.after_first();
+        return Step::Next(buffers.lines.refuse_skipped(machine, skipped.is_too_long));
+    }
+    skip_more(buffers, skipped, machine, input)
+}
+
+// Reads once where a part of a line was skipped.
+fn skip_more<M: RefusesSkipped, R: Input>(
+    buffers: &mut ThreadBuffers,
+    skipped: SkippedInput,
+    machine: &mut M,
+    input: &mut R,
+) -> Step
+    requires some { buffers.old.skipped ≡ Some skipped }
+    requires idle { IsIdleAt Step.NoInput buffers.old.lines }
+    requires lines { buffers.old.lines.state.counts.lines < MAX_LINES }
+    ensures steps { (start : Start M) (written : Option (List ℕ)) (text : List ℕ) → IsSteady M.reader M.moves → IsPart skipped.part text → HoldsAs buffers.old.skipped buffers.old.lines.line buffers.old.input text
+        → Stands (by M.moves M.makes M.ends M.goes M.goes_last) start (prepend_known text (R.remaining input.old)) written machine.old buffers.old.lines
+        → StepsIn (by M.moves M.makes M.ends M.goes M.goes_last) start (R.remaining input.new) written machine.new buffers.new result }
+    ensures waits { WaitsWell (in_buffers buffers.new) result }
+    ensures few { ReadsOnce result (R.remaining input.old) (R.remaining input.new) }
+    ensures makes { length buffers.new.lines.replies ≤ length buffers.old.lines.replies + made_by result }
+    ensures answers { AnswersAtMost (lines_by result) buffers.old.lines.state buffers.new.lines.state }
+    ensures looked { buffers.new.lines.state.looked ≡ buffers.old.lines.state.looked }
+    ensures read_fault { EndsByStep RunFault.Read buffers.new.lines result → R.has_failed input.new }
+    ensures write_fault { EndsByStep RunFault.Write buffers.new.lines result → ⊥ }
+    ensures knows { KnowsNoLess (M.reader machine.old) (M.reader machine.new) }
+{
+    let read = buffers.input.read_from(input);
+    match came_of(&read) {
+        Came::Input => Step::Next(skip_line(buffers, skipped.part, machine)),
+        Came::Nothing => Step::NoInput,
+        Came::End => {
+            buffers.skipped = None;
+            let is_too_long = skipped.part > MAX_LINE_BYTES;
+            Step::Next(buffers.lines.end_skipped(machine, is_too_long))
+        }
+        Came::Fault => {
+            buffers.lines.end_by(Err(RunFault::Read));
+            Step::Next(0)
+        }
+    }
+}
+
+// Skips what came of a line, and refuses it at its end. How many units that took.
+fn skip_line<M: RefusesSkipped>(buffers: &mut ThreadBuffers, part: usize, machine: &mut M) -> u32
+    requires idle { IsIdleAt Step.NoInput buffers.old.lines }
+    requires lines { buffers.old.lines.state.counts.lines < MAX_LINES }
+    requires few { length buffers.old.input ≤ READ_SIZE }
+    ensures continues { (start : Start M) (left written : Option (List ℕ)) (text : List ℕ) → IsSteady M.reader M.moves → IsPart part text → buffers.old.lines.line ≡ so_far []
+        → Stands (by M.moves M.makes M.ends M.goes M.goes_last) start (prepend_known (text ++ buffers.old.input) left) written machine.old buffers.old.lines
+        → Continues (by M.moves M.makes M.ends M.goes M.goes_last) start left written machine.new (in_buffers buffers.new) }
+    ensures counted { length buffers.old.input ≤ UNIT_BYTES * (result + 1) }
+    ensures makes { length buffers.new.lines.replies ≤ length buffers.old.lines.replies + made_in result }
+    ensures answers { AnswersAtMost 1 buffers.old.lines.state buffers.new.lines.state }
+    ensures looked { buffers.new.lines.state.looked ≡ buffers.old.lines.state.looked }
+    ensures read_fault { EndsByAt RunFault.Read buffers.new.lines.state.stage → ⊥ }
+    ensures write_fault { EndsByAt RunFault.Write buffers.new.lines.state.stage → ⊥ }
+    ensures knows { KnowsNoLess (M.reader machine.old) (M.reader machine.new) }
+{
+    let units = units_of(buffers.input.bytes());
+    let (count, is_ended) = buffers.input.skip_line(ENDLESS.saturating_sub(part));
+    let part = part.saturating_add(count);
+    if is_ended {
+        buffers.skipped = None;
+        return units.max(buffers.lines.refuse_skipped(machine, part > MAX_LINE_BYTES));
+    }
+    if part >= ENDLESS {
+        buffers.skipped = None;
+        buffers.lines.stop_skipped(&*machine);
+        return units;
+    }
+    buffers.skipped = Some(SkippedInput::of_part(part));
+    units
+}
