@@ -1,6 +1,6 @@
 //! What a connection keeps is loaded into the buffers of its thread, and stored again after a turn.
 
-ghost use Rattle.std.specs.Prelude.{◌≡◌, ◌≢◌, ◌+◌, ◌≤◌, ◌↔◌, [], ◌++◌, None, length, vec_len, IfOk, IfSome, IsFalse, IsTrue, MatchBool, OnErr, OnNone};
+ghost use Rattle.std.specs.Prelude.{◌≡◌, ◌≢◌, ◌+◌, ◌≤◌, ◌↔◌, [], ◌++◌, None, length, vec_len, IfOk, IfSome, IsFalse, IsTrue, MatchBool, IfNone, OnErr};
 ghost use Rattle.pn_line.specs.Prelude.{so_far};
 ghost use Rattle.pn_line.specs.declared.line_buffer.TheConstants.{ENDLESS, MAX_LINE_BYTES};
 ghost use Rattle.pn_stay.specs.Connections.{DoesNotFit, KeepsInput, SameInput, line_in, replies_in};
@@ -25,9 +25,9 @@ impl ConnectionState {
         buffers.lines.swap_state(&mut self.state);
         buffers.input.fill(&self.held);
         self.held = Vec::new(self.alloc);
-        buffers.skipped = self.skipped.take();
         let can_keep = load_replies(self.alloc, buffers, &mut self.replies);
         buffers.lines.set_scarce(!can_keep);
+        buffers.skipped = self.skipped.take();
     }
 
     // Stores it until its next turn, unless it has ended.
@@ -149,7 +149,7 @@ struct StoredInput {
 fn unload_input(alloc: Global, buffers: &mut ThreadBuffers) -> Option<StoredInput>
     ensures keeps { IfSome result (λ stored. KeepsInput buffers.old.skipped buffers.old.lines.line buffers.old.input (line_in stored.line) stored.held.items stored.skipped) }
     ensures fits { IfSome result (λ stored. vec_len stored.held ≤ INPUT_CAPACITY) }
-    ensures none { OnNone result (ENDLESS ≤ buffers.old.lines.line.count + length buffers.old.input) }
+    ensures none { IfNone result (ENDLESS ≤ buffers.old.lines.line.count + length buffers.old.input) }
     ensures state { buffers.new.lines.state ≡ buffers.old.lines.state }
     ensures replies { buffers.new.lines.replies ≡ buffers.old.lines.replies }
 {
@@ -168,7 +168,7 @@ fn unload_unread(alloc: Global, lines: &mut LineLoop, unread: &[u8]) -> Option<S
     requires { length unread.now ≤ INPUT_CAPACITY }
     ensures keeps { IfSome result (λ stored. KeepsInput None lines.old.line unread.now (line_in stored.line) stored.held.items stored.skipped) }
     ensures fits { IfSome result (λ stored. vec_len stored.held ≤ INPUT_CAPACITY) }
-    ensures none { OnNone result (ENDLESS ≤ lines.old.line.count + length unread.now) }
+    ensures none { IfNone result (ENDLESS ≤ lines.old.line.count + length unread.now) }
     ensures state { lines.new.state ≡ lines.old.state }
     ensures replies { lines.new.replies ≡ lines.old.replies }
 {
@@ -184,7 +184,7 @@ fn skip_input(alloc: Global, line: &LineBuffer, unread: &[u8]) -> Option<StoredI
     ensures skips { IfSome result (λ stored. SkipsInput line.now unread.now stored.skipped) }
     ensures alone { IfSome result (λ stored. (line_in stored.line ≡ so_far []) × (stored.held.items ≡ [])) }
     ensures fits { IfSome result (λ stored. vec_len stored.held ≤ INPUT_CAPACITY) }
-    ensures none { OnNone result (ENDLESS ≤ line.now.count + length unread.now) }
+    ensures none { IfNone result (ENDLESS ≤ line.now.count + length unread.now) }
 {
     if line.len() + unread.len() >= ENDLESS {
         return None;

@@ -1,6 +1,6 @@
 //! The steps of a connection that has skipped input: each line of it is refused, as soon as its end is known.
 
-ghost use Rattle.std.specs.Prelude.{◌≡◌, ◌≢◌, ◌⊎◌, ◌<◌, ◌≤◌, ◌+◌, ◌*◌, ⊥, ℕ, List, [], ◌++◌, length, Option, Some};
+ghost use Rattle.std.specs.Prelude.{◌≡◌, ◌≢◌, ◌⊎◌, ◌<◌, ◌≤◌, ◌+◌, ◌*◌, ℕ, List, [], ◌++◌, length, Option, Some};
 ghost use Rattle.std.specs.Io.KnownBytes.{prepend_known};
 ghost use Rattle.pn_line.specs.Prelude.{so_far};
 ghost use Rattle.pn_serve.specs.Lines.Bounds.{IsIdleAt, records_by, records_in};
