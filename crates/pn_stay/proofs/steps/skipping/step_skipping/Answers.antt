@@ -25,9 +25,11 @@ returns-in-NoInput-clause-steps g c = λ start steady goes.
     let none = ap Some c.new.ensures in
     let stepped = c.in-NoInput.ensures.steps start rest steady (Stands-unshown H start (g.W.Sink.contents c.args.output.now) c.args.machine.now buffers.lines (Some c.new.result) rest none goes.2) in
     let begun = c.step-step.ensures.begun none held.2 in
-    c.refuse_next.ensures.steps start (g.W.Sink.contents c.step-step.new.output) steady
-    (goes.0, held_same buffers.skipped buffers.skipped buffers.lines.line new.line buffers.input buffers.input goes.0 refl (begun.1 ∙ sym held.2) refl goes.1,
-      Steps-unshown H start (g.W.Sink.contents c.step-step.new.output) c.step-step.new.machine new NoInput (Some c.step-step.new.input) rest begun.0 stepped)
+    c.refuse_next.ensures.steps start (g.W.Sink.contents c.step-step.new.output) steady (
+      goes.0,
+      held_same buffers.skipped buffers.skipped buffers.lines.line new.line buffers.input buffers.input goes.0 refl (begun.1 ∙ sym held.2) refl goes.1,
+      Steps-unshown H start (g.W.Sink.contents c.step-step.new.output) c.step-step.new.machine new NoInput (Some c.step-step.new.input) rest begun.0 stepped,
+    )
 
 pub returns-in-NoInput-clause-knows : goal.returns-in-NoInput-clause-knows
 returns-in-NoInput-clause-knows g c = knows_on _ _ _ c.step-step.ensures.knows c.refuse_next.ensures.knows
