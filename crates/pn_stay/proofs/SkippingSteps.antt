@@ -112,8 +112,8 @@ pub made_most : (units refused : ℕ) → made_in refused ≤ made_in (max units
 made_most units refused = omega arith
 
 -- one line more was answered
-pub refused_lines : (old new : LineLoopValue) {refused : Bool} → new.state.counts ≡ counted true refused old.state.counts → new.state.counts.lines ≤ old.state.counts.lines + 1
-refused_lines old new {refused = refused} is = omega (arith, ap (λ (c : Counts). c.lines) is)
+pub refused_lines : (old new : LineLoopValue) (refused : Bool) → new.state.counts ≡ counted true refused old.state.counts → new.state.counts.lines ≤ old.state.counts.lines + 1
+refused_lines old new refused is = omega (arith, ap (λ (c : Counts). c.lines) is)
 
 -- a loop that is to end by too many turns is to end by no fault of its reader or its writer
 module _ (old new : LineLoopValue) (is : new ≡ record old { state = record old.state { stage = Ending (Err TooManyTurns) } }) where

@@ -100,7 +100,7 @@ pub returns-in-Fault-clause-few : goal.returns-in-Fault-clause-few
 returns-in-Fault-clause-few g c = reads_nothing _ _ _ (Consumes-nothing _ _ (at_fault c.read_from-read.result _ c.in-Fault.ensures c.read_from-read.ensures.kept))
 
 pub returns-in-End-clause-answers : goal.returns-in-End-clause-answers
-returns-in-End-clause-answers g c = refused_lines c.args.buffers.now.lines c.end_skipped.new.self c.end_skipped.ensures.replied.1.counts
+returns-in-End-clause-answers g c = refused_lines c.args.buffers.now.lines c.end_skipped.new.self _ c.end_skipped.ensures.replied.1.counts
 
 pub returns-in-End-clause-looked : goal.returns-in-End-clause-looked
 returns-in-End-clause-looked g c = c.end_skipped.ensures.replied.1.looked
