@@ -71,16 +71,14 @@ fn skip<M: RefusesSkipped>(
     let Ok(mut lines) = LineLoop::new(alloc) else {
         return None;
     };
-    let _units = match what {
-        "a line" => lines.refuse_skipped(machine, false),
-        "a long line" => lines.refuse_skipped(machine, true),
-        "a last part" => lines.end_skipped(machine, false),
-        "a long last part" => lines.end_skipped(machine, true),
-        _ => {
-            lines.stop_skipped(&*machine);
-            0
-        }
-    };
+    let is_long = what.starts_with("a long");
+    if what.ends_with("line") {
+        lines.refuse_skipped(machine, is_long);
+    } else if what.ends_with("part") {
+        lines.end_skipped(machine, is_long);
+    } else {
+        lines.stop_skipped(&*machine);
+    }
     Some(go_on(&mut lines, machine, written))
 }
 
