@@ -71,13 +71,16 @@ fn skip<M: RefusesSkipped>(
     let Ok(mut lines) = LineLoop::new(alloc) else {
         return None;
     };
-    let is_long = what.starts_with("a long");
-    if what.ends_with("line") {
-        lines.refuse_skipped(machine, is_long);
-    } else if what.ends_with("part") {
-        lines.end_skipped(machine, is_long);
-    } else {
-        lines.stop_skipped(&*machine);
+    let (length, what) = what.split_once(' ').unwrap_or((what, ""));
+    let is_long = length == "long";
+    match what {
+        "line" => {
+            lines.refuse_skipped(machine, is_long);
+        }
+        "part" => {
+            lines.end_skipped(machine, is_long);
+        }
+        _ => lines.stop_skipped(&*machine),
     }
     Some(go_on(&mut lines, machine, written))
 }
