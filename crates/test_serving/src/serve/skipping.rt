@@ -71,16 +71,17 @@ fn skip<M: RefusesSkipped>(
     let Ok(mut lines) = LineLoop::new(alloc) else {
         return None;
     };
-    let _units = match what {
-        "a line" => lines.refuse_skipped(machine, false),
-        "a long line" => lines.refuse_skipped(machine, true),
-        "a last part" => lines.end_skipped(machine, false),
-        "a long last part" => lines.end_skipped(machine, true),
-        _ => {
-            lines.stop_skipped(&*machine);
-            0
+    let (length, what) = what.split_once(' ').unwrap_or((what, ""));
+    let is_long = length == "long";
+    match what {
+        "line" => {
+            lines.refuse_skipped(machine, is_long);
         }
-    };
+        "part" => {
+            lines.end_skipped(machine, is_long);
+        }
+        _ => lines.stop_skipped(&*machine),
+    }
     Some(go_on(&mut lines, machine, written))
 }
 
