@@ -43,15 +43,20 @@ fn case<R: Threads + Sync>(rt: &R, alloc: Global, what: &str, how: &str) -> Opti
 
 fn faults(alloc: Global) -> Result<String, Fail> {
     let east = Name::read(b"east")?;
-    let mut text = format!(in alloc; "{}", gap(east))?;
-    push(&mut text, &RoundFault::TooManyStreams)?;
-    push(&mut text, &RoundFault::Memory)?;
-    push(&mut text, &too_old(east))?;
-    push(&mut text, &AdoptFault::WrongRange)?;
-    push(&mut text, &AdoptFault::Memory)?;
-    push(&mut text, &RelayoutFault::Memory)?;
-    push(&mut text, &AdvanceFault::Memory)?;
+    let mut text = String::new(alloc);
+    push_faults(&mut text, east)?;
     Ok(text)
+}
+
+fn push_faults(text: &mut String, east: StreamName) -> Result<(), Fail> {
+    write!(text, "{}", gap(east))?;
+    push(text, &RoundFault::TooManyStreams)?;
+    push(text, &RoundFault::Memory)?;
+    push(text, &too_old(east))?;
+    push(text, &AdoptFault::WrongRange)?;
+    push(text, &AdoptFault::Memory)?;
+    push(text, &RelayoutFault::Memory)?;
+    push(text, &AdvanceFault::Memory)
 }
 
 fn push<T: Display>(text: &mut String, fault: &T) -> Result<(), Fail> {

@@ -1,6 +1,6 @@
 //! Tables of up to some thousand entries: their joins, and an entry below all others.
 
-use pn_join::{Dup, Highest, Join, NoMemory, Table};
+use pn_join::{Dup, Entries, Highest, Join, NoMemory, Table};
 use std::alloc::Global;
 use std::str::Split;
 use std::test::Fail;
@@ -26,10 +26,8 @@ pub(crate) fn table(alloc: Global, words: &mut Split<'_, char>) -> Result<Number
 }
 
 fn key_at(table: &NumberTable, index: usize) -> Option<u64> {
-    match table.entry_at(index) {
-        Some((key, _content)) => Some(key.0),
-        None => None,
-    }
+    let (key, _content) = table.entry_at(index)?;
+    Some(key.0)
 }
 
 // Whether the leaves, one after another, are the entries, and each has 1 to 64. The table and its list of leaves
@@ -42,13 +40,22 @@ fn is_in_leaves(table: &NumberTable) -> bool {
         if leaf.is_empty() || leaf.len() > 64 || leaves.leaf(index) != Some(leaf) {
             return false;
         }
-        for (key, _content) in leaf {
-            if entries.next().is_none_or(|(other, _content)| other != key) {
-                return false;
-            }
+        if !begin_with(&mut entries, leaf) {
+            return false;
         }
     }
     entries.next().is_none() && table.leaf(leaves.count()).is_none()
+}
+
+// Whether the next entries have the keys of a leaf.
+fn begin_with(entries: &mut Entries<'_, Highest, Highest>, leaf: &[(Highest, Highest)]) -> bool {
+    for (key, _content) in leaf {
+        match entries.next() {
+            Some((other, _content)) if other == key => {}
+            _ => return false,
+        }
+    }
+    true
 }
 
 // The first key, the step and the count of a table, or that it has no such form.
@@ -119,10 +126,10 @@ fn with_entry(alloc: Global, text: &str) -> Result<(NumberTable, NumberTable), F
 
 fn add_entry(table: &mut NumberTable, number: u64) -> Result<(), NoMemory> {
     let key = Highest(number);
-    if table.join_entry(key, key).is_err() {
-        table.join_entry(key, key)?;
+    match table.join_entry(key, key) {
+        Ok(()) => Ok(()),
+        Err(NoMemory) => table.join_entry(key, key),
     }
-    Ok(())
 }
 
 /// A table with one entry more, below all others, and whether its last leaf is as it was.

@@ -28,13 +28,27 @@ pub(crate) fn advance<R: Threads + Sync>(rt: &R, alloc: Global, counts: &str) ->
 // the next message, and the one that begins at it.
 fn advance_few<R: Threads + Sync>(rt: &R, alloc: Global, counts: &str) -> Option<String> {
     let mut region = region(alloc, BOUNDS)?;
-    for (tablet, count) in counts.split(' ').enumerate() {
-        let keys = words_between(alloc, KEYS, 0, count.parse::<usize>().ok()?)?;
-        let source = filled(rt, alloc, BOUNDS, keys.as_str())?;
-        adopt(alloc, &mut region, tablet, &source)?;
-    }
-    region.advance().ok()?;
+    adopt_few(rt, alloc, &mut region, counts)?;
     go_on(rt, alloc, &mut region)
+}
+
+fn adopt_few<R: Threads + Sync>(
+    rt: &R,
+    alloc: Global,
+    region: &mut Region,
+    counts: &str,
+) -> Option<()> {
+    for (tablet, count) in counts.split(' ').enumerate() {
+        adopt(alloc, region, tablet, &filled_by(rt, alloc, count)?)?;
+    }
+    region.advance().ok()
+}
+
+// A region that took this number of messages.
+fn filled_by<R: Threads + Sync>(rt: &R, alloc: Global, count: &str) -> Option<Region> {
+    let count = count.parse::<usize>().ok()?;
+    let keys = words_between(alloc, KEYS, 0, count)?;
+    filled(rt, alloc, BOUNDS, keys.as_str())
 }
 
 // Has a region adopt the copy that another gives of a tablet.
@@ -64,11 +78,15 @@ fn copy_of(alloc: Global, source: &Region, tablet: usize) -> Option<TabletCopy>
 fn go_on<R: Threads + Sync>(rt: &R, alloc: Global, region: &mut Region) -> Option<String> {
     let mark = mark_of(region)?;
     let gap = gap_past(rt, alloc, region, mark)?;
-    let next = words_between(alloc, KEYS, usize::try_from(mark).ok()?, 8)?;
-    let given = deliveries(alloc, mark.checked_add(1)?, next.as_str(), 0)?;
-    let changed = bring(rt, region, given)?;
+    let changed = bring(rt, region, messages_after(alloc, mark)?)?;
     let records = count_records(region)?;
     format!(in alloc; "{mark}; {gap}; {changed} changed; {records} records").ok()
+}
+
+fn messages_after(alloc: Global, mark: u64) -> Option<Vec<Delivery>> {
+    let (from, first) = (usize::try_from(mark).ok()?, mark.checked_add(1)?);
+    let words = words_between(alloc, KEYS, from, 8)?;
+    deliveries(alloc, first, words.as_str(), 0)
 }
 
 fn mark_of(region: &Region) -> Option<u64> {
@@ -113,13 +131,22 @@ fn push_word(words: &mut String, word: &str) -> Option<()> {
 
 // Why marks do not advance where the one tablet adopted copies of 17 streams.
 fn advance_many<R: Threads + Sync>(rt: &R, alloc: Global) -> Option<String> {
-    let mut first = region(alloc, "")?;
-    adopt(alloc, &mut first, 0, &filled(rt, alloc, "", KEYS)?)?;
-    let mut source = region(alloc, "")?;
-    bring(rt, &mut source, many_streams(alloc)?)?;
-    adopt(alloc, &mut first, 0, &source)?;
-    let fault = first.advance().err()?;
-    format!(in alloc; "{fault}; {} marks", first.marks().len()).ok()
+    let mut region = region(alloc, "")?;
+    adopt_many(rt, alloc, &mut region)?;
+    let fault = region.advance().err()?;
+    format!(in alloc; "{fault}; {} marks", region.marks().len()).ok()
+}
+
+fn adopt_many<R: Threads + Sync>(rt: &R, alloc: Global, region: &mut Region) -> Option<()> {
+    adopt(alloc, region, 0, &filled(rt, alloc, "", KEYS)?)?;
+    adopt(alloc, region, 0, &filled_by_many(rt, alloc)?)
+}
+
+// A region that took a message of each of 16 streams.
+fn filled_by_many<R: Threads + Sync>(rt: &R, alloc: Global) -> Option<Region> {
+    let mut region = region(alloc, "")?;
+    bring(rt, &mut region, many_streams(alloc)?)?;
+    Some(region)
 }
 
 // A delivery of each of 16 streams.

@@ -33,11 +33,16 @@ fn workers_of(word: &str) -> Option<usize>
 pub(crate) fn reduce_keys<R: Threads + Sync>(rt: &R, alloc: Global, word: &str) -> Option<String> {
     let gate = Counting::new();
     let mut text = String::new(alloc);
-    for operation in &operations(rt, alloc, word, &gate)? {
-        push_joined(&mut text, operation)?;
-    }
+    push_all_joined(&mut text, &operations(rt, alloc, word, &gate)?)?;
     gate.push_counts(&mut text)?;
     Some(text)
+}
+
+fn push_all_joined(text: &mut String, operations: &[TabletOp]) -> Option<()> {
+    for operation in operations {
+        push_joined(text, operation)?;
+    }
+    Some(())
 }
 
 fn operations<R: Threads + Sync>(

@@ -3,7 +3,9 @@
 use crate::scans::view::TakesTurns;
 use pn_join::NoMemory;
 use pn_record::{Key, Version};
-use pn_scan::{Page, PageStep, PageWalk, Query, View, get, page, read_at_least, read_query};
+use pn_scan::{
+    Page, PageStep, PageWalk, Query, ScanFault, View, get, page, read_at_least, read_query,
+};
 use serde_json::Value;
 use std::alloc::Global;
 use std::test::Fail;
@@ -18,14 +20,17 @@ pub(crate) fn page_reply(
     view: &mut TakesTurns,
     asked: &str,
 ) -> Result<String, Fail> {
-    let query = read_query(alloc, &Value::from_str(alloc, asked)?)?;
-    let mut text = match page(alloc, view, &query) {
-        Ok(page) => keys_text(alloc, &page)?,
-        Err(fault) => format!(in alloc; "{fault}")?,
-    };
+    let query = query_of(alloc, asked)?;
+    let text = page_text(alloc, page(alloc, view, &query))?;
     let (first, second) = (view.rooms[0], view.rooms[1]);
-    write!(text, ", rooms {first} {second}")?;
-    Ok(text)
+    Ok(format!(in alloc; "{text}, rooms {first} {second}")?)
+}
+
+fn page_text(alloc: Global, found: Result<Page, ScanFault>) -> Result<String, Fail> {
+    match found {
+        Ok(page) => keys_text(alloc, &page),
+        Err(fault) => Ok(format!(in alloc; "{fault}")?),
+    }
 }
 
 /// The keys of a page that is gone on with record by record after a first look, and in how many steps it was found; or why
@@ -35,19 +40,39 @@ pub(crate) fn walk_reply(
     view: &mut TakesTurns,
     asked: &str,
 ) -> Result<String, Fail> {
-    let query = read_query(alloc, &Value::from_str(alloc, asked)?)?;
-    let mut walk = PageWalk::new(alloc, view.layout(), &query);
+    let query = query_of(alloc, asked)?;
+    let (found, steps) = walk(alloc, view, &query);
+    match found {
+        Ok(Some(page)) => walked_text(alloc, &page, steps),
+        Ok(None) => Ok(String::new(alloc)),
+        Err(fault) => Ok(format!(in alloc; "{fault} after {steps} steps")?),
+    }
+}
+
+// The page that a walk finds, and in how many steps.
+fn walk(
+    alloc: Global,
+    view: &mut TakesTurns,
+    query: &Query,
+) -> (Result<Option<Page>, ScanFault>, u32) {
+    let mut walk = PageWalk::new(alloc, view.layout(), query);
     for step in 1..STEPS {
-        match walk.go_on(alloc, view, &query, 1) {
-            Ok(PageStep::Done(page)) => {
-                let text = keys_text(alloc, &page)?;
-                return Ok(format!(in alloc; "{text} in {step} steps")?);
-            }
+        match walk.go_on(alloc, view, query, 1) {
+            Ok(PageStep::Done(page)) => return (Ok(Some(page)), step),
             Ok(PageStep::Next(next)) => walk = next,
-            Err(fault) => return Ok(format!(in alloc; "{fault} after {step} steps")?),
+            Err(fault) => return (Err(fault), step),
         }
     }
-    Ok(String::new(alloc))
+    (Ok(None), STEPS)
+}
+
+fn walked_text(alloc: Global, page: &Page, steps: u32) -> Result<String, Fail> {
+    let text = keys_text(alloc, page)?;
+    Ok(format!(in alloc; "{text} in {steps} steps")?)
+}
+
+fn query_of(alloc: Global, text: &str) -> Result<Query, Fail> {
+    Ok(read_query(alloc, &Value::from_str(alloc, text)?)?)
 }
 
 fn keys_text(alloc: Global, page: &Page) -> Result<String, Fail> {

@@ -2,8 +2,7 @@
 
 use crate::streams::case::Case;
 use crate::streams::reading::{new_reader, push_first};
-use pn_join::Name;
-use pn_line::InMemory;
+use pn_line::{InMemory, Source};
 use pn_stream::StreamReader;
 use std::alloc::Global;
 use std::test::Fail;
@@ -14,9 +13,13 @@ pub(crate) fn read_by_writers(alloc: Global, case: &Case) -> Result<String, Fail
     let mut text = String::new(alloc);
     for _ in 0..case.calls {
         push_first(&mut text, &mut reader)?;
-        let position = reader.position();
-        let source = reader.into_source();
-        reader = StreamReader::new(alloc, Name::read(b"east")?, position, source);
+        reader = next_reader(alloc, reader);
     }
     Ok(text)
+}
+
+// A reader that goes on where another one is, from its source.
+fn next_reader<S: Source + Drop>(alloc: Global, reader: StreamReader<S>) -> StreamReader<S> {
+    let (name, position) = (*reader.name(), reader.position());
+    StreamReader::new(alloc, name, position, reader.into_source())
 }

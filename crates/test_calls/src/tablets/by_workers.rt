@@ -1,6 +1,6 @@
 //! Copies whose lines several threads read.
 
-use pn_tablet::{read_copy_by, write_copy};
+use pn_tablet::{TabletCopy, read_copy_by, write_copy};
 use std::alloc::Global;
 use std::test::Fail;
 use std::thread::Threads;
@@ -27,10 +27,12 @@ pub(crate) fn read_by_workers<R: Threads>(
 
 fn read<R: Threads>(rt: &R, alloc: Global, text: &[u8], workers: usize) -> Result<String, Fail> {
     match read_copy_by(rt, alloc, text, workers) {
-        Ok(copy) => {
-            let is_kept = write_copy(alloc, &copy)?.as_bytes() == text;
-            Ok(format!(in alloc; "a copy, kept: {is_kept}")?)
-        }
+        Ok(copy) => kept_text(alloc, &copy, text),
         Err(fault) => Ok(format!(in alloc; "{fault}")?),
     }
+}
+
+fn kept_text(alloc: Global, copy: &TabletCopy, text: &[u8]) -> Result<String, Fail> {
+    let is_kept = write_copy(alloc, copy)?.as_bytes() == text;
+    Ok(format!(in alloc; "a copy, kept: {is_kept}")?)
 }

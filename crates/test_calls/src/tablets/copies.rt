@@ -11,14 +11,17 @@ pub(crate) fn copy(alloc: Global, bars: &str) -> Result<String, Fail> {
     let bars = spell_out(alloc, bars)?;
     let text = newlines(alloc, bars.as_str())?;
     match read_copy(alloc, text.as_bytes()) {
-        Ok(copy) => {
-            let whole = write_copy(alloc, &copy)?;
-            let is_kept = whole.as_str() == text.as_str();
-            let is_made = made(alloc, copy)?.as_slice() == whole.as_bytes();
-            Ok(format!(in alloc; "a copy, kept: {is_kept}, made: {is_made}")?)
-        }
+        Ok(copy) => kept_and_made(alloc, copy, text.as_str()),
         Err(fault) => Ok(format!(in alloc; "{fault}")?),
     }
+}
+
+// Whether a copy is written as the text that it was read from, and whether its lines make the same.
+fn kept_and_made(alloc: Global, copy: TabletCopy, text: &str) -> Result<String, Fail> {
+    let whole = write_copy(alloc, &copy)?;
+    let is_kept = whole.as_str() == text;
+    let is_made = made(alloc, copy)?.as_slice() == whole.as_bytes();
+    Ok(format!(in alloc; "a copy, kept: {is_kept}, made: {is_made}")?)
 }
 
 // The text of a copy, made a line at a time.

@@ -38,19 +38,24 @@ fn mark(fault: Option<CopyTextFault>, line: u64) -> char {
 pub(crate) fn crossed(alloc: Global, bars: &str) -> Result<String, Fail> {
     let mut text = newlines(alloc, bars)?.into_bytes();
     let mut marks = String::new(alloc);
+    push_marks(alloc, &mut marks, &mut text)?;
+    Ok(marks)
+}
+
+fn push_marks(alloc: Global, marks: &mut String, text: &mut [u8]) -> Result<(), Fail> {
     let mut line = 1u64;
     for index in 0..text.len() {
         let Some(was) = text.get(index).copied() else {
             break;
         };
-        replace(&mut text, index, b'x');
-        marks.push(mark(fault_of(alloc, &text), line))?;
-        replace(&mut text, index, was);
+        replace(text, index, b'x');
+        marks.push(mark(fault_of(alloc, text), line))?;
+        replace(text, index, was);
         if was == b'\n' {
             line = line.saturating_add(1);
         }
     }
-    Ok(marks)
+    Ok(())
 }
 
 fn replace(text: &mut [u8], index: usize, by: u8) {

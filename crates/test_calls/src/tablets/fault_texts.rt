@@ -8,16 +8,21 @@ use std::test::Fail;
 
 pub(crate) fn faults(alloc: Global) -> Result<String, Fail> {
     let east = Name::read(b"east")?;
-    let mut text = format!(in alloc; "{}", too_old(east))?;
-    push(&mut text, &behind(east))?;
-    push(&mut text, &LayoutFault::TooMany)?;
-    push(&mut text, &OpFault::WrongRange)?;
-    push(&mut text, &OpFault::Memory)?;
-    push(&mut text, &CopyFault::Recovering)?;
-    push(&mut text, &CopyFault::NoEntry)?;
-    push(&mut text, &CopyFault::Memory)?;
-    push(&mut text, &CopyTextFault::Memory)?;
+    let mut text = String::new(alloc);
+    push_faults(&mut text, east)?;
     Ok(text)
+}
+
+fn push_faults(text: &mut String, east: StreamName) -> Result<(), Fail> {
+    write!(text, "{}", too_old(east))?;
+    push(text, &behind(east))?;
+    push(text, &LayoutFault::TooMany)?;
+    push(text, &OpFault::WrongRange)?;
+    push(text, &OpFault::Memory)?;
+    push(text, &CopyFault::Recovering)?;
+    push(text, &CopyFault::NoEntry)?;
+    push(text, &CopyFault::Memory)?;
+    push(text, &CopyTextFault::Memory)
 }
 
 fn push<T: Display>(text: &mut String, fault: &T) -> Result<(), Fail> {

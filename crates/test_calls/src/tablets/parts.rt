@@ -38,9 +38,18 @@ fn keys_text(alloc: Global, cells: &Records) -> Result<String, Fail> {
 // Adds what the tablet answers before it took the streams, and whether it gives the copy then.
 fn push_copies(alloc: Global, text: &mut String, copy: &str) -> Result<(), Fail> {
     let mut tablet = tablet_of(alloc, copy)?;
-    write!(text, "; {}", copied(alloc, &tablet)?)?;
-    take_marks(alloc, &mut tablet, copy)?;
-    let is_kept = copied(alloc, &tablet)?.as_str() == copy;
+    push_copied(alloc, text, &mut tablet, copy)
+}
+
+fn push_copied(
+    alloc: Global,
+    text: &mut String,
+    tablet: &mut TabletState,
+    copy: &str,
+) -> Result<(), Fail> {
+    write!(text, "; {}", copied(alloc, tablet)?)?;
+    take_marks(alloc, tablet, copy)?;
+    let is_kept = copied(alloc, tablet)?.as_str() == copy;
     Ok(write!(text, "; kept: {is_kept}")?)
 }
 
