@@ -53,10 +53,10 @@ returns-then-skipped-gt0-clause-steps g c = λ start written steady goes.
     let old = c.args.buffers.now in
     let left = g.R.Input.remaining c.args.input.now in
     let held = subst (λ (s : Option SkippedInput). HoldsAs s old.lines.line old.input goes.0) c.requires.some goes.1 in
-    let first = c.after_first.ensures goes.0 held.0.0 in
+    let first = c.after_first-buffers.ensures goes.0 held.0.0 in
     let stands = Stands-parted H start written c.args.machine.now old.lines goes.0 (first.line ++ 10 ∷ []) first.after left first.text_is goes.2 in (
       first.after,
-      held_skipped c.after_first.result c.refuse_skipped.new.self.line old.input first.after first.skips held.1 c.refuse_skipped.ensures.replied.1.line_is,
+      held_skipped c.after_first-buffers.result c.refuse_skipped.new.self.line old.input first.after first.skips held.1 c.refuse_skipped.ensures.replied.1.line_is,
       c.refuse_skipped.ensures.stands start (prepend_known first.after left) written first.line steady first.is_line held.2 stands,
     )
 
