@@ -100,7 +100,7 @@ pub(crate) fn get_reply(alloc: Global, view: &mut TakesTurns, words: &str) -> Re
     match get(alloc, view, &keys) {
         Ok(cells) => {
             for cell in &cells {
-                text.push(if cell.is_some() { '+' } else { '-' })?;
+                text.push_str(if cell.is_some() { "+" } else { "-" })?;
             }
         }
         Err(fault) => write!(text, "{fault}")?,
