@@ -125,10 +125,14 @@ where
     let Logged { listener, faults } = listener;
     drop(listener);
     let told = client.join(rt)?;
-    let served = outcome(alloc, served)?;
-    let mut text = format!(in alloc; "{told:?}, {served}")?;
+    let mut text = told_and_served(alloc, told, served)?;
     add_faults(rt, &mut text, &faults)?;
     Ok(text)
+}
+
+fn told_and_served(alloc: Global, told: Told, served: Option<Served>) -> Result<String, Fail> {
+    let served = outcome(alloc, served)?;
+    Ok(format!(in alloc; "{told:?}, {served}")?)
 }
 
 fn listen<R: Net<Listener = TcpListener, Stream = TcpStream>>(

@@ -85,23 +85,31 @@ fn new_noted<R: Wait + Clock + Copy>(
     alloc: Global,
     writers: Vec<InMemory<'static>>,
 ) -> Option<Noted<R>> {
-    let name = Name::read(b"east").ok()?;
     let taken = Arc::new(alloc, Counter::new()).ok()?;
-    let counter = Arc::try_clone(&taken).ok()?;
-    let origin = Script::new(rt, alloc, writers, 0).ok()?;
-    let told = origin.notes().ok()?;
+    let stream = new_stream(rt, alloc, writers, &taken)?;
+    let told = stream.origin.notes().ok()?;
     let mut streams = Vec::with_capacity(alloc, 1).ok()?;
-    streams
-        .push(Stream {
-            name,
-            origin,
-            taken: Some(counter),
-        })
-        .ok()?;
+    streams.push(stream).ok()?;
     Some(Noted {
         streams,
         told,
         taken,
+    })
+}
+
+fn new_stream<R: Wait + Clock + Copy>(
+    rt: &R,
+    alloc: Global,
+    writers: Vec<InMemory<'static>>,
+    taken: &Arc<Counter>,
+) -> Option<Stream<Script<R>>> {
+    let name = Name::read(b"east").ok()?;
+    let taken = Arc::try_clone(taken).ok()?;
+    let origin = Script::new(rt, alloc, writers, 0).ok()?;
+    Some(Stream {
+        name,
+        origin,
+        taken: Some(taken),
     })
 }
 

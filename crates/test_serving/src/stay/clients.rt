@@ -41,13 +41,24 @@ fn give_turns<W: Sink>(
     let mut buffers = ThreadBuffers::new(alloc)?;
     let mut state = ConnectionState::new(alloc);
     let mut pauses = String::new(alloc);
+    push_pauses(&mut pauses, &mut state, &mut buffers, &mut input, output)?;
+    Ok((pauses, buffers.take_line_counts().answered))
+}
+
+fn push_pauses<W: Sink>(
+    pauses: &mut String,
+    state: &mut ConnectionState,
+    buffers: &mut ThreadBuffers,
+    input: &mut ScriptedSource<'_>,
+    output: &mut W,
+) -> Result<(), Fail> {
     for _ in 0..TURNS {
-        match state.turn(&mut buffers, &mut Echo, &mut input, output) {
+        match state.turn(buffers, &mut Echo, input, output) {
             TurnOutcome::Goes(pause) => pauses.push(sign(pause))?,
             TurnOutcome::Ended(_) | TurnOutcome::OutOfMemory => break,
         }
     }
-    Ok((pauses, buffers.take_line_counts().answered))
+    Ok(())
 }
 
 fn sign(pause: Pause) -> char {
@@ -63,11 +74,23 @@ pub(crate) fn read_input(alloc: Global, text: &str) -> Result<String, Fail> {
     let pieces = read_pieces(alloc, text)?;
     let mut input = ScriptedSource::new(&pieces);
     let mut buffer = InputBuffer::new(alloc)?;
-    let first = buffer.read_from(&mut input)?;
+    let mut shown = String::new(alloc);
+    push_read(alloc, &mut shown, &mut input, &mut buffer)?;
+    shown.push_str(", ")?;
+    push_read(alloc, &mut shown, &mut input, &mut buffer)?;
+    Ok(shown)
+}
+
+// Adds what an input buffer holds after a read, and what the read answered.
+fn push_read(
+    alloc: Global,
+    shown: &mut String,
+    input: &mut ScriptedSource<'_>,
+    buffer: &mut InputBuffer,
+) -> Result<(), Fail> {
+    let read = buffer.read_from(input)?;
     let held = show(alloc, buffer.bytes())?;
-    let second = buffer.read_from(&mut input)?;
-    let then = show(alloc, buffer.bytes())?;
-    Ok(format!(in alloc; "{held} {first}, {then} {second}")?)
+    Ok(write!(shown, "{held} {read}")?)
 }
 
 /// The lines and bytes that were counted of a source, under the name of a stream.

@@ -2,7 +2,7 @@
 
 use crate::reading::{Script, first_message, readers_of, settings, stream_of};
 use crate::serve::loopback::{Served, outcome};
-use crate::stay::talks::{At, flood, talk};
+use crate::stay::talks::{At, Told, flood, talk};
 use pn_serve::{Counter, Stream, serve};
 use pn_stay::{Counters, Listener, OWNER_ALONE, SocketAcceptor, StayingServer};
 use std::alloc::{AllocError, Global};
@@ -99,10 +99,14 @@ where
     let served = serve_one(rt, alloc, &acceptor);
     let told = client.join(rt)?;
     remove_socket(rt, at)?;
-    let served = outcome(alloc, served)?;
-    let mut text = format!(in alloc; "{told:?}, {served}")?;
+    let mut text = told_and_served(alloc, told, served)?;
     add_counts(&mut text, &acceptor.counters)?;
     Ok(text)
+}
+
+fn told_and_served(alloc: Global, told: Told, served: Option<Served>) -> Result<String, Fail> {
+    let served = outcome(alloc, served)?;
+    Ok(format!(in alloc; "{told:?}, {served}")?)
 }
 
 // Serves one session.

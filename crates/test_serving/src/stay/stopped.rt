@@ -76,15 +76,19 @@ where
     let host = *rt;
     let asking = thread::spawn(rt, move || ask_and_stop(&host, alloc))?;
     let ended = serve_until_stopped(rt, alloc, acceptor);
-    let mut told = asking.join(rt)?;
+    let told = asking.join(rt)?;
     let (read, is_stopped) = ended.ok_or(NoMemory)?;
     let is_accepted = Talk::begin(rt, alloc, CLIENTS).is_ok();
+    remove_files(rt, alloc)?;
+    Ok(format!(in alloc; "{told}{read} {is_stopped} {is_accepted}")?)
+}
+
+fn remove_files<R: Files>(rt: &R, alloc: Global) -> io::Result<()> {
     for path in [CLIENTS, CONTROL] {
         fs::remove_file(rt, path)?;
         fs::remove_file(rt, format!(in alloc; "{path}.lock")?.as_str())?;
     }
-    write!(told, "{read} {is_stopped} {is_accepted}")?;
-    Ok(told)
+    Ok(())
 }
 
 fn listen<R: Files<File = File> + Net>(rt: &R, alloc: Global) -> io::Result<SocketAcceptor> {

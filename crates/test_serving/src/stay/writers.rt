@@ -1,22 +1,21 @@
 //! Writers of a stream, one after another: at a socket, and at a FIFO. And lines for standard error.
 
 use crate::reading::push_message;
+use crate::stay::opening::open;
 use crate::stay::show;
 use crate::stay::talks::connect;
-use pn_join::{LAST_POSITION, Name, NoMemory};
+use pn_join::{LAST_POSITION, NoMemory};
+use pn_line::Source;
 use pn_serve::{Origin, Stream, StreamPath, WriterEnd};
-use pn_stay::{
-    Messages, OWNER_ALONE, StreamOrigin, StreamSetting, StreamSource, WaitingLines, open_origins,
-    remove_sockets,
-};
-use pn_stream::{NoWait, ResumeFault, StreamReader};
+use pn_stay::{Messages, StreamOrigin, StreamSource, WaitingLines, remove_sockets};
+use pn_stream::{NoWait, ResumeFault, StreamFault, StreamReader};
 use std::alloc::{AllocError, Global};
 use std::fs::{File, Files, OpenOptions};
 use std::io::{BufRead, BufReader, Read, Write};
 use std::net::Net;
 use std::os::fd::AsRawFd;
 use std::os::unix::net::UnixStream;
-use std::sync::{Arc, Wait};
+use std::sync::Wait;
 use std::test::Fail;
 use std::thread::Threads;
 use std::time::Clock;
@@ -33,46 +32,6 @@ const CALLS: u32 = 100;
 
 /// How many lines are left for standard error.
 const LINES: u32 = 1_030;
-
-/// A stream, the messages about it, and the paths of its sockets.
-#[derive(Drop)]
-struct Opened<R: Drop> {
-    stream: Stream<StreamOrigin<R>>,
-    messages: Arc<Messages>,
-    sockets: Vec<String>,
-}
-
-fn open<R>(rt: &R, alloc: Global, path: StreamPath) -> Option<Opened<R>>
-where
-    R: Files<File = File> + Net + Wait + Clock + Copy + Drop,
-{
-    let messages = Messages::new(alloc).ok()?;
-    let messages = Arc::new(alloc, messages).ok()?;
-    let theirs = Arc::try_clone(&messages).ok()?;
-    let setting = StreamSetting {
-        rt: *rt,
-        alloc,
-        messages: theirs,
-        is_counted: false,
-        socket_mode: OWNER_ALONE,
-    };
-    let paths = one_path(alloc, path)?;
-    let opened = open_origins(&setting, paths).ok()?;
-    let mut streams = opened.streams;
-    let stream = streams.pop()?;
-    Some(Opened {
-        stream,
-        messages,
-        sockets: opened.sockets,
-    })
-}
-
-fn one_path(alloc: Global, path: StreamPath) -> Option<Vec<(Name, StreamPath)>> {
-    let name = Name::read(b"east").ok()?;
-    let mut paths = Vec::with_capacity(alloc, 1).ok()?;
-    paths.push((name, path)).ok()?;
-    Some(paths)
-}
 
 // Reads the next two writers of a stream to their ends.
 fn read_two<R>(alloc: Global, stream: &mut Stream<StreamOrigin<R>>) -> Option<u64>
@@ -121,15 +80,21 @@ where
     R: Files<File = File> + Net + Wait + Clock + Copy + Drop,
 {
     for line in 2..CALLS {
-        match reader.next_ready(MOST) {
-            Ok(delivery) if delivery.images().is_empty() => break,
-            Ok(_) => note(stream, reader.position()),
+        match has_read(reader) {
+            Ok(true) => note(stream, reader.position()),
+            Ok(false) => break,
             Err(fault) => {
                 return end_of(ResumeFault::Stream(fault), reader.position(), line as u64);
             }
         }
     }
     WriterEnd::End
+}
+
+// Reads what is there. Whether there was a message.
+fn has_read<S: Source + Drop>(reader: &mut StreamReader<S>) -> Result<bool, StreamFault> {
+    let delivery = reader.next_ready(MOST)?;
+    Ok(!delivery.images().is_empty())
 }
 
 fn end_of(fault: ResumeFault, last: u64, line: u64) -> WriterEnd {
@@ -192,14 +157,27 @@ where
 {
     let path = StreamPath::Listen(String::from_str(alloc, STREAM_PATH)?);
     let mut opened = open(rt, alloc, path).ok_or(NoMemory)?;
-    let writers = connect_twice(rt)?;
-    let client = thread::spawn(rt, move || write_twice(alloc, writers))?;
-    let last = read_two(alloc, &mut opened.stream).ok_or(NoMemory)?;
-    let told = client.join(rt)?;
+    let (told, last) = read_beside(rt, alloc, &mut opened.stream)?;
     remove_sockets(rt, &opened.sockets);
     let said = show_messages(rt, alloc, &opened.messages)?;
-    let told = show(alloc, told.as_bytes())?;
     Ok(format!(in alloc; "{told} {said} {last}")?)
+}
+
+// Reads both writers while they write: what they have read, and up to which position the stream was read.
+fn read_beside<R>(
+    rt: &R,
+    alloc: Global,
+    stream: &mut Stream<StreamOrigin<R>>,
+) -> Result<(String, u64), Fail>
+where
+    R: Files<File = File> + Net + Threads + Wait + Clock + Copy + Drop,
+{
+    let writers = connect_twice(rt)?;
+    let client = thread::spawn(rt, move || write_twice(alloc, writers))?;
+    let last = read_two(alloc, stream).ok_or(NoMemory)?;
+    let told = client.join(rt)?;
+    let told = show(alloc, told.as_bytes())?;
+    Ok((told, last))
 }
 
 fn connect_twice<R: Net>(rt: &R) -> io::Result<(UnixStream, UnixStream)> {
@@ -247,14 +225,36 @@ where
 {
     let (reader, writer) = io::pipe(rt)?;
     let path = format!(in alloc; "/proc/self/fd/{}", reader.as_raw_fd())?;
-    let same = String::from_str(alloc, path.as_str())?;
-    let mut opened = open(rt, alloc, StreamPath::File(same)).ok_or(NoMemory)?;
-    write_half(alloc, writer)?;
-    let last = read_writer(alloc, &mut opened.stream, 0).ok_or(NoMemory)?;
-    write_again(rt, alloc, path.as_str())?;
-    let last = read_writer(alloc, &mut opened.stream, last).ok_or(NoMemory)?;
+    read_path(rt, alloc, path.as_str(), writer)
+}
+
+fn read_path<R, W>(rt: &R, alloc: Global, path: &str, writer: W) -> Result<String, Fail>
+where
+    R: Files<File = File> + Net + Wait + Clock + Copy + Drop,
+    W: Write + Drop,
+{
+    let own = String::from_str(alloc, path)?;
+    let mut opened = open(rt, alloc, StreamPath::File(own)).ok_or(NoMemory)?;
+    let last = read_both(rt, alloc, &mut opened.stream, path, writer)?;
     let said = show_messages(rt, alloc, &opened.messages)?;
     Ok(format!(in alloc; "{said} {last}")?)
+}
+
+fn read_both<R, W>(
+    rt: &R,
+    alloc: Global,
+    stream: &mut Stream<StreamOrigin<R>>,
+    path: &str,
+    writer: W,
+) -> Result<u64, Fail>
+where
+    R: Files<File = File> + Net + Wait + Clock + Copy + Drop,
+    W: Write + Drop,
+{
+    write_half(alloc, writer)?;
+    let last = read_writer(alloc, stream, 0).ok_or(NoMemory)?;
+    write_again(rt, alloc, path)?;
+    Ok(read_writer(alloc, stream, last).ok_or(NoMemory)?)
 }
 
 fn write_half<W: Write + Drop>(alloc: Global, writer: W) -> io::Result<()> {
