@@ -63,7 +63,7 @@ fn take_all<R: Threads + Wait + Sync>(
             _ => take_short(rt, alloc, live, word, rest),
         };
         told.push_str(answer?.as_str().trim_end()).ok()?;
-        told.push('|').ok()?;
+        told.push_str("|").ok()?;
     }
     Some(told)
 }

@@ -161,10 +161,10 @@ fn push_stats(told: &mut String, stats: &str) -> io::Result<()> {
     for part in stats.split(",\"") {
         if !is_timed(part) {
             told.push_str(part)?;
-            told.push(' ')?;
+            told.push_str(" ")?;
         }
     }
-    told.push('\n')?;
+    told.push_str("\n")?;
     Ok(())
 }
 

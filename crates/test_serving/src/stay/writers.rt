@@ -133,7 +133,7 @@ fn show_messages<R: Wait + Clock>(
     let mut text = String::new(alloc);
     for line in waiting.lines().iter() {
         text.push_str(line.as_str())?;
-        text.push('|')?;
+        text.push_str("|")?;
     }
     Ok(text)
 }
