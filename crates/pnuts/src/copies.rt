@@ -121,17 +121,29 @@ where
     requires { 1 ≤ workers }
 {
     let mut reader = CopiesReader::new(rt.alloc(), source, workers)?;
+    read_all(rt, is_told, &mut reader)?;
+    Ok(reader.into_copies())
+}
+
+fn read_all<R>(
+    rt: &R,
+    is_told: bool,
+    reader: &mut CopiesReader<BufReader<File>>,
+) -> Result<(), CopiesFault>
+where
+    R: AllocGlobal + Eprint + Threads + Sync + Clock,
+{
     let mut told = Instant::now(rt).ok();
     for _ in 0..=MAX_BOUNDS + 1 {
         if !reader.read_some(rt, rt.alloc())? {
-            return Ok(reader.into_copies());
+            return Ok(());
         }
         if is_told && has_passed(rt, &told) {
             tell_count(rt, reader.count());
             told = Instant::now(rt).ok();
         }
     }
-    Ok(reader.into_copies())
+    Ok(())
 }
 
 fn tell_count(rt: &impl Eprint, count: usize) {
