@@ -23,7 +23,7 @@ RECORDS, SPARE_KB = 20_000, 256
 MEMORY, TOO_LONG = {"error": "memory"}, {"error": "too-long"}
 LINE = b'{"do":"read","key":"k1"}\n'
 ROW = {"row": row_of("k1", 1, "x")}
-# Each fifth client sends 70,000 bytes of a line, and no client's part fits with another's into the memory that is left.
+# How many bytes of a line a client sends at first: each fifth sends more than a line may have.
 LONG, SHORT = 70_000, 60_000
 
 
@@ -99,5 +99,5 @@ def main(words: list[str]) -> int:
         except (AssertionError, OSError, IndexError, ValueError, subprocess.SubprocessError) as fault:
             print(f"WRONG: {fault}")
             return 1
-    print(f"{skipped:,} of {given.clients:,} clients had a line refused for want of memory; none was disconnected: as it should be")
+    print(f"{skipped:,} of {given.clients:,} clients had a line refused, since there was no memory to keep it; none was disconnected: as it should be")
     return 0
