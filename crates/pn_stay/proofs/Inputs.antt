@@ -24,7 +24,7 @@ reads_none step left = reads_nothing step left left (Consumes-nil left)
 pub takes_nothing : (most : ℕ) (left : Option (List ℕ)) → TakesAtMost most left left
 takes_nothing most left = record { taken = []; consumes = Consumes-nil left; few = omega arith }
 
--- what a turn has taken where so many of its units are left
+-- what a turn has taken where `units` units are left
 pub record TakesWithin (units : ℕ) (left leaves : Option (List ℕ)) : Type 0 where
   pub taken : List ℕ
   pub consumes : Consumes left leaves taken

@@ -45,7 +45,7 @@ made_most NoInput = omega arith
 made_most NoRoom = omega arith
 made_most (Ends ended) = omega arith
 
--- what a turn has made where so many of its units are left
+-- what a turn has made where `units` units are left
 pub record MakesWithin (units : ℕ) (before after : Option (List ℕ)) (waited waits : List ℕ) : Type 0 where
   pub written : List ℕ
   pub appends : Appends before after written
@@ -66,7 +66,7 @@ makes_after units used after a b c xs ys zs more fewer counted p q =
       few = omega (arith, both, p.counted more, q.few, made_most (Next used), more);
     }
 
--- so many steps make no more than a turn's
+-- whatever is left of its units, a turn has made no more than it may
 pub makes_turn : (units : ℕ) (a b : Option (List ℕ)) (xs ys : List ℕ) → MakesWithin units a b xs ys → MakesAtMost most_made a b xs ys
 makes_turn units a b xs ys p = record { written = p.written; appends = p.appends; few = p.few }
 
@@ -96,7 +96,7 @@ one_line (Ends ended) = omega arith
 
 -- ---- records
 
--- what a turn has looked at where so many of its units are left: twice the records of a unit for each that was used
+-- what a turn has looked at where `units` units are left: twice the records of a unit for each that was used
 pub record LooksOn (units : ℕ) (old new : LineStateValue) : Type 0 where
   pub counted : 0 < units → new.looked + 32 * units ≤ old.looked + 32 * TURN_UNITS
   pub few : LooksFew most_looked old new

@@ -1,9 +1,11 @@
 -- What the steps of a connection that has skipped input do to where its loop stands.
-use Rattle.std.proofs.Common.{◌≡◌, ◌≢◌, ◌⊎◌, ◌+◌, ◌-◌, ◌^◌, ◌<◌, ◌≤◌, ℕ, Bool, true, false, Option, None, Some, List, [], ◌∷◌, ◌++◌, length, inl, inr, refl, sym, ap, ◌∙◌, subst, arith, append_assoc, append-nil, length-append}
+use Rattle.std.proofs.Common.{◌≡◌, ◌≢◌, ◌+◌, ◌-◌, ◌^◌, ◌<◌, ◌≤◌, ℕ, Bool, true, false, Option, None, Some, List, [], ◌∷◌, ◌++◌, length, inl, inr, refl, sym, ap, ◌∙◌, subst, arith, append_assoc, length-append}
 use Rattle.std.specs.Prelude.{nat_lt, max, min, Result, Err}
 use Rattle.std.specs.Io.KnownBytes.{prepend_known}
 use Rattle.std.proofs.lemmas.List.Elements.{All-append}
+use Rattle.std.proofs.lemmas.Option.{same_Some}
 use Rattle.pn_line.specs.declared.line_buffer.TheConstants.{ENDLESS, MAX_LINE_BYTES}
+use Rattle.pn_line.specs.Line.{so_far}
 use Rattle.pn_line.specs.Reads.{IsUnbroken}
 use Rattle.pn_serve.specs.declared.script.Counts.{Counts}
 use Rattle.pn_serve.specs.declared.script.RunFault.{RunFault}
@@ -14,14 +16,15 @@ use Rattle.pn_serve.specs.Lines.Faults.{EndsByAt}
 use Rattle.pn_serve.specs.Lines.Made.{made_in}
 use Rattle.pn_serve.specs.Lines.Skipped.{IsSkippedLine}
 use Rattle.pn_serve.specs.Lines.States.{LineLoopValue, Start, counted}
-use Rattle.pn_serve.specs.Lines.Stepping.{Handling, Stands, StepsTo, with_rest}
+use Rattle.pn_serve.specs.Lines.Stepping.{Handling, Stands, StepsTo}
+use Rattle.pn_stay.specs.Connections.{HoldsAs}
 use Rattle.pn_stay.specs.Skipping.{IsPart, Skips, SkipsLine}
 use Rattle.pn_stay.specs.declared.skipped_input.SkippedInput.{SkippedInput}
 use Rattle.pn_stay.proofs.Skipping.{Skips-part}
 
 -- ---- what is left of an input
 
--- none, before others
+-- where none comes before it
 prepend_none : (left : Option (List ℕ)) → prepend_known [] left ≡ left
 prepend_none None = refl
 prepend_none (Some rest) = refl
@@ -30,17 +33,10 @@ prepend_two : (xs ys : List ℕ) (left : Option (List ℕ)) → prepend_known (x
 prepend_two xs ys None = refl
 prepend_two xs ys (Some rest) = ap Some (append_assoc xs ys rest)
 
-with_none : (shown rest : Option (List ℕ)) → shown ≡ Some [] → with_rest shown rest ≡ rest
-with_none shown rest none = subst (λ (s : Option (List ℕ)). with_rest s rest ≡ rest) (sym none) (prepend_none rest)
+prepend_empty : (held : List ℕ) (left : Option (List ℕ)) → held ≡ [] → prepend_known held left ≡ left
+prepend_empty held left none = ap (λ (h : List ℕ). prepend_known h left) none ∙ prepend_none left
 
 module _ {V : Type 0} (handling : Handling V) (start : Start V) (written : Option (List ℕ)) (machine : V) (run : LineLoopValue) where
-  -- nothing is at hand
-  pub Stands-unshown : (shown rest : Option (List ℕ)) → shown ≡ Some [] → Stands handling start rest written machine run → Stands handling start (with_rest shown rest) written machine run
-  Stands-unshown shown rest none stands = subst (λ (l : Option (List ℕ)). Stands handling start l written machine run) (sym (with_none shown rest none)) stands
-
-  pub Steps-unshown : (step : Step) (shown rest : Option (List ℕ)) → shown ≡ Some [] → StepsTo handling start (with_rest shown rest) written machine run step → StepsTo handling start rest written machine run step
-  Steps-unshown step shown rest none steps = subst (λ (l : Option (List ℕ)). StepsTo handling start l written machine run step) (with_none shown rest none) steps
-
   -- a text in two parts
   pub Stands-parted : (text xs ys : List ℕ) (left : Option (List ℕ)) → text ≡ xs ++ ys → Stands handling start (prepend_known text left) written machine run → Stands handling start (prepend_known xs (prepend_known ys left)) written machine run
   Stands-parted text xs ys left is stands =
@@ -50,13 +46,27 @@ module _ {V : Type 0} (handling : Handling V) (start : Start V) (written : Optio
   pub Stands-alone : (left : Option (List ℕ)) → Stands handling start left written machine run → Stands handling start (prepend_known [] left) written machine run
   Stands-alone left stands = subst (λ (l : Option (List ℕ)). Stands handling start l written machine run) (sym (prepend_none left)) stands
 
+-- a step over what is held: over the text, or over none of it where it was skipped
+module _ {V : Type 0} (handling : Handling V) (start : Start V) (left before after : Option (List ℕ)) (was now : V) (run stepped : LineLoopValue) (held holds text : List ℕ) (step : Step)
+    (steps : (rest : Option (List ℕ)) → Stands handling start (prepend_known held rest) before was run → StepsTo handling start (prepend_known holds rest) after now stepped step)
+    (begun : Some held ≡ Some [] → run.line ≡ so_far [] → (Some holds ≡ Some []) × (stepped.line ≡ so_far [])) where
+  pub Steps-held : (skipped : Option SkippedInput) → HoldsAs skipped run.line held text → Stands handling start (prepend_known text left) before was run
+      → (kept : List ℕ) × HoldsAs skipped stepped.line holds kept × StepsTo handling start (prepend_known kept left) after now stepped step
+  Steps-held None is stands = (holds, refl, steps left (subst (λ (h : List ℕ). Stands handling start (prepend_known h left) before was run) is stands))
+  Steps-held (Some skipped) is stands =
+      let rest = prepend_known text left in
+      let begins = begun (ap Some is.1) is.2 in
+      let none = same_Some holds [] begins.0 in
+      let shown = subst (λ (l : Option (List ℕ)). Stands handling start l before was run) (sym (prepend_empty held rest is.1)) stands in
+      (text, (is.0, none, begins.1), subst (λ (l : Option (List ℕ)). StepsTo handling start l after now stepped step) (prepend_empty holds rest none) (steps rest shown))
+
 -- ---- a line that goes on
 
 -- a part of a line, as a line
 pub part_line : (part : ℕ) (text : List ℕ) → IsPart part text → IsSkippedLine (nat_lt MAX_LINE_BYTES part) text
 part_line part text is = record { tested = ap (λ (n : ℕ). nat_lt MAX_LINE_BYTES n) (sym is.count_is); short = is.short; unbroken = is.unbroken }
 
--- a part of a line and what came of it, which are so many bytes together
+-- a part of a line and what came of it, which are `all` bytes together
 module _ (part count most all : ℕ) (most_is : most ≡ ENDLESS - part) (all_is : all ≡ min (part + count) (2 ^ 64 - 1)) (text held new : List ℕ) (is : IsPart part text) where
   joined : (taken : List ℕ) → count ≡ length taken → length taken ≤ most → length (text ++ taken) ≡ all
   joined taken same few = omega (arith, length-append text taken, is.count_is, is.short, same, few, most_is, all_is)

@@ -1,12 +1,11 @@
 -- A connection that is kept between two turns stands where it stood.
-use Rattle.std.proofs.Common.{◌≡◌, ◌≢◌, ◌+◌, ◌≤◌, ℕ, Bool, true, false, Option, None, Some, List, [], ◌∷◌, ◌++◌, length, replicate, Contains, inl, inr, refl, sym, ap, ◌∙◌, subst, arith, append_assoc}
+use Rattle.std.proofs.Common.{◌≡◌, ◌≢◌, ◌+◌, ◌≤◌, ℕ, Bool, true, false, Option, None, Some, List, [], ◌∷◌, ◌++◌, replicate, Contains, inl, inr, refl, sym, ap, ◌∙◌, subst, arith, append_assoc}
 use Rattle.std.specs.Prelude.{Result, Err}
 use Rattle.std.specs.Io.KnownBytes.{prepend_known}
 use Rattle.std.proofs.KnownBytes.{Appends-nil}
 use Rattle.std.proofs.Math.Seq.{take-nil}
 use Rattle.std.proofs.lemmas.List.{length-replicate}
 use Rattle.std.proofs.lemmas.List.Elements.{All-nil, All-replicate, Contains-append_right}
-use Rattle.pn_line.specs.declared.line_buffer.TheConstants.{ENDLESS}
 use Rattle.pn_line.specs.Line.{LineBufferValue, max_kept, so_far}
 use Rattle.pn_line.specs.LinesRead.{PartRead}
 use Rattle.pn_line.specs.Reads.{HasShown, IsUnbroken}
@@ -25,7 +24,7 @@ use Rattle.pn_serve.specs.Lines.States.{LineLoopValue, LineStateValue, Start}
 use Rattle.pn_serve.specs.Lines.Stepping.{Handling, HasEnded, IsLooking, IsReading, Stands, StandsAt, StepsTo}
 use Rattle.pn_serve.proofs.Serving.{OnTold}
 use Rattle.pn_serve.proofs.Standing.{at_told, at_untold, told_or}
-use Rattle.pn_stay.specs.Connections.{ConnectionValue, HoldsAs, IsEndless, IsHeld, IsKept, KeepsInput, SameInput, line_at, loop_of}
+use Rattle.pn_stay.specs.Connections.{ConnectionValue, HoldsAs, IsHeld, IsKept, KeepsInput, SameInput, line_at, loop_of}
 use Rattle.pn_stay.specs.Outputs.{AnswersAtMost, LooksFew}
 use Rattle.pn_stay.specs.Skipping.{SkipsAll, SkipsInput}
 use Rattle.pn_stay.specs.Turns.{AnswersFew, Continues, EndsTurnBy, KeepsOr, LooksWithin, Stores, TurnsTo}
@@ -257,16 +256,3 @@ module _ (old : ConnectionValue) (now : LineLoopValue) (reading : old.state.stag
         replies = replies ∙ apart.1;
         input = subst (λ (l : LineBufferValue). KeepsInput old.skipped l old.held new.line new.held new.skipped) apart.2 keeps;
       }
-
-  -- the replies are as they were
-  pub kept_replies : now.replies ≡ old.replies
-  kept_replies = (begun_apart (loop_of old) now old.state.stage reading begun).1
-
-  -- a line that would have no end is that of the loop
-  pub endless_line : ENDLESS ≤ now.line.count + length old.held → IsEndless old
-  endless_line long = by old.state.stage (begun_apart (loop_of old) now old.state.stage reading begun).2
-    where
-      by : (stage : Stage) → now.line ≡ line_at stage old.line → IsEndless old
-      by Reading is = omega (arith, long, ap (λ (l : LineBufferValue). l.count) is)
-      by (Looking going) is = omega (arith, long, ap (λ (l : LineBufferValue). l.count) is)
-      by (Ending ended) is = omega (arith, long, ap (λ (l : LineBufferValue). l.count) is)

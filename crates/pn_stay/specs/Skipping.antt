@@ -12,7 +12,7 @@ abbrev pub AreSkipped : Bool → List (List ℕ) → Type 0
 AreSkipped too_long [] = Unit {0}
 AreSkipped too_long (line ∷ lines) = IsSkippedLine too_long line × All (IsSkippedLine false) lines
 
--- this text was skipped: so many whole lines, and so many bytes of the next
+-- this text was skipped: its whole lines and the bytes after them are counted
 pub record Skips (skipped : SkippedInput) (text : List ℕ) : Type 0 where
   pub lines : List (List ℕ)
   pub part : List ℕ
@@ -23,7 +23,7 @@ pub record Skips (skipped : SkippedInput) (text : List ℕ) : Type 0 where
   pub short : IsShort part
   pub part_is : skipped.part ≡ length part
 
--- this text is so many bytes of a line, one at least
+-- this text is `count` bytes of a line, one at least
 pub record IsPart (count : ℕ) (text : List ℕ) : Type 0 where
   pub some : text ≢ []
   pub unbroken : IsUnbroken text
@@ -47,7 +47,7 @@ pub record HasFirst (too_long : Bool) (rest : Option SkippedInput) (text : List 
 abbrev pub SkipsInput : LineBufferValue → List ℕ → Option SkippedInput → Type 0
 SkipsInput line held skipped = (part : List ℕ) → length part ≡ line.count → IsUnbroken part → SkipsAll skipped (part ++ held)
 
--- a line ended after these bytes, which were fewer than so many; or none is left, or they are as many
+-- a line ended after fewer than `most` bytes; or none is left, or there are `most`
 abbrev pub EndsSkipped : ℕ → Bool → List ℕ → List ℕ → Type 0
 EndsSkipped most true text left = length text < most
 EndsSkipped most false text left = (left ≡ []) ⊎ (length text ≡ most)
@@ -57,7 +57,7 @@ abbrev pub newline_if : Bool → List ℕ
 newline_if true = 10 ∷ []
 newline_if false = []
 
--- so many bytes of a line were skipped, and its newline, if it ended
+-- `count` bytes of a line were skipped, `most` at most, and its newline, if it ended
 pub record SkipsLine (most : ℕ) (old : List ℕ) (count : ℕ) (ended : Bool) (new : List ℕ) : Type 0 where
   pub text : List ℕ
   pub unbroken : IsUnbroken text

@@ -55,7 +55,6 @@ impl Connection {
         self.is_ending = true;
     }
 
-    /// Its socket.
     pub(crate) fn into_socket(self) -> Socket {
         let Connection { socket, .. } = self;
         socket

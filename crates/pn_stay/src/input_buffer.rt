@@ -78,7 +78,8 @@ impl InputBuffer {
         self.end = bytes.len();
     }
 
-    /// Skips the bytes of a line, but at most so many, and its newline. How many bytes it skipped of the line, and whether its newline.
+    /// Skips at most `most` bytes of a line, and then its newline. Returns how many bytes of the line, and whether the newline was
+    /// skipped.
     pub(crate) fn skip_line(&mut self, most: usize) -> (usize, bool)
         ensures { SkipsLine most self.old result.0 result.1 self.new }
     {

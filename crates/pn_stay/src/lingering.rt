@@ -15,7 +15,7 @@ use std::{io, mem, thread};
 /// How many milliseconds a wait for clients takes.
 const STEP: u64 = 10;
 
-/// For how many waits at most clients are waited for in the end: a second.
+/// At most how many waits the end takes: a second.
 const STEPS: u32 = 100;
 
 /// After how many milliseconds at most the clients are looked at again, while others are served.

@@ -51,7 +51,7 @@ impl Messages {
     }
 }
 
-/// Lines in their order. One for which there is no place is dropped, and counted.
+/// Lines in their order. One that does not fit is dropped, and counted.
 #[derive(Drop)]
 pub struct WaitingLines {
     lines: Vec<String>,
@@ -81,7 +81,6 @@ impl WaitingLines {
         })
     }
 
-    /// The lines.
     pub fn lines(&self) -> &[String]
         ensures { result.now ≡ self.now.0 }
     {
@@ -102,7 +101,7 @@ impl WaitingLines {
         self.lines.is_empty() && self.dropped == 0
     }
 
-    /// Adds a line, or drops it where there is no place.
+    /// Adds a line, or drops it where it does not fit.
     pub fn add(&mut self, line: String)
         ensures added { length self.old.0 < MAX_WAITING → self.new ≡ (self.old.0 ++ line ∷ [], self.old.1) }
         ensures dropped { MAX_WAITING ≤ length self.old.0 → self.new ≡ (self.old.0, one_more self.old.1) }
@@ -121,7 +120,6 @@ impl WaitingLines {
         self.dropped = self.dropped.saturating_add(1);
     }
 
-    /// Forgets all lines.
     pub fn clear(&mut self)
         ensures { self.new ≡ ([], 0) }
     {
@@ -130,7 +128,7 @@ impl WaitingLines {
     }
 }
 
-/// Who waits for memory. Each counter stands at zero where nobody does.
+/// Who waits for memory. Each counter is zero where nobody does.
 #[derive(Drop)]
 pub struct Shortages {
     rounds: Arc<Counter>,

@@ -1,4 +1,4 @@
-//! Why a writer's input is read no further, and why the system refuses something: in words, and in a line for the writer.
+//! Why a writer's input is no longer read, and why the system refuses something: in words, and in a line for the writer.
 
 ghost use Rattle.std.specs.Prelude.{◌≡◌, ◌++◌, codes, decimal, string_bytes, IfOk};
 ghost use Rattle.pn_stay.specs.Reasons.{image_word, stream_word, member_detail, stream_detail, refusal_line, image_words, stream_words, reason_words, failure_words};
@@ -23,7 +23,7 @@ pub fn format_taken(alloc: Global, last: u64) -> Result<String, AllocError>
     format!(in alloc; "{{\"taken\":{last}}}\n")
 }
 
-/// The line that tells a writer why it is read no further, where the message at this position was wanted.
+/// The line that tells a writer why its input is no longer read; the message at this position was due.
 pub fn format_refusal(
     alloc: Global,
     fault: &ResumeFault,

@@ -1,6 +1,6 @@
 //! The steps of a connection's turn: those of its line loop, and reads where no more input is at hand.
 
-ghost use Rattle.std.specs.Prelude.{◌≡◌, ◌⊎◌, ◌<◌, ◌≤◌, ◌+◌, ◌*◌, ℕ, List, [], length, None, Option};
+ghost use Rattle.std.specs.Prelude.{◌≡◌, ◌⊎◌, ◌<◌, ◌≤◌, ◌+◌, ◌*◌, ℕ, List, [], length, Option};
 ghost use Rattle.std.specs.Io.KnownBytes.{prepend_known};
 ghost use Rattle.pn_serve.specs.Lines.Bounds.{IsIdleAt, records_by, records_in};
 ghost use Rattle.pn_serve.specs.Lines.Faults.{EndsByAt, EndsByStep};
@@ -19,7 +19,7 @@ mod skipping;
 use crate::connection_state::ThreadBuffers;
 use crate::input::Input;
 use crate::socket::is_wait;
-use crate::steps::skipping::step_skipping;
+use crate::steps::skipping::refuse_next;
 use pn_line::Sink;
 use pn_serve::{LineHandler, RefusesSkipped, RunFault, Step, TURN_UNITS};
 use std::io;
@@ -66,7 +66,7 @@ fn units_after(units: u32, used: u32) -> u32
     units.saturating_sub(used.max(1))
 }
 
-// One step of a connection, which has skipped input or holds all of it.
+// One step of the line loop. Where no input is at hand, a line that was skipped is refused, or more is read.
 fn take_step<M: RefusesSkipped, R: Input, W: Sink>(
     buffers: &mut ThreadBuffers,
     machine: &mut M,
@@ -88,41 +88,38 @@ fn take_step<M: RefusesSkipped, R: Input, W: Sink>(
     ensures write_stage { (used : ℕ) → result ≡ Step.Next used → EndsByAt RunFault.Write buffers.new.lines.state.stage → EndsByAt RunFault.Write buffers.old.lines.state.stage }
     ensures knows { KnowsNoLess (M.reader machine.old) (M.reader machine.new) }
 {
-    match buffers.skipped {
-        Some(skipped) => step_skipping(buffers, skipped, machine, input, output, units),
-        None => step_reading(buffers, machine, input, output, units),
-    }
-}
-
-// One step of the line loop, or a read.
-fn step_reading<M: LineHandler, R: Input, W: Sink>(
-    buffers: &mut ThreadBuffers,
-    machine: &mut M,
-    input: &mut R,
-    output: &mut W,
-    units: u32,
-) -> Step
-    requires ready { M.ready }
-    requires none { buffers.old.skipped ≡ None }
-    ensures steps { (start : Start M) → IsSteady M.reader M.moves → Continues (by M.moves M.makes M.ends M.goes M.goes_last) start (R.remaining input.old) (W.contents output.old) machine.old (in_buffers buffers.old)
-        → StepsIn (by M.moves M.makes M.ends M.goes M.goes_last) start (R.remaining input.new) (W.contents output.new) machine.new buffers.new result }
-    ensures waits { WaitsWell (in_buffers buffers.new) result }
-    ensures few { ReadsOnce result (R.remaining input.old) (R.remaining input.new) }
-    ensures written { MakesAtMost (made_by result) (W.contents output.old) (W.contents output.new) buffers.old.lines.replies buffers.new.lines.replies }
-    ensures answers { AnswersAtMost (lines_by result) buffers.old.lines.state buffers.new.lines.state }
-    ensures looked { LooksFew (records_in units) buffers.old.lines.state buffers.new.lines.state }
-    ensures records { LooksFew (records_by result) buffers.old.lines.state buffers.new.lines.state }
-    ensures read_fault { EndsByStep RunFault.Read buffers.new.lines result → (EndsByAt RunFault.Read buffers.old.lines.state.stage × (input.new ≡ input.old)) ⊎ R.has_failed input.new }
-    ensures write_fault { EndsByStep RunFault.Write buffers.new.lines result → EndsByAt RunFault.Write buffers.old.lines.state.stage ⊎ W.has_failed output.new }
-    ensures write_stage { (used : ℕ) → result ≡ Step.Next used → EndsByAt RunFault.Write buffers.new.lines.state.stage → EndsByAt RunFault.Write buffers.old.lines.state.stage }
-    ensures knows { KnowsNoLess (M.reader machine.old) (M.reader machine.new) }
-{
     let step = buffers
         .lines
         .step(machine, &mut buffers.input, output, units);
     match step {
-        Step::NoInput => read_more(buffers, machine, input),
+        Step::NoInput => refuse_or_read(buffers, machine, input),
         step => step,
+    }
+}
+
+// Refuses a line of the input that was skipped, or reads once where nothing was.
+fn refuse_or_read<M: RefusesSkipped, R: Input>(
+    buffers: &mut ThreadBuffers,
+    machine: &mut M,
+    input: &mut R,
+) -> Step
+    requires ready { M.ready }
+    requires empty { buffers.old.input ≡ [] }
+    requires idle { IsIdleAt Step.NoInput buffers.old.lines }
+    ensures steps { (start : Start M) (written : Option (List ℕ)) → IsSteady M.reader M.moves → Continues (by M.moves M.makes M.ends M.goes M.goes_last) start (R.remaining input.old) written machine.old (in_buffers buffers.old)
+        → StepsIn (by M.moves M.makes M.ends M.goes M.goes_last) start (R.remaining input.new) written machine.new buffers.new result }
+    ensures waits { WaitsWell (in_buffers buffers.new) result }
+    ensures few { ReadsOnce result (R.remaining input.old) (R.remaining input.new) }
+    ensures makes { length buffers.new.lines.replies ≤ length buffers.old.lines.replies + made_by result }
+    ensures answers { AnswersAtMost (lines_by result) buffers.old.lines.state buffers.new.lines.state }
+    ensures looked { buffers.new.lines.state.looked ≡ buffers.old.lines.state.looked }
+    ensures read_fault { EndsByStep RunFault.Read buffers.new.lines result → R.has_failed input.new }
+    ensures write_fault { EndsByStep RunFault.Write buffers.new.lines result → ⊥ }
+    ensures knows { KnowsNoLess (M.reader machine.old) (M.reader machine.new) }
+{
+    match buffers.skipped {
+        Some(skipped) => refuse_next(buffers, skipped, machine, input),
+        None => read_more(buffers, machine, input),
     }
 }
 

@@ -1,6 +1,6 @@
 //! What a connection keeps is loaded into the buffers of its thread, and stored again after a turn.
 
-ghost use Rattle.std.specs.Prelude.{◌≡◌, ◌≢◌, ◌+◌, ◌≤◌, ◌↔◌, [], ◌++◌, None, length, vec_len, IfOk, IfSome, IsFalse, IsTrue, MatchBool, IfNone, OnErr};
+ghost use Rattle.std.specs.Prelude.{◌≡◌, ◌≢◌, ◌+◌, ◌≤◌, [], ◌++◌, None, length, vec_len, IfOk, IfSome, IsFalse, IsTrue, MatchBool, IfNone, OnErr};
 ghost use Rattle.pn_line.specs.Prelude.{so_far};
 ghost use Rattle.pn_line.specs.declared.line_buffer.TheConstants.{ENDLESS, MAX_LINE_BYTES};
 ghost use Rattle.pn_stay.specs.Connections.{DoesNotFit, KeepsInput, SameInput, line_in, replies_in};
@@ -82,7 +82,7 @@ fn load_line(lines: &mut LineLoop, line: Option<LineBuffer>)
     }
 }
 
-// Goes on with the replies that are kept, in whose place there are the thread's meanwhile. Where there are none, whether the thread
+// Loads the replies that are kept, and keeps the thread's buffer in exchange. Where there are none, returns whether the thread
 // has another buffer, since they may have to be kept.
 fn load_replies(alloc: Global, buffers: &mut ThreadBuffers, kept: &mut Option<ReplyBuffer>) -> bool
     requires none { buffers.old.lines.replies ≡ [] }

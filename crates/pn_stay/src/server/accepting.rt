@@ -31,7 +31,7 @@ pub(super) struct Accepting {
     messages: Option<Arc<Messages>>,
 }
 
-/// What clients of an acceptor are accepted from, of whose connections at most `connections` are open at once.
+/// What an acceptor accepts clients from, at most `connections` of which are open at once.
 pub(super) fn begin_accepting(
     alloc: Global,
     acceptor: SocketAcceptor,

@@ -1,17 +1,17 @@
 //! The steps of a connection that has skipped input: each line of it is refused, as soon as its end is known.
 
-ghost use Rattle.std.specs.Prelude.{◌≡◌, ◌≢◌, ◌⊎◌, ◌<◌, ◌≤◌, ◌+◌, ◌*◌, ℕ, List, [], ◌++◌, length, Option, Some};
+ghost use Rattle.std.specs.Prelude.{◌≡◌, ◌<◌, ◌≤◌, ◌+◌, ◌*◌, ℕ, List, [], ◌++◌, length, Option, Some};
 ghost use Rattle.std.specs.Io.KnownBytes.{prepend_known};
 ghost use Rattle.pn_line.specs.Prelude.{so_far};
-ghost use Rattle.pn_serve.specs.Lines.Bounds.{IsIdleAt, records_by, records_in};
+ghost use Rattle.pn_serve.specs.Lines.Bounds.{IsIdleAt};
 ghost use Rattle.pn_serve.specs.Lines.Faults.{EndsByAt, EndsByStep};
-ghost use Rattle.pn_serve.specs.Lines.Made.{MakesAtMost, made_by, made_in};
+ghost use Rattle.pn_serve.specs.Lines.Made.{made_by, made_in};
 ghost use Rattle.pn_serve.specs.Lines.States.{Start};
 ghost use Rattle.pn_serve.specs.Lines.Stepping.{by, Stands};
 ghost use Rattle.pn_serve.specs.Session.Knowing.{IsSteady, KnowsNoLess};
 ghost use Rattle.pn_serve.specs.declared.script.TheConstants.{MAX_LINES};
 ghost use Rattle.pn_stay.specs.Inputs.{ReadsOnce};
-ghost use Rattle.pn_stay.specs.Outputs.{AnswersAtMost, LooksFew, lines_by};
+ghost use Rattle.pn_stay.specs.Outputs.{AnswersAtMost, lines_by};
 ghost use Rattle.pn_stay.specs.Connections.{HoldsAs};
 ghost use Rattle.pn_stay.specs.Skipping.{IsPart};
 ghost use Rattle.pn_stay.specs.Turns.{in_buffers, Continues, StepsIn, WaitsWell};
@@ -22,44 +22,11 @@ use crate::connection_state::ThreadBuffers;
 use crate::input::Input;
 use crate::skipped_input::SkippedInput;
 use crate::steps::{Came, came_of, units_of};
-use pn_line::{ENDLESS, InMemory, MAX_LINE_BYTES, Sink};
+use pn_line::{ENDLESS, MAX_LINE_BYTES};
 use pn_serve::{MAX_LINES, RefusesSkipped, RunFault, Step};
 
-/// One step of the line loop without input, or a refusal of what was skipped.
-pub(super) fn step_skipping<M: RefusesSkipped, R: Input, W: Sink>(
-    buffers: &mut ThreadBuffers,
-    skipped: SkippedInput,
-    machine: &mut M,
-    input: &mut R,
-    output: &mut W,
-    units: u32,
-) -> Step
-    requires ready { M.ready }
-    requires some { buffers.old.skipped ≡ Some skipped }
-    ensures steps { (start : Start M) → IsSteady M.reader M.moves → Continues (by M.moves M.makes M.ends M.goes M.goes_last) start (R.remaining input.old) (W.contents output.old) machine.old (in_buffers buffers.old)
-        → StepsIn (by M.moves M.makes M.ends M.goes M.goes_last) start (R.remaining input.new) (W.contents output.new) machine.new buffers.new result }
-    ensures waits { WaitsWell (in_buffers buffers.new) result }
-    ensures few { ReadsOnce result (R.remaining input.old) (R.remaining input.new) }
-    ensures written { MakesAtMost (made_by result) (W.contents output.old) (W.contents output.new) buffers.old.lines.replies buffers.new.lines.replies }
-    ensures answers { AnswersAtMost (lines_by result) buffers.old.lines.state buffers.new.lines.state }
-    ensures looked { LooksFew (records_in units) buffers.old.lines.state buffers.new.lines.state }
-    ensures records { LooksFew (records_by result) buffers.old.lines.state buffers.new.lines.state }
-    ensures read_fault { EndsByStep RunFault.Read buffers.new.lines result → (EndsByAt RunFault.Read buffers.old.lines.state.stage × (input.new ≡ input.old)) ⊎ R.has_failed input.new }
-    ensures write_fault { EndsByStep RunFault.Write buffers.new.lines result → EndsByAt RunFault.Write buffers.old.lines.state.stage ⊎ W.has_failed output.new }
-    ensures write_stage { (used : ℕ) → result ≡ Step.Next used → EndsByAt RunFault.Write buffers.new.lines.state.stage → EndsByAt RunFault.Write buffers.old.lines.state.stage }
-    ensures knows { KnowsNoLess (M.reader machine.old) (M.reader machine.new) }
-{
-    let step = buffers
-        .lines
-        .step(machine, &mut InMemory::new(b""), output, units);
-    match step {
-        Step::NoInput => refuse_next(buffers, skipped, machine, input),
-        step => step,
-    }
-}
-
-// Refuses the first line that was skipped, or reads on to the end of the only one.
-fn refuse_next<M: RefusesSkipped, R: Input>(
+/// Refuses the first line that was skipped, or reads on to the end of the only one.
+pub(super) fn refuse_next<M: RefusesSkipped, R: Input>(
     buffers: &mut ThreadBuffers,
     skipped: SkippedInput,
     machine: &mut M,

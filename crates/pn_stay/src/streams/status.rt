@@ -90,7 +90,7 @@ impl StatusNow {
         }
     }
 
-    // The writer is read no further.
+    // The writer is no longer read.
     fn fail(&mut self, fault: StreamFaultStats)
         ensures state { self.new.state ≡ StreamState.Failed }
         ensures fault { self.new.fault ≡ Some fault }

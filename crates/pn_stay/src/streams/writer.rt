@@ -105,7 +105,7 @@ impl<R: Clock + Drop> WriterSocket<R> {
         }
     }
 
-    /// Sends the writer why it is read no further.
+    /// Tells the writer why its input is no longer read.
     pub(crate) fn tell_fault(&mut self, fault: &ResumeFault, position: u64) {
         let _ = self.tell(format_refusal(self.alloc, fault, position));
     }

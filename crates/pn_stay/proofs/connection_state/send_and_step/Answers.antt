@@ -1,5 +1,5 @@
 -- What waits is sent first.
-use Rattle.std.proofs.Common.{ℕ, List, length, inl, refl, sym, ap, subst, arith}
+use Rattle.std.proofs.Common.{ℕ, List, length, inl, refl, ap, subst, arith}
 use Rattle.std.specs.Io.KnownBytes.{prepend_known}
 use Rattle.pn_serve.specs.declared.script.Counts.{Counts}
 use Rattle.pn_serve.specs.declared.script.RunFault.TheVariants.{Read, Write}

@@ -1,5 +1,5 @@
 -- What the steps left is sent.
-use Rattle.std.proofs.Common.{ℕ, List, refl, sym, ap, subst, arith}
+use Rattle.std.proofs.Common.{refl, ap, arith}
 use Rattle.std.specs.Io.KnownBytes.{prepend_known}
 use Rattle.pn_serve.specs.declared.script.Counts.{Counts}
 use Rattle.pn_stay.proofs.Faults.{before_or}

@@ -1,7 +1,7 @@
 -- What is kept is the same connection.
-use Rattle.std.proofs.Common.{◌≡◌, inl, inr, refl, sym, ◌∙◌, IsFalse, IsTrue, rules}
+use Rattle.std.proofs.Common.{refl, ◌∙◌, IsTrue, rules}
 use Rattle.pn_stay.specs.Turns.{in_buffers}
-use Rattle.pn_stay.proofs.Storing.{endless_line, kept_input, kept_replies}
+use Rattle.pn_stay.proofs.Storing.{kept_input}
 use Rattle.pn_stay.proofs.connection_state.ConnectionState.keep.Goals as goal
 
 pub returns : goal.returns

@@ -1,5 +1,5 @@
 -- The line's bytes, whatever they are, and then the others.
-use Rattle.std.proofs.Common.{◌≡◌, length, ◌∙◌, sym, arith}
+use Rattle.std.proofs.Common.{◌∙◌, sym, arith}
 use Rattle.pn_stay.proofs.skipped_input.SkippedInput.of_input.Goals as goal
 
 pub returns : goal.returns

@@ -1,5 +1,5 @@
 -- As many lines were answered as may be, the first line is refused, or the only one is read on.
-use Rattle.std.proofs.Common.{ℕ, true, Option, [], ◌∷◌, ◌++◌, length, refl, ap, subst, arith}
+use Rattle.std.proofs.Common.{Option, [], ◌∷◌, ◌++◌, length, refl, ap, subst, arith}
 use Rattle.std.specs.Io.KnownBytes.{prepend_known}
 use Rattle.pn_serve.specs.declared.script.Counts.{Counts}
 use Rattle.pn_serve.specs.declared.script.RunFault.TheVariants.{Read, Write}
