@@ -84,7 +84,12 @@ fn tell_unread(rt: &impl Eprint, marks: &Marks, streams: &[(Name, StreamPath)]) 
 
 // Whether a stream of this name is read.
 fn is_read(name: &str, streams: &[(Name, StreamPath)]) -> bool {
-    streams.iter().any(|stream| stream.0.as_str() == name)
+    for (stream, _path) in streams {
+        if stream.as_str() == name {
+            return true;
+        }
+    }
+    false
 }
 
 // Opens a live region that starts from the copies of a file.
@@ -121,17 +126,29 @@ where
     requires { 1 ≤ workers }
 {
     let mut reader = CopiesReader::new(rt.alloc(), source, workers)?;
+    read_all(rt, is_told, &mut reader)?;
+    Ok(reader.into_copies())
+}
+
+fn read_all<R>(
+    rt: &R,
+    is_told: bool,
+    reader: &mut CopiesReader<BufReader<File>>,
+) -> Result<(), CopiesFault>
+where
+    R: AllocGlobal + Eprint + Threads + Sync + Clock,
+{
     let mut told = Instant::now(rt).ok();
     for _ in 0..=MAX_BOUNDS + 1 {
         if !reader.read_some(rt, rt.alloc())? {
-            return Ok(reader.into_copies());
+            return Ok(());
         }
         if is_told && has_passed(rt, &told) {
             tell_count(rt, reader.count());
             told = Instant::now(rt).ok();
         }
     }
-    Ok(reader.into_copies())
+    Ok(())
 }
 
 fn tell_count(rt: &impl Eprint, count: usize) {

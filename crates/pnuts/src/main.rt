@@ -1,8 +1,10 @@
 //! `pnuts`: answers a script, or serves streams.
 #![tactic(auto)]
 
-ghost use Rattle.std.specs.Prelude.{◌≤◌, IfOk};
+ghost use Rattle.std.specs.Prelude.{◌≤◌, vec_len, IfOk, IfSome};
+ghost use Rattle.pn_live.specs.Prelude.{tablets_in};
 ghost use Rattle.pn_serve.specs.declared.arguments.options.TheConstants.{MAX_SESSIONS};
+ghost use Rattle.pn_serve.specs.Server.Sessions.{AllRead};
 
 mod addresses;
 mod copies;
@@ -18,8 +20,13 @@ use crate::inputs::{Notes, Streams, open_acceptor, open_streams, refuse_start};
 use crate::sessions::serve_streams;
 use crate::staying::{answer_on, fail_to_stay, start_server};
 use pn_join::Name;
-use pn_serve::{Plan, PlanFault, RunFault, Service, Settings, StreamPath, plan, run_to_exit};
-use pn_stay::{MessagePrinter, Shortages, SocketAcceptor, message_prefix, tell_progress};
+use pn_serve::{
+    OpenedRegion, Plan, PlanFault, RunFault, Service, Settings, StreamPath, plan, run_to_exit,
+};
+use pn_stay::{
+    Counters, MessagePrinter, Messages, Shortages, SocketAcceptor, message_prefix, tell_progress,
+};
+use std::alloc::AllocError;
 use std::env::Env;
 use std::fs::File;
 use std::io::BufReader;
@@ -38,49 +45,30 @@ const SCRIPT_READ_SIZE: usize = 65_536;
 const REFUSED: u8 = 2;
 
 fn main(rt: HostRuntime) -> ExitCode {
-    let Planned {
+    let Prepared {
         settings,
         service,
-        streams,
-    } = match plan_serving(&rt) {
-        Ok(planned) => planned,
+        opened,
+        endpoints,
+    } = match prepare(&rt) {
+        Ok(prepared) => prepared,
         Err(status) => return status,
     };
-    let opened = match start_from_copies(&rt, &settings, &service, &streams) {
-        Ok(opened) => opened,
-        Err(status) => return status,
-    };
-    let Prepared {
+    let Endpoints {
         streams,
         acceptor,
-        notes,
-    } = match prepare(&rt, &service, streams) {
-        Ok(prepared) => prepared,
-        Err(status) => return close_copies(&rt, opened, status),
-    };
-    let Notes {
+        printer,
         counters,
-        messages,
         sockets,
-        ..
-    } = notes;
-    let Ok(shortages) = Shortages::of(&counters) else {
-        return close_copies(&rt, opened, refuse_start(&rt, &service, &sockets));
+    } = endpoints;
+    let is_telling = !service.is_progress_told
+        || thread::spawn(&rt, move || tell_progress(&rt, rt.alloc(), &counters)).is_ok();
+    let is_printing = match printer {
+        None => true,
+        Some(printer) => thread::spawn(&rt, move || printer.run(&rt)).is_ok(),
     };
-    if service.is_progress_told {
-        let telling = thread::spawn(&rt, move || tell_progress(&rt, rt.alloc(), &counters));
-        if telling.is_err() {
-            return close_copies(&rt, opened, refuse_start(&rt, &service, &sockets));
-        }
-    }
-    if let Some(messages) = messages {
-        let prefix = message_prefix(service.is_progress_told);
-        let Ok(printer) = MessagePrinter::new(rt.alloc(), messages, shortages, prefix) else {
-            return close_copies(&rt, opened, refuse_start(&rt, &service, &sockets));
-        };
-        if thread::spawn(&rt, move || printer.run(&rt)).is_err() {
-            return close_copies(&rt, opened, refuse_start(&rt, &service, &sockets));
-        }
+    if !is_telling || !is_printing {
+        return close_copies(&rt, opened, refuse_start(&rt, &service, &sockets));
     }
     let (streams, connections) = match streams {
         Streams::Files(readers) => {
@@ -134,20 +122,68 @@ where
     }
 }
 
-// What a server reads, what accepts its clients, and what is noted of it.
-#[derive(Drop)]
+// What is served, from which region, and where.
 struct Prepared<R: Drop> {
-    streams: Streams<R>,
-    acceptor: SocketAcceptor,
-    notes: Notes,
+    settings: Settings,
+    service: Service,
+    opened: Option<OpenedRegion>,
+    endpoints: Endpoints<R>,
 }
 
-// Opens what is to be served, and listens. The error is the status with which the program ends.
-fn prepare<R>(
+// Parses what is to be served, starts from copies where some are named, opens the streams, and listens. The error is the status
+// with which the program ends.
+fn prepare<R>(rt: &R) -> Result<Prepared<R>, ExitCode>
+where
+    R: AllocGlobal
+        + Files<File = File>
+        + Net<Listener = TcpListener, Stream = TcpStream>
+        + Env
+        + Input
+        + Print
+        + Eprint
+        + Threads
+        + Wait
+        + Clock
+        + Sync
+        + Copy
+        + Drop,
+    ensures sessions { IfOk result (λ prepared. (1 ≤ prepared.service.sessions) × (prepared.service.sessions ≤ MAX_SESSIONS)) }
+    ensures own { IfOk result (λ prepared. IfSome prepared.opened (λ region. AllRead (tablets_in region.live) region.readers.items)) }
+    ensures readers { IfOk result (λ prepared. IfSome prepared.opened (λ region. prepared.service.sessions ≤ vec_len region.readers)) }
+{
+    let Planned {
+        settings,
+        service,
+        streams,
+    } = plan_serving(rt)?;
+    let opened = start_from_copies(rt, &settings, &service, &streams)?;
+    match open_endpoints(rt, &service, streams) {
+        Ok(endpoints) => Ok(Prepared {
+            settings,
+            service,
+            opened,
+            endpoints,
+        }),
+        Err(status) => Err(close_copies(rt, opened, status)),
+    }
+}
+
+// What a server reads, what accepts its clients, what prints messages about its streams, its counters, and the paths of its sockets.
+#[derive(Drop)]
+struct Endpoints<R: Drop> {
+    streams: Streams<R>,
+    acceptor: SocketAcceptor,
+    printer: Option<MessagePrinter>,
+    counters: Arc<Counters>,
+    sockets: Vec<String>,
+}
+
+// Opens the streams, and listens. The error is the status with which the program ends.
+fn open_endpoints<R>(
     rt: &R,
     service: &Service,
     streams: Vec<(Name, StreamPath)>,
-) -> Result<Prepared<R>, ExitCode>
+) -> Result<Endpoints<R>, ExitCode>
 where
     R: AllocGlobal
         + Files<File = File>
@@ -161,11 +197,38 @@ where
 {
     let (streams, notes) = open_streams(rt, service, streams)?;
     let acceptor = open_acceptor(rt, service, &notes, listen(rt, service))?;
-    Ok(Prepared {
-        streams,
-        acceptor,
-        notes,
-    })
+    let Notes {
+        counters,
+        messages,
+        sockets,
+        ..
+    } = notes;
+    match new_printer(rt, service, &counters, messages) {
+        Ok(printer) => Ok(Endpoints {
+            streams,
+            acceptor,
+            printer,
+            counters,
+            sockets,
+        }),
+        Err(_) => Err(refuse_start(rt, service, &sockets)),
+    }
+}
+
+// What prints the messages about streams, where there are any.
+fn new_printer(
+    rt: &impl AllocGlobal,
+    service: &Service,
+    counters: &Counters,
+    messages: Option<Arc<Messages>>,
+) -> Result<Option<MessagePrinter>, AllocError> {
+    let Some(messages) = messages else {
+        return Ok(None);
+    };
+    let shortages = Shortages::of(counters)?;
+    let prefix = message_prefix(service.is_progress_told);
+    let printer = MessagePrinter::new(rt.alloc(), messages, shortages, prefix)?;
+    Ok(Some(printer))
 }
 
 fn collect_words(rt: &(impl AllocGlobal + Env)) -> io::Result<Vec<String>> {
