@@ -9,6 +9,7 @@ mod regions;
 mod scans;
 mod streams;
 mod tablets;
+mod words;
 
 use std::alloc::Global;
 use std::test::Fail;

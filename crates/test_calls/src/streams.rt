@@ -14,7 +14,7 @@ mod writers;
 
 use by_workers::read_by_workers;
 use case::Case;
-use pn_record::Image;
+use pn_record::{Image, ImageFault};
 use pn_stream::{StreamFault, read_message};
 use reading::{read_by_lines, read_in_pieces, read_in_two, read_whole, read_with_a_failing_look};
 use std::alloc::Global;
@@ -35,10 +35,14 @@ pub(crate) fn answer<R: Threads>(rt: &R, alloc: Global, line: &str) -> Result<St
 
 // The position and the key of the message that a line is, or why it is none.
 fn message(alloc: Global, line: &str) -> Result<String, Fail> {
-    match read_message(alloc, line.as_bytes()) {
+    match read_line(alloc, line) {
         Ok((at, image)) => message_text(alloc, at, &image),
         Err(fault) => Ok(format!(in alloc; "{fault}")?),
     }
+}
+
+fn read_line(alloc: Global, line: &str) -> Result<(u64, Image), ImageFault> {
+    read_message(alloc, line.as_bytes())
 }
 
 fn message_text(alloc: Global, at: u64, image: &Image) -> Result<String, Fail> {

@@ -108,8 +108,7 @@ pub(crate) fn stream_of<R: Wait + Clock + Copy>(
     delay: u64,
 ) -> Option<Stream<Script<R>>> {
     let name = Name::read(name).ok()?;
-    let mut writers = Vec::with_capacity(alloc, 1).ok()?;
-    writers.push(InMemory::new(text.into_bytes().leak())).ok()?;
+    let writers = one_writer(alloc, text)?;
     let origin = Script::new(rt, alloc, writers, delay).ok()?;
     Some(Stream {
         name,
@@ -118,17 +117,22 @@ pub(crate) fn stream_of<R: Wait + Clock + Copy>(
     })
 }
 
+fn one_writer(alloc: Global, text: String) -> Option<Vec<InMemory<'static>>> {
+    let text: &'static [u8] = text.into_bytes().leak();
+    let mut writers = Vec::with_capacity(alloc, 1).ok()?;
+    writers.push(InMemory::new(text)).ok()?;
+    Some(writers)
+}
+
 /// The reader of one stream of these messages.
 pub(crate) fn readers_of(
     alloc: Global,
     messages: &'static str,
 ) -> Option<Vec<StreamReader<InMemory<'static>>>> {
     let name = Name::read(b"east").ok()?;
-    let source = InMemory::new(messages.as_bytes());
     let mut readers = Vec::with_capacity(alloc, 1).ok()?;
-    readers
-        .push(StreamReader::new(alloc, name, 0, source))
-        .ok()?;
+    let reader = StreamReader::new(alloc, name, 0, InMemory::new(messages.as_bytes()));
+    readers.push(reader).ok()?;
     Some(readers)
 }
 

@@ -66,8 +66,10 @@ pub(crate) fn find(
 ) -> Result<Option<(Version, usize)>, ScanFault>
     ensures { tablets_of reader.new ≡ tablets_of reader.old }
 {
-    let cell = reader.read(key, None)?;
-    Ok(cell.map(|cell| (cell.version(), cell.contents().len())))
+    match reader.read(key, None)? {
+        Some(cell) => Ok(Some((cell.version(), cell.contents().len()))),
+        None => Ok(None),
+    }
 }
 
 /// Takes one of a region's readers.

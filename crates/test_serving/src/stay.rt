@@ -4,6 +4,7 @@
 
 mod clients;
 mod echo;
+mod opening;
 mod served;
 mod stopped;
 mod talks;

@@ -1,30 +1,22 @@
 //! Slices of a table, and tables that are cut and put together again.
 
 use crate::joins::tables::{NumberTable, form, table};
+use crate::words::next_number;
 use pn_join::NoMemory;
 use std::alloc::Global;
-use std::str::Split;
 use std::test::Fail;
-
-// The next word as an index.
-fn index(words: &mut Split<'_, char>) -> Result<usize, Fail> {
-    match words.next() {
-        Some(word) => Ok(word.parse::<usize>()?),
-        None => Err(Fail::new("an index is missing")),
-    }
-}
 
 /// The entries of a table from one index to another. Where memory runs out they are taken again.
 pub(crate) fn slice(alloc: Global, text: &str) -> Result<String, Fail> {
-    let mut words = text.split(' ');
+    let mut words = text;
     let table = table(alloc, &mut words)?;
     let part = part_of(&table, &mut words)?;
     form(alloc, &part)
 }
 
-fn part_of(table: &NumberTable, words: &mut Split<'_, char>) -> Result<NumberTable, Fail> {
-    let from = index(words)?.min(table.len());
-    let to = index(words)?.min(table.len()).max(from);
+fn part_of(table: &NumberTable, words: &mut &str) -> Result<NumberTable, Fail> {
+    let from = (next_number(words)? as usize).min(table.len());
+    let to = (next_number(words)? as usize).min(table.len()).max(from);
     match table.slice(from, to) {
         Ok(part) => Ok(part),
         Err(NoMemory) => Ok(table.slice(from, to)?),
@@ -42,7 +34,7 @@ fn cut_at(table: &NumberTable, index: usize) -> Result<NumberTable, NoMemory> {
 /// A table that is cut at one index after another and put together each time; whether leaves were added.
 /// Where memory runs out it is cut again.
 pub(crate) fn cut(alloc: Global, text: &str) -> Result<String, Fail> {
-    let mut words = text.split(' ');
+    let mut words = text;
     let table = table(alloc, &mut words)?;
     let before = table.leaves().count();
     let table = cut_at_all(table, words)?;
@@ -56,9 +48,9 @@ fn cut_text(alloc: Global, table: &NumberTable, before: usize) -> Result<String,
 }
 
 // A table that is cut at each of these indices.
-fn cut_at_all(table: NumberTable, words: Split<'_, char>) -> Result<NumberTable, Fail> {
+fn cut_at_all(table: NumberTable, words: &str) -> Result<NumberTable, Fail> {
     let mut table = table;
-    for word in words {
+    for word in words.split(' ') {
         table = cut_at_word(&table, word)?;
     }
     Ok(table)

@@ -1,26 +1,20 @@
 //! Tables of up to some thousand entries: their joins, and an entry below all others.
 
+use crate::words::next_number;
 use pn_join::{Dup, Entries, Highest, Join, NoMemory, Table};
 use std::alloc::Global;
-use std::str::Split;
 use std::test::Fail;
 
 pub(crate) type NumberTable = Table<Highest, Highest>;
 
-fn number(words: &mut Split<'_, char>) -> Result<u64, Fail> {
-    match words.next() {
-        Some(word) => Ok(word.parse::<u64>()?),
-        None => Err(Fail::new("a number is missing")),
-    }
-}
-
 /// The table of a first key, a step and a count.
-pub(crate) fn table(alloc: Global, words: &mut Split<'_, char>) -> Result<NumberTable, Fail> {
-    let (first, step) = (number(words)?, number(words)?);
+pub(crate) fn table(alloc: Global, words: &mut &str) -> Result<NumberTable, Fail> {
+    let first = next_number(words)?;
+    let step = next_number(words)?;
+    let count = next_number(words)?;
     let mut table = NumberTable::new(alloc);
-    for index in 0..number(words)? {
-        let key = Highest(first.saturating_add(index.saturating_mul(step)));
-        table.join_entry(key, key)?;
+    for index in 0..count {
+        add_once(&mut table, first.saturating_add(index.saturating_mul(step)))?;
     }
     Ok(table)
 }
@@ -77,7 +71,7 @@ pub(crate) fn form(alloc: Global, table: &NumberTable) -> Result<String, Fail> {
 
 /// The join of two tables. Where memory runs out it is made again.
 pub(crate) fn join(alloc: Global, tables: &str) -> Result<String, Fail> {
-    let mut words = tables.split(' ');
+    let mut words = tables;
     let mut own = table(alloc, &mut words)?;
     let other = table(alloc, &mut words)?;
     if own.join_from(&other).is_err() {
@@ -117,19 +111,23 @@ fn changes_one_leaf(before: &NumberTable, after: &NumberTable) -> bool {
 
 // A table, and the same with one entry more. Where memory runs out it is joined again.
 fn with_entry(alloc: Global, text: &str) -> Result<(NumberTable, NumberTable), Fail> {
-    let mut words = text.split(' ');
+    let mut words = text;
     let mut table = table(alloc, &mut words)?;
     let before = table.dup()?;
-    add_entry(&mut table, number(&mut words)?)?;
+    add_entry(&mut table, next_number(&mut words)?)?;
     Ok((before, table))
 }
 
 fn add_entry(table: &mut NumberTable, number: u64) -> Result<(), NoMemory> {
-    let key = Highest(number);
-    match table.join_entry(key, key) {
-        Ok(()) => Ok(()),
-        Err(NoMemory) => table.join_entry(key, key),
+    if add_once(table, number).is_ok() {
+        return Ok(());
     }
+    add_once(table, number)
+}
+
+fn add_once(table: &mut NumberTable, number: u64) -> Result<(), NoMemory> {
+    let key = Highest(number);
+    table.join_entry(key, key)
 }
 
 /// A table with one entry more, below all others, and whether its last leaf is as it was.

@@ -126,13 +126,18 @@ fn words_between(alloc: Global, words: &str, from: usize, to: usize) -> Option<S
 
 fn push_word(words: &mut String, word: &str) -> Option<()> {
     words.push_str(word).ok()?;
-    words.push(' ').ok()
+    words.push_str(" ").ok()
 }
 
 // Why marks do not advance where the one tablet adopted copies of 17 streams.
 fn advance_many<R: Threads + Sync>(rt: &R, alloc: Global) -> Option<String> {
     let mut region = region(alloc, "")?;
     adopt_many(rt, alloc, &mut region)?;
+    refused_advance(alloc, &mut region)
+}
+
+// Why marks do not advance, and how many there are.
+fn refused_advance(alloc: Global, region: &mut Region) -> Option<String> {
     let fault = region.advance().err()?;
     format!(in alloc; "{fault}; {} marks", region.marks().len()).ok()
 }

@@ -41,5 +41,5 @@ pub(crate) fn push_keys(text: &mut String, records: &Records) -> Option<()> {
     for (key, _cell) in records.iter() {
         text.push_str(key.as_str()).ok()?;
     }
-    text.push(';').ok()
+    text.push_str(";").ok()
 }

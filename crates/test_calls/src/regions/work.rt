@@ -61,7 +61,7 @@ fn operations<R: Threads + Sync>(
 fn push_joined(text: &mut String, operation: &TabletOp) -> Option<()> {
     match operation {
         TabletOp::Join { cells, .. } => push_keys(text, cells),
-        _ => text.push(';').ok(),
+        _ => text.push_str(";").ok(),
     }
 }
 

@@ -2,7 +2,7 @@
 
 use crate::scans::view::TakesTurns;
 use pn_join::NoMemory;
-use pn_record::{Key, Version};
+use pn_record::{Cell, Key, Version};
 use pn_scan::{
     Page, PageStep, PageWalk, Query, ScanFault, View, get, page, read_at_least, read_query,
 };
@@ -21,16 +21,24 @@ pub(crate) fn page_reply(
     asked: &str,
 ) -> Result<String, Fail> {
     let query = query_of(alloc, asked)?;
-    let text = page_text(alloc, page(alloc, view, &query))?;
-    let (first, second) = (view.rooms[0], view.rooms[1]);
+    let text = page_text(alloc, view, &query)?;
+    let [first, second] = view.rooms;
     Ok(format!(in alloc; "{text}, rooms {first} {second}")?)
 }
 
-fn page_text(alloc: Global, found: Result<Page, ScanFault>) -> Result<String, Fail> {
-    match found {
+fn page_text(alloc: Global, view: &mut TakesTurns, query: &Query) -> Result<String, Fail> {
+    match find_page(alloc, view, query) {
         Ok(page) => keys_text(alloc, &page),
-        Err(fault) => Ok(format!(in alloc; "{fault}")?),
+        Err(fault) => fault_text(alloc, &fault),
     }
+}
+
+fn find_page(alloc: Global, view: &mut TakesTurns, query: &Query) -> Result<Page, ScanFault> {
+    page(alloc, view, query)
+}
+
+fn fault_text(alloc: Global, fault: &ScanFault) -> Result<String, Fail> {
+    Ok(format!(in alloc; "{fault}")?)
 }
 
 /// The keys of a page that is gone on with record by record after a first look, and in how many steps it was found; or why
@@ -41,32 +49,46 @@ pub(crate) fn walk_reply(
     asked: &str,
 ) -> Result<String, Fail> {
     let query = query_of(alloc, asked)?;
-    let (found, steps) = walk(alloc, view, &query);
-    match found {
-        Ok(Some(page)) => walked_text(alloc, &page, steps),
-        Ok(None) => Ok(String::new(alloc)),
-        Err(fault) => Ok(format!(in alloc; "{fault} after {steps} steps")?),
-    }
+    let walk = begin_walk(alloc, view, &query);
+    walked_text(alloc, view, &query, walk)
 }
 
 // The page that a walk finds, and in how many steps.
-fn walk(
+fn walked_text(
     alloc: Global,
     view: &mut TakesTurns,
     query: &Query,
-) -> (Result<Option<Page>, ScanFault>, u32) {
-    let mut walk = PageWalk::new(alloc, view.layout(), query);
+    begun: PageWalk,
+) -> Result<String, Fail> {
+    let mut walk = begun;
     for step in 1..STEPS {
-        match walk.go_on(alloc, view, query, 1) {
-            Ok(PageStep::Done(page)) => return (Ok(Some(page)), step),
+        match step_on(alloc, view, query, walk) {
+            Ok(PageStep::Done(page)) => return steps_text(alloc, &page, step),
             Ok(PageStep::Next(next)) => walk = next,
-            Err(fault) => return (Err(fault), step),
+            Err(fault) => return stopped_text(alloc, &fault, step),
         }
     }
-    (Ok(None), STEPS)
+    Ok(String::new(alloc))
 }
 
-fn walked_text(alloc: Global, page: &Page, steps: u32) -> Result<String, Fail> {
+fn stopped_text(alloc: Global, fault: &ScanFault, steps: u32) -> Result<String, Fail> {
+    Ok(format!(in alloc; "{fault} after {steps} steps")?)
+}
+
+fn begin_walk(alloc: Global, view: &TakesTurns, query: &Query) -> PageWalk {
+    PageWalk::new(alloc, view.layout(), query)
+}
+
+fn step_on(
+    alloc: Global,
+    view: &mut TakesTurns,
+    query: &Query,
+    walk: PageWalk,
+) -> Result<PageStep, ScanFault> {
+    walk.go_on(alloc, view, query, 1)
+}
+
+fn steps_text(alloc: Global, page: &Page, steps: u32) -> Result<String, Fail> {
     let text = keys_text(alloc, page)?;
     Ok(format!(in alloc; "{text} in {steps} steps")?)
 }
@@ -96,14 +118,24 @@ fn push_after(text: &mut String, next: &Query) -> Result<(), Fail> {
 /// Which of the keys have a record, or why there is no answer.
 pub(crate) fn get_reply(alloc: Global, view: &mut TakesTurns, words: &str) -> Result<String, Fail> {
     let keys = keys(alloc, words).ok_or(NoMemory)?;
+    match get_cells(alloc, view, &keys) {
+        Ok(cells) => cells_text(alloc, &cells),
+        Err(fault) => fault_text(alloc, &fault),
+    }
+}
+
+fn get_cells(
+    alloc: Global,
+    view: &mut TakesTurns,
+    keys: &[Key],
+) -> Result<Vec<Option<Cell>>, ScanFault> {
+    get(alloc, view, keys)
+}
+
+fn cells_text(alloc: Global, cells: &[Option<Cell>]) -> Result<String, Fail> {
     let mut text = String::new(alloc);
-    match get(alloc, view, &keys) {
-        Ok(cells) => {
-            for cell in &cells {
-                text.push(if cell.is_some() { '+' } else { '-' })?;
-            }
-        }
-        Err(fault) => write!(text, "{fault}")?,
+    for cell in cells {
+        text.push_str(if cell.is_some() { "+" } else { "-" })?;
     }
     Ok(text)
 }
@@ -115,9 +147,15 @@ pub(crate) fn read_reply(
     asked: &str,
 ) -> Result<String, Fail> {
     let (key, number) = asked.split_once(' ').unwrap_or((asked, "0"));
-    let version = Version::new(1, number.parse::<u64>()?);
-    match read_at_least(view, &Key::of(alloc, key)?, version) {
-        Ok(cell) => Ok(format!(in alloc; "{}", cell.is_some())?),
-        Err(fault) => Ok(format!(in alloc; "{fault}")?),
+    let number = number.parse::<u64>()?;
+    let key = Key::of(alloc, key)?;
+    match is_found(view, &key, number) {
+        Ok(is_found) => Ok(format!(in alloc; "{is_found}")?),
+        Err(fault) => fault_text(alloc, &fault),
     }
+}
+
+fn is_found(view: &mut TakesTurns, key: &Key, number: u64) -> Result<bool, ScanFault> {
+    let cell = read_at_least(view, key, Version::new(1, number))?;
+    Ok(cell.is_some())
 }

@@ -1,7 +1,7 @@
 //! A stream, and how it is read.
 
+use crate::words::{next_number, next_word};
 use std::alloc::Global;
-use std::str::SplitN;
 use std::test::Fail;
 use test_kit::{newlines, spell_out};
 
@@ -20,12 +20,12 @@ pub(crate) struct Case {
 impl Case {
     /// Reads the words of a case.
     pub(crate) fn read(alloc: Global, line: &str) -> Result<Case, Fail> {
-        let mut words = line.splitn(7, ' ');
-        let kind = words.next().unwrap_or("");
-        let after = number(&mut words)?;
-        let calls = number(&mut words)?;
-        let most = number(&mut words)?;
-        let text = stream(alloc, &mut words)?;
+        let mut words = line;
+        let kind = next_word(&mut words);
+        let after = next_number(&mut words)?;
+        let calls = next_number(&mut words)?;
+        let most = next_number(&mut words)?;
+        let text = stream(alloc, words)?;
         Ok(Case {
             is_resumed: kind == "resume",
             is_ready: kind != "batch",
@@ -37,24 +37,29 @@ impl Case {
     }
 }
 
-fn number(words: &mut SplitN<'_, char>) -> Result<u64, Fail> {
-    match words.next() {
-        Some(word) => Ok(word.parse::<u64>()?),
-        None => Err(Fail::new("a number is missing")),
-    }
+// Messages from one position to another, and further text.
+fn stream(alloc: Global, words: &str) -> Result<String, Fail> {
+    let mut words = words;
+    let first = next_number(&mut words)?;
+    let last = next_number(&mut words)?;
+    let mut text = String::new(alloc);
+    push_messages(&mut text, first, last)?;
+    push_more(&mut text, words)?;
+    Ok(text)
 }
 
-// Messages from one position to another, and further text.
-fn stream(alloc: Global, words: &mut SplitN<'_, char>) -> Result<String, Fail> {
-    let (first, last) = (number(words)?, number(words)?);
-    let mut text = String::new(alloc);
+fn push_messages(text: &mut String, first: u64, last: u64) -> Result<(), Fail> {
     for at in first..=last {
-        push_message(&mut text, at)?;
+        push_message(text, at)?;
     }
-    let more = spell_out(alloc, words.next().unwrap_or(""))?;
-    let more = newlines(alloc, more.as_str())?;
-    text.push_str(more.as_str())?;
-    Ok(text)
+    Ok(())
+}
+
+// Adds what a text spells out.
+fn push_more(text: &mut String, more: &str) -> Result<(), Fail> {
+    let more = spell_out(*text.allocator(), more)?;
+    let more = newlines(*text.allocator(), more.as_str())?;
+    Ok(text.push_str(more.as_str())?)
 }
 
 // A message of one digit has 78 bytes.

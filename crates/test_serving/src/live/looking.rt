@@ -42,13 +42,17 @@ fn take<R: Threads + Wait + Sync>(
 
 // A query of the records whose field is this text.
 fn query_of(alloc: Global, text: &str) -> Option<Query> {
+    let condition = condition_of(alloc, text)?;
     let mut conditions = Vec::new(alloc);
-    let condition = Condition::Eq {
-        field: String::from_str(alloc, "v").ok()?,
-        value: Value::Text(String::from_str(alloc, text).ok()?),
-    };
     conditions.push(condition).ok()?;
     Query::new(None, None, None, conditions, 10)
+}
+
+fn condition_of(alloc: Global, text: &str) -> Option<Condition> {
+    let field = String::from_str(alloc, "v").ok()?;
+    let text = String::from_str(alloc, text).ok()?;
+    let value = Value::Text(text);
+    Some(Condition::Eq { field, value })
 }
 
 // A walk whose first step has not come to the page.
@@ -92,13 +96,12 @@ fn page_beside<R: Threads + Wait + Sync>(
     end_page(alloc, reader, query, walk)
 }
 
-// The numbers of the versions of a page's rows.
-fn numbers(alloc: Global, page: &Page) -> Option<String> {
-    let mut text = String::new(alloc);
+// Adds the numbers of the versions of a page's rows.
+fn push_numbers(text: &mut String, page: &Page) -> Option<()> {
     for row in &page.rows {
         write!(text, " {}", row.cell.version().number).ok()?;
     }
-    Some(text)
+    Some(())
 }
 
 fn show<R: Threads + Wait + Sync>(
@@ -107,18 +110,56 @@ fn show<R: Threads + Wait + Sync>(
     live: &mut LiveRegion,
     reader: &mut LiveReader,
 ) -> Option<String> {
-    let words = words(alloc)?;
-    if !take(rt, alloc, live, 1, words.as_str()) {
+    if !take_words(rt, alloc, live) {
         return None;
     }
-    let (old, new) = (query_of(alloc, "7")?, query_of(alloc, "8")?);
-    let beside = page_beside(rt, alloc, live, reader, &old)?;
-    let beside = numbers(alloc, &beside)?;
-    let then = reader.scan(&old).ok()?;
-    let then = numbers(alloc, &then)?;
-    let later = reader.scan(&new).ok()?;
-    let later = numbers(alloc, &later)?;
-    format!(in alloc; "found{beside}, then{then}, later{later}").ok()
+    let mut shown = String::new(alloc);
+    push_shown(rt, &mut shown, live, reader)?;
+    Some(shown)
+}
+
+fn push_shown<R: Threads + Wait + Sync>(
+    rt: &R,
+    shown: &mut String,
+    live: &mut LiveRegion,
+    reader: &mut LiveReader,
+) -> Option<()> {
+    shown.push_str("found").ok()?;
+    push_beside(rt, shown, live, reader)?;
+    shown.push_str(", then").ok()?;
+    push_now(shown, reader, "7")?;
+    shown.push_str(", later").ok()?;
+    push_now(shown, reader, "8")
+}
+
+// Takes a round of all records.
+fn take_words<R: Threads + Wait + Sync>(rt: &R, alloc: Global, live: &mut LiveRegion) -> bool {
+    match words(alloc) {
+        Some(words) => take(rt, alloc, live, 1, words.as_str()),
+        None => false,
+    }
+}
+
+fn push_beside<R: Threads + Wait + Sync>(
+    rt: &R,
+    text: &mut String,
+    live: &mut LiveRegion,
+    reader: &mut LiveReader,
+) -> Option<()> {
+    let alloc = *text.allocator();
+    let query = query_of(alloc, "7")?;
+    let page = page_beside(rt, alloc, live, reader, &query)?;
+    push_numbers(text, &page)
+}
+
+fn push_now(text: &mut String, reader: &mut LiveReader, field: &str) -> Option<()> {
+    let query = query_of(*text.allocator(), field)?;
+    let page = scan(reader, &query)?;
+    push_numbers(text, &page)
+}
+
+fn scan(reader: &mut LiveReader, query: &Query) -> Option<Page> {
+    reader.scan(query).ok()
 }
 
 /// What a page shows that a round comes into after its entry, what the same page shows then, and what one of the round shows.
@@ -140,19 +181,30 @@ fn get_beside<R: Threads + Wait + Sync>(
     if !take(rt, alloc, live, 1, "a n") {
         return None;
     }
-    let walk = GetWalk::new(alloc, keys(alloc, "n a z")?);
-    let walk = walk.go_on(reader, 1).ok()?;
+    let walk = begin_get(alloc, reader)?;
     let left = walk.left();
     if !take(rt, alloc, live, 3, "a@6 n@6 z@6") {
         return None;
     }
-    let walk = walk.go_on(reader, 5).ok()?;
+    let (count, numbers) = end_get(alloc, reader, walk)?;
+    format!(in alloc; "{left} of {count} left, then{numbers}").ok()
+}
+
+// A get of three keys that has read one.
+fn begin_get(alloc: Global, reader: &mut LiveReader) -> Option<GetWalk> {
+    let walk = GetWalk::new(alloc, keys(alloc, "n a z")?);
+    walk.go_on(reader, 1).ok()
+}
+
+// How many keys a get has, and the numbers of the versions that it gets by one step more.
+fn end_get(alloc: Global, reader: &mut LiveReader, begun: GetWalk) -> Option<(usize, String)> {
+    let walk = begun.go_on(reader, 5).ok()?;
     if walk.left() > 0 {
         return None;
     }
     let (keys, cells) = walk.end().ok()?;
     let numbers = numbers_of(alloc, &cells)?;
-    format!(in alloc; "{left} of {} left, then{numbers}", keys.len()).ok()
+    Some((keys.len(), numbers))
 }
 
 // The numbers of the versions of cells; none where a key has no record.

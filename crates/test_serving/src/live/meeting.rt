@@ -32,11 +32,7 @@ impl Gate for Meeting {
         };
         let before = own.fetch_add(1, Ordering::SeqCst);
         for _ in 0..MAX_TURNS {
-            if self
-                .entered
-                .iter()
-                .all(|count| count.load(Ordering::SeqCst) > before)
-            {
+            if self.is_past(before) {
                 return;
             }
             thread::yield_now();
@@ -57,13 +53,29 @@ impl Meeting {
         })
     }
 
+    // Whether each tablet was entered more often than this.
+    fn is_past(&self, times: u64) -> bool {
+        for count in &self.entered {
+            if count.load(Ordering::SeqCst) <= times {
+                return false;
+            }
+        }
+        true
+    }
+
+    // Whether each tablet was entered twice.
+    fn is_at_two(&self) -> bool {
+        for count in &self.entered {
+            if count.load(Ordering::SeqCst) != 2 {
+                return false;
+            }
+        }
+        true
+    }
+
     // Whether the workers met in both steps of a round: where images are joined, and where tablets take them.
     fn met_twice(&self) -> bool {
-        !self.missed.load(Ordering::SeqCst)
-            && self
-                .entered
-                .iter()
-                .all(|count| count.load(Ordering::SeqCst) == 2)
+        !self.missed.load(Ordering::SeqCst) && self.is_at_two()
     }
 }
 

@@ -52,20 +52,35 @@ fn take_all<R: Threads + Wait + Sync>(
 ) -> Option<String> {
     let mut told = String::new(alloc);
     for step in steps.split('|') {
-        let (word, rest) = step.split_once(' ').unwrap_or((step, ""));
-        let answer = match word {
-            "take" => take(rt, alloc, live, rest),
-            "adopt" => adopt(rt, alloc, live, bounds, rest),
-            "counts" => counts(alloc, reader),
-            "get" => get(alloc, reader, rest),
-            "scan" => scan(alloc, reader),
-            "copy" => copy(alloc, reader, rest),
-            _ => take_short(rt, alloc, live, word, rest),
-        };
-        told.push_str(answer?.as_str().trim_end()).ok()?;
-        told.push('|').ok()?;
+        let answer = take_one(rt, alloc, live, reader, bounds, step)?;
+        push_answer(&mut told, answer.as_str())?;
     }
     Some(told)
+}
+
+fn push_answer(told: &mut String, answer: &str) -> Option<()> {
+    told.push_str(answer.trim_end()).ok()?;
+    told.push_str("|").ok()
+}
+
+fn take_one<R: Threads + Wait + Sync>(
+    rt: &R,
+    alloc: Global,
+    live: &mut LiveRegion,
+    reader: &mut LiveReader,
+    bounds: &str,
+    step: &str,
+) -> Option<String> {
+    let (word, rest) = step.split_once(' ').unwrap_or((step, ""));
+    match word {
+        "take" => take(rt, alloc, live, rest),
+        "adopt" => adopt(rt, alloc, live, bounds, rest),
+        "counts" => counts(alloc, reader),
+        "get" => get(alloc, reader, rest),
+        "scan" => scan(alloc, reader),
+        "copy" => copy(alloc, reader, rest),
+        _ => take_short(rt, alloc, live, word, rest),
+    }
 }
 
 // The steps of a region alone.

@@ -153,14 +153,19 @@ where
     R: Threads + Wait + Clock + Sync + Copy + Send + Drop + 'static,
 {
     let reader = reader?;
+    let session = new_session(alloc)?;
+    answer_beside(rt, alloc, live, (session, reader, lines))
+}
+
+fn new_session(alloc: Global) -> Option<ControlSession<SomeStats>> {
     let mailboxes = ControlMailboxes::new(alloc, 1).ok()?;
-    let session = ControlSession {
-        mailboxes: Arc::new(alloc, mailboxes).ok()?,
+    let mailboxes = Arc::new(alloc, mailboxes).ok()?;
+    Some(ControlSession {
+        mailboxes,
         number: 0,
         stats: SomeStats,
         workers: WORKERS,
-    };
-    answer_beside(rt, alloc, live, (session, reader, lines))
+    })
 }
 
 // Has the lines answered in a thread, and does what they ask for. None where there is no thread.

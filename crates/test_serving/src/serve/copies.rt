@@ -74,12 +74,21 @@ fn read_copies<R: Threads + Sync>(
     requires { 1 ≤ workers }
 {
     let mut reader = CopiesReader::new(alloc, InMemory::new(text), workers)?;
+    read_all(rt, alloc, &mut reader)?;
+    Ok(reader.into_copies())
+}
+
+fn read_all<R: Threads + Sync>(
+    rt: &R,
+    alloc: Global,
+    reader: &mut CopiesReader<InMemory<'_>>,
+) -> Result<(), CopiesFault> {
     for _ in 0..TURNS {
         if !reader.read_some(rt, alloc)? {
             break;
         }
     }
-    Ok(reader.into_copies())
+    Ok(())
 }
 
 // What a region has, which is closed.

@@ -24,13 +24,17 @@ pub(crate) fn count_kinds<R: Threads + Wait + Sync>(
 
 fn kinds_text(alloc: Global, kinds: &LineKinds, then: LineCounts) -> Result<String, AllocError> {
     let mut text = String::new(alloc);
-    push_counts(&mut text, "copy", kinds.copy)?;
-    push_counts(&mut text, "get", kinds.get)?;
-    push_counts(&mut text, "other", kinds.other)?;
-    push_counts(&mut text, "read", kinds.read)?;
-    push_counts(&mut text, "scan", kinds.scan)?;
-    push_counts(&mut text, "then", then)?;
+    push_kinds(&mut text, kinds, then)?;
     Ok(text)
+}
+
+fn push_kinds(text: &mut String, kinds: &LineKinds, then: LineCounts) -> Result<(), AllocError> {
+    push_counts(text, "copy", kinds.copy)?;
+    push_counts(text, "get", kinds.get)?;
+    push_counts(text, "other", kinds.other)?;
+    push_counts(text, "read", kinds.read)?;
+    push_counts(text, "scan", kinds.scan)?;
+    push_counts(text, "then", then)
 }
 
 // What is counted of the lines over an empty region, and since then.

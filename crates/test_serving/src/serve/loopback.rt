@@ -79,9 +79,18 @@ fn talk<R: Net<Listener = TcpListener, Stream = TcpStream>>(
     let stream = TcpStream::connect(rt, at)?;
     let mut sender = &stream;
     let mut replies = BufReader::new(alloc, &stream)?;
+    ask_on(alloc, &mut sender, &mut replies, most)
+}
+
+fn ask_on(
+    alloc: Global,
+    sender: &mut &TcpStream,
+    replies: &mut BufReader<&TcpStream>,
+    most: u64,
+) -> io::Result<Told> {
     for _ in 0..most {
-        match ask(alloc, &mut sender, &mut replies)? {
-            Answer::Row => return stays(alloc, &mut sender, &mut replies),
+        match ask(alloc, sender, replies)? {
+            Answer::Row => return stays(alloc, sender, replies),
             Answer::NoRow => {}
             Answer::Other => return Ok(Told::Other),
         }
@@ -115,20 +124,39 @@ where
         + Send
         + 'static,
 {
-    let listener = listen(rt, alloc)?;
-    let at = listener.listener.local_addr()?;
+    let logged = listen(rt, alloc)?;
+    let faults = Arc::try_clone(&logged.faults)?;
+    let mut text = serve_client(rt, alloc, logged, how)?;
+    add_faults(rt, &mut text, &faults)?;
+    Ok(text)
+}
+
+// Serves one session to a client in a thread of its own.
+fn serve_client<R>(rt: &R, alloc: Global, logged: Logged, how: &str) -> Result<String, Fail>
+where
+    R: Net<Listener = TcpListener, Stream = TcpStream>
+        + Threads
+        + Wait
+        + Clock
+        + Sync
+        + Copy
+        + Send
+        + 'static,
+{
+    let at = logged.listener.local_addr()?;
     let theirs = *rt;
     let most = if how == "2" { TURNS_AFTER } else { MAX_TURNS };
     let client = thread::spawn(rt, move || talk(&theirs, alloc, at, most))?;
-    let served = serve_one(rt, alloc, &listener, how);
+    let served = serve_one(rt, alloc, &logged, how);
     // A client that was not accepted ends, too.
-    let Logged { listener, faults } = listener;
-    drop(listener);
+    drop(logged);
     let told = client.join(rt)?;
+    told_and_served(alloc, told, served)
+}
+
+fn told_and_served(alloc: Global, told: Told, served: Option<Served>) -> Result<String, Fail> {
     let served = outcome(alloc, served)?;
-    let mut text = format!(in alloc; "{told:?}, {served}")?;
-    add_faults(rt, &mut text, &faults)?;
-    Ok(text)
+    Ok(format!(in alloc; "{told:?}, {served}")?)
 }
 
 fn listen<R: Net<Listener = TcpListener, Stream = TcpStream>>(

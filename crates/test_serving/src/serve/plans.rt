@@ -45,7 +45,7 @@ fn plan_text(alloc: Global, planned: &Plan) -> Result<String, AllocError> {
 }
 
 fn write_streams(text: &mut String, streams: &[(Name, StreamPath)]) -> Result<(), AllocError> {
-    text.push(':')?;
+    text.push_str(":")?;
     for (name, path) in streams {
         write_stream(text, name.as_str(), path)?;
     }

@@ -49,9 +49,18 @@ where
     R: Threads + Wait + Clock + Sync + Copy + Send + Drop + 'static,
 {
     let rounds = Arc::new(alloc, Counter::new())?;
-    let counter = Arc::try_clone(&rounds)?;
-    let streams = two_streams(rt, alloc).ok_or(NoMemory)?;
-    let (is_read, _region) = read_into_region(rt, alloc, streams, Some(counter)).ok_or(NoMemory)?;
+    let is_read = read_both(rt, alloc, &rounds).ok_or(NoMemory)?;
     let is_few = is_read && rounds.get() <= MAX_ROUNDS;
     Ok(format!(in alloc; "read, in few rounds: {is_few}")?)
+}
+
+// Whether both streams were read to their ends, in rounds that are counted.
+fn read_both<R>(rt: &R, alloc: Global, rounds: &Arc<Counter>) -> Option<bool>
+where
+    R: Threads + Wait + Clock + Sync + Copy + Send + Drop + 'static,
+{
+    let counter = Arc::try_clone(rounds).ok()?;
+    let streams = two_streams(rt, alloc)?;
+    let (is_read, _region) = read_into_region(rt, alloc, streams, Some(counter))?;
+    Some(is_read)
 }

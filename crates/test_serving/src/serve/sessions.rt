@@ -53,7 +53,7 @@ fn delivery_of(alloc: Global, lines: &str) -> Option<Vec<Delivery>> {
 }
 
 fn image_of(alloc: Global, lines: &str) -> Option<Image> {
-    let line = lines.lines().next()?;
+    let (line, _rest) = lines.split_once('\n').unwrap_or((lines, ""));
     read_image(alloc, line.as_bytes()).ok()
 }
 

@@ -27,15 +27,36 @@ impl BufRead for Asking<'_> {
         if self.heard.get() < self.said {
             return Err(io::Error::from(ErrorKind::WouldBlock));
         }
-        let newline = self.rest.iter().position(|byte| *byte == b'\n');
-        let end = newline.map_or(self.rest.len(), |at| at.saturating_add(1));
-        Ok(&self.rest[..end.min(self.rest.len())])
+        let end = line_length(self.rest).min(self.rest.len());
+        Ok(&self.rest[..end])
     }
 
     fn consume(&mut self, amount: usize) {
         self.rest = &self.rest[amount.min(self.rest.len())..];
         self.said = self.said.saturating_add(1);
     }
+}
+
+// How many bytes the first line of a text has.
+fn line_length(text: &[u8]) -> usize {
+    let mut length = 0usize;
+    for byte in text {
+        length = length.saturating_add(1);
+        if *byte == b'\n' {
+            break;
+        }
+    }
+    length
+}
+
+fn count_lines(text: &[u8]) -> usize {
+    let mut count = 0usize;
+    for byte in text {
+        if *byte == b'\n' {
+            count = count.saturating_add(1);
+        }
+    }
+    count
 }
 
 /// Counts the replies.
@@ -46,8 +67,8 @@ struct Hearing<'a> {
 
 impl Write for Hearing<'_> {
     fn write(&mut self, buf: &[u8]) -> io::Result<usize> {
-        let replies = buf.iter().filter(|byte| **byte == b'\n').count();
-        self.heard.set(self.heard.get().saturating_add(replies));
+        let heard = self.heard.get();
+        self.heard.set(heard.saturating_add(count_lines(buf)));
         Ok(buf.len())
     }
 

@@ -53,10 +53,21 @@ where
         told,
         taken,
     } = new_noted(rt, alloc, writers)?;
+    let (is_read, region) = read_noted(rt, alloc, after, streams)?;
+    add_end(rt, alloc, &told, is_read, taken.get(), &region)
+}
+
+fn read_noted<R>(
+    rt: &R,
+    alloc: Global,
+    after: u64,
+    streams: Vec<Stream<Script<R>>>,
+) -> Option<(bool, Region)>
+where
+    R: Threads + Wait + Clock + Sync + Copy + Send + Drop + 'static,
+{
     let opened = open_after(rt, alloc, after)?;
-    let (is_read, region) = read_into_opened(rt, alloc, opened, streams, None)?;
-    let told = String::from_str(alloc, told.lock(rt).as_str()).ok()?;
-    add_end(alloc, told, is_read, taken.get(), &region)
+    read_into_opened(rt, alloc, opened, streams, None)
 }
 
 // A region that starts from a copy without records, which took a stream up to a position.
@@ -85,19 +96,10 @@ fn new_noted<R: Wait + Clock + Copy>(
     alloc: Global,
     writers: Vec<InMemory<'static>>,
 ) -> Option<Noted<R>> {
-    let name = Name::read(b"east").ok()?;
     let taken = Arc::new(alloc, Counter::new()).ok()?;
-    let counter = Arc::try_clone(&taken).ok()?;
-    let origin = Script::new(rt, alloc, writers, 0).ok()?;
-    let told = origin.notes().ok()?;
-    let mut streams = Vec::with_capacity(alloc, 1).ok()?;
-    streams
-        .push(Stream {
-            name,
-            origin,
-            taken: Some(counter),
-        })
-        .ok()?;
+    let stream = new_stream(rt, alloc, writers, &taken)?;
+    let told = stream.origin.notes().ok()?;
+    let streams = alone(alloc, stream)?;
     Some(Noted {
         streams,
         told,
@@ -105,23 +107,58 @@ fn new_noted<R: Wait + Clock + Copy>(
     })
 }
 
-fn add_end(
+fn alone<R: Wait + Clock + Copy>(
     alloc: Global,
-    told: String,
+    stream: Stream<Script<R>>,
+) -> Option<Vec<Stream<Script<R>>>> {
+    let mut streams = Vec::with_capacity(alloc, 1).ok()?;
+    streams.push(stream).ok()?;
+    Some(streams)
+}
+
+fn new_stream<R: Wait + Clock + Copy>(
+    rt: &R,
+    alloc: Global,
+    writers: Vec<InMemory<'static>>,
+    taken: &Arc<Counter>,
+) -> Option<Stream<Script<R>>> {
+    let name = Name::read(b"east").ok()?;
+    let taken = Arc::try_clone(taken).ok()?;
+    let origin = Script::new(rt, alloc, writers, 0).ok()?;
+    Some(Stream {
+        name,
+        origin,
+        taken: Some(taken),
+    })
+}
+
+fn add_end<R: Wait>(
+    rt: &R,
+    alloc: Global,
+    told: &Mutex<String>,
     is_read: bool,
     taken: u64,
     region: &Region,
 ) -> Option<String> {
     let ended = if is_read { "ended" } else { "failed" };
-    let mark = region.marks().position(&Name::read(b"east").ok()?);
+    let mark = mark_of(region)?;
     let number = number_in(alloc, region)?;
-    let mut text = told;
+    let mut text = copy_notes(rt, alloc, told)?;
     write!(
         text,
         ", {ended}, taken {taken}, mark {mark}, version {number}"
     )
     .ok()?;
     Some(text)
+}
+
+fn copy_notes<R: Wait>(rt: &R, alloc: Global, told: &Mutex<String>) -> Option<String> {
+    String::from_str(alloc, told.lock(rt).as_str()).ok()
+}
+
+fn mark_of(region: &Region) -> Option<u64> {
+    let name = Name::read(b"east").ok()?;
+    Some(region.marks().position(&name))
 }
 
 // The number of the version of the record, or 0 where there is none.

@@ -20,7 +20,11 @@ pub(crate) fn take_turns(alloc: Global, line: &str) -> Result<String, Fail> {
     let takes = read_takes(alloc, takes)?;
     let mut output = ScriptedSink::new(alloc, &takes);
     let (pauses, lines) = give_turns(alloc, &pieces, &mut output)?;
-    let taken = show(alloc, output.bytes())?;
+    turns_text(alloc, pauses.as_str(), output.bytes(), lines)
+}
+
+fn turns_text(alloc: Global, pauses: &str, taken: &[u8], lines: u64) -> Result<String, Fail> {
+    let taken = show(alloc, taken)?;
     Ok(format!(in alloc; "{pauses} {taken} of {lines} lines")?)
 }
 
@@ -37,17 +41,59 @@ fn give_turns<W: Sink>(
     pieces: &[Vec<u8>],
     output: &mut W,
 ) -> Result<(String, u64), Fail> {
-    let mut input = ScriptedSource::new(pieces);
-    let mut buffers = ThreadBuffers::new(alloc)?;
-    let mut state = ConnectionState::new(alloc);
     let mut pauses = String::new(alloc);
+    let lines = push_turns(alloc, &mut pauses, pieces, output)?;
+    Ok((pauses, lines))
+}
+
+// Adds how each turn of a new connection paused. How many lines were answered.
+fn push_turns<W: Sink>(
+    alloc: Global,
+    pauses: &mut String,
+    pieces: &[Vec<u8>],
+    output: &mut W,
+) -> Result<u64, Fail> {
+    let mut buffers = ThreadBuffers::new(alloc)?;
+    push_and_count(alloc, pauses, &mut buffers, pieces, output)
+}
+
+fn push_and_count<W: Sink>(
+    alloc: Global,
+    pauses: &mut String,
+    buffers: &mut ThreadBuffers,
+    pieces: &[Vec<u8>],
+    output: &mut W,
+) -> Result<u64, Fail> {
+    push_connection(alloc, pauses, buffers, pieces, output)?;
+    Ok(buffers.take_line_counts().answered)
+}
+
+fn push_connection<W: Sink>(
+    alloc: Global,
+    pauses: &mut String,
+    buffers: &mut ThreadBuffers,
+    pieces: &[Vec<u8>],
+    output: &mut W,
+) -> Result<(), Fail> {
+    let mut state = ConnectionState::new(alloc);
+    let mut input = ScriptedSource::new(pieces);
+    push_pauses(pauses, &mut state, buffers, &mut input, output)
+}
+
+fn push_pauses<W: Sink>(
+    pauses: &mut String,
+    state: &mut ConnectionState,
+    buffers: &mut ThreadBuffers,
+    input: &mut ScriptedSource<'_>,
+    output: &mut W,
+) -> Result<(), Fail> {
     for _ in 0..TURNS {
-        match state.turn(&mut buffers, &mut Echo, &mut input, output) {
+        match state.turn(buffers, &mut Echo, input, output) {
             TurnOutcome::Goes(pause) => pauses.push(sign(pause))?,
             TurnOutcome::Ended(_) | TurnOutcome::OutOfMemory => break,
         }
     }
-    Ok((pauses, buffers.take_line_counts().answered))
+    Ok(())
 }
 
 fn sign(pause: Pause) -> char {
@@ -61,28 +107,56 @@ fn sign(pause: Pause) -> char {
 /// What an input buffer holds after each of two reads.
 pub(crate) fn read_input(alloc: Global, text: &str) -> Result<String, Fail> {
     let pieces = read_pieces(alloc, text)?;
-    let mut input = ScriptedSource::new(&pieces);
     let mut buffer = InputBuffer::new(alloc)?;
-    let first = buffer.read_from(&mut input)?;
+    let mut shown = String::new(alloc);
+    push_both(alloc, &mut shown, &pieces, &mut buffer)?;
+    Ok(shown)
+}
+
+fn push_both(
+    alloc: Global,
+    shown: &mut String,
+    pieces: &[Vec<u8>],
+    buffer: &mut InputBuffer,
+) -> Result<(), Fail> {
+    let mut input = ScriptedSource::new(pieces);
+    push_read(alloc, shown, &mut input, buffer)?;
+    shown.push_str(", ")?;
+    push_read(alloc, shown, &mut input, buffer)
+}
+
+// Adds what an input buffer holds after a read, and what the read answered.
+fn push_read(
+    alloc: Global,
+    shown: &mut String,
+    input: &mut ScriptedSource<'_>,
+    buffer: &mut InputBuffer,
+) -> Result<(), Fail> {
+    let read = buffer.read_from(input)?;
     let held = show(alloc, buffer.bytes())?;
-    let second = buffer.read_from(&mut input)?;
-    let then = show(alloc, buffer.bytes())?;
-    Ok(format!(in alloc; "{held} {first}, {then} {second}")?)
+    Ok(write!(shown, "{held} {read}")?)
 }
 
 /// The lines and bytes that were counted of a source, under the name of a stream.
 pub(crate) fn count_input(alloc: Global, text: &str) -> Result<String, Fail> {
     let text = newlines(alloc, text)?;
+    count_bytes(alloc, text.as_bytes())
+}
+
+fn count_bytes(alloc: Global, text: &[u8]) -> Result<String, Fail> {
     let input = Arc::new(alloc, InputCounters::new())?;
     let counted = Arc::try_clone(&input)?;
     let counters = new_counters(alloc, input).ok_or(NoMemory)?;
-    let more = read_lines(alloc, text.as_str().as_bytes(), counted)?;
-    let mut shown = String::new(alloc);
-    if let Some(stream) = counters.streams.first() {
-        let (lines, bytes) = (stream.input.lines.get(), stream.input.bytes.get());
-        write!(shown, "{} {lines} {bytes} {more}", stream.name.as_str())?;
-    }
-    Ok(shown)
+    let more = read_lines(alloc, text, counted)?;
+    counted_text(alloc, &counters, more)
+}
+
+fn counted_text(alloc: Global, counters: &Counters, more: bool) -> Result<String, Fail> {
+    let Some(stream) = counters.streams.first() else {
+        return Ok(String::new(alloc));
+    };
+    let (lines, bytes) = (stream.input.lines.get(), stream.input.bytes.get());
+    Ok(format!(in alloc; "{} {lines} {bytes} {more}", stream.name.as_str())?)
 }
 
 // Reads the lines of a text, which are counted. Whether there is more.

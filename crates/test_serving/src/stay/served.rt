@@ -2,7 +2,7 @@
 
 use crate::reading::{Script, first_message, readers_of, settings, stream_of};
 use crate::serve::loopback::{Served, outcome};
-use crate::stay::talks::{At, flood, talk};
+use crate::stay::talks::{At, Told, flood, talk};
 use pn_serve::{Counter, Stream, serve};
 use pn_stay::{Counters, Listener, OWNER_ALONE, SocketAcceptor, StayingServer};
 use std::alloc::{AllocError, Global};
@@ -94,15 +94,40 @@ where
 {
     let (listener, to) = listen(rt, alloc, at)?;
     let acceptor = new_acceptor(alloc, listener, None, Some(60))?;
+    let text = serve_client(rt, alloc, &acceptor, to)?;
+    remove_socket(rt, at)?;
+    Ok(text)
+}
+
+// Serves one session to a client in a thread of its own.
+fn serve_client<R>(rt: &R, alloc: Global, acceptor: &SocketAcceptor, to: At) -> Result<String, Fail>
+where
+    R: Net<Listener = TcpListener, Stream = TcpStream>
+        + Threads
+        + Wait
+        + Clock
+        + Sync
+        + Copy
+        + Send
+        + 'static,
+{
     let theirs = *rt;
     let client = thread::spawn(rt, move || talk(&theirs, alloc, to, false))?;
-    let served = serve_one(rt, alloc, &acceptor);
+    let served = serve_one(rt, alloc, acceptor);
     let told = client.join(rt)?;
-    remove_socket(rt, at)?;
+    told_and_served(alloc, told, served, &acceptor.counters)
+}
+
+fn told_and_served(
+    alloc: Global,
+    told: Told,
+    served: Option<Served>,
+    counters: &Counters,
+) -> Result<String, Fail> {
     let served = outcome(alloc, served)?;
-    let mut text = format!(in alloc; "{told:?}, {served}")?;
-    add_counts(&mut text, &acceptor.counters)?;
-    Ok(text)
+    let is_counted = counters.rounds.get() > 0 && counters.clients.lines.get() > 0;
+    let open = counters.connections.open.get();
+    Ok(format!(in alloc; "{told:?}, {served}, {is_counted}, {open}")?)
 }
 
 // Serves one session.
@@ -115,12 +140,6 @@ where
     let mut written = Vec::new(alloc);
     let ended = serve(rt, alloc, acceptor, settings, 1, readers, &mut written);
     Some((ended, written))
-}
-
-fn add_counts(text: &mut String, counters: &Counters) -> Result<(), AllocError> {
-    let is_counted = counters.rounds.get() > 0 && counters.clients.lines.get() > 0;
-    let open = counters.connections.open.get();
-    write!(text, ", {is_counted}, {open}")
 }
 
 /// Answers a client of a server that stays, until it is idle for too long: what it has read, and whether the server has read
@@ -140,14 +159,13 @@ where
 {
     let (listener, to) = listen(rt, alloc, at)?;
     let ended = start(rt, alloc, listener)?;
-    let told = talk(rt, alloc, to, true);
+    let told = talk(rt, alloc, to, true)?;
     remove_socket(rt, at)?;
-    let read = if wait_for(rt, &ended) {
-        "all read"
-    } else {
-        "still reading"
-    };
-    let told = told?;
+    idle_text(alloc, told, wait_for(rt, &ended))
+}
+
+fn idle_text(alloc: Global, told: Told, is_read: bool) -> Result<String, Fail> {
+    let read = if is_read { "all read" } else { "still reading" };
     Ok(format!(in alloc; "{told:?}, {read}")?)
 }
 
@@ -187,7 +205,7 @@ where
         + 'static,
 {
     let (listener, to) = listen(rt, alloc, "path")?;
-    let _ended = start(rt, alloc, listener)?;
+    drop(start(rt, alloc, listener)?);
     talk(rt, alloc, to, false)?;
     let flooded = flood(rt, alloc, PATH)?;
     remove_socket(rt, "path")?;
@@ -211,13 +229,20 @@ where
     R: Threads + Wait + Net + Clock + Sync + Copy + Send + Drop + 'static,
 {
     let streams = one_stream(rt, alloc)?;
-    let settings = settings(alloc)?;
-    let acceptor = new_acceptor(alloc, listener, None, Some(2)).ok()?;
-    let mut server = StayingServer::start(rt, alloc, acceptor, settings, 2, 16).ok()?;
+    let mut server = start_server(rt, alloc, listener)?;
     let read = server.read_streams(rt, alloc, streams).ok();
     ended.add(1);
     let _ = server.wait(rt, alloc);
     read
+}
+
+fn start_server<R>(rt: &R, alloc: Global, listener: Listener) -> Option<StayingServer>
+where
+    R: Threads + Wait + Net + Clock + Sync + Copy + Send + Drop + 'static,
+{
+    let settings = settings(alloc)?;
+    let acceptor = new_acceptor(alloc, listener, None, Some(2)).ok()?;
+    StayingServer::start(rt, alloc, acceptor, settings, 2, 16).ok()
 }
 
 fn one_stream<R: Wait + Clock + Copy>(rt: &R, alloc: Global) -> Option<Vec<Stream<Script<R>>>> {
@@ -233,15 +258,22 @@ pub(crate) fn listen_twice<R: Files<File = File> + Net>(
     rt: &R,
     alloc: Global,
 ) -> Result<String, Fail> {
-    let first = Listener::bind_path(rt, alloc, PATH, GROUP)?;
-    let beside = Listener::bind_path(rt, alloc, PATH, OWNER_ALONE).is_ok();
-    let shared = mode_of(rt)?;
-    drop(first);
-    let later = Listener::bind_path(rt, alloc, PATH, OWNER_ALONE).is_ok();
+    let (beside, shared) = listen_beside(rt, alloc)?;
+    let later = can_listen(rt, alloc);
     let owned = mode_of(rt)?;
-    fs::remove_file(rt, PATH)?;
-    fs::remove_file(rt, LOCK)?;
+    remove_socket(rt, "path")?;
     Ok(format!(in alloc; "{beside} {later} {shared} {owned}")?)
+}
+
+// Whether somebody else can listen where somebody does, and the permissions of the file.
+fn listen_beside<R: Files<File = File> + Net>(rt: &R, alloc: Global) -> io::Result<(bool, u32)> {
+    let _first = Listener::bind_path(rt, alloc, PATH, GROUP)?;
+    let beside = can_listen(rt, alloc);
+    Ok((beside, mode_of(rt)?))
+}
+
+fn can_listen<R: Files<File = File> + Net>(rt: &R, alloc: Global) -> bool {
+    Listener::bind_path(rt, alloc, PATH, OWNER_ALONE).is_ok()
 }
 
 fn mode_of<R: Files>(rt: &R) -> io::Result<u32> {

@@ -76,15 +76,29 @@ where
     let host = *rt;
     let asking = thread::spawn(rt, move || ask_and_stop(&host, alloc))?;
     let ended = serve_until_stopped(rt, alloc, acceptor);
-    let mut told = asking.join(rt)?;
+    let told = asking.join(rt)?;
+    stopped_text(rt, alloc, told.as_str(), ended)
+}
+
+// What was read; whether all streams were read, whether the server was stopped, and whether a further client is accepted.
+fn stopped_text<R: Files + Net>(
+    rt: &R,
+    alloc: Global,
+    told: &str,
+    ended: Option<(bool, bool)>,
+) -> Result<String, Fail> {
     let (read, is_stopped) = ended.ok_or(NoMemory)?;
     let is_accepted = Talk::begin(rt, alloc, CLIENTS).is_ok();
+    remove_files(rt, alloc)?;
+    Ok(format!(in alloc; "{told}{read} {is_stopped} {is_accepted}")?)
+}
+
+fn remove_files<R: Files>(rt: &R, alloc: Global) -> io::Result<()> {
     for path in [CLIENTS, CONTROL] {
         fs::remove_file(rt, path)?;
         fs::remove_file(rt, format!(in alloc; "{path}.lock")?.as_str())?;
     }
-    write!(told, "{read} {is_stopped} {is_accepted}")?;
-    Ok(told)
+    Ok(())
 }
 
 fn listen<R: Files<File = File> + Net>(rt: &R, alloc: Global) -> io::Result<SocketAcceptor> {
@@ -118,10 +132,14 @@ fn ask_and_stop<R: Net>(rt: &R, alloc: Global) -> io::Result<String> {
 
 fn ask_all<R: Net>(rt: &R, alloc: Global, told: &mut String) -> io::Result<()> {
     let mut client = Talk::begin(rt, alloc, CLIENTS)?;
+    ask_by(rt, alloc, told, &mut client)
+}
+
+fn ask_by<R: Net>(rt: &R, alloc: Global, told: &mut String, client: &mut Talk) -> io::Result<()> {
     client.write("{\"do\":\"read\",\"key\":\"none\"}\n{\"do\":\"none\"}\n")?;
     client.read(told)?;
     client.read(told)?;
-    ask_beside(rt, alloc, told, &mut client)?;
+    ask_beside(rt, alloc, told, client)?;
     client.read_to_end(told)
 }
 
@@ -132,11 +150,25 @@ fn ask_beside<R: Net>(
     client: &mut Talk,
 ) -> io::Result<()> {
     let mut control = Talk::begin(rt, alloc, CONTROL)?;
-    let stats = ask_for_stats(alloc, &mut control)?;
-    push_stats(told, stats.as_str())?;
+    push_asked(alloc, told, client, &mut control)
+}
+
+// Adds what `stats` says, and what comes after a stop.
+fn push_asked(
+    alloc: Global,
+    told: &mut String,
+    client: &mut Talk,
+    control: &mut Talk,
+) -> io::Result<()> {
+    push_asked_stats(alloc, told, control)?;
     client.write("{\"do\":\"read\",\"key\":\"none\"}\n")?;
     control.write("{\"do\":\"stop\",\"seconds\":30}\n{\"do\":\"marks\"}\n")?;
     control.read_to_end(told)
+}
+
+fn push_asked_stats(alloc: Global, told: &mut String, control: &mut Talk) -> io::Result<()> {
+    let stats = ask_for_stats(alloc, control)?;
+    push_stats(told, stats.as_str())
 }
 
 // The reply to `stats` once the client's two lines were counted.
@@ -157,10 +189,10 @@ fn push_stats(told: &mut String, stats: &str) -> io::Result<()> {
     for part in stats.split(",\"") {
         if !is_timed(part) {
             told.push_str(part)?;
-            told.push(' ')?;
+            told.push_str(" ")?;
         }
     }
-    told.push('\n')?;
+    told.push_str("\n")?;
     Ok(())
 }
 

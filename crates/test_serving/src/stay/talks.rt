@@ -113,11 +113,22 @@ pub(crate) fn flood<R: Net + Threads + Clock>(
     let stream = connect(rt, path)?;
     let other = stream.try_clone()?;
     let mut replies = BufReader::new(alloc, other)?;
+    let same = count_beside(rt, alloc, stream, &mut replies)?;
+    Ok(format!(in alloc; "{same} of {FLOOD}")?)
+}
+
+// Asks in a thread of its own, and reads later.
+fn count_beside<R: Threads + Clock>(
+    rt: &R,
+    alloc: Global,
+    stream: UnixStream,
+    replies: &mut BufReader<UnixStream>,
+) -> io::Result<u32> {
     let sender = thread::spawn(rt, move || ask_often(stream))?;
     thread::sleep(rt, Duration::from_millis(LATE));
-    let same = count_same(alloc, &mut replies)?;
+    let same = count_same(alloc, replies)?;
     sender.join(rt)?;
-    Ok(format!(in alloc; "{same} of {FLOOD}")?)
+    Ok(same)
 }
 
 fn question() -> &'static [u8] {

@@ -1,22 +1,21 @@
 //! Writers of a stream, one after another: at a socket, and at a FIFO. And lines for standard error.
 
 use crate::reading::push_message;
+use crate::stay::opening::{Opened, open};
 use crate::stay::show;
 use crate::stay::talks::connect;
-use pn_join::{LAST_POSITION, Name, NoMemory};
+use pn_join::{LAST_POSITION, NoMemory};
+use pn_line::Source;
 use pn_serve::{Origin, Stream, StreamPath, WriterEnd};
-use pn_stay::{
-    Messages, OWNER_ALONE, StreamOrigin, StreamSetting, StreamSource, WaitingLines, open_origins,
-    remove_sockets,
-};
-use pn_stream::{NoWait, ResumeFault, StreamReader};
+use pn_stay::{Messages, StreamOrigin, StreamSource, WaitingLines, remove_sockets};
+use pn_stream::{NoWait, ResumeFault, StreamFault, StreamReader};
 use std::alloc::{AllocError, Global};
 use std::fs::{File, Files, OpenOptions};
 use std::io::{BufRead, BufReader, Read, Write};
 use std::net::Net;
 use std::os::fd::AsRawFd;
 use std::os::unix::net::UnixStream;
-use std::sync::{Arc, Wait};
+use std::sync::Wait;
 use std::test::Fail;
 use std::thread::Threads;
 use std::time::Clock;
@@ -33,46 +32,6 @@ const CALLS: u32 = 100;
 
 /// How many lines are left for standard error.
 const LINES: u32 = 1_030;
-
-/// A stream, the messages about it, and the paths of its sockets.
-#[derive(Drop)]
-struct Opened<R: Drop> {
-    stream: Stream<StreamOrigin<R>>,
-    messages: Arc<Messages>,
-    sockets: Vec<String>,
-}
-
-fn open<R>(rt: &R, alloc: Global, path: StreamPath) -> Option<Opened<R>>
-where
-    R: Files<File = File> + Net + Wait + Clock + Copy + Drop,
-{
-    let messages = Messages::new(alloc).ok()?;
-    let messages = Arc::new(alloc, messages).ok()?;
-    let theirs = Arc::try_clone(&messages).ok()?;
-    let setting = StreamSetting {
-        rt: *rt,
-        alloc,
-        messages: theirs,
-        is_counted: false,
-        socket_mode: OWNER_ALONE,
-    };
-    let paths = one_path(alloc, path)?;
-    let opened = open_origins(&setting, paths).ok()?;
-    let mut streams = opened.streams;
-    let stream = streams.pop()?;
-    Some(Opened {
-        stream,
-        messages,
-        sockets: opened.sockets,
-    })
-}
-
-fn one_path(alloc: Global, path: StreamPath) -> Option<Vec<(Name, StreamPath)>> {
-    let name = Name::read(b"east").ok()?;
-    let mut paths = Vec::with_capacity(alloc, 1).ok()?;
-    paths.push((name, path)).ok()?;
-    Some(paths)
-}
 
 // Reads the next two writers of a stream to their ends.
 fn read_two<R>(alloc: Global, stream: &mut Stream<StreamOrigin<R>>) -> Option<u64>
@@ -121,15 +80,21 @@ where
     R: Files<File = File> + Net + Wait + Clock + Copy + Drop,
 {
     for line in 2..CALLS {
-        match reader.next_ready(MOST) {
-            Ok(delivery) if delivery.images().is_empty() => break,
-            Ok(_) => note(stream, reader.position()),
+        match has_read(reader) {
+            Ok(true) => note(stream, reader.position()),
+            Ok(false) => break,
             Err(fault) => {
                 return end_of(ResumeFault::Stream(fault), reader.position(), line as u64);
             }
         }
     }
     WriterEnd::End
+}
+
+// Reads what is there. Whether there was a message.
+fn has_read<S: Source + Drop>(reader: &mut StreamReader<S>) -> Result<bool, StreamFault> {
+    let delivery = reader.next_ready(MOST)?;
+    Ok(!delivery.images().is_empty())
 }
 
 fn end_of(fault: ResumeFault, last: u64, line: u64) -> WriterEnd {
@@ -168,7 +133,7 @@ fn show_messages<R: Wait + Clock>(
     let mut text = String::new(alloc);
     for line in waiting.lines().iter() {
         text.push_str(line.as_str())?;
-        text.push('|')?;
+        text.push_str("|")?;
     }
     Ok(text)
 }
@@ -192,14 +157,45 @@ where
 {
     let path = StreamPath::Listen(String::from_str(alloc, STREAM_PATH)?);
     let mut opened = open(rt, alloc, path).ok_or(NoMemory)?;
+    read_at_socket(rt, alloc, &mut opened)
+}
+
+fn read_at_socket<R>(rt: &R, alloc: Global, opened: &mut Opened<R>) -> Result<String, Fail>
+where
+    R: Files<File = File> + Net + Threads + Wait + Clock + Copy + Drop,
+{
+    let (told, last) = read_beside(rt, alloc, &mut opened.stream)?;
+    remove_sockets(rt, &opened.sockets);
+    read_text(rt, alloc, told.as_str(), &opened.messages, last)
+}
+
+// What was read, the messages about it, and up to which position.
+fn read_text<R: Wait + Clock>(
+    rt: &R,
+    alloc: Global,
+    told: &str,
+    messages: &Messages,
+    last: u64,
+) -> Result<String, Fail> {
+    let said = show_messages(rt, alloc, messages)?;
+    Ok(format!(in alloc; "{told} {said} {last}")?)
+}
+
+// Reads both writers while they write: what they have read, and up to which position the stream was read.
+fn read_beside<R>(
+    rt: &R,
+    alloc: Global,
+    stream: &mut Stream<StreamOrigin<R>>,
+) -> Result<(String, u64), Fail>
+where
+    R: Files<File = File> + Net + Threads + Wait + Clock + Copy + Drop,
+{
     let writers = connect_twice(rt)?;
     let client = thread::spawn(rt, move || write_twice(alloc, writers))?;
-    let last = read_two(alloc, &mut opened.stream).ok_or(NoMemory)?;
+    let last = read_two(alloc, stream).ok_or(NoMemory)?;
     let told = client.join(rt)?;
-    remove_sockets(rt, &opened.sockets);
-    let said = show_messages(rt, alloc, &opened.messages)?;
     let told = show(alloc, told.as_bytes())?;
-    Ok(format!(in alloc; "{told} {said} {last}")?)
+    Ok((told, last))
 }
 
 fn connect_twice<R: Net>(rt: &R) -> io::Result<(UnixStream, UnixStream)> {
@@ -226,16 +222,28 @@ fn write_once(
 ) -> io::Result<()> {
     let other = stream.try_clone()?;
     let mut lines = BufReader::new(alloc, other)?;
+    write_between(alloc, &stream, told, &mut lines, positions)
+}
+
+fn write_between(
+    alloc: Global,
+    stream: &UnixStream,
+    told: &mut String,
+    lines: &mut BufReader<UnixStream>,
+    positions: (u64, u64),
+) -> io::Result<()> {
     lines.read_line(told)?;
-    send(&stream, message(alloc, positions.0)?)?;
+    send(alloc, stream, positions.0)?;
     lines.read_line(told)?;
     // (the socket may have been closed after the reason was read)
-    let _ = send(&stream, message(alloc, positions.1)?);
+    let _ = send(alloc, stream, positions.1);
     let _ = lines.read_line(told);
     Ok(())
 }
 
-fn send(stream: &UnixStream, line: String) -> io::Result<()> {
+// Writes the message at a position.
+fn send(alloc: Global, stream: &UnixStream, position: u64) -> io::Result<()> {
+    let line = message(alloc, position)?;
     let mut stream = stream;
     stream.write_all(line.as_bytes())
 }
@@ -247,14 +255,52 @@ where
 {
     let (reader, writer) = io::pipe(rt)?;
     let path = format!(in alloc; "/proc/self/fd/{}", reader.as_raw_fd())?;
-    let same = String::from_str(alloc, path.as_str())?;
-    let mut opened = open(rt, alloc, StreamPath::File(same)).ok_or(NoMemory)?;
-    write_half(alloc, writer)?;
-    let last = read_writer(alloc, &mut opened.stream, 0).ok_or(NoMemory)?;
-    write_again(rt, alloc, path.as_str())?;
-    let last = read_writer(alloc, &mut opened.stream, last).ok_or(NoMemory)?;
-    let said = show_messages(rt, alloc, &opened.messages)?;
+    read_path(rt, alloc, path.as_str(), writer)
+}
+
+fn read_path<R, W>(rt: &R, alloc: Global, path: &str, writer: W) -> Result<String, Fail>
+where
+    R: Files<File = File> + Net + Wait + Clock + Copy + Drop,
+    W: Write + Drop,
+{
+    let mut opened = open_file(rt, alloc, path).ok_or(NoMemory)?;
+    let last = read_both(rt, alloc, &mut opened.stream, path, writer)?;
+    said_text(rt, alloc, &opened.messages, last)
+}
+
+fn open_file<R>(rt: &R, alloc: Global, path: &str) -> Option<Opened<R>>
+where
+    R: Files<File = File> + Net + Wait + Clock + Copy + Drop,
+{
+    let path = String::from_str(alloc, path).ok()?;
+    open(rt, alloc, StreamPath::File(path))
+}
+
+fn said_text<R: Wait + Clock>(
+    rt: &R,
+    alloc: Global,
+    messages: &Messages,
+    last: u64,
+) -> Result<String, Fail> {
+    let said = show_messages(rt, alloc, messages)?;
     Ok(format!(in alloc; "{said} {last}")?)
+}
+
+fn read_both<R, W>(
+    rt: &R,
+    alloc: Global,
+    stream: &mut Stream<StreamOrigin<R>>,
+    path: &str,
+    writer: W,
+) -> Result<u64, Fail>
+where
+    R: Files<File = File> + Net + Wait + Clock + Copy + Drop,
+    W: Write + Drop,
+{
+    write_half(alloc, writer)?;
+    let last = read_writer(alloc, stream, 0).ok_or(NoMemory)?;
+    write_again(rt, alloc, path)?;
+    Ok(read_writer(alloc, stream, last).ok_or(NoMemory)?)
 }
 
 fn write_half<W: Write + Drop>(alloc: Global, writer: W) -> io::Result<()> {

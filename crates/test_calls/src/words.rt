@@ -1,0 +1,16 @@
+//! The words of a case, one after another.
+
+use std::test::Fail;
+
+/// Takes the next word, which is empty where there is none.
+pub(crate) fn next_word<'a>(words: &mut &'a str) -> &'a str {
+    let text: &'a str = *words;
+    let (word, rest) = text.split_once(' ').unwrap_or((text, ""));
+    *words = rest;
+    word
+}
+
+/// Takes the next word as a number.
+pub(crate) fn next_number(words: &mut &str) -> Result<u64, Fail> {
+    Ok(next_word(words).parse::<u64>()?)
+}
