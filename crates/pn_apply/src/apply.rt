@@ -8,7 +8,7 @@ ghost use Rattle.pn_apply.specs.declared.reducing.TheConstants.{MAX_WORKERS};
 ghost use Rattle.pn_apply.specs.Working.{IsTask, Applied};
 
 use crate::cut::{Span, call_both, is_worth_a_thread, join_results};
-use crate::gate::{Entered, enter};
+use crate::gate::{GatePass, enter};
 use crate::{Gate, Slot};
 use pn_join::NoMemory;
 use pn_tablet::{Change, OpFault, TabletOp};
@@ -151,7 +151,7 @@ fn work_alone<S: Slot, G: Gate>(
 
 // Applies a join that lies in the slot's range: only memory can fail.
 fn apply_join<S: Slot>(
-    _entered: Entered,
+    _entered: GatePass,
     slot: &mut S,
     operation: &TabletOp,
 ) -> Result<Vec<Change>, NoMemory>

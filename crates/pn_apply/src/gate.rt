@@ -26,12 +26,12 @@ impl Gate for Open {
 
 /// Leave to work one tablet, which only entering the gate gives.
 #[derive(Drop)]
-pub(crate) struct Entered {
+pub(crate) struct GatePass {
     _sealed: (),
 }
 
 /// Enters the gate with a tablet's number.
-pub(crate) fn enter<G: Gate>(gate: &G, tablet: usize) -> Entered {
+pub(crate) fn enter<G: Gate>(gate: &G, tablet: usize) -> GatePass {
     gate.enter(tablet);
-    Entered { _sealed: () }
+    GatePass { _sealed: () }
 }

@@ -12,7 +12,7 @@ ghost use Rattle.pn_apply.specs.Working.{IsSpanOf, AreCellsOf};
 
 use crate::Gate;
 use crate::cut::{Span, call_both, is_worth_a_thread, join_results};
-use crate::gate::{Entered, enter};
+use crate::gate::{GatePass, enter};
 use crate::share::{copy_deliveries, images_by_tablet};
 use pn_join::{Dup, Marks, NoMemory};
 use pn_record::{Image, Records, add_image};
@@ -195,7 +195,7 @@ fn work_alone<G: Gate>(
 }
 
 // The cells of images, which are moved into them.
-fn cells_of(_entered: Entered, alloc: Global, images: Vec<Image>) -> Result<Records, NoMemory>
+fn cells_of(_entered: GatePass, alloc: Global, images: Vec<Image>) -> Result<Records, NoMemory>
     ensures { IfOk result (λ cells. cells ≡ table_of images.items) }
 {
     let mut cells = Records::new(alloc);

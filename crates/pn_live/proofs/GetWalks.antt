@@ -1,4 +1,4 @@
--- Gets that are gone on with, key by key.
+-- Gets that are resumed, key by key.
 use Rattle.std.proofs.Common.{◌≡◌, ℕ, ◌+◌, ◌<◌, List, [], ◌∷◌, ◌++◌, length, map, take, get_or, true, Option, Some, None, Ok, Err, refl, sym, ap, ◌∙◌, subst, arith, length-append}
 use Rattle.std.specs.Prelude.{IfErr, IfSome, IsSomeAnd, IsOkAnd, option_map}
 use Rattle.std.specs.List.{AllByRecursion}

@@ -1,4 +1,4 @@
--- Gets that are gone on with, between whose looks the reader may move.
+-- Gets that are resumed, between whose looks the reader may move.
 use Rattle.std.specs.Prelude.{◌≡◌, ◌<◌, ℕ, List, [], ◌++◌, length, map, take, Option, None, IfSome, Result, Ok, Err, OnOk, Vec}
 use Rattle.std.specs.List.{AllByRecursion}
 use Rattle.std.specs.declared.alloc.Global.{Global}

@@ -1,4 +1,4 @@
-//! Gets that are gone on with.
+//! Gets that are resumed.
 
 ghost use Rattle.std.specs.Prelude.{◌≡◌, ◌+◌, ◌-◌, ◌≤◌, List, length, IfOk};
 ghost use Rattle.pn_tablet.specs.Prelude.{Bounds};

@@ -8,7 +8,7 @@ use Rattle.pn_protocol.specs.Command.Lines.{is_too_long, allowed_at, command_at}
 use Rattle.pn_protocol.specs.Command.Objects.{allowed_in, command_in}
 use Rattle.pn_record.specs.Limits.{max_line_bytes}
 use Rattle.pn_protocol.specs.Command.Meaning.{CommandValue}
-use Rattle.pn_protocol.specs.declared.command.parse.Allowed.{Allowed}
+use Rattle.pn_protocol.specs.declared.command.parse.AllowedCommands.{AllowedCommands}
 use Rattle.pn_protocol.specs.declared.refusal.Refusal.{Refusal}
 use Rattle.pn_protocol.specs.declared.refusal.Refusal.TheVariants.{TooLong, Memory}
 use Rattle.pn_protocol.proofs.CommandJson.{command_found, command_again}
@@ -47,7 +47,7 @@ pub answer_short : (line : List ℕ) {A : Type 0} (answer : Result A Refusal) �
 answer_short line answer long memory = by_test (is_too_long line) (λ is. both_not (sym (long (ltb-true max_line_bytes (length line) is)) ∙ memory))
 
 -- a line that is too long is refused as such
-pub too_long : (allowed : Allowed) (line : List ℕ) → max_line_bytes < length line → allowed_at allowed line ≡ Err TooLong
+pub too_long : (allowed : AllowedCommands) (line : List ℕ) → max_line_bytes < length line → allowed_at allowed line ≡ Err TooLong
 unfolding allowed_at
 too_long allowed line long = read_long (allowed_in allowed) line long
 

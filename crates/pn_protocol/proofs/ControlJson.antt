@@ -23,7 +23,7 @@ use Rattle.pn_protocol.specs.Command.Words.{word_in}
 use Rattle.pn_protocol.specs.declared.command.control.ControlWord.{ControlWord}
 use Rattle.pn_protocol.specs.declared.command.control.ControlWord.TheVariants.{Advance, Notices, Stats, Stop}
 use Rattle.pn_protocol.specs.declared.command.control.TheConstants.{STOP_SECONDS}
-use Rattle.pn_protocol.specs.declared.command.parse.Allowed.TheVariants.{Controls}
+use Rattle.pn_protocol.specs.declared.command.parse.AllowedCommands.TheVariants.{Controls}
 use Rattle.pn_protocol.specs.declared.refusal.Part.{Part}
 use Rattle.pn_protocol.specs.declared.refusal.Part.TheVariants.{Whole, Do, Seconds, Since, Wait}
 use Rattle.pn_protocol.specs.declared.refusal.Refusal.{Refusal}

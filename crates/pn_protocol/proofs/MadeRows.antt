@@ -20,11 +20,11 @@ use Rattle.pn_record.specs.Writing.{content_data, version_data}
 use Rattle.pn_record.specs.declared.cell.CellState.{CellState}
 use Rattle.pn_record.specs.declared.cell.CellState.TheVariants.{One, Deleted, Conflict}
 use Rattle.pn_record.proofs.ImageText.{length-quoted}
-use Rattle.pn_protocol.specs.declared.reply.rows_text.Place.{Place}
-use Rattle.pn_protocol.specs.declared.reply.rows_text.Place.TheVariants.{Record, End}
-use Rattle.pn_protocol.specs.declared.reply.shown_records.Shown.{Shown}
-use Rattle.pn_protocol.specs.declared.reply.shown_records.Shown.TheVariants as shown
-use Rattle.pn_protocol.specs.Reply.Making.{Found, HasContent, IsPlaceOf, MakesRecord, next_place, after_part, before_text, end_of, found_in, place_rest, record_rest, record_text, rest_from, row_end, rows_text}
+use Rattle.pn_protocol.specs.declared.reply.rows_text.RowsCursor.{RowsCursor}
+use Rattle.pn_protocol.specs.declared.reply.rows_text.RowsCursor.TheVariants.{Record, End}
+use Rattle.pn_protocol.specs.declared.reply.shown_records.ShownRecords.{ShownRecords}
+use Rattle.pn_protocol.specs.declared.reply.shown_records.ShownRecords.TheVariants as shown
+use Rattle.pn_protocol.specs.Reply.Making.{Found, HasContent, IsCursorOf, MakesRecord, next_cursor, after_part, before_text, end_of, found_in, cursor_rest, record_rest, record_text, rest_from, row_end, rows_text}
 use Rattle.pn_protocol.specs.Reply.Rows.{row_data, state_word}
 
 -- ---- lengths
@@ -136,7 +136,7 @@ null_made (suc n) key old new is appended = absurd is
 
 -- ---- several rows
 
-pub length_end : (records : Shown) → (0 < length (end_of records)) × (length (end_of records) ≤ 4)
+pub length_end : (records : ShownRecords) → (0 < length (end_of records)) × (length (end_of records) ≤ 4)
 length_end (shown.One key cell) = (omega arith, omega arith)
 length_end (shown.Keys names cells) = (omega arith, omega arith)
 length_end (shown.Rows rows) = (omega arith, omega arith)
@@ -151,7 +151,7 @@ length_from content [] end = omega arith
 length_from content (found ∷ records) end = omega (arith, length-append (record_rest content found) (rows_text true records end), length_rows true records end)
 
 -- before the end something is left
-pub rest_some : (records : List Found) (end : List ℕ) (index content : ℕ) → 0 < length end → place_rest records end (Record index content) ≢ []
+pub rest_some : (records : List Found) (end : List ℕ) (index content : ℕ) → 0 < length end → cursor_rest records end (Record index content) ≢ []
 rest_some records end index zero some none = omega (arith, ap length none, length_rows (ltb 0 index) (drop index records) end)
 rest_some records end index (suc n) some none = omega (arith, ap length none, length_from (suc n) (drop index records) end)
 
@@ -167,12 +167,12 @@ drop_at (y ∷ xs) zero x there = cc
 drop_at (y ∷ xs) (suc i) x there = drop_at xs i x there
 
 -- after the last record comes the end
-pub end_left : (records : List Found) (end : List ℕ) (index content : ℕ) → slice_get records index ≡ None → place_rest records end (Record index content) ≡ end
+pub end_left : (records : List Found) (end : List ℕ) (index content : ℕ) → slice_get records index ≡ None → cursor_rest records end (Record index content) ≡ end
 end_left records end index zero none = ap (λ (l : List Found). rows_text (ltb 0 index) l end) (drop_past records index none)
 end_left records end index (suc n) none = ap (λ (l : List Found). rest_from (suc n) l end) (drop_past records index none)
 
-pub end_made : (records : Shown) (index content : ℕ) (old new : Vec ℕ Global) → slice_get (found_in records) index ≡ None → AppendsText old new (end_of records)
-    → MakesPiece 65536 (place_rest (found_in records) (end_of records) (Record index content)) [] old new
+pub end_made : (records : ShownRecords) (index content : ℕ) (old new : Vec ℕ Global) → slice_get (found_in records) index ≡ None → AppendsText old new (end_of records)
+    → MakesPiece 65536 (cursor_rest (found_in records) (end_of records) (Record index content)) [] old new
 end_made records index content old new none appended =
     let sizes = length_end records in
     record {
@@ -188,7 +188,7 @@ comma_before index content = comma_if (ltb 0 index && content == 0)
 
 -- a record, with the comma before it, and those after it
 record_left : (records : List Found) (end : List ℕ) (index content : ℕ) (found : Found) → slice_get records index ≡ Some found
-    → place_rest records end (Record index content) ≡ comma_before index content ++ (record_rest content found ++ rows_text true (drop (suc index) records) end)
+    → cursor_rest records end (Record index content) ≡ comma_before index content ++ (record_rest content found ++ rows_text true (drop (suc index) records) end)
 record_left records end index zero found there =
     ap (λ (l : List Found). rows_text (ltb 0 index) l end) (drop_at records index found there)
     ∙ ap (λ (b : Bool). comma_if b ++ (record_text found ++ rows_text true (drop (suc index) records) end)) (and_true (ltb 0 index) ∙ ap (λ (b : Bool). ltb 0 index && b) (sym (eq-eqb 0 0 refl)))
@@ -206,19 +206,19 @@ record_left records end index (suc n) found there =
     and_false false = refl
 
 -- where the next content is the first, the next record comes
-next_is_first : (index : ℕ) → next_place index 0 ≡ Record (index + 1) 0
+next_is_first : (index : ℕ) → next_cursor index 0 ≡ Record (index + 1) 0
 next_is_first index = ap (λ (b : Bool). cond b (Record (index + 1) 0) (Record index 0)) (eq-eqb 0 0 refl)
 
-next_is_later : (index n : ℕ) → next_place index (suc n) ≡ Record index (suc n)
+next_is_later : (index n : ℕ) → next_cursor index (suc n) ≡ Record index (suc n)
 next_is_later index n = ap (λ (b : Bool). cond b (Record (index + 1) 0) (Record index (suc n))) (ne_eqb (suc n) 0 (λ e. omega (arith, e)))
 
 next_left : (records : List Found) (end : List ℕ) (index next : ℕ) (found : Found) → slice_get records index ≡ Some found
-    → place_rest records end (next_place index next) ≡ after_part next found ++ rows_text true (drop (suc index) records) end
+    → cursor_rest records end (next_cursor index next) ≡ after_part next found ++ rows_text true (drop (suc index) records) end
 next_left records end index zero found there =
     let after : index + 1 ≡ suc index = omega arith in
-    ap (place_rest records end) (next_is_first index) ∙ ap (λ (k : ℕ). rows_text (ltb 0 k) (drop k records) end) after
+    ap (cursor_rest records end) (next_is_first index) ∙ ap (λ (k : ℕ). rows_text (ltb 0 k) (drop k records) end) after
     ∙ ap (λ (b : Bool). rows_text b (drop (suc index) records) end) (lt-ltb 0 (suc index) (omega arith))
-next_left records end index (suc n) found there = ap (place_rest records end) (next_is_later index n) ∙ ap (λ (l : List Found). rest_from (suc n) l end) (drop_at records index found there)
+next_left records end index (suc n) found there = ap (cursor_rest records end) (next_is_later index n) ∙ ap (λ (l : List Found). rest_from (suc n) l end) (drop_at records index found there)
 
 length_comma : (b : Bool) → length (comma_if b) ≤ 1
 length_comma true = omega arith
@@ -226,7 +226,7 @@ length_comma false = omega arith
 
 pub record_made : (records : List Found) (end : List ℕ) (index content next : ℕ) (found : Found) (old mid new : Vec ℕ Global) → slice_get records index ≡ Some found
     → AppendsText old mid (comma_if (ltb 0 index && content == 0)) → MakesRecord found content mid new next
-    → MakesPiece 65536 (place_rest records end (Record index content)) (place_rest records end (next_place index next)) old new
+    → MakesPiece 65536 (cursor_rest records end (Record index content)) (cursor_rest records end (next_cursor index next)) old new
 record_made records end index content next found old mid new there comma made =
     let rest = rows_text true (drop (suc index) records) end in
     let before = comma_before index content in
@@ -237,7 +237,7 @@ record_made records end index content next found old mid new there comma made =
       appended = appended_both comma made.appended;
       split = record_left records end index content found there
           ∙ ap (λ (l : List ℕ). before ++ l) (ap (λ (l : List ℕ). l ++ rest) made.split ∙ append_assoc made.part (after_part next found) rest ∙ ap (λ (l : List ℕ). made.part ++ l) (sym (next_left records end index next found there)))
-          ∙ sym (append_assoc before made.part (place_rest records end (next_place index next)));
+          ∙ sym (append_assoc before made.part (cursor_rest records end (next_cursor index next)));
       short = omega (arith, length-append before made.part, length_comma (ltb 0 index && content == 0));
       some = inr (omega (arith, length-append before made.part));
     }
@@ -249,24 +249,24 @@ in_first : (o : Option Found) → IfSome o (HasContent 0)
 in_first None = tt
 in_first (Some found) = tt
 
-pub first_place : (records : List Found) (index : ℕ) → IsPlaceOf records (Record index 0)
-first_place records index = in_first (slice_get records index)
+pub first_cursor : (records : List Found) (index : ℕ) → IsCursorOf records (Record index 0)
+first_cursor records index = in_first (slice_get records index)
 
-pub place_next : (records : List Found) (index next : ℕ) (found : Found) → slice_get records index ≡ Some found → HasContent next found → IsPlaceOf records (next_place index next)
-place_next records index zero found there is = subst (IsPlaceOf records) (sym (next_is_first index)) (first_place records (index + 1))
-place_next records index (suc n) found there is = subst (IsPlaceOf records) (sym (next_is_later index n)) (subst (λ (o : Option Found). IfSome o (HasContent (suc n))) (sym there) is)
+pub cursor_after : (records : List Found) (index next : ℕ) (found : Found) → slice_get records index ≡ Some found → HasContent next found → IsCursorOf records (next_cursor index next)
+cursor_after records index zero found there is = subst (IsCursorOf records) (sym (next_is_first index)) (first_cursor records (index + 1))
+cursor_after records index (suc n) found there is = subst (IsCursorOf records) (sym (next_is_later index n)) (subst (λ (o : Option Found). IfSome o (HasContent (suc n))) (sym there) is)
 
--- ---- places
+-- ---- cursors
 
-end_of_place : (records : List Found) (end : List ℕ) (place : Place) → 0 < length end → place_rest records end place ≡ [] → place ≡ End
-end_of_place records end (Record index content) some none = absurd (rest_some records end index content some none)
-end_of_place records end End some none = refl
+end_of_cursor : (records : List Found) (end : List ℕ) (cursor : RowsCursor) → 0 < length end → cursor_rest records end cursor ≡ [] → cursor ≡ End
+end_of_cursor records end (Record index content) some none = absurd (rest_some records end index content some none)
+end_of_cursor records end End some none = refl
 
 -- nothing is left exactly at the end
-pub made_where : (records : Shown) (place : Place) (made : Bool) → (IsTrue made ↔ (place ≡ End)) → (IsTrue made ↔ (place_rest (found_in records) (end_of records) place ≡ []))
-made_where records place made is =
+pub made_where : (records : ShownRecords) (cursor : RowsCursor) (made : Bool) → (IsTrue made ↔ (cursor ≡ End)) → (IsTrue made ↔ (cursor_rest (found_in records) (end_of records) cursor ≡ []))
+made_where records cursor made is =
     let sizes = length_end records in
-    (λ yes. ap (place_rest (found_in records) (end_of records)) (is.0 yes), λ none. is.1 (end_of_place (found_in records) (end_of records) place sizes.0 none))
+    (λ yes. ap (cursor_rest (found_in records) (end_of records)) (is.0 yes), λ none. is.1 (end_of_cursor (found_in records) (end_of records) cursor sizes.0 none))
 
 pub nothing_made : (left : List ℕ) (v : Vec ℕ Global) → left ≡ [] → MakesPiece 65536 left left v v
 nothing_made left v none = record { piece = []; appended = appended_none v; split = refl; short = omega arith; some = inl none }

@@ -6,7 +6,7 @@ use Rattle.pn_scan.specs.WalkValues.{PartWalkValue}
 use Rattle.pn_scan.specs.declared.walk.Part.{Part}
 use Rattle.pn_scan.specs.declared.walk.Part.TheVariants.{Done, Rest}
 
--- a look was gone on with
+-- a look was resumed
 pub counted_on : (records more first left : ℕ) (now : Option PartWalkValue) (looked was : ℕ) (part : Part) → left ≡ was → LooksAtMost records was part → now ≡ going_in part → looked ≡ looked_in records part
     → (looked ≤ max (max records more) first) × ((left ≤ records_left now + looked) ⊎ (now ≡ None))
 counted_on records more first left now looked was (Done rows others seen) same few is counts = (omega (arith, counts, few), inr is)

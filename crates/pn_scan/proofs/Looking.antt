@@ -1,4 +1,4 @@
--- Walks over some of the records of a tablet, which are gone on with over the others.
+-- Walks over some of the records of a tablet, which are resumed over the others.
 use Rattle.std.proofs.Common.{◌≡◌, ℕ, zero, suc, ◌+◌, ◌-◌, ◌<◌, ◌≤◌, Bool, true, false, not, List, [], ◌∷◌, ◌++◌, length, take, drop, max, Option, Some, None, nat_lt, refl, sym, ap, ◌∙◌, subst, inl, inr, arith, append-nil, append_assoc, length-drop}
 use Rattle.std.specs.Prelude.{slice_range}
 use Rattle.std.proofs.lemmas.Bool.{cases_lt}
@@ -13,7 +13,7 @@ use Rattle.pn_scan.specs.Queries.{QueryValue}
 use Rattle.pn_scan.specs.Parts.{walk_answer}
 use Rattle.pn_scan.specs.Shown.{is_after, is_shown, shown_rows}
 use Rattle.pn_scan.specs.Walking.{BeginsBelow, WalksTo}
-use Rattle.pn_scan.specs.declared.walk.Walked.TheVariants.{All, To}
+use Rattle.pn_scan.specs.declared.walk.WalkOutcome.TheVariants.{All, To}
 use Rattle.pn_scan.proofs.Walking.{NoneBelow, lesser_at, not_asked, hidden_first, shown_first, and_first, and_mid, past_end, from_there, begin_past}
 
 module _ {A : Type 0} where
@@ -136,7 +136,7 @@ pub all_answer : (q : QueryValue) (rest : Entries) (index records room : ℕ) (b
     → (after, more) ≡ walk_answer q (record { rows = before; rest = rest; room = room })
 all_answer q rest index records room before after more looked walked = λ i. (walked.0 i, walked.1 i)
 
--- one that is to be gone on with comes to the answer
+-- one that is to be resumed comes to the answer
 pub to_answer : (q : QueryValue) (cells : Entries) (index records room : ℕ) (before after : Entries) (end : ℕ) → WalksTo q (drop index cells) index records room before after (To end)
     → walk_answer q (record { rows = after; rest = drop end cells; room = room }) ≡ walk_answer q (record { rows = before; rest = drop index cells; room = room })
 to_answer q cells index records room before after end walked =

@@ -1,4 +1,4 @@
--- Pages that are gone on with, look by look.
+-- Pages that are resumed, look by look.
 use Rattle.std.proofs.Common.{◌≡◌, ◌⊎◌, ℕ, zero, suc, ◌+◌, ◌-◌, ◌<◌, ◌≤◌, Bool, true, false, cond, List, [], ◌∷◌, ◌++◌, length, map, take, nat_lt, Option, Some, None, Result, Ok, Err, inl, inr, refl, sym, ap, ◌∙◌, subst, arith, append-nil, append_assoc, length-append}
 use Rattle.std.specs.Prelude.{filter, IfSome, OnErr}
 use Rattle.std.specs.List.{range_with_len}
@@ -85,7 +85,7 @@ module _ {V : Type 0} {looks : V → Look → V → Type 0} {bounds : Bounds} {q
   abbrev numbers : List ℕ
   numbers = map (λ look. look.0) seen
 
-  -- the look that is gone on with comes to the same rows
+  -- the look that is resumed comes to the same rows
   pub gone_on : (next : PageWalkValue) → next.rows ++ rows_to_come query next.part ≡ walk.rows ++ rows_to_come query walk.part → next.next ≡ walk.next → next.end ≡ walk.end
       → IfSome next.part (λ part. 0 < length trace) → IsOnPage looks bounds query next (trace ++ [])
   gone_on next rows number end begun = subst (IsOnPage looks bounds query next) (sym (append-nil trace)) (record {
@@ -107,7 +107,7 @@ module _ {V : Type 0} {looks : V → Look → V → Type 0} {bounds : Bounds} {q
     begun = begun;
   })
 
-  -- where no look is gone on with
+  -- where no look is resumed
   module _ (none : walk.part ≡ None) where
     rows_there : walk.rows ≡ take (query.limit + 1) (rows_in query seen)
     rows_there = sym (append-nil walk.rows) ∙ ap (λ (part : Option PartWalkValue). walk.rows ++ rows_to_come query part) (sym none) ∙ on.rows_are
@@ -277,7 +277,7 @@ scanned moves looks bounds query was now answer trace ends gaps =
       there.2,
     )
 
--- a look that is gone on with comes nearer to its end
+-- a look that is resumed comes nearer to its end
 pub less_left : (part : Part) (next old : Option PartWalkValue) (walk : PartWalkValue) → next ≡ going_in part → old ≡ Some walk → (left_in part < length walk.rest) ⊎ IsDone part → steps_left next < steps_left old
 less_left (FoundAll rows more looked) next old walk is was less = let none = ap steps_left is in let some = ap steps_left was in omega arith
 less_left (Rest rest) next old walk is was (inl less) = let left = ap steps_left is in let some = ap steps_left was in omega arith

@@ -1,4 +1,4 @@
--- How looks and pages that are gone on with are stored in a proof.
+-- How looks and pages that are resumed are stored in a proof.
 use Rattle.std.specs.Prelude.{ℕ, Option, refl}
 use Rattle.std.specs.Coded.{Coded, code_by, coded×, coded_ℕ, coded_option}
 use Rattle.pn_record.specs.CellMap.{Entries}

@@ -1,4 +1,4 @@
--- Pages that are gone on with, between whose looks the view may move.
+-- Pages that are resumed, between whose looks the view may move.
 use Rattle.std.specs.Prelude.{◌≡◌, ◌⊎◌, ◌<◌, ◌≤◌, ℕ, suc, ◌+◌, ◌-◌, List, [], ◌∷◌, ◌++◌, length, map, take, max, Option, None, Some, IfSome, Result, Ok, Err, OnOk, OnErr}
 use Rattle.std.specs.List.{AllByRecursion, range_with_len}
 use Rattle.pn_record.specs.CellMap.{Entries}
@@ -63,7 +63,7 @@ pub record LooksAfter {V : Type 0} (moves : Moving V) (looks : V → Look → V 
   pub moved : moves old between
   pub looked : looks between look new
 
--- the rows of a look that is gone on with, once it has its answer
+-- the rows of a look that is resumed, once it has its answer
 abbrev pub rows_to_come : QueryValue → Option PartWalkValue → Entries
 rows_to_come query None = []
 rows_to_come query (Some walk) = (walk_answer query walk).0
@@ -73,17 +73,17 @@ abbrev pub records_left : Option PartWalkValue → ℕ
 records_left None = 0
 records_left (Some walk) = length walk.rest
 
--- one more than that, where a look is gone on with
+-- one more than that, where a look is resumed
 abbrev pub steps_left : Option PartWalkValue → ℕ
 steps_left None = 0
 steps_left (Some walk) = suc (length walk.rest)
 
--- the look that is gone on with, if one is
+-- the look that is resumed, if one is
 abbrev pub going_in : Part → Option PartWalkValue
 going_in (FoundAll rows more looked) = None
 going_in (Rest walk) = Some walk
 
--- by these looks, the last of which is perhaps gone on with, a page is as far as the walk
+-- by these looks, the last of which is perhaps resumed, a page is as far as the walk
 pub record IsOnPage {V : Type 0} (looks : V → Look → V → Type 0) (bounds : Bounds) (query : QueryValue) (walk : PageWalkValue) (trace : List (LookMade V)) : Type 0 where
   pub made : AreMade looks trace
   pub visit : IsVisit bounds query (looks_in trace)
@@ -100,7 +100,7 @@ pub record EndsPage {V : Type 0} (looks : V → Look → V → Type 0) (bounds :
   pub whole : OnOk answer (IsWhole bounds query (looks_in trace))
   pub begun : OnErr answer (0 < length trace)
 
--- after more looks the page is found, or refused, or is to be gone on with
+-- after more looks the page is found, or refused, or is to be resumed
 abbrev pub PagesTo : {V : Type 0} → (V → Look → V → Type 0) → Bounds → QueryValue → V → V → Result PageStep ScanFault → List (LookMade V) → Type 0
 PagesTo {V} looks bounds query old new (Ok (Done page)) trace = (more : List (LookMade V)) × Follows old more new × EndsPage looks bounds query (Ok (page.rows.items, page.next)) (trace ++ more)
 PagesTo {V} looks bounds query old new (Ok (Next walk)) trace = (more : List (LookMade V)) × Follows old more new × IsOnPage looks bounds query walk (trace ++ more)

@@ -1,4 +1,4 @@
--- Looks into one tablet that are gone on with: each is shown by the answer that it comes to.
+-- Looks into one tablet that are resumed: each is shown by the answer that it comes to.
 use Rattle.std.specs.Prelude.{◌≤◌, ℕ, ◌+◌, Bool, nat_lt, ◌++◌, length, take}
 use Rattle.pn_record.specs.CellMap.{Entries}
 use Rattle.pn_scan.specs.Queries.{QueryValue}

@@ -1,4 +1,4 @@
--- A look into a tablet, and a page, that are gone on with.
+-- A look into a tablet, and a page, that are resumed.
 use Rattle.std.specs.Prelude.{ℕ, Option}
 use Rattle.pn_record.specs.CellMap.{Entries}
 

@@ -6,12 +6,12 @@ use Rattle.pn_record.specs.Sets.{CellValue}
 use Rattle.pn_tablet.specs.Ranges.{is_from}
 use Rattle.pn_scan.specs.Queries.{QueryValue}
 use Rattle.pn_scan.specs.Shown.{shown_rows}
-use Rattle.pn_scan.specs.declared.walk.Walked.{Walked}
-use Rattle.pn_scan.specs.declared.walk.Walked.TheVariants.{All, To}
+use Rattle.pn_scan.specs.declared.walk.WalkOutcome.{WalkOutcome}
+use Rattle.pn_scan.specs.declared.walk.WalkOutcome.TheVariants.{All, To}
 
 -- the shown rows of these records were added, as far as there is room, and `more` whether others are shown; or those of the first
 -- `records`, all of which have room
-abbrev pub WalksTo : QueryValue → Entries → ℕ → ℕ → ℕ → Entries → Entries → Walked → Type 0
+abbrev pub WalksTo : QueryValue → Entries → ℕ → ℕ → ℕ → Entries → Entries → WalkOutcome → Type 0
 WalksTo query rest index records room before after (All more looked) =
     (after ≡ take room (before ++ shown_rows query rest)) × (more ≡ nat_lt room (length (before ++ shown_rows query rest))) × (looked ≤ records)
 WalksTo query rest index records room before after (To end) =

@@ -1,4 +1,4 @@
-//! Pages that are gone on with.
+//! Pages that are resumed.
 
 ghost use Rattle.std.specs.Prelude.{◌≡◌, ◌<◌, ◌≤◌, ◌+◌, ◌++◌, ◌⊎◌, true, false, List, length, max, None, IfOk};
 ghost use Rattle.pn_tablet.specs.Prelude.{IsLayout};
@@ -14,12 +14,12 @@ use pn_tablet::Layout;
 use std::alloc::Global;
 use std::marker::Model;
 
-/// What a page comes to where it is gone on with.
+/// What a page comes to where it is resumed.
 #[derive(Drop)]
 pub enum PageStep {
     /// The page.
     Done(Page),
-    /// It is to be gone on with.
+    /// It is to be resumed.
     Next(PageWalk),
 }
 
@@ -27,7 +27,7 @@ pub enum PageStep {
 #[derive(Drop)]
 pub struct PageWalk {
     rows: Vec<Row>,
-    // The look that is gone on with, if one is.
+    // The look that is resumed, if one is.
     part: Option<PartWalk>,
     // The tablets that are still to be looked into, from the first number up to the second.
     tablet: usize,
@@ -63,7 +63,7 @@ impl PageWalk {
         }
     }
 
-    /// How many records the last step looked at; where its look is to be gone on with, as many as it was to look at.
+    /// How many records the last step looked at; where its look is to be resumed, as many as it was to look at.
     pub fn looked(&self) -> usize
         ensures { result ≡ self.now.looked }
     {

@@ -17,7 +17,7 @@ use pn_record::Key;
 use pn_tablet::Layout;
 use std::alloc::Global;
 
-/// How many records a look of a page goes over, where the tablets may change meanwhile, before it is gone on with.
+/// How many records a look of a page goes over, where the tablets may change meanwhile, before it is resumed.
 pub(crate) const LOOK_RECORDS: usize = 1_024;
 
 /// The first rows of a query, at most its limit, and the query for the next page exactly where there is more.

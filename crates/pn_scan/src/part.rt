@@ -12,14 +12,14 @@ ghost use Rattle.pn_scan.specs.Shown.{shown_rows};
 ghost use Rattle.pn_record.specs.Prelude.{bytes_cmp};
 ghost use Rattle.pn_tablet.specs.Prelude.{is_from};
 
-use crate::walk::{PartWalk, Walked, walk_some};
+use crate::walk::{PartWalk, WalkOutcome, walk_some};
 use crate::{Budget, Part, PartResult, Query, Row, ScanFault};
 use pn_join::{Dup, NoMemory};
 use pn_record::{Cell, Key, Records};
 use pn_tablet::{Status, TabletState, is_before};
 
 /// The first `room` rows that a query shows of a tablet, and whether it shows more. It copies keys and shares contents. It looks
-/// at the budget's records at most; where that is not enough it takes the others by sharing them, and is to be gone on with.
+/// at the budget's records at most; where that is not enough it takes the others by sharing them, and is to be resumed.
 ///
 /// `Recovering`, with the number given, exactly where the tablet recovers.
 pub fn part_of(
@@ -46,8 +46,8 @@ fn begin_walk(cells: &Records, query: &Query, room: usize, budget: Budget) -> Re
     let index = first_index(cells, query);
     prefetch_cells(cells, index, query, room.min(budget.records));
     match walk_some(cells, index, query, room, budget.records, &mut rows)? {
-        Walked::All(more, looked) => Ok(Part::Done(rows, more, looked)),
-        Walked::To(next) => take_rest(cells, next, query, rows, room),
+        WalkOutcome::All(more, looked) => Ok(Part::Done(rows, more, looked)),
+        WalkOutcome::To(next) => take_rest(cells, next, query, rows, room),
     }
 }
 

@@ -1,4 +1,4 @@
-//! Looks into one tablet that are gone on with.
+//! Looks into one tablet that are resumed.
 
 ghost use Rattle.std.specs.Prelude.{◌≡◌, ◌+◌, ◌<◌, ◌≤◌, ◌^◌, ◌⊎◌, true, false, drop, length, IfOk};
 ghost use Rattle.std.specs.List.{AllByRecursion};
@@ -20,7 +20,7 @@ use std::marker::Model;
 pub enum Part {
     /// The first rows that a query shows of the tablet, whether it shows more, and how many records were looked at.
     Done(Vec<Row>, bool, usize),
-    /// The look is to be gone on with, over what it took of the tablet.
+    /// The look is to be resumed, over what it took of the tablet.
     Rest(PartWalk),
 }
 
@@ -98,8 +98,8 @@ impl PartWalk {
             }));
         }
         match walk_some(&rest, index, query, room, records, &mut rows)? {
-            Walked::All(more, looked) => Ok(Part::Done(rows, more, looked)),
-            Walked::To(index) => Ok(Part::Rest(PartWalk {
+            WalkOutcome::All(more, looked) => Ok(Part::Done(rows, more, looked)),
+            WalkOutcome::To(index) => Ok(Part::Rest(PartWalk {
                 rest,
                 index,
                 rows,
@@ -154,7 +154,7 @@ fn recall_len(cells: &Records)
 
 /// How far a walk over records came.
 #[derive(Clone, Copy, Debug, PartialEq, Eq)]
-pub(crate) enum Walked {
+pub(crate) enum WalkOutcome {
     /// The rows that there is room for were found, or all. Whether there are more, and how many records were looked at.
     All(bool, usize),
     /// The records before this index were looked at.
@@ -169,7 +169,7 @@ pub(crate) fn walk_some(
     room: usize,
     records: usize,
     rows: &mut Vec<Row>,
-) -> Result<Walked, NoMemory>
+) -> Result<WalkOutcome, NoMemory>
     requires len { length cells.now < 2 ^ 64 }
     requires few { length rows.old.items ≤ room }
     requires from { AllByRecursion (λ e. is_from query.now.from e.0 ≡ true) (drop index cells.now) }
@@ -178,20 +178,20 @@ pub(crate) fn walk_some(
     let mut looked = 0;
     for (key, cell) in cells.iter_from(index) {
         if looked == records {
-            return Ok(Walked::To(index + looked));
+            return Ok(WalkOutcome::To(index + looked));
         }
         looked += 1;
         if !is_before(query.to(), key) {
-            return Ok(Walked::All(false, looked));
+            return Ok(WalkOutcome::All(false, looked));
         }
         if is_shown(query, key, cell) {
             if rows.len() == room {
-                return Ok(Walked::All(true, looked));
+                return Ok(WalkOutcome::All(true, looked));
             }
             rows.push(row_of(key, cell)?)?;
         }
     }
-    Ok(Walked::All(false, looked))
+    Ok(WalkOutcome::All(false, looked))
 }
 
 // Adds the rows that a query shows of all records from an index on, as far as there is room. Whether there are more.
@@ -208,7 +208,7 @@ fn walk_all(
 {
     let records = cells.len().saturating_sub(index);
     match walk_some(cells, index, query, room, records, rows)? {
-        Walked::All(more, _) => Ok(more),
-        Walked::To(_) => unreachable!(),
+        WalkOutcome::All(more, _) => Ok(more),
+        WalkOutcome::To(_) => unreachable!(),
     }
 }

@@ -3,9 +3,9 @@ use Rattle.std.proofs.Common.{◌≡◌, ◌≢◌, ℕ, ◌-◌, ◌<◌, ◌�
 use Rattle.std.specs.Prelude.{Ok, Err}
 use Rattle.std.proofs.lemmas.Bool.Decides.{nat_tests}
 use Rattle.pn_region.specs.Logged.{LoggedRegion}
-use Rattle.pn_serve.specs.declared.machine.adoption.Announced.{Announced}
-use Rattle.pn_serve.specs.declared.machine.Handled.{Handled}
-use Rattle.pn_serve.specs.declared.machine.Handled.TheVariants.{Obeyed, Announces}
+use Rattle.pn_serve.specs.declared.machine.adoption.AnnouncedText.{AnnouncedText}
+use Rattle.pn_serve.specs.declared.machine.CommandStep.{CommandStep}
+use Rattle.pn_serve.specs.declared.machine.CommandStep.TheVariants.{Obeyed, Announces}
 use Rattle.pn_protocol.specs.declared.reply.Reply.{Reply}
 use Rattle.pn_protocol.specs.declared.reply.Reply.TheVariants.{Silent, Refused}
 use Rattle.pn_protocol.specs.declared.refusal.Refusal.{Refusal}
@@ -70,7 +70,7 @@ adopted_after old new before text reply (outcome, is) comes =
     (ap (text_adoption_turn old) (twice outcome by.outcome before ∙ ap (unless_call by.outcome) (sym is)))
 
 -- an announced line came
-module _ (old : LoggedRegion) (lines : Announced) (bytes : List ℕ) where
+module _ (old : LoggedRegion) (lines : AnnouncedText) (bytes : List ℕ) where
   -- the text that it makes
   abbrev longer : Option (List ℕ)
   longer = with_line (bytes_of lines.text) bytes (10 ∷ [])
@@ -90,7 +90,7 @@ module _ (old : LoggedRegion) (lines : Announced) (bytes : List ℕ) where
       (tested by.outcome true (grind (arith, nat_tests, last)))
 
   -- not the last one
-  pub came_on : (more : Announced) → 1 < lines.left → more.left ≡ lines.left - 1 → IsJoined (bytes_of lines.text) bytes (10 ∷ []) (bytes_of more.text)
+  pub came_on : (more : AnnouncedText) → 1 < lines.left → more.left ≡ lines.left - 1 → IsJoined (bytes_of lines.text) bytes (10 ∷ []) (bytes_of more.text)
       → AnswersBy ⊥ (with_mode (Some lines) old) bytes (with_mode (Some more) old) Silent
   came_on more on left (outcome, text) =
       let same = tested (read_whole outcome) false (grind (arith, nat_tests, on)) in
@@ -103,21 +103,21 @@ module _ (old : LoggedRegion) (lines : Announced) (bytes : List ℕ) where
       }
 
 -- the input ended after a part of what was announced
-pub came_part : (old new : LoggedRegion) (lines : Announced) (bytes : List ℕ) (text : Option (List ℕ)) (reply : Reply) → IsJoined (bytes_of lines.text) bytes [] text
+pub came_part : (old new : LoggedRegion) (lines : AnnouncedText) (bytes : List ℕ) (text : Option (List ℕ)) (reply : Reply) → IsJoined (bytes_of lines.text) bytes [] text
     → ComesTo (text_adoption_turn old text) old new reply → ConcludesBy ⊥ (with_mode (Some lines) old) bytes (machine_over new) reply
 came_part old new lines bytes text reply joined comes = adopted_after old new (with_line (bytes_of lines.text) bytes []) text reply joined comes
 
 -- a line was announced, and so is not read as a command
-pub answered_on : (may : Type 0) (waits : Option Announced) (lines : Announced) (old : LoggedRegion) (bytes : List ℕ) (new : Machine) (reply : Reply) → waits ≡ Some lines
+pub answered_on : (may : Type 0) (waits : Option AnnouncedText) (lines : AnnouncedText) (old : LoggedRegion) (bytes : List ℕ) (new : Machine) (reply : Reply) → waits ≡ Some lines
     → AnswersBy ⊥ (with_mode (Some lines) old) bytes new reply → AnswersBy may (with_mode waits old) bytes new reply
 answered_on may waits lines old bytes new reply is answers =
-    subst (λ (w : Option Announced). AnswersBy may (with_mode w old) bytes new reply) (sym is)
+    subst (λ (w : Option AnnouncedText). AnswersBy may (with_mode w old) bytes new reply) (sym is)
     (turned_always may (λ outcome. turn (with_mode (Some lines) old) outcome bytes) new reply answers)
 
-pub concluded_on : (may : Type 0) (waits : Option Announced) (lines : Announced) (old : LoggedRegion) (part : List ℕ) (new : Machine) (reply : Reply) → waits ≡ Some lines
+pub concluded_on : (may : Type 0) (waits : Option AnnouncedText) (lines : AnnouncedText) (old : LoggedRegion) (part : List ℕ) (new : Machine) (reply : Reply) → waits ≡ Some lines
     → ConcludesBy ⊥ (with_mode (Some lines) old) part new reply → ConcludesBy may (with_mode waits old) part new reply
 concluded_on may waits lines old part new reply is concludes =
-    subst (λ (w : Option Announced). ConcludesBy may (with_mode w old) part new reply) (sym is)
+    subst (λ (w : Option AnnouncedText). ConcludesBy may (with_mode w old) part new reply) (sym is)
     (turned_always may (λ outcome. end_turn (with_mode (Some lines) old) outcome part) new reply concludes)
 
 -- ---- the last command
@@ -207,10 +207,10 @@ concluded_last may old new b bytes reply lasts = lasts
 
 -- ---- a command and the lines that it announces
 
-pub begun_said : (may : Type 0) (old new : LoggedRegion) (bytes : List ℕ) (command : CommandValue) (begun : Handled) (reply : Reply) (lines : Option Announced) → command_at bytes ≡ Ok command
+pub begun_said : (may : Type 0) (old new : LoggedRegion) (bytes : List ℕ) (command : CommandValue) (begun : CommandStep) (reply : Reply) (lines : Option AnnouncedText) → command_at bytes ≡ Ok command
     → HandlesTo old command new begun → IsAnswer begun reply lines → AnswersBy may (machine_over old) bytes (with_mode lines new) reply
 begun_said may old new bytes command (Obeyed told) reply lines said (alone, obeys) (same, none) =
-    subst (λ (l : Option Announced). AnswersBy may (machine_over old) bytes (with_mode l new) reply) (sym none)
+    subst (λ (l : Option AnnouncedText). AnswersBy may (machine_over old) bytes (with_mode l new) reply) (sym none)
     (subst (λ (r : Reply). AnswersBy may (machine_over old) bytes (machine_over new) r) (sym same) (turned_said may bytes command old (machine_over new) told said obeys))
 begun_said may old new bytes command (Announces count) reply lines said (adopts, stays) (none, mode) =
     let goes : turn (machine_over old) done bytes ≡ silent_turn (record { mode = announced count (Some []); region = old.state; log = old.log }) =

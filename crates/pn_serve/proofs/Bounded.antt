@@ -17,7 +17,7 @@ use Rattle.pn_serve.specs.declared.script.line_loop.state.Stage.{Stage}
 use Rattle.pn_serve.specs.declared.script.line_loop.state.Stage.TheVariants.{Reading, Looking, Ending}
 use Rattle.pn_serve.specs.declared.script.line_loop.steps.Step.{Step}
 use Rattle.pn_serve.specs.declared.script.line_loop.steps.Step.TheVariants.{Next, NoInput, NoRoom, Ends}
-use Rattle.pn_serve.specs.Lines.Bounds.{CanEndBy, CountsNothing, CountsUnits, Foresees, ForeseesAt, ForeseesStep, HandsOnStep, IsIdleAt, IsOutAs, KeepsLine}
+use Rattle.pn_serve.specs.Lines.Bounds.{CanEndBy, CountsNothing, CountsUnits, Foresees, ForeseesAt, ForeseesStep, HandsOnStep, IsWaitingAt, IsOutAs, KeepsLine}
 use Rattle.pn_serve.specs.Lines.Faults.{StopsBy}
 use Rattle.pn_serve.specs.Lines.Made.{MakesAtMost}
 use Rattle.pn_serve.specs.Lines.States.{LineLoopValue, one_more, waits_in}
@@ -73,11 +73,11 @@ module _ (old new : LineLoopValue) (before after : Option (List ℕ)) where
   sends_no_input NoRoom sends is = cc
   sends_no_input (Ends ended) sends is = cc
 
-  pub sends_idle : (step : Step) → SendsTo old before new after step → IsIdleAt step new
-  sends_idle (Next units) sends = tt
-  sends_idle NoInput sends = absurd sends
-  sends_idle NoRoom sends = tt
-  sends_idle (Ends ended) sends = tt
+  pub sends_waiting : (step : Step) → SendsTo old before new after step → IsWaitingAt step new
+  sends_waiting (Next units) sends = tt
+  sends_waiting NoInput sends = absurd sends
+  sends_waiting NoRoom sends = tt
+  sends_waiting (Ends ended) sends = tt
 
   pub sends_hands : (handed_on : Type 0) (step : Step) → SendsTo old before new after step → HandsOnStep step handed_on
   sends_hands handed_on (Next units) sends = tt
@@ -99,11 +99,11 @@ module _ (old new : LineLoopValue) (before after : Option (List ℕ)) where
   waits_counted first NoRoom waits nothing = nothing
   waits_counted first (Ends ended) waits nothing = nothing
 
-  pub waits_idle : (step : Step) → old.state.stage ≡ Reading → old.line.count < ENDLESS → (step ≡ NoInput → new.state.out ≡ true) → WaitsTo old before new after step → IsIdleAt step new
-  waits_idle (Next units) reading below out waits = tt
-  waits_idle NoInput reading below out waits = (waits.0.kept.stage ∙ reading, waits.1, out refl, subst (λ (l : LineBufferValue). l.count < ENDLESS) (sym waits.0.kept.line) below)
-  waits_idle NoRoom reading below out waits = tt
-  waits_idle (Ends ended) reading below out waits = tt
+  pub waits_for_input : (step : Step) → old.state.stage ≡ Reading → old.line.count < ENDLESS → (step ≡ NoInput → new.state.out ≡ true) → WaitsTo old before new after step → IsWaitingAt step new
+  waits_for_input (Next units) reading below out waits = tt
+  waits_for_input NoInput reading below out waits = (waits.0.kept.stage ∙ reading, waits.1, out refl, subst (λ (l : LineBufferValue). l.count < ENDLESS) (sym waits.0.kept.line) below)
+  waits_for_input NoRoom reading below out waits = tt
+  waits_for_input (Ends ended) reading below out waits = tt
 
   pub waits_hands : (handed_on : Type 0) (step : Step) → WaitsTo old before new after step → HandsOnStep step handed_on
   waits_hands handed_on (Next units) waits = tt
@@ -126,11 +126,11 @@ module _ (old new : LineLoopValue) (before after : Option (List ℕ)) where
     ends_no_input NoRoom ends is = cc
     ends_no_input (Ends other) ends is = cc
 
-    pub ends_idle : (step : Step) → EndsTo ended old before new after step → IsIdleAt step new
-    ends_idle (Next units) ends = absurd ends
-    ends_idle NoInput ends = absurd ends
-    ends_idle NoRoom ends = tt
-    ends_idle (Ends other) ends = tt
+    pub ends_waiting : (step : Step) → EndsTo ended old before new after step → IsWaitingAt step new
+    ends_waiting (Next units) ends = absurd ends
+    ends_waiting NoInput ends = absurd ends
+    ends_waiting NoRoom ends = tt
+    ends_waiting (Ends other) ends = tt
 
     pub ends_counted : (first : LineLoopValue) (step : Step) → EndsTo ended old before new after step → CountsNothing first new → CountsUnits first new step
     ends_counted first (Next units) ends nothing = absurd ends

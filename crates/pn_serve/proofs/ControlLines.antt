@@ -12,8 +12,8 @@ use Rattle.pn_serve.specs.Machine.Announced.{unless_call, with_line}
 use Rattle.pn_serve.specs.Machine.Outcomes.{Mode, awaits_command, announced}
 use Rattle.pn_serve.specs.Machine.Ways.{IsJoined}
 use Rattle.pn_serve.specs.Session.Knowing.{KnowsNoLess}
-use Rattle.pn_serve.specs.declared.control.steps.Step.{Step}
-use Rattle.pn_serve.specs.declared.control.steps.Step.TheVariants.{Replies, Announces, Stops, Ends}
+use Rattle.pn_serve.specs.declared.control.steps.ControlStep.{ControlStep}
+use Rattle.pn_serve.specs.declared.control.steps.ControlStep.TheVariants.{Replies, Announces, Stops, Ends}
 use Rattle.pn_serve.proofs.ControlSteps.{steps_so_far, lasts_so_far}
 
 -- a session that is not closed and waits for a command
@@ -38,13 +38,13 @@ pub more_state : (was old : ControlState) (n left : ℕ) (joined : Option (List 
 more_state was old n left joined is lefts = λ i. record { reader = (is i).reader; mode = announced (lefts i) joined; stop = (is i).stop; over = (is i).over }
 
 -- the reader after a step
-pub reader_after : (reader : LiveReaderValue) (step : Step) → (after_step reader step).reader ≡ reader
+pub reader_after : (reader : LiveReaderValue) (step : ControlStep) → (after_step reader step).reader ≡ reader
 reader_after reader (Replies shown) = refl
 reader_after reader (Announces lines) = refl
 reader_after reader (Stops seconds) = refl
 reader_after reader Ends = refl
 
-pub knows_after : (old : LiveReaderValue) (new : ControlState) (reader : LiveReaderValue) (step : Step) → KnowsNoLess old reader → new ≡ after_step reader step → KnowsNoLess old new.reader
+pub knows_after : (old : LiveReaderValue) (new : ControlState) (reader : LiveReaderValue) (step : ControlStep) → KnowsNoLess old reader → new ≡ after_step reader step → KnowsNoLess old new.reader
 knows_after old new reader step knows is = subst (KnowsNoLess old) (sym (ap (λ (s : ControlState). s.reader) is ∙ reader_after reader step)) knows
 
 -- a line is added by its kept bytes
@@ -68,7 +68,7 @@ module _ (old new : ControlState) (text : List ℕ) (shown : Reply) where
   ends_open mode goes is ends =
       subst (λ (b : Bool). EndsUnless b old text new shown) (sym goes) (subst (λ (m : Mode). EndsIn m old text new shown) (sym is) ends)
 
-  adopts_text : (came joined : Option (List ℕ)) → joined ≡ came → (step : Step) → AdoptsText joined step → new ≡ after_step old.reader step → shown ≡ reply_of step → Adopts old came new shown
+  adopts_text : (came joined : Option (List ℕ)) → joined ≡ came → (step : ControlStep) → AdoptsText joined step → new ≡ after_step old.reader step → shown ≡ reply_of step → Adopts old came new shown
   adopts_text came joined is step adopts state replied = record {
     reader = old.reader;
     step = step;
@@ -79,7 +79,7 @@ module _ (old new : ControlState) (text : List ℕ) (shown : Reply) where
 
   module _ (goes : is_closed old ≡ false) (line : LineBufferValue) (here : line ≡ so_far text) where
     -- a command
-    pub answers_command : old.mode ≡ awaits_command → (reader : LiveReaderValue) (step : Step) → StepsBy old.reader line.bytes reader step → new ≡ after_step reader step → shown ≡ reply_of step → AnswersControl old text new shown
+    pub answers_command : old.mode ≡ awaits_command → (reader : LiveReaderValue) (step : ControlStep) → StepsBy old.reader line.bytes reader step → new ≡ after_step reader step → shown ≡ reply_of step → AnswersControl old text new shown
     answers_command is reader step steps state replied =
         answers_open awaits_command goes is (record { reader = reader; step = step; stepped = steps_so_far old.reader reader line text step here steps; state = state; replied = replied })
 
@@ -97,7 +97,7 @@ module _ (old new : ControlState) (text : List ℕ) (shown : Reply) where
 
     -- the last one
     pub answers_whole : (left : ℕ) (came joined : Option (List ℕ)) → old.mode ≡ announced left came → left ≤ 1 → IsJoined came line.bytes (10 ∷ []) joined
-        → (step : Step) → AdoptsText joined step → new ≡ after_step old.reader step → shown ≡ reply_of step → AnswersControl old text new shown
+        → (step : ControlStep) → AdoptsText joined step → new ≡ after_step old.reader step → shown ≡ reply_of step → AnswersControl old text new shown
     answers_whole left came joined is last joins step adopts state replied =
         let (outcome, joined_is) = joined_kept came line text (10 ∷ []) joined here joins in
         let test : nat_le left 1 ≡ true = grind (arith, nat_tests, last) in
@@ -109,7 +109,7 @@ module _ (old new : ControlState) (text : List ℕ) (shown : Reply) where
 
     -- the input ended after a part of what was announced
     pub ends_announced : (left : ℕ) (came joined : Option (List ℕ)) → old.mode ≡ announced left came → IsJoined came line.bytes [] joined
-        → (step : Step) → AdoptsText joined step → new ≡ after_step old.reader step → shown ≡ reply_of step → EndsControl old text new shown
+        → (step : ControlStep) → AdoptsText joined step → new ≡ after_step old.reader step → shown ≡ reply_of step → EndsControl old text new shown
     ends_announced left came joined is joins step adopts state replied =
         let (outcome, joined_is) = joined_kept came line text [] joined here joins in
         ends_open (announced left came) goes is (outcome, adopts_text (unless_call outcome (with_line came text [])) joined joined_is step adopts state replied)
@@ -123,7 +123,7 @@ module _ (old new : ControlState) (text : List ℕ) (shown : Reply) where
         nothing (b ∷ t) read = absurd (omega (arith, none, ap (λ (l : LineBufferValue). l.count) read))
 
     -- or after a command without newline
-    pub ends_command : old.mode ≡ awaits_command → 0 < line.count → (reader : LiveReaderValue) (step : Step) → StepsLast old.reader line.bytes reader step → new ≡ after_step reader step → shown ≡ reply_of step → EndsControl old text new shown
+    pub ends_command : old.mode ≡ awaits_command → 0 < line.count → (reader : LiveReaderValue) (step : ControlStep) → StepsLast old.reader line.bytes reader step → new ≡ after_step reader step → shown ≡ reply_of step → EndsControl old text new shown
     ends_command is some reader step steps state replied = ends_open awaits_command goes is (lasts text here (lasts_so_far old.reader reader line text step here steps))
       where
         lasts : (t : List ℕ) → line ≡ so_far t → StepsLast old.reader t reader step → EndsIn awaits_command old t new shown

@@ -34,8 +34,8 @@ use Rattle.pn_serve.specs.Control.Commands.{said_by}
 use Rattle.pn_serve.specs.Control.Steps.{AdoptsRead, ObeysControl, ObeysScript, RepliesWith, Says, ShowsCounts, StepsAs, StepsBy, StepsLast, Lasts}
 use Rattle.pn_serve.specs.Session.Knowing.{KnowsNoLess}
 use Rattle.pn_serve.specs.Session.Lines.{LooksUp}
-use Rattle.pn_serve.specs.declared.control.steps.Step.{Step}
-use Rattle.pn_serve.specs.declared.control.steps.Step.TheVariants.{Replies, Announces, Stops, Ends}
+use Rattle.pn_serve.specs.declared.control.steps.ControlStep.{ControlStep}
+use Rattle.pn_serve.specs.declared.control.steps.ControlStep.TheVariants.{Replies, Announces, Stops, Ends}
 use Rattle.pn_serve.proofs.Knowing.{command_knows, knows_same, stays_knows}
 use Rattle.pn_serve.proofs.TabletCounts.{tablets_know}
 
@@ -52,7 +52,7 @@ shows_done done tablets shown same (inl said) = inl (done, same, said)
 shows_done done tablets shown same (inr none) = inr none
 
 -- a text that is a copy
-pub read_copy : (text : List ℕ) (copy : TabletCopyValue) (step : Step) → copy_at text ≡ Ok copy → AdoptsRead (Ok copy) step → AdoptsRead (copy_at text) step ⊎ (step ≡ Replies (Refused Memory))
+pub read_copy : (text : List ℕ) (copy : TabletCopyValue) (step : ControlStep) → copy_at text ≡ Ok copy → AdoptsRead (Ok copy) step → AdoptsRead (copy_at text) step ⊎ (step ≡ Replies (Refused Memory))
 read_copy text copy step is adopts = inl (subst (λ (r : Result TabletCopyValue CopyTextFault). AdoptsRead r step) (sym is) adopts)
 
 -- or that is none
@@ -88,7 +88,7 @@ looked_up old new (words.Scan query) shown adopts loses marks tablets looks = lo
 looked_up old new words.Tablets shown adopts loses marks tablets looks = absurd (tablets refl)
 
 -- a line that says this command
-pub steps_said : (old new : LiveReaderValue) (line : List ℕ) (asked : ControlValue) (step : Step) → control_at line ≡ Ok asked → ObeysControl old asked new step → StepsBy old line new step
+pub steps_said : (old new : LiveReaderValue) (line : List ℕ) (asked : ControlValue) (step : ControlStep) → control_at line ≡ Ok asked → ObeysControl old asked new step → StepsBy old line new step
 steps_said old new line asked step said obeys = inl (subst (λ (r : Result ControlValue Refusal). StepsAs old r new step) (sym said) obeys)
 
 steps_refused : (old : LiveReaderValue) (line : List ℕ) (refusal : Refusal) → control_at line ≡ Err refusal → StepsBy old line old (Replies (Refused refusal))
@@ -104,7 +104,7 @@ steps_fault old line ReadOnly is short = steps_refused old line ReadOnly (is (λ
 steps_fault old line (OutOfRange part) is short = steps_refused old line (OutOfRange part) (is (λ same. cc))
 
 -- a step that announces nothing is the last one
-pub lasts_itself : (first : Step) → ((lines : ℕ) → first ≢ Announces lines) → Lasts first first
+pub lasts_itself : (first : ControlStep) → ((lines : ℕ) → first ≢ Announces lines) → Lasts first first
 lasts_itself (Replies shown) other = refl
 lasts_itself (Announces lines) other = absurd (other lines refl)
 lasts_itself (Stops seconds) other = refl
@@ -123,27 +123,27 @@ said_kept line = elim (cases_lt 65536 (length line)) [
   | inr short ↦ (ap control_at (kept_bytes-short line short), ap is_too_long (kept_bytes-short line short))
 ]
 
-steps_kept : (old new : LiveReaderValue) (line : List ℕ) (step : Step) → StepsBy old (kept_bytes line) new step → StepsBy old line new step
+steps_kept : (old new : LiveReaderValue) (line : List ℕ) (step : ControlStep) → StepsBy old (kept_bytes line) new step → StepsBy old line new step
 steps_kept old new line step steps =
     let same = said_kept line in
     subst (λ (r : Result ControlValue Refusal). StepsAs old r new step ⊎ ((is_too_long line ≡ false) × (new ≡ old) × (step ≡ Replies (Refused Memory)))) same.0
     (subst (λ (b : Bool). StepsAs old (control_at (kept_bytes line)) new step ⊎ ((b ≡ false) × (new ≡ old) × (step ≡ Replies (Refused Memory)))) same.1 steps)
 
 -- so a line that was read
-pub steps_so_far : (old new : LiveReaderValue) (line : LineBufferValue) (text : List ℕ) (step : Step) → line ≡ so_far text → StepsBy old line.bytes new step → StepsBy old text new step
+pub steps_so_far : (old new : LiveReaderValue) (line : LineBufferValue) (text : List ℕ) (step : ControlStep) → line ≡ so_far text → StepsBy old line.bytes new step → StepsBy old text new step
 steps_so_far old new line text step is steps = steps_kept old new text step (subst (λ (bytes : List ℕ). StepsBy old bytes new step) (ap (λ (l : LineBufferValue). l.bytes) is) steps)
 
-pub lasts_so_far : (old new : LiveReaderValue) (line : LineBufferValue) (text : List ℕ) (step : Step) → line ≡ so_far text → StepsLast old line.bytes new step → StepsLast old text new step
+pub lasts_so_far : (old new : LiveReaderValue) (line : LineBufferValue) (text : List ℕ) (step : ControlStep) → line ≡ so_far text → StepsLast old line.bytes new step → StepsLast old text new step
 lasts_so_far old new line text step is last = record { first = last.first; steps = steps_so_far old new line text last.first is last.steps; lasts = last.lasts }
 
 -- the reader never knows less
-replied_knows : (old new : LiveReaderValue) (asked : command.CommandValue) (step : Step) → RepliesWith (λ shown. LooksUp Stays old asked new shown) step → KnowsNoLess old new
+replied_knows : (old new : LiveReaderValue) (asked : command.CommandValue) (step : ControlStep) → RepliesWith (λ shown. LooksUp Stays old asked new shown) step → KnowsNoLess old new
 replied_knows old new asked (Replies shown) looks = command_knows Stays stays_knows old new asked shown looks
 replied_knows old new asked (Announces lines) looks = absurd looks
 replied_knows old new asked (Stops seconds) looks = absurd looks
 replied_knows old new asked Ends looks = absurd looks
 
-script_knows : (old new : LiveReaderValue) (asked : command.CommandValue) (step : Step) → ObeysScript old asked new step → KnowsNoLess old new
+script_knows : (old new : LiveReaderValue) (asked : command.CommandValue) (step : ControlStep) → ObeysScript old asked new step → KnowsNoLess old new
 script_knows old new (command.adopt lines) step obeys = knows_same old new obeys.0
 script_knows old new (command.lose tablet) step obeys = knows_same old new obeys.0
 script_knows old new command.marks step obeys = knows_same old new obeys.0
@@ -156,20 +156,20 @@ script_knows old new (command.read key version) step obeys = replied_knows old n
 script_knows old new (command.relayout bounds) step obeys = replied_knows old new (command.relayout bounds) step obeys
 script_knows old new (command.scan query) step obeys = replied_knows old new (command.scan query) step obeys
 
-asked_knows : (old new : LiveReaderValue) (asked : ControlValue) (step : Step) → ObeysControl old asked new step → KnowsNoLess old new
+asked_knows : (old new : LiveReaderValue) (asked : ControlValue) (step : ControlStep) → ObeysControl old asked new step → KnowsNoLess old new
 asked_knows old new (script asked) step obeys = script_knows old new asked step obeys
 asked_knows old new (notices since wait) step obeys = knows_same old new obeys.0
 asked_knows old new advance step obeys = knows_same old new obeys.0
 asked_knows old new stats step obeys = tablets_know old new obeys.answer obeys.counts
 asked_knows old new (stop seconds) step obeys = knows_same old new obeys.0
 
-as_knows : (old new : LiveReaderValue) (said : Result ControlValue Refusal) (step : Step) → StepsAs old said new step → KnowsNoLess old new
+as_knows : (old new : LiveReaderValue) (said : Result ControlValue Refusal) (step : ControlStep) → StepsAs old said new step → KnowsNoLess old new
 as_knows old new (Ok asked) step steps = asked_knows old new asked step steps
 as_knows old new (Err refusal) step steps = knows_same old new steps.0
 
-pub steps_know : (old new : LiveReaderValue) (line : List ℕ) (step : Step) → StepsBy old line new step → KnowsNoLess old new
+pub steps_know : (old new : LiveReaderValue) (line : List ℕ) (step : ControlStep) → StepsBy old line new step → KnowsNoLess old new
 steps_know old new line step (inl steps) = as_knows old new (control_at line) step steps
 steps_know old new line step (inr none) = knows_same old new none.1
 
-pub last_knows : (old new : LiveReaderValue) (part : List ℕ) (step : Step) → StepsLast old part new step → KnowsNoLess old new
+pub last_knows : (old new : LiveReaderValue) (part : List ℕ) (step : ControlStep) → StepsLast old part new step → KnowsNoLess old new
 last_knows old new part step last = steps_know old new part last.first last.steps

@@ -10,8 +10,8 @@ use Rattle.pn_line.proofs.KnownLaws.{ReadsPart, ReadsPart-from_takes, text_of-re
 use Rattle.pn_line.proofs.LineLaws.{kept_bytes-short}
 use Rattle.pn_serve.specs.Copies.Cutting.{begins_end}
 use Rattle.pn_serve.specs.Copies.Lines.{Adds, AddsLine, AddsNone, AddsPart}
-use Rattle.pn_serve.specs.declared.copies.texts.Added.{Added}
-use Rattle.pn_serve.specs.declared.copies.texts.Added.TheVariants.{End, Line}
+use Rattle.pn_serve.specs.declared.copies.texts.AddedLine.{AddedLine}
+use Rattle.pn_serve.specs.declared.copies.texts.AddedLine.TheVariants.{End, Line}
 
 -- what reading a line says of known bytes
 known : (bytes : List ℕ) (line : LineBufferValue) (left leaves : Option (List ℕ)) (after : List ℕ) → left ≡ Some bytes → Takes (so_far []) line left leaves after → ReadsPart [] bytes line leaves after
@@ -70,7 +70,7 @@ adds-none old new bytes line left leaves is reads text_is =
     }
 
 -- which line was added
-pub adds-by : (old new bytes : List ℕ) (leaves : Option (List ℕ)) (begins : Bool) (added : Added) → (begins ≡ true → added ≡ End) → (begins ≡ false → added ≡ Line)
+pub adds-by : (old new bytes : List ℕ) (leaves : Option (List ℕ)) (begins : Bool) (added : AddedLine) → (begins ≡ true → added ≡ End) → (begins ≡ false → added ≡ Line)
     → AddsLine begins old new bytes leaves → Adds added old new bytes leaves
-adds-by old new bytes leaves true added end inner line = subst (λ (a : Added). Adds a old new bytes leaves) (sym (end refl)) line
-adds-by old new bytes leaves false added end inner line = subst (λ (a : Added). Adds a old new bytes leaves) (sym (inner refl)) line
+adds-by old new bytes leaves true added end inner line = subst (λ (a : AddedLine). Adds a old new bytes leaves) (sym (end refl)) line
+adds-by old new bytes leaves false added end inner line = subst (λ (a : AddedLine). Adds a old new bytes leaves) (sym (inner refl)) line

@@ -12,7 +12,7 @@ use Rattle.pn_tablet.specs.declared.layout.TheConstants.{MAX_BOUNDS}
 use Rattle.pn_tablet.specs.declared.fault.CopyTextFault.{CopyTextFault}
 use Rattle.pn_tablet.specs.declared.fault.CopyTextFault.TheVariants as text_fault
 use Rattle.pn_tablet.specs.CopyReading.{copy_at}
-use Rattle.pn_serve.specs.Copies.Cutting.{AreCuts, CutValue, IsCut, TextLeft}
+use Rattle.pn_serve.specs.Copies.Cutting.{AreCuts, CopyCutValue, IsCut, TextLeft}
 use Rattle.pn_serve.specs.Copies.Reading.{AreAdded, AreRead, CopiesReaderValue, HasRead, StopsAt, StopsReading, StopsText, copy_in_cut, read_in, told_in}
 use Rattle.pn_serve.proofs.CopyTexts.{cuts-append}
 use Rattle.pn_serve.specs.declared.copies.fault.CopiesFault.{CopiesFault}
@@ -51,29 +51,29 @@ stops reads old copies read rest fault so_far why = record {
 }
 
 -- a call for each text gives what each was read as
-pub all_read : {F : Type 0} (g : Shared F (CutValue × Unit {0}) (Result TabletCopyValue CopiesFault)) (f : F) (cuts : List CutValue) (reads : List (Result TabletCopyValue CopiesFault))
-    → ((cut : CutValue) (read : Result TabletCopyValue CopiesFault) → FnReturns g f (cut, tt) read → IsUnless Memory read (copy_in_cut cut))
+pub all_read : {F : Type 0} (g : Shared F (CopyCutValue × Unit {0}) (Result TabletCopyValue CopiesFault)) (f : F) (cuts : List CopyCutValue) (reads : List (Result TabletCopyValue CopiesFault))
+    → ((cut : CopyCutValue) (read : Result TabletCopyValue CopiesFault) → FnReturns g f (cut, tt) read → IsUnless Memory read (copy_in_cut cut))
     → length reads ≡ length cuts → GivesJobs g f cuts reads → AreRead cuts reads
 all_read g f [] [] each same gives = tt
 all_read g f [] (read ∷ reads) each same gives = absurd (omega (arith, same))
 all_read g f (cut ∷ cuts) [] each same gives = absurd (omega (arith, same))
 all_read g f (cut ∷ cuts) (read ∷ reads) each same gives =
     let first = (gives 0 read (omega arith)).1 in (
-      each cut read (subst (λ (job : CutValue). FnReturns g f (job, tt) read) (sym (first.job_is cut)) first.call),
+      each cut read (subst (λ (job : CopyCutValue). FnReturns g f (job, tt) read) (sym (first.job_is cut)) first.call),
       all_read g f cuts reads each (omega (arith, same)) (λ i d below.
           let at = (gives (suc i) d (omega (arith, below))).1 in
           (refl, record { job = at.job; job_read = at.job_read; job_is = at.job_is; call = at.call })),
     )
 
 -- where all were read, they are the copies of the texts
-are_all : (cuts : List CutValue) (added : List TabletCopyValue) → AreRead cuts (map Ok added) → map copy_in_cut cuts ≡ map Ok added
+are_all : (cuts : List CopyCutValue) (added : List TabletCopyValue) → AreRead cuts (map Ok added) → map copy_in_cut cuts ≡ map Ok added
 are_all [] [] are = refl
 are_all [] (copy ∷ added) are = absurd are
 are_all (cut ∷ cuts) [] are = absurd are
 are_all (cut ∷ cuts) (copy ∷ added) are = ap₂ (λ (r : Result TabletCopyValue CopiesFault) (rs : List (Result TabletCopyValue CopiesFault)). r ∷ rs) are.0 (are_all cuts added are.1)
 
 -- the copies of some texts and of others
-copies_on : (cuts more : List CutValue) (copies added : List TabletCopyValue) → map copy_in_cut cuts ≡ map Ok copies → map copy_in_cut more ≡ map Ok added
+copies_on : (cuts more : List CopyCutValue) (copies added : List TabletCopyValue) → map copy_in_cut cuts ≡ map Ok copies → map copy_in_cut more ≡ map Ok added
     → map copy_in_cut (cuts ++ more) ≡ map Ok (copies ++ added)
 copies_on cuts more copies added one other =
     map-append copy_in_cut cuts more ∙ ap₂ (λ (l r : List (Result TabletCopyValue CopiesFault)). l ++ r) one other ∙ sym (map-append Ok copies added)
@@ -89,11 +89,11 @@ new_read left text reader is next none = record {
 }
 
 -- what next_texts says
-abbrev pub CutsOut : {S : Type 0} → (S → Option (List ℕ)) → S → ℕ → List CutValue → S → ℕ → Type 0
+abbrev pub CutsOut : {S : Type 0} → (S → Option (List ℕ)) → S → ℕ → List CopyCutValue → S → ℕ → Type 0
 CutsOut left source next some later after =
     (bytes : List ℕ) → left source ≡ Some bytes → (rest : List ℕ) × (left later ≡ Some rest) × AreCuts (record { next = next; bytes = bytes }) some (record { next = after; bytes = rest })
 
-pub read_more : {S : Type 0} (left : S → Option (List ℕ)) (text : List ℕ) (old new : CopiesReaderValue S) (some : List CutValue) (reads : List (Result TabletCopyValue CopiesFault))
+pub read_more : {S : Type 0} (left : S → Option (List ℕ)) (text : List ℕ) (old new : CopiesReaderValue S) (some : List CopyCutValue) (reads : List (Result TabletCopyValue CopiesFault))
     → CutsOut left old.source old.next some new.source new.next → AreRead some reads → AreAdded reads old.copies new.copies → HasRead left text old → HasRead left text new
 read_more left text old new some reads cuts are added has =
     let (rest, left_is, more) = cuts has.rest has.left_is in
@@ -106,20 +106,20 @@ read_more left text old new some reads cuts are added has =
           ∙ ap (λ (l : List TabletCopyValue). map Ok l) (sym added.copies_are);
     }
 
-as_many : (cuts : List CutValue) (reads : List (Result TabletCopyValue CopiesFault)) → AreRead cuts reads → length cuts ≡ length reads
+as_many : (cuts : List CopyCutValue) (reads : List (Result TabletCopyValue CopiesFault)) → AreRead cuts reads → length cuts ≡ length reads
 as_many [] [] are = refl
 as_many [] (read ∷ reads) are = absurd are
 as_many (cut ∷ cuts) [] are = absurd are
 as_many (cut ∷ cuts) (read ∷ reads) are = omega (arith, as_many cuts reads are.1)
 
-pub grows : (some : List CutValue) (reads : List (Result TabletCopyValue CopiesFault)) (old new : List TabletCopyValue) → 1 ≤ length some → AreRead some reads → AreAdded reads old new → length old < length new
+pub grows : (some : List CopyCutValue) (reads : List (Result TabletCopyValue CopiesFault)) (old new : List TabletCopyValue) → 1 ≤ length some → AreRead some reads → AreAdded reads old new → length old < length new
 grows some reads old new one are added =
     omega (arith, one, as_many some reads are, ap length added.reads_are, length-map {B = Result TabletCopyValue CopiesFault} added.added Ok, ap length added.copies_are, length-append old added.added)
 
 -- the texts before the one at which reading stops, and that one
 record Split (left : TextLeft) (before : List TabletCopyValue) (read : Result TabletCopyValue CopiesFault) : Type 0 where
-  cuts : List CutValue
-  cut : CutValue
+  cuts : List CopyCutValue
+  cut : CopyCutValue
   between : TextLeft
   later : TextLeft
   are_cuts : AreCuts left cuts between
@@ -127,7 +127,7 @@ record Split (left : TextLeft) (before : List TabletCopyValue) (read : Result Ta
   copies_are : map copy_in_cut cuts ≡ map Ok before
   read_is : IsUnless Memory read (copy_in_cut cut)
 
-split : (some : List CutValue) (before : List TabletCopyValue) (read : Result TabletCopyValue CopiesFault) (later : List (Result TabletCopyValue CopiesFault)) (left last : TextLeft)
+split : (some : List CopyCutValue) (before : List TabletCopyValue) (read : Result TabletCopyValue CopiesFault) (later : List (Result TabletCopyValue CopiesFault)) (left last : TextLeft)
     → AreCuts left some last → AreRead some (map Ok before ++ read ∷ later) → Split left before read
 split [] [] read later left last are reads = absurd reads
 split [] (copy ∷ before) read later left last are reads = absurd reads
@@ -146,14 +146,14 @@ split (cut ∷ some) (copy ∷ before) read later left last are reads =
     }
 
 -- the fault of a text, or that it is one too many
-why_stops : (old before : List TabletCopyValue) (cut : CutValue) (read : Result TabletCopyValue CopiesFault) (fault : CopiesFault) → fault ≢ Memory → IsUnless Memory read (copy_in_cut cut)
+why_stops : (old before : List TabletCopyValue) (cut : CopyCutValue) (read : Result TabletCopyValue CopiesFault) (fault : CopiesFault) → fault ≢ Memory → IsUnless Memory read (copy_in_cut cut)
     → ((fault ≡ TooMany) × (MAX_BOUNDS + 1 ≤ length (old ++ before))) ⊎ ((read ≡ Err fault) × (length (old ++ before) < MAX_BOUNDS + 1))
     → ((fault ≡ TooMany) × (MAX_BOUNDS + 1 ≤ length (old ++ before))) ⊎ ((copy_in_cut cut ≡ Err fault) × (length (old ++ before) < MAX_BOUNDS + 1))
 why_stops old before cut read fault other is (inl many) = inl many
 why_stops old before cut read fault other is (inr (read_is, few)) =
     inr ((subst (λ (r : Result TabletCopyValue CopiesFault). IsUnless Memory r (copy_in_cut cut)) read_is is) other, few)
 
-stops_text : {S : Type 0} (left : S → Option (List ℕ)) (text : List ℕ) (old : CopiesReaderValue S) (later : S) (after : ℕ) (some : List CutValue) (reads : List (Result TabletCopyValue CopiesFault)) (fault : CopiesFault)
+stops_text : {S : Type 0} (left : S → Option (List ℕ)) (text : List ℕ) (old : CopiesReaderValue S) (later : S) (after : ℕ) (some : List CopyCutValue) (reads : List (Result TabletCopyValue CopiesFault)) (fault : CopiesFault)
     → fault ≢ Memory → CutsOut left old.source old.next some later after → AreRead some reads → StopsAt reads old.copies fault → HasRead left text old → StopsText text fault
 stops_text left text old later after some reads fault other cuts are at has =
     let (rest, left_is, more) = cuts has.rest has.left_is in
@@ -171,11 +171,11 @@ stops_text left text old later after some reads fault other cuts are at has =
     }
 
 -- no text has an error of the reader as its fault
-no_read_ok : (cut : CutValue) (copy : TabletCopyValue) (long : Bool) → (if long then Err (told_in cut text_fault.BadEnd) else Ok copy) ≢ Err Read
+no_read_ok : (cut : CopyCutValue) (copy : TabletCopyValue) (long : Bool) → (if long then Err (told_in cut text_fault.BadEnd) else Ok copy) ≢ Err Read
 no_read_ok cut copy true = λ is. cc
 no_read_ok cut copy false = λ is. cc
 
-no_read : (cut : CutValue) (read : Result TabletCopyValue CopyTextFault) → read_in cut read ≢ Err Read
+no_read : (cut : CopyCutValue) (read : Result TabletCopyValue CopyTextFault) → read_in cut read ≢ Err Read
 no_read cut (Ok copy) = no_read_ok cut copy cut.is_too_long
 no_read cut (Err (text_fault.BadLine n)) = λ is. cc
 no_read cut (Err (text_fault.OutsideRange n)) = λ is. cc
@@ -196,7 +196,7 @@ at_fault may_fail text (NoCopy key) stops = stops (λ is. cc)
 at_fault may_fail text (TwoCopies key) stops = stops (λ is. cc)
 at_fault may_fail text TooManyStreams stops = stops (λ is. cc)
 
-pub stopped : {S : Type 0} (left : S → Option (List ℕ)) (may_fail : Type 0) (text : List ℕ) (old : CopiesReaderValue S) (later : S) (after : ℕ) (some : List CutValue) (reads : List (Result TabletCopyValue CopiesFault)) (fault : CopiesFault)
+pub stopped : {S : Type 0} (left : S → Option (List ℕ)) (may_fail : Type 0) (text : List ℕ) (old : CopiesReaderValue S) (later : S) (after : ℕ) (some : List CopyCutValue) (reads : List (Result TabletCopyValue CopiesFault)) (fault : CopiesFault)
     → CutsOut left old.source old.next some later after → AreRead some reads → (fault ≢ Memory → StopsAt reads old.copies fault) → HasRead left text old → StopsReading may_fail text fault
 stopped left may_fail text old later after some reads fault cuts are at has =
     at_fault may_fail text fault (λ other. stops_text left text old later after some reads fault other cuts are (at other) has)

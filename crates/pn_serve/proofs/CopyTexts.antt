@@ -4,7 +4,7 @@ use Rattle.std.proofs.lemmas.List.Elements.{All-nil, All-cons, All-append}
 use Rattle.std.proofs.lemmas.List.{length_push}
 use Rattle.pn_line.specs.Text.{text_of}
 use Rattle.pn_line.proofs.TextLaws.{text_of-nil, text_of-push}
-use Rattle.pn_serve.specs.Copies.Cutting.{AreCuts, CutValue, IsCut, IsLineThat, TextLeft, line_number}
+use Rattle.pn_serve.specs.Copies.Cutting.{AreCuts, CopyCutValue, IsCut, IsLineThat, TextLeft, line_number}
 use Rattle.pn_serve.specs.Copies.Lines.{AddsLine, AddsNone, AddsPart}
 
 -- these whole lines were read onto the text, and the rest is left
@@ -39,7 +39,7 @@ gathered-line bytes text new count left leaves so_far adds =
     }
 
 -- a text was cut out, and the rest is left
-abbrev pub Leaves : ℕ → List ℕ → CutValue → ℕ → Option (List ℕ) → Type 0
+abbrev pub Leaves : ℕ → List ℕ → CopyCutValue → ℕ → Option (List ℕ) → Type 0
 Leaves next bytes cut later leaves =
     (rest : List ℕ) × (leaves ≡ Some rest) × IsCut (record { next = next; bytes = bytes }) cut (record { next = later; bytes = rest })
 
@@ -129,12 +129,12 @@ none-left bytes text new count left leaves so_far adds none =
     (so_far.bytes_are ∙ sym part.text_is ∙ none, part.leaves_is)
 
 -- one text more is cut out
-pub cuts-push : (left : TextLeft) (cuts : List CutValue) (between : TextLeft) (cut : CutValue) (later : TextLeft) → AreCuts left cuts between → IsCut between cut later
+pub cuts-push : (left : TextLeft) (cuts : List CopyCutValue) (between : TextLeft) (cut : CopyCutValue) (later : TextLeft) → AreCuts left cuts between → IsCut between cut later
     → AreCuts left (cuts ++ cut ∷ []) later
 cuts-push left [] between cut later are is = (later, subst (λ (from : TextLeft). IsCut from cut later) (sym are) is, refl)
 cuts-push left (first ∷ cuts) between cut later are is = (are.0, are.1, cuts-push are.0 cuts between cut later are.2 is)
 
-pub cuts-append : (left : TextLeft) (cuts : List CutValue) (between : TextLeft) (more : List CutValue) (later : TextLeft) → AreCuts left cuts between → AreCuts between more later
+pub cuts-append : (left : TextLeft) (cuts : List CopyCutValue) (between : TextLeft) (more : List CopyCutValue) (later : TextLeft) → AreCuts left cuts between → AreCuts between more later
     → AreCuts left (cuts ++ more) later
 cuts-append left [] between more later are on = subst (λ (from : TextLeft). AreCuts from more later) (sym are) on
 cuts-append left (first ∷ cuts) between more later are on = (are.0, are.1, cuts-append are.0 cuts between more later are.2 on)

@@ -22,7 +22,7 @@ use Rattle.pn_serve.proofs.Stopping.{no_part}
 use Rattle.pn_serve.proofs.Standing.{HasEnded-untold, at_told, cut_reading, told_or}
 
 module _ {V : Type 0} (handling : Handling V) (pre : IsPreorder handling.moves) (start : Start V) where
-  -- the writer failed while a look is gone on with, which is then given up
+  -- the writer failed while a look is resumed, which is then given up
   module _ (left before after : Option (List ℕ)) (machine : V) (run : LineLoopValue) (going : Going) (sent : AppendsPrefix before after (waits_in run)) (stands : StandsAt handling (Looking going) start left before machine run)
       (line : (begun between : V) (text : List ℕ) → handling.goes begun text between going → handling.moves between machine → After handling.moves handling.makes begun text machine (Refused Memory))
       (last : (begun between : V) (text : List ℕ) → handling.goes_last begun text between going → handling.moves between machine → After handling.moves handling.ends begun text machine (Refused Memory)) where

@@ -1,4 +1,4 @@
--- Lookups that are gone on with come to their replies.
+-- Lookups that are resumed come to their replies.
 use Rattle.std.proofs.Common.{◌≡◌, ◌+◌, ◌-◌, ◌<◌, ◌≤◌, ℕ, List, [], ◌∷◌, ◌++◌, length, Option, IfOk, IfErr, inl, inr, refl, sym, ap, ◌∙◌, subst, arith}
 use Rattle.std.specs.Prelude.{Result, Ok, Err}
 use Rattle.pn_join.specs.Marks.{Positions}
@@ -37,7 +37,7 @@ use Rattle.pn_serve.specs.Session.Looking.{AreNewKeys, CopyAnswer, HasFew, IsNew
 use Rattle.pn_serve.proofs.Knowing.{going_knows, knows_on, knows_same, look_knows}
 
 module _ (moves : Moving LiveReaderValue) (pre : IsPreorder moves) (was between old new : LiveReaderValue) (moved : moves between old) where
-  -- a page was gone on with
+  -- a page was resumed
   module _ (query : QueryValue) (walk : PageWalkValue) (so_far : LooksOn moves was (scan query) between (Page query walk)) where
     abbrev trace : List (LookMade LiveReaderValue)
     trace = so_far.1.0
@@ -74,7 +74,7 @@ module _ (moves : Moving LiveReaderValue) (pre : IsPreorder moves) (knows : (old
   same_layout : (command : CommandValue) (going : Going) → LooksOn moves was command between going → old.layout ≡ was.layout
   same_layout command going on = ap (λ (t : Tablets). t.layout) ((knows between old moved).tablets ∙ (going_knows moves knows was between command going on).tablets)
 
-  -- a page was gone on with, whatever the command is
+  -- a page was resumed, whatever the command is
   pub page_on : (command : CommandValue) (query : QueryValue) (walk : PageWalkValue) (step : Result PageStep ScanFault) (answer : Answer) → LooksOn moves was command between (Page query walk)
       → ((trace : List (LookMade LiveReaderValue)) → IsOnPage LooksLive old.layout query walk trace → PagesTo LooksLive old.layout query old new step trace) → PageAnswer query step answer → LooksTo moves was command new answer
   page_on (scan asked) query walk step answer on goes shows =

@@ -83,7 +83,7 @@ taken_reply false counts stage is looking = subst IsLookingAt is looking
 pub same_look : (one other : Going) → Looking one ≡ Looking other → one ≡ other
 same_look one other is = cc
 
--- what an answer leaves to be gone on with is counted
+-- what an answer leaves to be resumed is counted
 pub counts_on : (answer : Answer) (going : Going) (stage : Stage) (looked was now : ℕ) → TakesStage answer stage → CountsLooks answer going looked → now ≡ min (was + looked) (2 ^ 64 - 1) → CountsStages going stage was now
 counts_on answer going Reading looked was now takes counts is = tt
 counts_on answer going (Ending ended) looked was now takes counts is = tt

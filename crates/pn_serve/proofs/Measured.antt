@@ -108,7 +108,7 @@ module _ (old mid new : LineLoopValue) (was now units : ℕ) (reading : old.stat
         line_is,
       )
 
--- a look was gone on with: no more is left
+-- a look was resumed: no more is left
 module _ (going : Going) (mid new : LineLoopValue) (line_is : mid.line.count ≡ 0) where
   looked_on : (was_last : Bool) → mid.state.last ≡ was_last → new.state.stage ≡ stage_after was_last new.state.counts → new.state.out ≡ false → new.state.counts.lines ≡ one_more true mid.state.counts.lines → new.line.count ≡ 0
       → (reads_left new ≤ reads_at (Looking going) mid) × (looks_left new ≤ looks_left_at (Looking going) mid) × IsFreshAt new.state.stage new

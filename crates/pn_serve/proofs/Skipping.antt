@@ -127,7 +127,7 @@ begun_as line now replies state other change old begun changed view =
     ap (λ (l : LineBufferValue). loop_of l replies other) begun ∙ ap (λ (s : LineStateValue). loop_of (so_far []) replies s) changed
     ∙ ap (λ (r : LineLoopValue). let new : LineLoopValue = record r { line = so_far []; state = change r.state } in new) view
 
--- where no look is to be gone on with a line has its reply
+-- where no look is to be resumed a line has its reply
 pub replied_at_once : (line : Bool) (old new : LineLoopValue) → Takes line old new → stage_left new.state.stage ≡ 0 → (reply : Reply) × HasReply line old reply new
 replied_at_once line old new (Done reply, takes) none = (reply, takes)
 replied_at_once line old new (Begun going, is) none = absurd (omega (arith, none, ap (λ (r : LineLoopValue). stage_left r.state.stage) is))

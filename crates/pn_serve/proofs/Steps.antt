@@ -228,7 +228,7 @@ module _ {V : Type 0} (handling : Handling V) (pre : IsPreorder handling.moves) 
           Stands-begun_last handling pre start script told left written lines part reached now old read end short few answered is_last new going now made line_is some shown is
           (record { between = was; moved = moved; done = subst (λ (t : List ℕ). handling.goes_last was t now going) same (subst (λ (t : List ℕ). AnswersLast handling.ends handling.goes_last was t now (Begun going)) (sym same) begun) }) (pre.stays now)
 
-  -- a look was gone on with
+  -- a look was resumed
   pub Steps-look : (left written : Option (List ℕ)) (was now : V) (old new : LineLoopValue) (going : Going) → StandsAt handling (Looking going) start left written was old → Takes true (record old { state = record old.state { stage = Reading; looked = new.state.looked } }) new
       → ((begun between : V) (text : List ℕ) → handling.goes begun text between going → handling.moves between was → TakesLine (AnswersWith handling.makes handling.goes) true begun text now (record old { state = record old.state { stage = Reading; looked = new.state.looked } }) new)
       → ((begun between : V) (text : List ℕ) → handling.goes_last begun text between going → handling.moves between was → TakesLine (AnswersLast handling.ends handling.goes_last) true begun text now (record old { state = record old.state { stage = Reading; looked = new.state.looked } }) new)

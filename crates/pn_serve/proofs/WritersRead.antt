@@ -6,7 +6,7 @@ use Rattle.pn_stream.specs.Resuming.{Begins, Lacks}
 use Rattle.pn_stream.specs.Streams.{Run, NoLine, IsLeft}
 use Rattle.pn_stream.specs.declared.fault.StreamFault.{StreamFault}
 use Rattle.pn_stream.proofs.Runs.{Run-append, Run-none, SoFar-none, on_rest}
-use Rattle.pn_serve.specs.declared.server.messages.Messages.{Messages}
+use Rattle.pn_serve.specs.declared.server.messages.RoundMessages.{RoundMessages}
 use Rattle.pn_serve.specs.declared.server.messages.TheConstants.{MAX_MESSAGES}
 use Rattle.pn_serve.specs.declared.server.writer_input.Given.TheVariants.{Messages as of_messages, Ended}
 use Rattle.pn_serve.specs.declared.server.writers.WriterEnd.{WriterEnd}
@@ -77,7 +77,7 @@ module _ {S : Type 0} (left : S → Option (List ℕ)) where
   read_none None stream =
       record { begins = tt; read = λ none. (none, nothing stream.position stream.part (left stream.source)); nothing_yet = λ no. refl }
 
-  next_ones : (before : Option ℕ) (first old new : Stream S) (messages : Messages) (from : ℕ) (next : Option ℕ) → WasReadBy left before first (Some from) old
+  next_ones : (before : Option ℕ) (first old new : Stream S) (messages : RoundMessages) (from : ℕ) (next : Option ℕ) → WasReadBy left before first (Some from) old
       → Gives left (Some from) old (of_messages messages) next new → WasReadBy left before first next new
   next_ones before first old new messages from next was gives =
       let same : next ≡ Some from = gives.0 in
@@ -94,7 +94,7 @@ module _ {S : Type 0} (left : S → Option (List ℕ)) where
         nothing_yet = λ no. let some = sym same ∙ no in absurd (cc);
       }
 
-  first_one : (old new : Stream S) (messages : Messages) (next : Option ℕ) → Gives left None old (of_messages messages) next new → WasReadBy left None old next new
+  first_one : (old new : Stream S) (messages : RoundMessages) (next : Option ℕ) → Gives left None old (of_messages messages) next new → WasReadBy left None old next new
   first_one old new messages next gives =
       let begins : Begins left old new messages.delivery = gives.2 in
       let from = pred new.position in
@@ -111,7 +111,7 @@ module _ {S : Type 0} (left : S → Option (List ℕ)) where
       })
 
   -- once more messages were given
-  pub read_on : (before : Option ℕ) (first old new : Stream S) (messages : Messages) (now next : Option ℕ) → WasReadBy left before first now old
+  pub read_on : (before : Option ℕ) (first old new : Stream S) (messages : RoundMessages) (now next : Option ℕ) → WasReadBy left before first now old
       → Gives left now old (of_messages messages) next new → WasReadBy left before first next new
   read_on before first old new messages (Some from) next was gives = next_ones before first old new messages from next was gives
   read_on (Some before) first old new messages None next was gives = let no = was.begins in absurd (cc)
@@ -121,7 +121,7 @@ module _ {S : Type 0} (left : S → Option (List ℕ)) where
       (first_one first new messages next) gives
 
   -- positions rise, but that the first message may have any one
-  pub last_more : (before : Option ℕ) (first old new : Stream S) (messages : Messages) (now next : Option ℕ) (was last : ℕ) → WasReadBy left before first now old
+  pub last_more : (before : Option ℕ) (first old new : Stream S) (messages : RoundMessages) (now next : Option ℕ) (was last : ℕ) → WasReadBy left before first now old
       → Gives left now old (of_messages messages) next new → first.position ≤ was → last ≡ max was old.position → max last new.position ≡ max was new.position
   last_more before first old new messages (Some from) next was last so gives within is = omega (arith, gives.1.2, is)
   last_more before first old new messages None next was last so gives within is =

@@ -16,7 +16,7 @@ pub(crate) mod script_handler;
 pub(crate) mod skipping;
 pub(crate) mod tablets;
 
-use crate::machine::adoption::{Announced, adopt, take_last_part, take_line};
+use crate::machine::adoption::{AnnouncedText, adopt, take_last_part, take_line};
 use crate::machine::command_reader::CommandReader;
 use crate::machine::lookups::{get, look_up_notices, read, scan};
 use crate::machine::tablets::{copy_tablet, lose_tablet, relayout};
@@ -28,7 +28,7 @@ use std::alloc::Global;
 use std::thread::Threads;
 
 /// The reply to a line, and the lines that it announces.
-pub(crate) type ScriptAnswer = (Reply, Option<Announced>);
+pub(crate) type ScriptAnswer = (Reply, Option<AnnouncedText>);
 
 /// Answers a line with its newline: a command, or an announced line. Only a round out of memory leaves some
 /// tablets changed.
@@ -39,7 +39,7 @@ pub(crate) fn answer_line<R: Threads + Sync, C: CommandReader>(
     alloc: Global,
     region: &mut Region,
     workers: usize,
-    announced: Option<Announced>,
+    announced: Option<AnnouncedText>,
     line: &[u8],
 ) -> ScriptAnswer
     requires workers { (1 ≤ workers) × (workers ≤ MAX_WORKERS) }
@@ -68,12 +68,12 @@ fn run_command<R: Threads + Sync, C: CommandReader>(
 }
 
 // Waits for the lines that a command announces.
-fn announce(alloc: Global, handled: Handled) -> ScriptAnswer
+fn announce(alloc: Global, handled: CommandStep) -> ScriptAnswer
     ensures { IsAnswer handled result.0 result.1 }
 {
     match handled {
-        Handled::Obeyed(reply) => (reply, None),
-        Handled::Announces(lines) => (Reply::Silent, Some(Announced::new(alloc, lines))),
+        CommandStep::Obeyed(reply) => (reply, None),
+        CommandStep::Announces(lines) => (Reply::Silent, Some(AnnouncedText::new(alloc, lines))),
     }
 }
 
@@ -83,7 +83,7 @@ pub(crate) fn answer_end<R: Threads + Sync, C: CommandReader>(
     alloc: Global,
     region: &mut Region,
     workers: usize,
-    announced: Option<Announced>,
+    announced: Option<AnnouncedText>,
     part: &[u8],
 ) -> Reply
     requires workers { (1 ≤ workers) × (workers ≤ MAX_WORKERS) }
@@ -109,8 +109,8 @@ fn run_last_command<R: Threads + Sync, C: CommandReader>(
 {
     match C::command_of(alloc, line) {
         Ok(command) => match obey(rt, alloc, region, workers, command) {
-            Handled::Obeyed(reply) => reply,
-            Handled::Announces(_) => adopt(rt, alloc, region, workers, Some(Vec::new(alloc))),
+            CommandStep::Obeyed(reply) => reply,
+            CommandStep::Announces(_) => adopt(rt, alloc, region, workers, Some(Vec::new(alloc))),
         },
         Err(refusal) => Reply::Refused(refusal),
     }
@@ -118,7 +118,7 @@ fn run_last_command<R: Threads + Sync, C: CommandReader>(
 
 // The first step of a command.
 #[derive(Drop)]
-enum Handled {
+enum CommandStep {
     /// It was run, with this reply.
     Obeyed(Reply),
     /// It announces this many lines, which are to come.
@@ -131,26 +131,26 @@ fn obey<R: Threads + Sync>(
     region: &mut Region,
     workers: usize,
     command: Command,
-) -> Handled
+) -> CommandStep
     requires workers { (1 ≤ workers) × (workers ≤ MAX_WORKERS) }
     ensures { HandlesTo region.old (command_value command) region.new result }
 {
     match command {
-        Command::Adopt { lines } => Handled::Announces(lines),
-        Command::Copy { need, tablet } => Handled::Obeyed(copy_tablet(
+        Command::Adopt { lines } => CommandStep::Announces(lines),
+        Command::Copy { need, tablet } => CommandStep::Obeyed(copy_tablet(
             alloc, region, &need, tablet,
         )),
-        Command::Deliver(deliveries) => Handled::Obeyed(deliver(
+        Command::Deliver(deliveries) => CommandStep::Obeyed(deliver(
             rt, alloc, region, workers, deliveries,
         )),
-        Command::Get(keys) => Handled::Obeyed(get(alloc, region, keys)),
-        Command::Lose { tablet } => Handled::Obeyed(lose_tablet(region, tablet)),
-        Command::Marks => Handled::Obeyed(answer_text(marks_reply(alloc, region.marks()))),
-        Command::Notices { since } => Handled::Obeyed(look_up_notices(alloc, region, since)),
-        Command::Read { key, version } => Handled::Obeyed(read(alloc, region, key, version)),
-        Command::Relayout(bounds) => Handled::Obeyed(relayout(alloc, region, bounds)),
-        Command::Scan(query) => Handled::Obeyed(scan(alloc, region, &query)),
-        Command::Tablets => Handled::Obeyed(answer_text(tablets_reply(alloc, region))),
+        Command::Get(keys) => CommandStep::Obeyed(get(alloc, region, keys)),
+        Command::Lose { tablet } => CommandStep::Obeyed(lose_tablet(region, tablet)),
+        Command::Marks => CommandStep::Obeyed(answer_text(marks_reply(alloc, region.marks()))),
+        Command::Notices { since } => CommandStep::Obeyed(look_up_notices(alloc, region, since)),
+        Command::Read { key, version } => CommandStep::Obeyed(read(alloc, region, key, version)),
+        Command::Relayout(bounds) => CommandStep::Obeyed(relayout(alloc, region, bounds)),
+        Command::Scan(query) => CommandStep::Obeyed(scan(alloc, region, &query)),
+        Command::Tablets => CommandStep::Obeyed(answer_text(tablets_reply(alloc, region))),
     }
 }
 

@@ -17,34 +17,34 @@ use Rattle.pn_serve.specs.Session.Knowing.{IsSteady}
 use Rattle.pn_serve.proofs.Running.{Stands-new}
 use Rattle.pn_stay.specs.Connections.{ConnectionValue, new_connection}
 use Rattle.pn_stay.specs.Turns.{Continues, IsRead, WaitsWell}
-use Rattle.pn_stay.specs.declared.steps.Came.TheVariants as came
+use Rattle.pn_stay.specs.declared.steps.ReadOutcome.TheVariants as outcomes
 
 -- ---- by what came
 
-pub at_input : (read : Result Bool Error) (P : Type 0) → IsRead read came.Input → IfOk read (λ _. P) → P
+pub at_input : (read : Result Bool Error) (P : Type 0) → IsRead read outcomes.Input → IfOk read (λ _. P) → P
 at_input (Ok true) P is holds = holds
 at_input (Ok false) P is holds = absurd cc
 at_input (Err error) P (inl is) holds = absurd (let e = is.1 in cc)
 at_input (Err error) P (inr is) holds = absurd (let e = is.1 in cc)
 
-pub at_nothing : (read : Result Bool Error) (P : Type 0) → IsRead read came.Nothing → OnErr read P → P
+pub at_nothing : (read : Result Bool Error) (P : Type 0) → IsRead read outcomes.Nothing → OnErr read P → P
 at_nothing (Ok true) P is holds = absurd cc
 at_nothing (Ok false) P is holds = absurd cc
 at_nothing (Err error) P is holds = holds
 
-pub at_end : (read : Result Bool Error) (P : Bool → Type 0) → IsRead read came.End → IfOk read P → P false
+pub at_end : (read : Result Bool Error) (P : Bool → Type 0) → IsRead read outcomes.End → IfOk read P → P false
 at_end (Ok true) P is holds = absurd cc
 at_end (Ok false) P is holds = holds
 at_end (Err error) P (inl is) holds = absurd (let e = is.1 in cc)
 at_end (Err error) P (inr is) holds = absurd (let e = is.1 in cc)
 
-pub at_fault : (read : Result Bool Error) (P : Type 0) → IsRead read came.Fault → OnErr read P → P
+pub at_fault : (read : Result Bool Error) (P : Type 0) → IsRead read outcomes.Fault → OnErr read P → P
 at_fault (Ok true) P is holds = absurd cc
 at_fault (Ok false) P is holds = absurd cc
 at_fault (Err error) P is holds = holds
 
 -- a fault is no wait
-pub at_failed : (read : Result Bool Error) (P : Type 0) → IsRead read came.Fault → IfErr read (λ error. (error_kind error ≡ WouldBlock) ⊎ P) → P
+pub at_failed : (read : Result Bool Error) (P : Type 0) → IsRead read outcomes.Fault → IfErr read (λ error. (error_kind error ≡ WouldBlock) ⊎ P) → P
 at_failed (Ok true) P is holds = absurd cc
 at_failed (Ok false) P is holds = absurd cc
 at_failed (Err error) P (inl is) holds = absurd (let e = is.1 in cc)

@@ -19,18 +19,18 @@ use Rattle.pn_stay.specs.declared.connection_state.Pause.{Pause}
 use Rattle.pn_stay.specs.declared.connection_state.Pause.TheVariants.{Turn, Input, Output}
 use Rattle.pn_stay.specs.declared.connection_state.TurnOutcome.{TurnOutcome}
 use Rattle.pn_stay.specs.declared.connection_state.TurnOutcome.TheVariants.{Goes, Ended, OutOfMemory}
-use Rattle.pn_stay.specs.declared.steps.Came.{Came}
-use Rattle.pn_stay.specs.declared.steps.Came.TheVariants as came
+use Rattle.pn_stay.specs.declared.steps.ReadOutcome.{ReadOutcome}
+use Rattle.pn_stay.specs.declared.steps.ReadOutcome.TheVariants as outcomes
 
 -- what the connection at some buffers keeps
 abbrev pub in_buffers : ThreadBuffers → ConnectionValue
 in_buffers buffers = record { line = buffers.lines.line; held = buffers.input; skipped = buffers.skipped; replies = buffers.lines.replies; state = buffers.lines.state }
 
 -- what a read brought: input, nothing for now, the end, or a fault
-abbrev pub IsRead : Result Bool Error → Came → Type 0
-IsRead (Ok true) found = found ≡ came.Input
-IsRead (Ok false) found = found ≡ came.End
-IsRead (Err error) found = ((error_kind error ≡ WouldBlock) × (found ≡ came.Nothing)) ⊎ ((error_kind error ≢ WouldBlock) × (found ≡ came.Fault))
+abbrev pub IsRead : Result Bool Error → ReadOutcome → Type 0
+IsRead (Ok true) found = found ≡ outcomes.Input
+IsRead (Ok false) found = found ≡ outcomes.End
+IsRead (Err error) found = ((error_kind error ≡ WouldBlock) × (found ≡ outcomes.Nothing)) ⊎ ((error_kind error ≢ WouldBlock) × (found ≡ outcomes.Fault))
 
 -- it waits for its socket exactly where bytes wait, and for input only where it reads and holds none
 abbrev pub Pauses : ConnectionValue → Pause → Type 0

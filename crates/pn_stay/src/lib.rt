@@ -45,7 +45,7 @@ pub use scripted::{ScriptedSink, ScriptedSource};
 pub use server::StayingServer;
 pub use server::starting::ServerSizes;
 pub use shared::share;
-pub use streams::files::{FileSource, OpenFault, OpenedFiles, open_files};
+pub use streams::files::{FileSource, OpenedFiles, StreamOpenFault, open_files};
 pub use streams::input::{StreamInput, StreamSource};
 pub use streams::listener::StreamListener;
 pub use streams::opening::{OpenedStreams, StreamSetting, open_origins, remove_sockets};

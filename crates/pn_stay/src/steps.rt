@@ -2,7 +2,7 @@
 
 ghost use Rattle.std.specs.Prelude.{◌≡◌, ◌⊎◌, ◌<◌, ◌≤◌, ◌+◌, ◌*◌, ℕ, List, [], length, Option};
 ghost use Rattle.std.specs.Io.KnownBytes.{prepend_known};
-ghost use Rattle.pn_serve.specs.Lines.Bounds.{IsIdleAt, records_by, records_in};
+ghost use Rattle.pn_serve.specs.Lines.Bounds.{IsWaitingAt, records_by, records_in};
 ghost use Rattle.pn_serve.specs.Lines.Faults.{EndsByAt, EndsByStep};
 ghost use Rattle.pn_serve.specs.Lines.Made.{MakesAtMost, made_by};
 ghost use Rattle.pn_serve.specs.Lines.States.{Start};
@@ -105,7 +105,7 @@ fn refuse_or_read<M: RefusesSkipped, R: Input>(
 ) -> Step
     requires ready { M.ready }
     requires empty { buffers.old.input ≡ [] }
-    requires idle { IsIdleAt Step.NoInput buffers.old.lines }
+    requires waiting { IsWaitingAt Step.NoInput buffers.old.lines }
     ensures steps { (start : Start M) (written : Option (List ℕ)) → IsSteady M.reader M.moves → Continues (by M.moves M.makes M.ends M.goes M.goes_last) start (R.remaining input.old) written machine.old (in_buffers buffers.old)
         → StepsIn (by M.moves M.makes M.ends M.goes M.goes_last) start (R.remaining input.new) written machine.new buffers.new result }
     ensures waits { WaitsWell (in_buffers buffers.new) result }
@@ -131,7 +131,7 @@ fn read_more<M: LineHandler, R: Input>(
 ) -> Step
     requires ready { M.ready }
     requires empty { buffers.old.input ≡ [] }
-    requires idle { IsIdleAt Step.NoInput buffers.old.lines }
+    requires waiting { IsWaitingAt Step.NoInput buffers.old.lines }
     ensures steps { (start : Start M) (written : Option (List ℕ)) → IsSteady M.reader M.moves → Stands (by M.moves M.makes M.ends M.goes M.goes_last) start (prepend_known buffers.old.input (R.remaining input.old)) written machine.old buffers.old.lines
         → StepsTo (by M.moves M.makes M.ends M.goes M.goes_last) start (prepend_known buffers.new.input (R.remaining input.new)) written machine.new buffers.new.lines result }
     ensures skipped { buffers.new.skipped ≡ buffers.old.skipped }
@@ -145,11 +145,11 @@ fn read_more<M: LineHandler, R: Input>(
     ensures knows { KnowsNoLess (M.reader machine.old) (M.reader machine.new) }
 {
     let read = buffers.input.read_from(input);
-    match came_of(&read) {
-        Came::Input => Step::Next(units_of(buffers.input.bytes())),
-        Came::Nothing => Step::NoInput,
-        Came::End => Step::Next(buffers.lines.end_input(machine)),
-        Came::Fault => {
+    match outcome_of(&read) {
+        ReadOutcome::Input => Step::Next(units_of(buffers.input.bytes())),
+        ReadOutcome::Nothing => Step::NoInput,
+        ReadOutcome::End => Step::Next(buffers.lines.end_input(machine)),
+        ReadOutcome::Fault => {
             buffers.lines.end_by(Err(RunFault::Read));
             Step::Next(0)
         }
@@ -166,7 +166,7 @@ fn units_of(bytes: &[u8]) -> u32
 
 // What came of a read.
 #[derive(Clone, Copy, Debug, PartialEq, Eq)]
-enum Came {
+enum ReadOutcome {
     /// Some input.
     Input,
     /// Nothing, so far.
@@ -178,17 +178,17 @@ enum Came {
 }
 
 // A source that would block has no input at hand. Another error of it is a fault.
-fn came_of(read: &io::Result<bool>) -> Came
+fn outcome_of(read: &io::Result<bool>) -> ReadOutcome
     ensures { IsRead read.now result }
 {
     match read {
-        Ok(true) => Came::Input,
-        Ok(false) => Came::End,
+        Ok(true) => ReadOutcome::Input,
+        Ok(false) => ReadOutcome::End,
         Err(error) => {
             if is_wait(error) {
-                return Came::Nothing;
+                return ReadOutcome::Nothing;
             }
-            Came::Fault
+            ReadOutcome::Fault
         }
     }
 }

@@ -1,4 +1,4 @@
-//! Lines that several threads read, each a chunk of consecutive lines at the positions that its place gives.
+//! Lines that several threads read, each a chunk of consecutive lines at the positions that follow from its number.
 
 ghost use Rattle.std.specs.Prelude.{◌≡◌, ◌⊎◌, ◌↔◌, [], ◌++◌, None, Some, IfOk, IfErr, OnOk, OnErr, IsSome, IsTrue};
 ghost use Rattle.pn_stream.specs.Faults.{Refuses};

@@ -68,9 +68,9 @@ pub(crate) fn new_line<M: ReaderMemory>(memory: &M) -> Result<LineBuffer, NoMemo
     Err(NoMemory)
 }
 
-// Makes place for one more.
+// Reserves memory for one more.
 fn reserve_one<T, M: ReaderMemory>(memory: &M, list: &mut Vec<T>) -> Result<(), NoMemory>
-    ensures place { OnOk result (vec_len list.new < vec_capacity list.new) }
+    ensures room { OnOk result (vec_len list.new < vec_capacity list.new) }
     ensures items { list.new.items ≡ list.old.items }
     ensures gives_up { OnErr result M.may_give_up }
 {

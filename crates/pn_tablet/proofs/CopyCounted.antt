@@ -28,7 +28,7 @@ use Rattle.pn_tablet.specs.declared.copy_line.CopyLine.{CopyLine}
 use Rattle.pn_tablet.specs.declared.copy_line.CopyLine.TheVariants.{Record, End}
 use Rattle.pn_tablet.specs.declared.copy_count.CopyStep.{CopyStep}
 use Rattle.pn_tablet.specs.declared.copy_count.CopyStep.TheVariants.{Done, Next}
-use Rattle.pn_tablet.specs.declared.copy_count.Counted.{Counted}
+use Rattle.pn_tablet.specs.declared.copy_count.LineCount.{LineCount}
 use Rattle.pn_tablet.specs.declared.form.Form.{Form}
 use Rattle.pn_tablet.specs.declared.form.Form.TheVariants.{Texts, Numbers}
 use Rattle.pn_tablet.proofs.CopyLineCounts.{lines_again}
@@ -99,7 +99,7 @@ cell_numbered entry =
     or_none true = refl
     or_none false = refl
 
-pub counted_more : (cells rest : Entries) (entry : List ℕ × CellValue) (was now : Counted) → IsCountedIn cells was → drop was.records cells ≡ entry ∷ rest → now.records ≡ was.records + 1
+pub counted_more : (cells rest : Entries) (entry : List ℕ × CellValue) (was now : LineCount) → IsCountedIn cells was → drop was.records cells ≡ entry ∷ rest → now.records ≡ was.records + 1
     → now.images ≡ was.images + length (keys entry.1.1) → now.form ≡ cond (list_any holds_number (keys entry.1.1)) Numbers was.form → IsCountedIn cells now
 counted_more cells rest entry was now counted left records images form =
     let more = one_more_record cells rest was.records entry left in
@@ -114,14 +114,14 @@ counted_more cells rest entry was now counted left records images form =
     }
 
 -- no more than there are
-pub counted_within : (cells rest : Entries) (entry : List ℕ × CellValue) (was : Counted) → IsCountedIn cells was → drop was.records cells ≡ entry ∷ rest → was.images + length (keys entry.1.1) ≤ length (spell cells)
+pub counted_within : (cells rest : Entries) (entry : List ℕ × CellValue) (was : LineCount) → IsCountedIn cells was → drop was.records cells ≡ entry ∷ rest → was.images + length (keys entry.1.1) ≤ length (spell cells)
 counted_within cells rest entry was counted left =
     let whole : take was.records cells ++ (entry ∷ rest) ≡ cells = ap (λ (l : Entries). take was.records cells ++ l) (sym left) ∙ take-append-drop was.records cells in
     let spelled = flat_map-append spell_cell (take was.records cells) (entry ∷ rest) in
     omega (arith, counted.images_are, ap (λ (l : Entries). length (spell l)) whole, ap length spelled, length-append (spell (take was.records cells)) (spell (entry ∷ rest)), cell_count entry rest)
 
 -- all are counted
-pub counted_all : (cells : Entries) (counted : Counted) → IsCountedIn cells counted → length cells ≤ counted.records → (counted.images ≡ length (spell cells)) × (counted.form ≡ form_of (spell cells))
+pub counted_all : (cells : Entries) (counted : LineCount) → IsCountedIn cells counted → length cells ≤ counted.records → (counted.images ≡ length (spell cells)) × (counted.form ≡ form_of (spell cells))
 counted_all cells counted is over =
     let all = take_all counted.records cells over in
     (is.images_are ∙ ap (λ (l : Entries). length (spell l)) all, is.form_is ∙ ap (λ (l : Entries). form_of (spell l)) all)
@@ -129,7 +129,7 @@ counted_all cells counted is over =
 -- ---- what counting comes to
 
 -- what counting comes to after this number of further records
-pub counts_on : (records : ℕ) (count : CopyCountValue) (counted : Counted) (result : Result CopyStep NoMemory) → counted.records ≡ min (count.index + records) (length count.copy.cells) → CountsTo count.copy counted result → CountsOn records count result
+pub counts_on : (records : ℕ) (count : CopyCountValue) (counted : LineCount) (result : Result CopyStep NoMemory) → counted.records ≡ min (count.index + records) (length count.copy.cells) → CountsTo count.copy counted result → CountsOn records count result
 counts_on records count counted (Ok (Done text)) is to = (to.0, to.1, omega (arith, is, to.2))
 counts_on records count counted (Ok (Next more)) is to = (to.0, omega (arith, is, to.1, to.2), omega (arith, to.1, to.2))
 counts_on records count counted (Err fault) is to = to

@@ -22,15 +22,15 @@ use Rattle.pn_record.specs.Sets.{CellValue, HasContents}
 use Rattle.pn_record.specs.Writing.{image_data}
 use Rattle.pn_tablet.specs.Copies.{TabletCopyValue}
 use Rattle.pn_tablet.specs.CopyLines.{head_data, mark_data, end_data}
-use Rattle.pn_tablet.specs.CopyMaking.{IsCopyPlace, MakesLine, lines_of_copy, lines_between, copy_rest}
+use Rattle.pn_tablet.specs.CopyMaking.{IsCopyCursor, MakesLine, lines_of_copy, lines_between, copy_rest}
 use Rattle.pn_tablet.specs.CopyTexts.{mark_line, lines_after_head}
 use Rattle.pn_tablet.specs.CopyWriting.{line_data, line_text, lines_text}
 use Rattle.pn_tablet.specs.Forms.{form_number, form_of}
 use Rattle.pn_tablet.specs.Ranges.{key_data}
 use Rattle.pn_tablet.specs.declared.copy_line.CopyLine.{CopyLine}
 use Rattle.pn_tablet.specs.declared.copy_line.CopyLine.TheVariants.{Record, End}
-use Rattle.pn_tablet.specs.declared.copy_text.CopyPlace.{CopyPlace}
-use Rattle.pn_tablet.specs.declared.copy_text.CopyPlace.TheVariants.{Head, Mark, Image, Written}
+use Rattle.pn_tablet.specs.declared.copy_text.CopyCursor.{CopyCursor}
+use Rattle.pn_tablet.specs.declared.copy_text.CopyCursor.TheVariants.{Head, Mark, Image, Written}
 use Rattle.pn_tablet.specs.declared.form.Form.{Form}
 use Rattle.pn_tablet.proofs.CopyCounted.{copy_lines, image_of}
 use Rattle.pn_tablet.proofs.CopyWritten.{head_of}
@@ -114,8 +114,8 @@ length_lines : (says : List CopyLine) (n : ℕ) → 0 < length (lines_text (says
 length_lines [] n = omega (arith, length-append (line_text (end_data n)) [], length-append (compact_text (end_data n)) (10 ∷ []))
 length_lines (line ∷ says) n = omega (arith, length-append (line_text (line_data line)) (lines_text (says ++ End n ∷ [])), length-append (compact_text (line_data line)) (10 ∷ []))
 
--- a place before the end has a line still to be made
-pub rest_some : (copy : TabletCopyValue) (place : CopyPlace) → place ≢ Written → copy_rest copy place ≢ []
+-- a cursor before the end has a line still to be made
+pub rest_some : (copy : TabletCopyValue) (cursor : CopyCursor) → cursor ≢ Written → copy_rest copy cursor ≢ []
 rest_some copy Head other none =
     let head = line_text (head_data (head_of copy)) in
     let says = lines_text (lines_after_head copy.marks (spell copy.cells)) in
@@ -157,24 +157,24 @@ at_some {X} P o x there holds = subst (λ (p : Option X). IfSome p P) there hold
 pub in_some : {X : Type 0} (P : X → Type 0) (o : Option X) (x : X) → o ≡ Some x → P x → IfSome o P
 in_some {X} P o x there holds = subst (λ (p : Option X). IfSome p P) (sym there) holds
 
-pub made_line : {copy : TabletCopyValue} {place next : CopyPlace} {old new : Vec ℕ Global} (d : Data) → AppendsText old new (line_text d) → length (line_text d) ≤ 60000 → copy_rest copy place ≡ line_text d ++ copy_rest copy next → IsCopyPlace copy next
-    → MakesLine copy place old new next
+pub made_line : {copy : TabletCopyValue} {cursor next : CopyCursor} {old new : Vec ℕ Global} (d : Data) → AppendsText old new (line_text d) → length (line_text d) ≤ 60000 → copy_rest copy cursor ≡ line_text d ++ copy_rest copy next → IsCopyCursor copy next
+    → MakesLine copy cursor old new next
 made_line d appended short split next = record {
   line = record { piece = line_text d; appended = appended; split = split; short = short; some = inr (omega (arith, length-append (compact_text d) (10 ∷ []))) };
-  place_is = next;
+  cursor_is = next;
 }
 
 pub head_rest : (copy : TabletCopyValue) (form : Form) → form ≡ form_of (spell copy.cells) → copy_rest copy Head ≡ line_text (head_data (form, copy.range)) ++ copy_rest copy (Mark 0)
 head_rest copy form is = ap (λ (f : Form). line_text (head_data (f, copy.range)) ++ lines_text (lines_after_head copy.marks (spell copy.cells))) (sym is)
 
-pub same_line : {copy : TabletCopyValue} {place other next : CopyPlace} {old new : Vec ℕ Global} → copy_rest copy place ≡ copy_rest copy other → MakesLine copy other old new next → MakesLine copy place old new next
-same_line {copy} {place} {other} {next} {old} {new} same made =
-    record { line = subst (λ (left : List ℕ). MakesPiece 60000 left (copy_rest copy next) old new) (sym same) made.line; place_is = made.place_is }
+pub same_line : {copy : TabletCopyValue} {cursor other next : CopyCursor} {old new : Vec ℕ Global} → copy_rest copy cursor ≡ copy_rest copy other → MakesLine copy other old new next → MakesLine copy cursor old new next
+same_line {copy} {cursor} {other} {next} {old} {new} same made =
+    record { line = subst (λ (left : List ℕ). MakesPiece 60000 left (copy_rest copy next) old new) (sym same) made.line; cursor_is = made.cursor_is }
 
 pub none_left : (copy : TabletCopyValue) (v : Vec ℕ Global) → MakesLine copy Written v v Written
-none_left copy v = record { line = record { piece = []; appended = appended_none v; split = refl; short = omega arith; some = inl refl }; place_is = tt }
+none_left copy v = record { line = record { piece = []; appended = appended_none v; split = refl; short = omega arith; some = inl refl }; cursor_is = tt }
 
-pub first_content : (copy : TabletCopyValue) → IsTable bytes_cmp HasContents copy.cells → (index : ℕ) → IsCopyPlace copy (Image index 0)
+pub first_content : (copy : TabletCopyValue) → IsTable bytes_cmp HasContents copy.cells → (index : ℕ) → IsCopyCursor copy (Image index 0)
 first_content copy table index = has_content copy.cells table.contents index
 
 -- the line of a mark
@@ -190,13 +190,13 @@ end_next copy index content lines count old new none are is appended short =
     let same : lines_between copy ≡ count = omega (arith, are, is, copy_lines copy) in
     made_line (end_data count) appended short (no_image copy index content (sym none) ∙ ap (λ (n : ℕ). line_text (end_data n) ++ copy_rest copy Written) same) tt
 
--- the line of an image, and the next place
-pub image_next : (copy : TabletCopyValue) (index content count : ℕ) (entry : List ℕ × CellValue) (shown : ContentValue) (next : CopyPlace) (old new : Vec ℕ Global) → IsTable bytes_cmp HasContents copy.cells → Some entry ≡ slice_get copy.cells index
+-- the line of an image, and the next cursor
+pub image_next : (copy : TabletCopyValue) (index content count : ℕ) (entry : List ℕ × CellValue) (shown : ContentValue) (next : CopyCursor) (old new : Vec ℕ Global) → IsTable bytes_cmp HasContents copy.cells → Some entry ≡ slice_get copy.cells index
     → shown ≡ get_or (keys entry.1.1) content shown → content < length (keys entry.1.1) → AppendsText old new (line_text (image_data (record { key = entry.0; version = entry.1.0; content = shown })))
     → length (line_text (image_data (record { key = entry.0; version = entry.1.0; content = shown }))) ≤ 60000 → count ≡ length (keys entry.1.1)
     → next ≡ cond (ltb (content + 1) count) (Image index (content + 1)) (Image (index + 1) 0) → MakesLine copy (Image index content) old new next
 image_next copy index content count entry shown next old new table there here within appended short counted is =
-    subst (λ (place : CopyPlace). MakesLine copy (Image index content) old new place) (sym is) (by (ltb (content + 1) count) refl)
+    subst (λ (cursor : CopyCursor). MakesLine copy (Image index content) old new cursor) (sym is) (by (ltb (content + 1) count) refl)
   where
     rest : copy_rest copy (Image index content) ≡ line_text (image_data (image_of entry shown)) ++ copy_rest copy (Image index (content + 1))
     rest = image_rest copy index content entry shown (sym there) here within
@@ -212,12 +212,12 @@ image_next copy index content count entry shown next old new table there here wi
 
 -- ---- what is made
 
-written_of : (copy : TabletCopyValue) (place : CopyPlace) → copy_rest copy place ≡ [] → place ≡ Written
+written_of : (copy : TabletCopyValue) (cursor : CopyCursor) → copy_rest copy cursor ≡ [] → cursor ≡ Written
 written_of copy Head none = absurd (rest_some copy Head (λ e. cc) none)
 written_of copy (Mark index) none = absurd (rest_some copy (Mark index) (λ e. cc) none)
 written_of copy (Image index content) none = absurd (rest_some copy (Image index content) (λ e. cc) none)
 written_of copy Written none = refl
 
 -- nothing is left exactly after the last line
-pub made_where : (copy : TabletCopyValue) (place : CopyPlace) (made : Bool) → (IsTrue made ↔ (place ≡ Written)) → (IsTrue made ↔ (copy_rest copy place ≡ []))
-made_where copy place made is = (λ yes. ap (copy_rest copy) (is.0 yes), λ none. is.1 (written_of copy place none))
+pub made_where : (copy : TabletCopyValue) (cursor : CopyCursor) (made : Bool) → (IsTrue made ↔ (cursor ≡ Written)) → (IsTrue made ↔ (copy_rest copy cursor ≡ []))
+made_where copy cursor made is = (λ yes. ap (copy_rest copy) (is.0 yes), λ none. is.1 (written_of copy cursor none))

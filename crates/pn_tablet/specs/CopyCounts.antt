@@ -6,7 +6,7 @@ use Rattle.pn_tablet.specs.CopyMaking.{CopyCountValue, lines_of_copy}
 use Rattle.pn_tablet.specs.CopyWriting.{copy_text}
 use Rattle.pn_tablet.specs.declared.copy_count.CopyStep.{CopyStep}
 use Rattle.pn_tablet.specs.declared.copy_count.CopyStep.TheVariants.{Done, Next}
-use Rattle.pn_tablet.specs.declared.copy_count.Counted.{Counted}
+use Rattle.pn_tablet.specs.declared.copy_count.LineCount.{LineCount}
 
 -- this number of further records were counted, or all; then the text begins
 abbrev pub CountsOn : ℕ → CopyCountValue → Result CopyStep NoMemory → Type 0
@@ -15,7 +15,7 @@ CountsOn records count (Ok (Next more)) = (more.copy ≡ count.copy) × (more.in
 CountsOn records count (Err fault) = 2 ^ 64 ≤ lines_of_copy count.copy
 
 -- what counting comes to where this much is counted
-abbrev pub CountsTo : TabletCopyValue → Counted → Result CopyStep NoMemory → Type 0
+abbrev pub CountsTo : TabletCopyValue → LineCount → Result CopyStep NoMemory → Type 0
 CountsTo copy counted (Ok (Done text)) = (text.copy ≡ copy) × (text.left ≡ copy_text copy) × (length copy.cells ≤ counted.records)
 CountsTo copy counted (Ok (Next more)) = (more.copy ≡ copy) × (more.index ≡ counted.records) × (counted.records < length copy.cells)
 CountsTo copy counted (Err fault) = 2 ^ 64 ≤ lines_of_copy copy

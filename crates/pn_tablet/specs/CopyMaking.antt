@@ -14,9 +14,9 @@ use Rattle.pn_tablet.specs.CopyWriting.{copy_text, lines_text}
 use Rattle.pn_tablet.specs.Forms.{form_of}
 use Rattle.pn_tablet.specs.Proofs.Coding.{copy_code}
 use Rattle.pn_tablet.specs.declared.copy_line.CopyLine.TheVariants.{Record, End}
-use Rattle.pn_tablet.specs.declared.copy_count.Counted.{Counted}
-use Rattle.pn_tablet.specs.declared.copy_text.CopyPlace.{CopyPlace}
-use Rattle.pn_tablet.specs.declared.copy_text.CopyPlace.TheVariants.{Head, Mark, Image, Written}
+use Rattle.pn_tablet.specs.declared.copy_count.LineCount.{LineCount}
+use Rattle.pn_tablet.specs.declared.copy_text.CopyCursor.{CopyCursor}
+use Rattle.pn_tablet.specs.declared.copy_text.CopyCursor.TheVariants.{Head, Mark, Image, Written}
 use Rattle.pn_tablet.specs.declared.form.Form.{Form}
 
 -- a copy, and of how many records the lines are counted
@@ -38,7 +38,7 @@ abbrev pub text_code : Coded CopyTextValue
 text_code = code_by (TabletCopyValue × List ℕ) (coded× copy_code (coded_list coded_ℕ)) (λ t. (t.copy, t.left)) (λ p. record { copy = p.0; left = p.1 }) (λ _. refl)
 
 -- the first records were counted: their images have this many lines, in this form
-pub record IsCountedIn (cells : Entries) (counted : Counted) : Type 0 where
+pub record IsCountedIn (cells : Entries) (counted : LineCount) : Type 0 where
   pub within : counted.records ≤ length cells
   pub images_are : counted.images ≡ length (spell (take counted.records cells))
   pub form_is : counted.form ≡ form_of (spell (take counted.records cells))
@@ -51,27 +51,27 @@ lines_of_copy copy = length (lines_of (copy_text copy))
 abbrev pub lines_between : TabletCopyValue → ℕ
 lines_between copy = length copy.marks + length (spell copy.cells)
 
--- the text from a place on
-abbrev pub copy_rest : TabletCopyValue → CopyPlace → List ℕ
+-- the text from a cursor on
+abbrev pub copy_rest : TabletCopyValue → CopyCursor → List ℕ
 copy_rest copy Head = copy_text copy
 copy_rest copy (Mark index) = lines_text (map mark_line (drop index copy.marks) ++ (map Record (spell copy.cells) ++ End (lines_between copy) ∷ []))
 copy_rest copy (Image index content) = lines_text (map Record (drop content (spell (drop index copy.cells))) ++ End (lines_between copy) ∷ [])
 copy_rest copy Written = []
 
--- the place of an image is one of its record's contents, if there is such a record
-abbrev pub IsCopyPlace : TabletCopyValue → CopyPlace → Type 0
-IsCopyPlace copy Head = Unit {0}
-IsCopyPlace copy (Mark index) = Unit {0}
-IsCopyPlace copy (Image index content) = IfSome (slice_get copy.cells index) (λ entry. content < length (keys entry.1.1))
-IsCopyPlace copy Written = Unit {0}
+-- the cursor of an image is one of its record's contents, if there is such a record
+abbrev pub IsCopyCursor : TabletCopyValue → CopyCursor → Type 0
+IsCopyCursor copy Head = Unit {0}
+IsCopyCursor copy (Mark index) = Unit {0}
+IsCopyCursor copy (Image index content) = IfSome (slice_get copy.cells index) (λ entry. content < length (keys entry.1.1))
+IsCopyCursor copy Written = Unit {0}
 
--- the count and the form are those of the copy, and the place is one of its text
-pub record IsTextOf (copy : TabletCopyValue) (form : Form) (lines : ℕ) (place : CopyPlace) : Type 0 where
+-- the count and the form are those of the copy, and the cursor is one of its text
+pub record IsTextOf (copy : TabletCopyValue) (form : Form) (lines : ℕ) (cursor : CopyCursor) : Type 0 where
   pub form_is : form ≡ form_of (spell copy.cells)
   pub lines_are : lines ≡ lines_of_copy copy
-  pub place_is : IsCopyPlace copy place
+  pub cursor_is : IsCopyCursor copy cursor
 
 -- the next line was added to a buffer, if one was left
-pub record MakesLine (copy : TabletCopyValue) (place : CopyPlace) (old new : Vec ℕ Global) (next : CopyPlace) : Type 0 where
-  pub line : MakesPiece 60000 (copy_rest copy place) (copy_rest copy next) old new
-  pub place_is : IsCopyPlace copy next
+pub record MakesLine (copy : TabletCopyValue) (cursor : CopyCursor) (old new : Vec ℕ Global) (next : CopyCursor) : Type 0 where
+  pub line : MakesPiece 60000 (copy_rest copy cursor) (copy_rest copy next) old new
+  pub cursor_is : IsCopyCursor copy next

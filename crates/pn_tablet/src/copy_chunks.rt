@@ -141,7 +141,7 @@ fn read_chunks<R: Threads>(
     put_together(earlier, low.len(), later)
 }
 
-// Where the last of this many chunks begins: behind the first newline in its share of the bytes.
+// Where the last of this many chunks begins: after the first newline in its share of the bytes.
 fn last_chunk_at(text: &[u8], chunks: usize) -> usize
     requires { 2 ≤ chunks }
     ensures { result ≤ length text.now }

@@ -19,12 +19,12 @@ use std::marker::Model;
 #[derive(Drop)]
 pub struct CopyCount {
     copy: TabletCopy,
-    counted: Counted,
+    counted: LineCount,
 }
 
 // How many records are counted, the lines of their images, and the form that they need.
 #[derive(Clone, Copy, Debug, PartialEq, Eq)]
-struct Counted {
+struct LineCount {
     records: usize,
     images: u64,
     form: Form,
@@ -58,7 +58,7 @@ impl CopyCount {
     {
         CopyCount {
             copy,
-            counted: Counted {
+            counted: LineCount {
                 records: 0,
                 images: 0,
                 form: Form::Texts,
@@ -79,7 +79,7 @@ impl CopyCount {
 }
 
 // What counting comes to where this much is counted.
-fn step_of(copy: TabletCopy, counted: Counted) -> Result<CopyStep, NoMemory>
+fn step_of(copy: TabletCopy, counted: LineCount) -> Result<CopyStep, NoMemory>
     requires { IsCountedIn copy.cells counted }
     ensures { CountsTo copy counted result }
 {
@@ -93,7 +93,7 @@ fn step_of(copy: TabletCopy, counted: Counted) -> Result<CopyStep, NoMemory>
 }
 
 // The lines of a copy of which all images are counted.
-fn count_lines(copy: &TabletCopy, counted: Counted) -> Result<u64, NoMemory>
+fn count_lines(copy: &TabletCopy, counted: LineCount) -> Result<u64, NoMemory>
     requires counted { IsCountedIn copy.now.cells counted }
     requires all { length copy.now.cells ≤ counted.records }
     ensures { MatchResult result (λ lines. lines ≡ lines_of_copy copy.now) (λ _. 2 ^ 64 ≤ lines_of_copy copy.now) }
@@ -103,7 +103,7 @@ fn count_lines(copy: &TabletCopy, counted: Counted) -> Result<u64, NoMemory>
 }
 
 // Counts at most `records` more records.
-fn count_some(cells: &Records, counted: Counted, records: usize) -> Result<Counted, NoMemory>
+fn count_some(cells: &Records, counted: LineCount, records: usize) -> Result<LineCount, NoMemory>
     requires { IsCountedIn cells.now counted }
     ensures ok { IfOk result
         (λ now. IsCountedIn cells.now now × (now.records ≡ min (counted.records + records) (length cells.now))) }
@@ -122,7 +122,7 @@ fn count_some(cells: &Records, counted: Counted, records: usize) -> Result<Count
     Ok(now)
 }
 
-fn count_cell(counted: Counted, cell: &Cell) -> Result<Counted, NoMemory>
+fn count_cell(counted: LineCount, cell: &Cell) -> Result<LineCount, NoMemory>
     requires { counted.records + 1 < 2 ^ 64 }
     ensures records { IfOk result (λ now. now.records ≡ counted.records + 1) }
     ensures images { IfOk result (λ now. now.images ≡ counted.images + length (keys cell.now.1)) }
@@ -136,7 +136,7 @@ fn count_cell(counted: Counted, cell: &Cell) -> Result<Counted, NoMemory>
     } else {
         counted.form
     };
-    Ok(Counted {
+    Ok(LineCount {
         records: counted.records + 1,
         images,
         form,

@@ -3,10 +3,10 @@
 ghost use Rattle.std.specs.Prelude.{◌≡◌, ◌+◌, ◌<◌, ◌↔◌, ◌^◌, [], length, nat_lt, IsTrue, if◌then◌else◌};
 ghost use Rattle.pn_json.specs.Prelude.{MakesPiece};
 ghost use Rattle.pn_record.specs.Prelude.{spell};
-ghost use Rattle.pn_tablet.specs.CopyMaking.{IsCopyPlace, IsTextOf, lines_of_copy, MakesLine};
+ghost use Rattle.pn_tablet.specs.CopyMaking.{IsCopyCursor, IsTextOf, lines_of_copy, MakesLine};
 ghost use Rattle.pn_tablet.specs.CopyWriting.{copy_text};
 ghost use Rattle.pn_tablet.specs.Forms.{form_of};
-ghost use Rattle.pn_tablet.specs.declared.copy_text.CopyPlace.TheVariants.{Image, Mark, Written};
+ghost use Rattle.pn_tablet.specs.declared.copy_text.CopyCursor.TheVariants.{Image, Mark, Written};
 
 use crate::TabletCopy;
 use crate::copy_line_appending::{append_end, append_head, append_image_line, append_mark};
@@ -21,12 +21,12 @@ pub struct CopyText {
     copy: TabletCopy,
     form: Form,
     lines: u64,
-    place: CopyPlace,
+    cursor: CopyCursor,
 }
 
 /// Before which line the text is.
 #[derive(Clone, Copy, Debug, PartialEq, Eq)]
-enum CopyPlace {
+enum CopyCursor {
     Head,
     Mark(usize),
     /// The line of a content of a record, or the end where there is no such record.
@@ -42,9 +42,9 @@ impl Model for CopyText {
 
     ghost coded = { text_code };
 
-    ghost view = { λ text. record { copy = text.copy; left = copy_rest text.copy text.place } };
+    ghost view = { λ text. record { copy = text.copy; left = copy_rest text.copy text.cursor } };
 
-    ghost invariant = { λ text. IsTextOf text.copy text.form text.lines text.place };
+    ghost invariant = { λ text. IsTextOf text.copy text.form text.lines text.cursor };
 }
 
 impl CopyText {
@@ -58,7 +58,7 @@ impl CopyText {
             copy,
             form,
             lines,
-            place: CopyPlace::Head,
+            cursor: CopyCursor::Head,
         }
     }
 
@@ -73,7 +73,7 @@ impl CopyText {
     pub fn is_made(&self) -> bool
         ensures { IsTrue result ↔ (self.now.left ≡ []) }
     {
-        is_written(self.place)
+        is_written(self.cursor)
     }
 
     /// Adds the next line to what a buffer holds that has room for it, if one is left.
@@ -81,16 +81,16 @@ impl CopyText {
         ensures line { MakesPiece 60000 self.old.left self.new.left out.old out.new }
         ensures copy { self.new.copy ≡ self.old.copy }
     {
-        self.place = append_next(out, &self.copy, self.form, self.lines, self.place);
+        self.cursor = append_next(out, &self.copy, self.form, self.lines, self.cursor);
     }
 }
 
-// Whether no line comes after a place.
-fn is_written(place: CopyPlace) -> bool
-    ensures { IsTrue result ↔ (place ≡ Written) }
+// Whether no line comes after a cursor.
+fn is_written(cursor: CopyCursor) -> bool
+    ensures { IsTrue result ↔ (cursor ≡ Written) }
 {
-    match place {
-        CopyPlace::Written => true,
+    match cursor {
+        CopyCursor::Written => true,
         _ => false,
     }
 }
@@ -109,30 +109,30 @@ fn recall_count(marks: &Marks)
     let _ = marks.len();
 }
 
-// Adds the line of a place. The next place.
+// Adds the line of a cursor. The next cursor.
 fn append_next(
     out: &mut Vec<u8>,
     copy: &TabletCopy,
     form: Form,
     lines: u64,
-    place: CopyPlace,
-) -> CopyPlace
-    requires { IsTextOf copy.now form lines place }
-    ensures { MakesLine copy.now place out.old out.new result }
+    cursor: CopyCursor,
+) -> CopyCursor
+    requires { IsTextOf copy.now form lines cursor }
+    ensures { MakesLine copy.now cursor out.old out.new result }
 {
-    match place {
-        CopyPlace::Head => {
+    match cursor {
+        CopyCursor::Head => {
             append_head(out, form, &copy.range);
-            CopyPlace::Mark(0)
+            CopyCursor::Mark(0)
         }
-        CopyPlace::Mark(index) => append_mark_at(out, copy, lines, index),
-        CopyPlace::Image { index, content } => append_image_at(out, copy, lines, index, content),
-        CopyPlace::Written => CopyPlace::Written,
+        CopyCursor::Mark(index) => append_mark_at(out, copy, lines, index),
+        CopyCursor::Image { index, content } => append_image_at(out, copy, lines, index, content),
+        CopyCursor::Written => CopyCursor::Written,
     }
 }
 
 // Adds the line of a mark, or the first after all marks.
-fn append_mark_at(out: &mut Vec<u8>, copy: &TabletCopy, lines: u64, index: usize) -> CopyPlace
+fn append_mark_at(out: &mut Vec<u8>, copy: &TabletCopy, lines: u64, index: usize) -> CopyCursor
     requires { lines ≡ lines_of_copy copy.now }
     ensures { MakesLine copy.now (Mark index) out.old out.new result }
 {
@@ -140,7 +140,7 @@ fn append_mark_at(out: &mut Vec<u8>, copy: &TabletCopy, lines: u64, index: usize
     match copy.marks.entry_at(index) {
         Some((name, position)) => {
             append_mark(out, name, position.0);
-            CopyPlace::Mark(index + 1)
+            CopyCursor::Mark(index + 1)
         }
         None => {
             copy.cells.recall_table();
@@ -156,9 +156,9 @@ fn append_image_at(
     lines: u64,
     index: usize,
     content: usize,
-) -> CopyPlace
+) -> CopyCursor
     requires lines { lines ≡ lines_of_copy copy.now }
-    requires place { IsCopyPlace copy.now (Image index content) }
+    requires cursor { IsCopyCursor copy.now (Image index content) }
     ensures { MakesLine copy.now (Image index content) out.old out.new result }
 {
     copy.cells.recall_table();
@@ -167,29 +167,29 @@ fn append_image_at(
             recall_size(&copy.cells);
             let contents = cell.contents();
             append_image_line(out, key, cell.version(), &contents[content]);
-            next_place(index, content, contents.len())
+            next_cursor(index, content, contents.len())
         }
         None => {
             let count = lines - 2;
             append_end(out, count);
-            CopyPlace::Written
+            CopyCursor::Written
         }
     }
 }
 
-// The place after a content of these lines.
-fn next_place(index: usize, content: usize, count: usize) -> CopyPlace
+// The cursor after a content of these lines.
+fn next_cursor(index: usize, content: usize, count: usize) -> CopyCursor
     requires index { index + 1 < 2 ^ 64 }
     requires content { content < count }
     ensures { result ≡ (if nat_lt (content + 1) count then Image index (content + 1) else Image (index + 1) 0) }
 {
     if content + 1 < count {
-        return CopyPlace::Image {
+        return CopyCursor::Image {
             index,
             content: content + 1,
         };
     }
-    CopyPlace::Image {
+    CopyCursor::Image {
         index: index + 1,
         content: 0,
     }

@@ -2,7 +2,7 @@
 
 use pn_join::Name;
 use pn_serve::{FaultLog, ServeFault, Service, StreamFailure, WriterEnd};
-use pn_stay::{OpenFault, describe_error, format_failure};
+use pn_stay::{StreamOpenFault, describe_error, format_failure};
 use std::alloc::Global;
 use std::io;
 use std::process::ExitCode;
@@ -55,17 +55,17 @@ pub(crate) fn fail_at(
 /// Prints why the streams were not opened.
 pub(crate) fn refuse_streams(
     rt: &(impl AllocGlobal + Eprint),
-    fault: OpenFault,
+    fault: StreamOpenFault,
     is_explained: bool,
 ) -> ExitCode {
     match fault {
-        OpenFault::Path { name, path, error } => {
+        StreamOpenFault::Path { name, path, error } => {
             match format!(in rt.alloc(); "cannot open {}", name.as_str()) {
                 Ok(why) => fail_at(rt, why.as_str(), path.as_str(), &error, is_explained),
                 Err(_) => fail(rt, "memory"),
             }
         }
-        OpenFault::Memory => fail(rt, "memory"),
+        StreamOpenFault::Memory => fail(rt, "memory"),
     }
 }
 

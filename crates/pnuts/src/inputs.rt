@@ -5,7 +5,7 @@ use crate::failures::{fail_serving, is_explained, refuse_streams};
 use pn_join::Name;
 use pn_serve::{FaultLog, ServeFault, Service, Stream, StreamPath};
 use pn_stay::{
-    Counters, FileSource, MemoryMeter, Messages, OpenFault, SocketAcceptor, StreamCounters,
+    Counters, FileSource, MemoryMeter, Messages, StreamOpenFault, SocketAcceptor, StreamCounters,
     StreamOrigin, StreamSetting, open_files, open_origins, remove_sockets, share,
 };
 use pn_stream::StreamReader;
@@ -60,7 +60,7 @@ fn open_to_end<R>(
     rt: &R,
     service: &Service,
     streams: Vec<(Name, StreamPath)>,
-) -> Result<(Streams<R>, Notes), OpenFault>
+) -> Result<(Streams<R>, Notes), StreamOpenFault>
 where
     R: AllocGlobal + Files<File = File> + Drop,
 {
@@ -82,7 +82,7 @@ fn open_to_stay<R>(
     service: &Service,
     connections: u32,
     streams: Vec<(Name, StreamPath)>,
-) -> Result<(Streams<R>, Notes), OpenFault>
+) -> Result<(Streams<R>, Notes), StreamOpenFault>
 where
     R: AllocGlobal + Files<File = File> + Net + Wait + Clock + Copy + Drop,
 {
@@ -101,7 +101,7 @@ where
         Ok(counters) => counters,
         Err(_) => {
             remove_sockets(rt, &opened.sockets);
-            return Err(OpenFault::Memory);
+            return Err(StreamOpenFault::Memory);
         }
     };
     let notes = Notes {

@@ -18,7 +18,7 @@ use Rattle.pn_protocol.specs.declared.command.control.ControlCommand.TheVariants
 use Rattle.pn_protocol.specs.declared.command.control.ControlWord.{ControlWord}
 use Rattle.pn_protocol.specs.declared.command.control.ControlWord.TheVariants as word
 use Rattle.pn_protocol.specs.declared.command.control.TheConstants.{STOP_SECONDS}
-use Rattle.pn_protocol.specs.declared.command.parse.Allowed.TheVariants.{Controls}
+use Rattle.pn_protocol.specs.declared.command.parse.AllowedCommands.TheVariants.{Controls}
 use Rattle.pn_protocol.specs.declared.command.ranges.TheConstants.{MAX_SECONDS}
 use Rattle.pn_protocol.specs.declared.refusal.Part.{Part}
 use Rattle.pn_protocol.specs.declared.refusal.Part.TheVariants.{Seconds, Since, Wait, Whole}

@@ -6,8 +6,8 @@ use Rattle.pn_record.specs.Reading.{value_at}
 use Rattle.pn_record.specs.declared.fault.ImageFault.{ImageFault}
 use Rattle.pn_record.specs.declared.fault.ImageFault.TheVariants as image
 use Rattle.pn_protocol.specs.Command.Meaning.{CommandValue}
-use Rattle.pn_protocol.specs.declared.command.parse.Allowed.{Allowed}
-use Rattle.pn_protocol.specs.declared.command.parse.Allowed.TheVariants.{All, Lookups}
+use Rattle.pn_protocol.specs.declared.command.parse.AllowedCommands.{AllowedCommands}
+use Rattle.pn_protocol.specs.declared.command.parse.AllowedCommands.TheVariants.{All, Lookups}
 use Rattle.pn_protocol.specs.declared.refusal.Part.TheVariants as part
 use Rattle.pn_protocol.specs.declared.refusal.Refusal.{Refusal}
 use Rattle.pn_protocol.specs.declared.refusal.Refusal.TheVariants.{TooLong, NotJson, BadShape, OutOfRange, Memory}
@@ -26,7 +26,7 @@ refusal_of (image.BadShape at) = BadShape (part.Image at)
 refusal_of (image.OutOfRange at) = OutOfRange (part.Image at)
 
 -- the command that a line says, if it is allowed
-unfoldable pub allowed_at : Allowed → List ℕ → Result CommandValue Refusal
+unfoldable pub allowed_at : AllowedCommands → List ℕ → Result CommandValue Refusal
 allowed_at allowed line = fault_as refusal_of (value_at line) >>= allowed_in allowed
 
 -- the command that a line of a script says

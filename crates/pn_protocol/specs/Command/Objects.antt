@@ -9,8 +9,8 @@ use Rattle.pn_protocol.specs.Command.Meaning.{CommandValue, marks, tablets}
 use Rattle.pn_protocol.specs.Command.Words.{word_in}
 use Rattle.pn_protocol.specs.Command.ShapeChecks.{named_alone}
 use Rattle.pn_protocol.specs.Command.Tablets.{adopt_in, copy_in, lose_in, relayout_in}
-use Rattle.pn_protocol.specs.declared.command.parse.Allowed.{Allowed}
-use Rattle.pn_protocol.specs.declared.command.parse.Allowed.TheVariants.{All, Controls, Lookups}
+use Rattle.pn_protocol.specs.declared.command.parse.AllowedCommands.{AllowedCommands}
+use Rattle.pn_protocol.specs.declared.command.parse.AllowedCommands.TheVariants.{All, Controls, Lookups}
 use Rattle.pn_protocol.specs.declared.command.word.CommandWord.{CommandWord}
 use Rattle.pn_protocol.specs.declared.command.word.CommandWord.TheVariants.{Adopt, Copy, Deliver, Get, Lose, Marks, Notices, Read, Relayout, Scan, Tablets}
 use Rattle.pn_protocol.specs.declared.refusal.Part.TheVariants.{Whole, Do}
@@ -54,13 +54,13 @@ control_word Relayout = Err ReadOnly
 control_word word = Ok tt
 
 -- the word is allowed, whatever the other members are
-abbrev pub allowed_word : Allowed → CommandWord → Result (Unit {0}) Refusal
+abbrev pub allowed_word : AllowedCommands → CommandWord → Result (Unit {0}) Refusal
 allowed_word All word = Ok tt
 allowed_word Lookups word = lookup_word word
 allowed_word Controls word = control_word word
 
 -- the command that a value says, if it is allowed
-unfoldable pub allowed_in : Allowed → Data → Result CommandValue Refusal
+unfoldable pub allowed_in : AllowedCommands → Data → Result CommandValue Refusal
 allowed_in allowed d = do
   members ← ok_or (as_object d) (BadShape Whole)
   word ← member_as word_in (BadShape Do) (get_member (codes "do") members)
@@ -73,6 +73,6 @@ command_in d = allowed_in All d
 
 -- memory may run out: the value is a command, or says `deliver`, `get` or `relayout`, whose batches, keys or bounds are
 -- collected before their ranges are checked
-abbrev pub TakesMemory : Allowed → Data → Type 0
+abbrev pub TakesMemory : AllowedCommands → Data → Type 0
 TakesMemory allowed d =
     IsOk (allowed_in allowed d) ⊎ (get (codes "do") d ≡ Some (string (codes "deliver"))) ⊎ (get (codes "do") d ≡ Some (string (codes "get"))) ⊎ (get (codes "do") d ≡ Some (string (codes "relayout")))

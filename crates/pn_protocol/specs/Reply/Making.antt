@@ -11,10 +11,10 @@ use Rattle.pn_json.specs.Prelude.{AppendsText}
 use Rattle.pn_record.specs.Sets.{CellValue}
 use Rattle.pn_record.specs.States.{state_of}
 use Rattle.pn_record.specs.Writing.{content_data, version_data}
-use Rattle.pn_protocol.specs.declared.reply.rows_text.Place.{Place}
-use Rattle.pn_protocol.specs.declared.reply.rows_text.Place.TheVariants.{Record, End}
-use Rattle.pn_protocol.specs.declared.reply.shown_records.Shown.{Shown}
-use Rattle.pn_protocol.specs.declared.reply.shown_records.Shown.TheVariants as shown
+use Rattle.pn_protocol.specs.declared.reply.rows_text.RowsCursor.{RowsCursor}
+use Rattle.pn_protocol.specs.declared.reply.rows_text.RowsCursor.TheVariants.{Record, End}
+use Rattle.pn_protocol.specs.declared.reply.shown_records.ShownRecords.{ShownRecords}
+use Rattle.pn_protocol.specs.declared.reply.shown_records.ShownRecords.TheVariants as shown
 use Rattle.pn_protocol.specs.Reply.Record.{row_or_null}
 use Rattle.pn_protocol.specs.Reply.Rows.{state_word}
 
@@ -61,14 +61,14 @@ abbrev pub records_rest : List Found → List ℕ → ℕ → ℕ → List ℕ
 records_rest records end index zero = rows_text (nat_lt 0 index) (drop index records) end
 records_rest records end index (suc n) = rest_from (suc n) (drop index records) end
 
--- the records' text from a place on
-abbrev pub place_rest : List Found → List ℕ → Place → List ℕ
-place_rest records end (Record index content) = records_rest records end index content
-place_rest records end End = []
+-- the records' text from a cursor on
+abbrev pub cursor_rest : List Found → List ℕ → RowsCursor → List ℕ
+cursor_rest records end (Record index content) = records_rest records end index content
+cursor_rest records end End = []
 
--- the place after a part of a record, by the next content, or 0 after the last
-abbrev pub next_place : ℕ → ℕ → Place
-next_place index next = if next == 0 then Record (index + 1) 0 else Record index next
+-- the cursor after a part of a record, by the next content, or 0 after the last
+abbrev pub next_cursor : ℕ → ℕ → RowsCursor
+next_cursor index next = if next == 0 then Record (index + 1) 0 else Record index next
 
 -- the content is one of the record's, or the first
 abbrev pub HasContent : ℕ → Found → Type 0
@@ -76,19 +76,19 @@ HasContent zero found = Unit {0}
 HasContent (suc n) (key, None) = ⊥
 HasContent (suc n) (key, Some cell) = suc n < length (keys cell.1)
 
--- the place is that of a content of its record, if there is such a record
-abbrev pub IsPlaceOf : List Found → Place → Type 0
-IsPlaceOf records (Record index content) = IfSome (slice_get records index) (HasContent content)
-IsPlaceOf records End = Unit {0}
+-- the cursor is that of a content of its record, if there is such a record
+abbrev pub IsCursorOf : List Found → RowsCursor → Type 0
+IsCursorOf records (Record index content) = IfSome (slice_get records index) (HasContent content)
+IsCursorOf records End = Unit {0}
 
 -- the records that are shown
-abbrev pub found_in : Shown → List Found
+abbrev pub found_in : ShownRecords → List Found
 found_in (shown.One key cell) = (key, cell) ∷ []
 found_in (shown.Keys names cells) = zip names.items cells.items
 found_in (shown.Rows rows) = map (λ row. (row.0, Some row.1)) rows.items
 
 -- what comes after them
-abbrev pub end_of : Shown → List ℕ
+abbrev pub end_of : ShownRecords → List ℕ
 end_of (shown.One key cell) = codes "}\n"
 end_of (shown.Keys names cells) = codes "]}\n"
 end_of (shown.Rows rows) = codes "]}\n"

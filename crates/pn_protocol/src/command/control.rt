@@ -10,7 +10,7 @@ ghost use Rattle.pn_protocol.specs.Command.Lines.{is_too_long};
 ghost use Rattle.pn_protocol.specs.Command.Objects.{TakesMemory};
 
 use crate::command::members::{check_members, find_member};
-use crate::command::parse::{Allowed, parse_value};
+use crate::command::parse::{AllowedCommands, parse_value};
 use crate::command::ranges::{check_seconds, check_since};
 use crate::{Command, Part, Refusal};
 use pn_json::whole_number_of;
@@ -90,7 +90,7 @@ fn parse_line(alloc: Global, line: &[u8]) -> Result<ControlCommand, Refusal>
 #[tactic(auto, unfolding(crate::specs::Command::Controls::control_in))]
 fn parse_control(alloc: Global, value: Value) -> Result<ControlCommand, Refusal>
     ensures exact { ShowsUnless Refusal.Memory control_value result (control_in (view value)) }
-    ensures memory { IsErrOf result Refusal.Memory → TakesMemory Allowed.Controls (view value) }
+    ensures memory { IsErrOf result Refusal.Memory → TakesMemory AllowedCommands.Controls (view value) }
 {
     let members = value.as_object().ok_or(Refusal::BadShape(Part::Whole))?;
     match control_word(find_member(members, "do")) {
@@ -98,7 +98,7 @@ fn parse_control(alloc: Global, value: Value) -> Result<ControlCommand, Refusal>
         Some(ControlWord::Notices) => parse_waiting(members),
         Some(ControlWord::Stats) => parse_alone(members, ControlCommand::Stats),
         Some(ControlWord::Stop) => parse_stop(members),
-        None => Ok(ControlCommand::Script(parse_value(alloc, value, Allowed::Controls)?)),
+        None => Ok(ControlCommand::Script(parse_value(alloc, value, AllowedCommands::Controls)?)),
     }
 }
 

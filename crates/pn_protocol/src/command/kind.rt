@@ -9,7 +9,7 @@ ghost use Rattle.pn_protocol.specs.Command.Lines.{is_too_long, lookup_at};
 ghost use Rattle.pn_protocol.specs.Command.Meaning.{command_value};
 
 use crate::command::members::find_member;
-use crate::command::parse::{Allowed, parse_value};
+use crate::command::parse::{AllowedCommands, parse_value};
 use crate::command::word::{CommandWord, word_of};
 use crate::{Command, Part, Refusal};
 use pn_record::read_value;
@@ -46,7 +46,7 @@ fn parse_with_kind(alloc: Global, line: &[u8]) -> (LineKind, Result<Command, Ref
     match read_value(alloc, line) {
         Ok(value) => {
             let kind = kind_of(command_word(&value));
-            (kind, parse_value(alloc, value, Allowed::Lookups))
+            (kind, parse_value(alloc, value, AllowedCommands::Lookups))
         }
         Err(fault) => (LineKind::Other, Err(Refusal::from(fault))),
     }

@@ -53,7 +53,7 @@ pub fn command_of(alloc: Global, line: &[u8]) -> Result<Command, Refusal>
     ensures too_long { IsTrue (is_too_long line.now) → IsErrOf result Refusal.TooLong }
     ensures memory { IsErrOf result Refusal.Memory → is_too_long line.now ≡ false }
 {
-    parse_allowed(alloc, line, Allowed::All)
+    parse_allowed(alloc, line, AllowedCommands::All)
 }
 
 /// Reads a line of a session as a lookup, or answers its first fault. `ReadOnly` names another command, whatever its
@@ -62,12 +62,12 @@ pub fn lookup_of(alloc: Global, line: &[u8]) -> Result<Command, Refusal>
     ensures exact { ShowsUnless Refusal.Memory command_value result (lookup_at line.now) }
     ensures memory { IsErrOf result Refusal.Memory → is_too_long line.now ≡ false }
 {
-    parse_allowed(alloc, line, Allowed::Lookups)
+    parse_allowed(alloc, line, AllowedCommands::Lookups)
 }
 
 /// The commands that a line may say.
 #[derive(Clone, Copy)]
-pub(crate) enum Allowed {
+pub(crate) enum AllowedCommands {
     All,
     /// `copy`, `get`, `read` and `scan`.
     Lookups,
@@ -76,7 +76,7 @@ pub(crate) enum Allowed {
 }
 
 #[tactic(auto, unfolding(crate::specs::Command::Lines::allowed_at))]
-fn parse_allowed(alloc: Global, line: &[u8], allowed: Allowed) -> Result<Command, Refusal>
+fn parse_allowed(alloc: Global, line: &[u8], allowed: AllowedCommands) -> Result<Command, Refusal>
     ensures exact { ShowsUnless Refusal.Memory command_value result (allowed_at allowed line.now) }
     ensures too_long { max_line_bytes < length line.now → IsErrOf result Refusal.TooLong }
 {
@@ -86,7 +86,11 @@ fn parse_allowed(alloc: Global, line: &[u8], allowed: Allowed) -> Result<Command
 
 /// Reads a value as a command. Memory runs out only for a command, or while batches, keys or bounds are collected.
 #[tactic(auto, unfolding(crate::specs::Command::Objects::allowed_in, crate::specs::Command::Deliveries::deliver_at))]
-pub(crate) fn parse_value(alloc: Global, value: Value, allowed: Allowed) -> Result<Command, Refusal>
+pub(crate) fn parse_value(
+    alloc: Global,
+    value: Value,
+    allowed: AllowedCommands,
+) -> Result<Command, Refusal>
     ensures exact { ShowsUnless Refusal.Memory command_value result (allowed_in allowed (view value)) }
     ensures memory { IsErrOf result Refusal.Memory → TakesMemory allowed (view value) }
 {
@@ -108,14 +112,14 @@ pub(crate) fn parse_value(alloc: Global, value: Value, allowed: Allowed) -> Resu
     }
 }
 
-fn check_allowed(allowed: Allowed, word: CommandWord) -> Result<(), Refusal>
+fn check_allowed(allowed: AllowedCommands, word: CommandWord) -> Result<(), Refusal>
     ensures exact { result ≡ allowed_word allowed word }
     ensures memory { IsErrOf result Refusal.Memory → ⊥ }
 {
     match allowed {
-        Allowed::All => Ok(()),
-        Allowed::Lookups => check_lookup(word),
-        Allowed::Controls => check_control(word),
+        AllowedCommands::All => Ok(()),
+        AllowedCommands::Lookups => check_lookup(word),
+        AllowedCommands::Controls => check_control(word),
     }
 }
 

@@ -3,11 +3,11 @@
 ghost use Rattle.std.specs.Prelude.{◌≡◌, ◌==◌, ◌&&◌, ◌+◌, ◌<◌, ◌≤◌, ◌↔◌, ◌^◌, [], false, length, nat_lt, IsTrue, Some};
 ghost use Rattle.std.specs.Option.{option_copied};
 ghost use Rattle.pn_json.specs.Prelude.{AppendsText, MakesPiece};
-ghost use Rattle.pn_protocol.specs.Reply.Making.{HasContent, IsPlaceOf, MakesRecord, before_text, end_of, found_in, next_place, place_rest, row_end, rows_text};
-ghost use Rattle.pn_protocol.specs.declared.reply.rows_text.Place.TheVariants.{End, Record};
+ghost use Rattle.pn_protocol.specs.Reply.Making.{HasContent, IsCursorOf, MakesRecord, before_text, end_of, found_in, next_cursor, cursor_rest, row_end, rows_text};
+ghost use Rattle.pn_protocol.specs.declared.reply.rows_text.RowsCursor.TheVariants.{End, Record};
 
 use crate::reply::rows::state_word;
-use crate::reply::shown_records::Shown;
+use crate::reply::shown_records::ShownRecords;
 use pn_json::{append_comma, append_string, append_text};
 use pn_record::{Cell, Key, append_content, append_version};
 use std::marker::Model;
@@ -15,13 +15,13 @@ use std::marker::Model;
 /// Records whose rows are made in pieces, and the end of a reply that shows them.
 #[derive(Drop)]
 pub(crate) struct RowsText {
-    shown: Shown,
-    place: Place,
+    shown: ShownRecords,
+    cursor: RowsCursor,
 }
 
 /// Before what of the rows the text is.
 #[derive(Clone, Copy, Debug, PartialEq, Eq)]
-enum Place {
+enum RowsCursor {
     /// A content of a record, or the end where there is no such record.
     Record { index: usize, content: usize },
     /// After the end.
@@ -30,23 +30,23 @@ enum Place {
 
 impl Model for RowsText {
     ghost use Rattle.std.specs.Prelude.{ℕ, List};
-    ghost use Rattle.pn_protocol.specs.Reply.Making.{IsPlaceOf, end_of, found_in, place_rest};
+    ghost use Rattle.pn_protocol.specs.Reply.Making.{IsCursorOf, end_of, found_in, cursor_rest};
 
     ghost Value = { List ℕ };
 
-    ghost view = { λ text. place_rest (found_in text.shown) (end_of text.shown) text.place };
+    ghost view = { λ text. cursor_rest (found_in text.shown) (end_of text.shown) text.cursor };
 
-    ghost invariant = { λ text. IsPlaceOf (found_in text.shown) text.place };
+    ghost invariant = { λ text. IsCursorOf (found_in text.shown) text.cursor };
 }
 
 impl RowsText {
     /// The rows of these records, of which nothing is made.
-    pub(crate) fn new(shown: Shown) -> RowsText
+    pub(crate) fn new(shown: ShownRecords) -> RowsText
         ensures { result ≡ rows_text false (found_in shown) (end_of shown) }
     {
         RowsText {
             shown,
-            place: Place::Record {
+            cursor: RowsCursor::Record {
                 index: 0,
                 content: 0,
             },
@@ -57,36 +57,36 @@ impl RowsText {
     pub(crate) fn is_made(&self) -> bool
         ensures { IsTrue result ↔ (self.now ≡ []) }
     {
-        is_end(self.place)
+        is_end(self.cursor)
     }
 
     /// Makes a piece after what a buffer holds that has room for it.
     pub(crate) fn append_piece(&mut self, out: &mut Vec<u8>)
         ensures { MakesPiece 65536 self.old self.new out.old out.new }
     {
-        self.place = append_at(out, &self.shown, self.place);
+        self.cursor = append_at(out, &self.shown, self.cursor);
     }
 }
 
-// Adds a piece from a place on. The next place.
-fn append_at(out: &mut Vec<u8>, shown: &Shown, place: Place) -> Place
-    requires { IsPlaceOf (found_in shown.now) place }
-    ensures piece { MakesPiece 65536 (place_rest (found_in shown.now) (end_of shown.now) place)
-        (place_rest (found_in shown.now) (end_of shown.now) result) out.old out.new }
-    ensures place { IsPlaceOf (found_in shown.now) result }
+// Adds a piece from a cursor on. The next cursor.
+fn append_at(out: &mut Vec<u8>, shown: &ShownRecords, cursor: RowsCursor) -> RowsCursor
+    requires { IsCursorOf (found_in shown.now) cursor }
+    ensures piece { MakesPiece 65536 (cursor_rest (found_in shown.now) (end_of shown.now) cursor)
+        (cursor_rest (found_in shown.now) (end_of shown.now) result) out.old out.new }
+    ensures cursor { IsCursorOf (found_in shown.now) result }
 {
-    match place {
-        Place::Record { index, content } => append_from(out, shown, index, content),
-        Place::End => Place::End,
+    match cursor {
+        RowsCursor::Record { index, content } => append_from(out, shown, index, content),
+        RowsCursor::End => RowsCursor::End,
     }
 }
 
-// Adds the part of a record that begins with a content, or the end where there is no such record. The next place.
-fn append_from(out: &mut Vec<u8>, shown: &Shown, index: usize, content: usize) -> Place
-    requires { IsPlaceOf (found_in shown.now) (Record index content) }
-    ensures piece { MakesPiece 65536 (place_rest (found_in shown.now) (end_of shown.now) (Record index content))
-        (place_rest (found_in shown.now) (end_of shown.now) result) out.old out.new }
-    ensures place { IsPlaceOf (found_in shown.now) result }
+// Adds the part of a record that begins with a content, or the end where there is no such record. The next cursor.
+fn append_from(out: &mut Vec<u8>, shown: &ShownRecords, index: usize, content: usize) -> RowsCursor
+    requires { IsCursorOf (found_in shown.now) (Record index content) }
+    ensures piece { MakesPiece 65536 (cursor_rest (found_in shown.now) (end_of shown.now) (Record index content))
+        (cursor_rest (found_in shown.now) (end_of shown.now) result) out.old out.new }
+    ensures cursor { IsCursorOf (found_in shown.now) result }
 {
     match shown.record_at(index) {
         Some((key, cell)) => {
@@ -94,39 +94,39 @@ fn append_from(out: &mut Vec<u8>, shown: &Shown, index: usize, content: usize) -
             shown.recall_count();
             append_comma(out, is_later_row(index, content));
             let next = append_record(out, key, cell, content);
-            next_place(index, next)
+            next_cursor(index, next)
         }
         None => {
             append_text(out, shown.end());
-            Place::End
+            RowsCursor::End
         }
     }
 }
 
-// The place after a part of a record, by the next content, or 0 after the last.
-fn next_place(index: usize, next: usize) -> Place
+// The cursor after a part of a record, by the next content, or 0 after the last.
+fn next_cursor(index: usize, next: usize) -> RowsCursor
     requires { index + 1 < 2 ^ 64 }
-    ensures { result ≡ next_place index next }
+    ensures { result ≡ next_cursor index next }
 {
     if next == 0 {
-        return Place::Record {
+        return RowsCursor::Record {
             index: index + 1,
             content: 0,
         };
     }
-    Place::Record {
+    RowsCursor::Record {
         index,
         content: next,
     }
 }
 
-// Whether nothing comes after a place.
-fn is_end(place: Place) -> bool
-    ensures { IsTrue result ↔ (place ≡ End) }
+// Whether nothing comes after a cursor.
+fn is_end(cursor: RowsCursor) -> bool
+    ensures { IsTrue result ↔ (cursor ≡ End) }
 {
-    match place {
-        Place::Record { .. } => false,
-        Place::End => true,
+    match cursor {
+        RowsCursor::Record { .. } => false,
+        RowsCursor::End => true,
     }
 }
 

@@ -14,7 +14,7 @@ const ROWS_AT_HAND: usize = 12;
 
 /// The records that a reply shows.
 #[derive(Drop)]
-pub(crate) enum Shown {
+pub(crate) enum ShownRecords {
     /// The record of a key, or none.
     One(Key, Option<Cell>),
     /// The records of keys, in the order of the keys.
@@ -23,15 +23,15 @@ pub(crate) enum Shown {
     Rows(Vec<Row>),
 }
 
-impl Shown {
+impl ShownRecords {
     /// The record of an index, if there are as many.
     pub(crate) fn record_at(&self, index: usize) -> Option<(&Key, Option<&Cell>)>
         ensures { option_map {U = Found} (λ found. (found.0.now, option_copied found.1)) result ≡ slice_get (found_in self.now) index }
     {
         match self {
-            Shown::One(key, cell) => only_at(key, cell, index),
-            Shown::Keys(keys, cells) => keyed_at(keys, cells, index),
-            Shown::Rows(rows) => row_at(rows, index),
+            ShownRecords::One(key, cell) => only_at(key, cell, index),
+            ShownRecords::Keys(keys, cells) => keyed_at(keys, cells, index),
+            ShownRecords::Rows(rows) => row_at(rows, index),
         }
     }
 
@@ -40,11 +40,11 @@ impl Shown {
         ensures { length (found_in self.now) < 2 ^ 64 }
     {
         match self {
-            Shown::One(..) => {}
-            Shown::Keys(keys, _) => {
+            ShownRecords::One(..) => {}
+            ShownRecords::Keys(keys, _) => {
                 let _ = keys.len();
             }
-            Shown::Rows(rows) => {
+            ShownRecords::Rows(rows) => {
                 let _ = rows.len();
             }
         }
@@ -55,14 +55,14 @@ impl Shown {
         ensures { result.now ≡ end_of self.now }
     {
         match self {
-            Shown::One(..) => "}\n",
-            Shown::Keys(..) | Shown::Rows(_) => "]}\n",
+            ShownRecords::One(..) => "}\n",
+            ShownRecords::Keys(..) | ShownRecords::Rows(_) => "]}\n",
         }
     }
 
     /// Prefetches the rows of a page, some at a time. No clause depends on it.
     pub(crate) fn prefetch_from(&self, index: usize) {
-        if let Shown::Rows(rows) = self {
+        if let ShownRecords::Rows(rows) = self {
             if index % ROWS_AT_HAND == 0 && index < rows.len() {
                 let end = rows.len().min(index.saturating_add(ROWS_AT_HAND));
                 prefetch_rows(&rows[index..end]);

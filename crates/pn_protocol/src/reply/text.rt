@@ -10,7 +10,7 @@ ghost use Rattle.pn_protocol.specs.declared.reply.Reply.TheVariants.{Page};
 
 use crate::reply::rows_text::RowsText;
 use crate::reply::short::text_reply;
-use crate::reply::shown_records::Shown;
+use crate::reply::shown_records::ShownRecords;
 use crate::{NumberName, PageReply, Reply, ShortReply, number_reply, refusal_reply};
 use pn_json::append_bytes;
 use pn_tablet::CopyText;
@@ -72,10 +72,10 @@ impl ReplyText {
             Reply::NotTaken(text) => ReplyText::of(Head::Long(text), Rest::Nothing),
             Reply::Page(page) => ReplyText::page(page),
             Reply::Record { key, cell } => {
-                ReplyText::rows(text_head("{\"row\":"), Shown::One(key, cell))
+                ReplyText::rows(text_head("{\"row\":"), ShownRecords::One(key, cell))
             }
             Reply::Records { keys, cells } => {
-                ReplyText::rows(text_head("{\"rows\":["), Shown::Keys(keys, cells))
+                ReplyText::rows(text_head("{\"rows\":["), ShownRecords::Keys(keys, cells))
             }
             Reply::Refused(refusal) => ReplyText::short(refusal_reply(&refusal)),
             Reply::Relaid(count) => ReplyText::number(NumberName::Tablets, count),
@@ -96,7 +96,7 @@ impl ReplyText {
         ensures { result ≡ reply_text (Page page) }
     {
         let PageReply { head, rows } = page;
-        ReplyText::rows(Head::Long(head), Shown::Rows(rows))
+        ReplyText::rows(Head::Long(head), ShownRecords::Rows(rows))
     }
 
     // One line.
@@ -107,7 +107,7 @@ impl ReplyText {
     }
 
     // Rows after what comes before them.
-    fn rows(head: Head, shown: Shown) -> ReplyText
+    fn rows(head: Head, shown: ShownRecords) -> ReplyText
         ensures { result ≡ head_bytes head ++ rows_text false (found_in shown) (end_of shown) }
     {
         ReplyText::of(head, Rest::Rows(RowsText::new(shown)))

@@ -6,8 +6,8 @@ use Rattle.pn_protocol.specs.declared.reply.Reply.TheVariants.{Silent, Stopping}
 use Rattle.pn_serve.specs.Control.Steps.{AdoptsText, StepsBy, StepsLast}
 use Rattle.pn_serve.specs.Machine.Announced.{unless_call, with_line}
 use Rattle.pn_serve.specs.Machine.Outcomes.{Mode, Outcome, awaits_command, announced}
-use Rattle.pn_serve.specs.declared.control.steps.Step.{Step}
-use Rattle.pn_serve.specs.declared.control.steps.Step.TheVariants.{Replies, Announces, Stops, Ends}
+use Rattle.pn_serve.specs.declared.control.steps.ControlStep.{ControlStep}
+use Rattle.pn_serve.specs.declared.control.steps.ControlStep.TheVariants.{Replies, Announces, Stops, Ends}
 
 -- a control session between two lines: its reader, what the next line is, after how many seconds the server is to end, once that
 -- was asked for, and whether the writer takes no command any more
@@ -30,23 +30,23 @@ abbrev pub is_closed : ControlState → Bool
 is_closed state = closed_by state.stop state.over
 
 -- the session after a step
-abbrev pub after_step : LiveReaderValue → Step → ControlState
+abbrev pub after_step : LiveReaderValue → ControlStep → ControlState
 after_step reader (Replies shown) = at_rest reader
 after_step reader (Announces lines) = record { reader = reader; mode = announced lines (Some []); stop = None; over = false }
 after_step reader (Stops seconds) = record { reader = reader; mode = awaits_command; stop = Some seconds; over = false }
 after_step reader Ends = record { reader = reader; mode = awaits_command; stop = None; over = true }
 
 -- the reply of a step
-abbrev pub reply_of : Step → Reply
+abbrev pub reply_of : ControlStep → Reply
 reply_of (Replies shown) = shown
 reply_of (Announces lines) = Silent
 reply_of (Stops seconds) = Stopping seconds
 reply_of Ends = Silent
 
 -- a line came to such a step
-pub record Comes (steps : LiveReaderValue → Step → Type 0) (new : ControlState) (shown : Reply) : Type 0 where
+pub record Comes (steps : LiveReaderValue → ControlStep → Type 0) (new : ControlState) (shown : Reply) : Type 0 where
   pub reader : LiveReaderValue
-  pub step : Step
+  pub step : ControlStep
   pub stepped : steps reader step
   pub state : new ≡ after_step reader step
   pub replied : shown ≡ reply_of step

@@ -26,11 +26,11 @@ use Rattle.pn_scan.specs.Paging.{Stays}
 use Rattle.pn_serve.specs.Session.Lines.{LooksUp}
 use Rattle.pn_serve.specs.declared.control.commands.WriterCommand.{WriterCommand}
 use Rattle.pn_serve.specs.declared.control.commands.WriterCommand.TheVariants as commands
-use Rattle.pn_serve.specs.declared.control.steps.Step.{Step}
-use Rattle.pn_serve.specs.declared.control.steps.Step.TheVariants.{Replies, Announces, Stops, Ends}
+use Rattle.pn_serve.specs.declared.control.steps.ControlStep.{ControlStep}
+use Rattle.pn_serve.specs.declared.control.steps.ControlStep.TheVariants.{Replies, Announces, Stops, Ends}
 
 -- the line came to a reply of which this holds
-abbrev pub RepliesWith : (Reply → Type 0) → Step → Type 0
+abbrev pub RepliesWith : (Reply → Type 0) → ControlStep → Type 0
 RepliesWith holds (Replies shown) = holds shown
 RepliesWith holds step = ⊥
 
@@ -45,23 +45,23 @@ pub record IsShown (asked : WriterCommand) (shown : Reply) : Type 0 where
   pub says : Says said shown
 
 -- the writer answered, or takes no command any more
-abbrev pub Asks : WriterCommand → Step → Type 0
+abbrev pub Asks : WriterCommand → ControlStep → Type 0
 Asks asked (Replies shown) = IsShown asked shown
 Asks asked Ends = Unit {0}
 Asks asked step = ⊥
 
 -- the writer was asked to adopt the copy that a text is; or it is no copy
-abbrev pub AdoptsRead : Result TabletCopyValue CopyTextFault → Step → Type 0
+abbrev pub AdoptsRead : Result TabletCopyValue CopyTextFault → ControlStep → Type 0
 AdoptsRead (Ok copy) step = Asks (commands.Adopt copy) step
 AdoptsRead (Err fault) step = RepliesWith (Refuses (CopyText fault)) step
 
 -- the writer was asked to adopt the copy of an announced text, unless memory ran out
-abbrev pub AdoptsText : Option (List ℕ) → Step → Type 0
+abbrev pub AdoptsText : Option (List ℕ) → ControlStep → Type 0
 AdoptsText None step = step ≡ Replies (Refused Memory)
 AdoptsText (Some came) step = AdoptsRead (copy_at came) step ⊎ (step ≡ Replies (Refused Memory))
 
 -- a command of scripts was done by the reader, or by the writer; or it announces lines
-abbrev pub ObeysScript : LiveReaderValue → command.CommandValue → LiveReaderValue → Step → Type 0
+abbrev pub ObeysScript : LiveReaderValue → command.CommandValue → LiveReaderValue → ControlStep → Type 0
 ObeysScript old (command.adopt lines) new step = (new ≡ old) × (step ≡ Announces lines)
 ObeysScript old (command.lose tablet) new step = (new ≡ old) × Asks (commands.Lose tablet) step
 ObeysScript old command.marks new step = (new ≡ old) × Asks commands.Marks step
@@ -80,13 +80,13 @@ ShowsCounts (Ok tablets) shown = ShowsStats tablets shown
 ShowsCounts (Err why) shown = Refuses (Lookup why) shown
 
 -- the reader counted the tablets, and the reply shows what came of it
-pub record Reports (old new : LiveReaderValue) (step : Step) : Type 0 where
+pub record Reports (old new : LiveReaderValue) (step : ControlStep) : Type 0 where
   pub answer : Result (Vec TabletStats Global) ScanFault
   pub counts : CountsTablets old new answer
   pub shows : RepliesWith (ShowsCounts answer) step
 
 -- a command was done
-abbrev pub ObeysControl : LiveReaderValue → ControlValue → LiveReaderValue → Step → Type 0
+abbrev pub ObeysControl : LiveReaderValue → ControlValue → LiveReaderValue → ControlStep → Type 0
 ObeysControl old (script asked) new step = ObeysScript old asked new step
 ObeysControl old (notices since wait) new step = (new ≡ old) × Asks (commands.Notices since) step
 ObeysControl old advance new step = (new ≡ old) × Asks commands.Advance step
@@ -94,21 +94,21 @@ ObeysControl old stats new step = Reports old new step
 ObeysControl old (stop seconds) new step = (new ≡ old) × (step ≡ Stops seconds)
 
 -- a line that reads as this was answered
-abbrev pub StepsAs : LiveReaderValue → Result ControlValue Refusal → LiveReaderValue → Step → Type 0
+abbrev pub StepsAs : LiveReaderValue → Result ControlValue Refusal → LiveReaderValue → ControlStep → Type 0
 StepsAs old (Ok asked) new step = ObeysControl old asked new step
 StepsAs old (Err refusal) new step = (new ≡ old) × (step ≡ Replies (Refused refusal))
 
 -- a line was answered as it reads; or memory ran out before it was read, unless it is too long
-abbrev pub StepsBy : LiveReaderValue → List ℕ → LiveReaderValue → Step → Type 0
+abbrev pub StepsBy : LiveReaderValue → List ℕ → LiveReaderValue → ControlStep → Type 0
 StepsBy old line new step = StepsAs old (control_at line) new step ⊎ ((is_too_long line ≡ false) × (new ≡ old) × (step ≡ Replies (Refused Memory)))
 
 -- where no line can come any more, an announced text is empty
-abbrev pub Lasts : Step → Step → Type 0
+abbrev pub Lasts : ControlStep → ControlStep → Type 0
 Lasts (Announces lines) step = AdoptsText (Some []) step
 Lasts first step = step ≡ first
 
 -- the last line, which has no newline, was answered; where it announces lines, none comes
-pub record StepsLast (old : LiveReaderValue) (part : List ℕ) (new : LiveReaderValue) (step : Step) : Type 0 where
-  pub first : Step
+pub record StepsLast (old : LiveReaderValue) (part : List ℕ) (new : LiveReaderValue) (step : ControlStep) : Type 0 where
+  pub first : ControlStep
   pub steps : StepsBy old part new first
   pub lasts : Lasts first step

@@ -7,7 +7,7 @@ use Rattle.pn_line.specs.Text.{text_of}
 
 -- the text of a copy: its bytes, the number of its first line in the whole text, how many of its lines end in a newline, and
 -- whether the line after these is too long
-pub record CutValue : Type 0 where
+pub record CopyCutValue : Type 0 where
   pub text : List ℕ
   pub first : ℕ
   pub lines : ℕ
@@ -33,7 +33,7 @@ pub record IsLineThat (ends : Bool) (line : List ℕ) : Type 0 where
   pub begins : begins_end line ≡ ends
 
 -- the text goes up to and with the first line that begins as an end does
-pub record HasEnd (bytes : List ℕ) (cut : CutValue) (rest : List ℕ) : Type 0 where
+pub record HasEnd (bytes : List ℕ) (cut : CopyCutValue) (rest : List ℕ) : Type 0 where
   pub before : List (List ℕ)
   pub last : List ℕ
   pub inner : All (IsLineThat false) before
@@ -44,7 +44,7 @@ pub record HasEnd (bytes : List ℕ) (cut : CutValue) (rest : List ℕ) : Type 0
   pub bytes_are : bytes ≡ cut.text ++ rest
 
 -- no line begins so, and the text is all that is left: lines, and then a part of a line, which may be empty
-pub record HasNoEnd (bytes : List ℕ) (cut : CutValue) (rest : List ℕ) : Type 0 where
+pub record HasNoEnd (bytes : List ℕ) (cut : CopyCutValue) (rest : List ℕ) : Type 0 where
   pub before : List (List ℕ)
   pub part : List ℕ
   pub inner : All (IsLineThat false) before
@@ -57,7 +57,7 @@ pub record HasNoEnd (bytes : List ℕ) (cut : CutValue) (rest : List ℕ) : Type
   pub rest_is : rest ≡ []
 
 -- before a line begins so, one is too long, at which reading stops
-pub record HasLongLine (bytes : List ℕ) (cut : CutValue) (rest : List ℕ) : Type 0 where
+pub record HasLongLine (bytes : List ℕ) (cut : CopyCutValue) (rest : List ℕ) : Type 0 where
   pub before : List (List ℕ)
   pub long : List ℕ
   pub after : List ℕ
@@ -70,12 +70,12 @@ pub record HasLongLine (bytes : List ℕ) (cut : CutValue) (rest : List ℕ) : T
   pub bytes_are : bytes ≡ cut.text ++ (long ++ (after ++ rest))
 
 -- the next text of a copy is cut out
-pub record IsCut (left : TextLeft) (cut : CutValue) (later : TextLeft) : Type 0 where
+pub record IsCut (left : TextLeft) (cut : CopyCutValue) (later : TextLeft) : Type 0 where
   pub first_is : cut.first ≡ left.next
   pub next_is : later.next ≡ line_number (left.next + cut.lines)
   pub way : HasEnd left.bytes cut later.bytes ⊎ HasNoEnd left.bytes cut later.bytes ⊎ HasLongLine left.bytes cut later.bytes
 
 -- these texts are cut out, one after another
-abbrev pub AreCuts : TextLeft → List CutValue → TextLeft → Type 0
+abbrev pub AreCuts : TextLeft → List CopyCutValue → TextLeft → Type 0
 AreCuts left [] later = left ≡ later
 AreCuts left (cut ∷ cuts) later = (between : TextLeft) × IsCut left cut between × AreCuts between cuts later

@@ -5,8 +5,8 @@ use Rattle.pn_line.specs.Reads.{IsUnbroken}
 use Rattle.pn_serve.specs.Copies.Cutting.{IsLineThat}
 use Rattle.pn_serve.specs.declared.copies.fault.CopiesFault.{CopiesFault}
 use Rattle.pn_serve.specs.declared.copies.fault.CopiesFault.TheVariants.{Memory, Read}
-use Rattle.pn_serve.specs.declared.copies.texts.Added.{Added}
-use Rattle.pn_serve.specs.declared.copies.texts.Added.TheVariants as added
+use Rattle.pn_serve.specs.declared.copies.texts.AddedLine.{AddedLine}
+use Rattle.pn_serve.specs.declared.copies.texts.AddedLine.TheVariants as added
 
 -- what is left of a text of copies: the source of its bytes, the line that is read, and the number of the next line
 pub record CopyTextsValue (S : Type 0) : Type 0 where
@@ -42,7 +42,7 @@ pub record AddsNone (old new bytes : List ℕ) (leaves : Option (List ℕ)) : Ty
   pub leaves_is : leaves ≡ Some rest
 
 -- what was read of known bytes
-abbrev pub Adds : Added → List ℕ → List ℕ → List ℕ → Option (List ℕ) → Type 0
+abbrev pub Adds : AddedLine → List ℕ → List ℕ → List ℕ → Option (List ℕ) → Type 0
 Adds added.Line old new bytes leaves = AddsLine false old new bytes leaves
 Adds added.End old new bytes leaves = AddsLine true old new bytes leaves
 Adds added.Last old new bytes leaves = AddsPart old new bytes leaves

@@ -6,13 +6,13 @@ use Rattle.pn_tablet.specs.CopyReading.{copy_at}
 use Rattle.pn_tablet.specs.declared.fault.CopyTextFault.{CopyTextFault}
 use Rattle.pn_tablet.specs.declared.fault.CopyTextFault.TheVariants as text_fault
 use Rattle.pn_tablet.specs.declared.layout.TheConstants.{MAX_BOUNDS}
-use Rattle.pn_serve.specs.Copies.Cutting.{AreCuts, CutValue, IsCut, TextLeft, line_number}
+use Rattle.pn_serve.specs.Copies.Cutting.{AreCuts, CopyCutValue, IsCut, TextLeft, line_number}
 use Rattle.pn_serve.specs.declared.copies.fault.CopiesFault.{CopiesFault}
 use Rattle.pn_serve.specs.declared.copies.fault.CopiesFault.TheVariants.{Line, Memory, Read, TooMany}
 
 -- the fault of a copy's text, with its line in the whole text: a copy is truncated at the line that it lacks, has a bad end in
 -- its last line, and a bad line where that is too long
-abbrev pub told_in : CutValue → CopyTextFault → CopiesFault
+abbrev pub told_in : CopyCutValue → CopyTextFault → CopiesFault
 told_in cut (text_fault.BadLine n) = Line (line_number (cut.first + (n - 1))) (text_fault.BadLine n)
 told_in cut (text_fault.OutsideRange n) = Line (line_number (cut.first + (n - 1))) (text_fault.OutsideRange n)
 told_in cut (text_fault.NotRising n) = Line (line_number (cut.first + (n - 1))) (text_fault.NotRising n)
@@ -22,15 +22,15 @@ told_in cut text_fault.Truncated =
 told_in cut text_fault.Memory = Memory
 
 -- the copy that a copy's text spells, after which nothing may follow, or its fault
-abbrev pub read_in : CutValue → Result TabletCopyValue CopyTextFault → Result TabletCopyValue CopiesFault
+abbrev pub read_in : CopyCutValue → Result TabletCopyValue CopyTextFault → Result TabletCopyValue CopiesFault
 read_in cut (Ok copy) = if cut.is_too_long then Err (told_in cut text_fault.BadEnd) else Ok copy
 read_in cut (Err fault) = Err (told_in cut fault)
 
-abbrev pub copy_in_cut : CutValue → Result TabletCopyValue CopiesFault
+abbrev pub copy_in_cut : CopyCutValue → Result TabletCopyValue CopiesFault
 copy_in_cut cut = read_in cut (copy_at cut.text)
 
 -- each text was read, unless memory ran out
-abbrev pub AreRead : List CutValue → List (Result TabletCopyValue CopiesFault) → Type 0
+abbrev pub AreRead : List CopyCutValue → List (Result TabletCopyValue CopiesFault) → Type 0
 AreRead [] [] = Unit {0}
 AreRead [] (read ∷ reads) = ⊥
 AreRead (cut ∷ cuts) [] = ⊥
@@ -62,7 +62,7 @@ whole_text text = record { next = 1; bytes = text }
 
 -- the first copies of the text were read
 pub record HasRead {S : Type 0} (left : S → Option (List ℕ)) (text : List ℕ) (reader : CopiesReaderValue S) : Type 0 where
-  pub cuts : List CutValue
+  pub cuts : List CopyCutValue
   pub rest : List ℕ
   pub are_cuts : AreCuts (whole_text text) cuts (record { next = reader.next; bytes = rest })
   pub left_is : left reader.source ≡ Some rest
@@ -70,9 +70,9 @@ pub record HasRead {S : Type 0} (left : S → Option (List ℕ)) (text : List �
 
 -- after some copies of the text, the next one has this fault, or is one too many
 pub record StopsText (text : List ℕ) (fault : CopiesFault) : Type 0 where
-  pub cuts : List CutValue
+  pub cuts : List CopyCutValue
   pub copies : List TabletCopyValue
-  pub cut : CutValue
+  pub cut : CopyCutValue
   pub between : TextLeft
   pub later : TextLeft
   pub are_cuts : AreCuts (whole_text text) cuts between

@@ -19,11 +19,11 @@ use Rattle.pn_serve.specs.declared.sessions.going.Going.{Going}
 use Rattle.pn_serve.specs.Session.Looking.{CountsLooks, going_left}
 
 -- where no input is at hand the loop reads a line that may go on, nothing waits, and all was handed on
-abbrev pub IsIdleAt : Step → LineLoopValue → Type 0
-IsIdleAt (Next units) run = Unit {0}
-IsIdleAt NoInput run = (run.state.stage ≡ Reading) × (waits_in run ≡ []) × (run.state.out ≡ true) × (run.line.count < ENDLESS)
-IsIdleAt NoRoom run = Unit {0}
-IsIdleAt (Ends ended) run = Unit {0}
+abbrev pub IsWaitingAt : Step → LineLoopValue → Type 0
+IsWaitingAt (Next units) run = Unit {0}
+IsWaitingAt NoInput run = (run.state.stage ≡ Reading) × (waits_in run ≡ []) × (run.state.out ≡ true) × (run.line.count < ENDLESS)
+IsWaitingAt NoRoom run = Unit {0}
+IsWaitingAt (Ends ended) run = Unit {0}
 
 -- unless replies are still to be handed on, no reply waits, and those that were written were handed on
 abbrev pub IsOutAs : LineLoopValue → Type 0 → Type 0
@@ -122,28 +122,28 @@ abbrev pub ForeseesRun : Type 0 → Type 0 → Type 0 → LineLoopValue → Opti
 ForeseesRun read write end run None = Foresees read write end run
 ForeseesRun read write end run (Some ended) = CanEndBy read write end ended
 
--- a look is to be gone on with
+-- a look is to be resumed
 abbrev pub IsLookingAt : Stage → Type 0
 IsLookingAt Reading = ⊥
 IsLookingAt (Looking going) = Unit {0}
 IsLookingAt (Ending ended) = ⊥
 
--- after an answer a look is gone on with exactly where it is to be
+-- after an answer a look is resumed exactly where it is to be
 abbrev pub TakesStage : Answer → Stage → Type 0
 TakesStage (Done reply) stage = IsLookingAt stage → ⊥
 TakesStage (Begun going) stage = stage ≡ Looking going
 
--- of what a look had left that is to be gone on with, as many records were looked at as were counted
+-- of what a look had left that is to be resumed, as many records were looked at as were counted
 abbrev pub CountsStages : Going → Stage → ℕ → ℕ → Type 0
 CountsStages going Reading was now = Unit {0}
 CountsStages going (Looking next) was now = (looked : ℕ) × CountsLooks (Begun next) going looked × (now ≡ min (was + looked) (2 ^ 64 - 1))
 CountsStages going (Ending ended) was now = Unit {0}
 
--- no look is to be gone on with, and no text is to be made
+-- no look is to be resumed, and no text is to be made
 abbrev pub IsSettled : LineLoopValue → Type 0
 IsSettled run = (IsLookingAt run.state.stage → ⊥) × (run.state.left ≡ [])
 
--- where a look is to be gone on with, no byte of the next line was read
+-- where a look is to be resumed, no byte of the next line was read
 abbrev pub IsFreshAt : Stage → LineLoopValue → Type 0
 IsFreshAt Reading run = Unit {0}
 IsFreshAt (Looking going) run = run.line.count ≡ 0

@@ -1,4 +1,4 @@
--- Lines that are answered at once, or by looks that are gone on with.
+-- Lines that are answered at once, or by looks that are resumed.
 use Rattle.std.specs.Prelude.{ℕ, ◌+◌, List, [], ◌∷◌}
 use Rattle.pn_protocol.specs.declared.reply.Reply.{Reply}
 use Rattle.pn_serve.specs.declared.machine.line_handler.Answer.{Answer}

@@ -67,7 +67,7 @@ pub record HasReply (line : Bool) (old : LineLoopValue) (reply : Reply) (new : L
   pub grows : length old.replies ≤ length new.replies
   pub looked : new.state.looked ≡ old.state.looked
 
--- a line has its reply, or a look for it is to be gone on with
+-- a line has its reply, or a look for it is to be resumed
 abbrev pub TakesAnswer : Bool → LineLoopValue → Answer → LineLoopValue → Type 0
 TakesAnswer line old (Done reply) new = HasReply line old reply new
 TakesAnswer line old (Going going) new = new ≡ record old { state = record old.state { stage = Looking going } }

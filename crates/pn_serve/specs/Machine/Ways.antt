@@ -8,11 +8,11 @@ use Rattle.pn_serve.specs.Machine.Announced.{unless_call, with_line}
 use Rattle.pn_serve.specs.Machine.Outcomes.{Outcome, Turn, machine_over}
 use Rattle.pn_protocol.specs.Command.Lines.{command_at}
 use Rattle.pn_protocol.specs.Command.Meaning.{CommandValue, adopt}
-use Rattle.pn_serve.specs.declared.machine.Handled.{Handled}
-use Rattle.pn_serve.specs.declared.machine.adoption.Gathered.{Gathered}
-use Rattle.pn_serve.specs.declared.machine.adoption.Gathered.TheVariants.{More, Text}
+use Rattle.pn_serve.specs.declared.machine.CommandStep.{CommandStep}
+use Rattle.pn_serve.specs.declared.machine.adoption.GatherOutcome.{GatherOutcome}
+use Rattle.pn_serve.specs.declared.machine.adoption.GatherOutcome.TheVariants.{More, Text}
 use Rattle.pn_serve.specs.Machine.Modes.{bytes_of}
-use Rattle.pn_serve.specs.declared.machine.Handled.TheVariants.{Obeyed, Announces}
+use Rattle.pn_serve.specs.declared.machine.CommandStep.TheVariants.{Obeyed, Announces}
 use Rattle.pn_serve.specs.Machine.LastTurns.{last_of}
 use Rattle.pn_serve.specs.Machine.Turns.{outcome_at}
 use Rattle.pn_serve.specs.Machine.Answers.{TurnedBy, Obeys}
@@ -29,7 +29,7 @@ IsAlone (adopt lines) = ⊥
 IsAlone command = Unit {0}
 
 -- the first step of a command: it was run, or waits for the lines that it announces
-abbrev pub HandlesTo : LoggedRegion → CommandValue → LoggedRegion → Handled → Type 0
+abbrev pub HandlesTo : LoggedRegion → CommandValue → LoggedRegion → CommandStep → Type 0
 HandlesTo old command new (Obeyed reply) = IsAlone command × Obeys (machine_over old) command (machine_over new) reply
 HandlesTo old command new (Announces lines) = (command ≡ adopt lines) × (new ≡ old)
 
@@ -42,6 +42,6 @@ abbrev pub IsJoined : Option (List ℕ) → List ℕ → List ℕ → Option (Li
 IsJoined text line newline joined = (outcome : Outcome) × (joined ≡ unless_call outcome (with_line text line newline))
 
 -- an announced line was added to the text: more are to come, or it was the last one
-abbrev pub Gathers : ℕ → Option (List ℕ) → List ℕ → Gathered → Type 0
+abbrev pub Gathers : ℕ → Option (List ℕ) → List ℕ → GatherOutcome → Type 0
 Gathers left text line (More more) = (1 < left) × (more.left ≡ left - 1) × IsJoined text line (10 ∷ []) (bytes_of more.text)
 Gathers left text line (Text whole) = (left ≤ 1) × IsJoined text line (10 ∷ []) (bytes_of whole)

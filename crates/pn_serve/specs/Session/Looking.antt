@@ -1,4 +1,4 @@
--- Lookups of a session that are gone on with.
+-- Lookups of a session that are resumed.
 use Rattle.std.specs.Prelude.{◌≡◌, ◌⊎◌, ◌≤◌, ◌+◌, ◌-◌, ◌*◌, ◌^◌, ℕ, List, [], ◌∷◌, length, false, Option, None, Result, Ok, Err}
 use Rattle.pn_join.specs.Marks.{Positions}
 use Rattle.pn_live.specs.Copying.{IsCopied}
@@ -53,14 +53,14 @@ abbrev pub LooksTo : Moving LiveReaderValue → LiveReaderValue → CommandValue
 LooksTo moves was command now (Done reply) = LooksUp moves was command now reply
 LooksTo moves was command now (Begun going) = LooksOn moves was command now going
 
--- what a page is answered with: its rows, why there are none, or that it is to be gone on with
+-- what a page is answered with: its rows, why there are none, or that it is to be resumed
 abbrev pub PageAnswer : QueryValue → Result PageStep ScanFault → Answer → Type 0
 PageAnswer query (Ok (pages.Done page)) (Done reply) = ShowsFound scan_data (Ok (page.rows.items, page.next)) reply
 PageAnswer query (Ok (pages.Next walk)) (Begun going) = going ≡ Page query walk
 PageAnswer query (Err fault) (Done reply) = ShowsFound scan_data (Err fault) reply
 PageAnswer query step answer = ⊥
 
--- what a get is answered with, by these looks: the cells of its keys, why there are none, or that it is to be gone on with
+-- what a get is answered with, by these looks: the cells of its keys, why there are none, or that it is to be resumed
 abbrev pub KeysAnswer : Bounds → List (LookMade LiveReaderValue) → Result GetWalkValue ScanFault → Answer → Type 0
 KeysAnswer bounds trace (Ok walk) (Done reply) = (shown : Result (List (Option CellValue)) ScanFault) × EndsGet bounds walk.keys shown trace × ShowsFound (get_data walk.keys) shown reply
 KeysAnswer bounds trace (Ok walk) (Begun going) = going ≡ Keys walk

@@ -4,8 +4,8 @@ ghost use Rattle.std.specs.Prelude.{◌≡◌};
 ghost use Rattle.pn_serve.specs.Control.Lines.{after_step, at_rest, is_closed, reply_of};
 
 use crate::control::session::{ControlSession, StatsSource};
-use crate::control::steps::Step;
-use crate::machine::adoption::{Announced, Gathered};
+use crate::control::steps::ControlStep;
+use crate::machine::adoption::{AnnouncedText, GatherOutcome};
 use crate::machine::line_handler::{Answer, LineHandler};
 use crate::sessions::going::Going;
 use pn_line::LineBuffer;
@@ -24,7 +24,7 @@ pub(crate) struct ControlHandler<'a, R, C: Drop> {
     session: &'a ControlSession<C>,
     reader: LiveReader,
     // The lines that are still to come. None: the next line is a command.
-    announced: Option<Announced>,
+    announced: Option<AnnouncedText>,
     // Within how many seconds the server is to end, once the client has asked for that.
     stop: Option<u64>,
     // Whether the writer takes no command any more.
@@ -87,22 +87,22 @@ impl<'a, R, C: Drop> ControlHandler<'a, R, C> {
     }
 
     // Notes what a line came to. Answers its reply.
-    fn note(&mut self, alloc: Global, step: Step) -> Reply
+    fn note(&mut self, alloc: Global, step: ControlStep) -> Reply
         requires { self.old ≡ at_rest self.old.reader }
         ensures state { self.new ≡ after_step self.old.reader step }
         ensures reply { result ≡ reply_of step }
     {
         match step {
-            Step::Replies(reply) => reply,
-            Step::Announces(lines) => {
-                self.announced = Some(Announced::new(alloc, lines));
+            ControlStep::Replies(reply) => reply,
+            ControlStep::Announces(lines) => {
+                self.announced = Some(AnnouncedText::new(alloc, lines));
                 Reply::Silent
             }
-            Step::Stops(seconds) => {
+            ControlStep::Stops(seconds) => {
                 self.stop = Some(seconds);
                 Reply::Stopping(seconds)
             }
-            Step::Ends => {
+            ControlStep::Ends => {
                 self.is_over = true;
                 Reply::Silent
             }
@@ -142,11 +142,11 @@ impl<'a, R: Threads + Wait + Clock, C: StatsSource + Drop> LineHandler
                 Answer::Done(self.note(alloc, step))
             }
             Some(announced) => match announced.gather(line.bytes()) {
-                Gathered::More(announced) => {
+                GatherOutcome::More(announced) => {
                     self.announced = Some(announced);
                     Answer::Done(Reply::Silent)
                 }
-                Gathered::Text(text) => {
+                GatherOutcome::Text(text) => {
                     let step = self.session.adopt(self.rt, alloc, text);
                     Answer::Done(self.note(alloc, step))
                 }
@@ -173,7 +173,7 @@ impl<'a, R: Threads + Wait + Clock, C: StatsSource + Drop> LineHandler
         }
     }
 
-    // No line is gone on with.
+    // No line is resumed.
     fn go_on(&mut self, _alloc: Global, _going: Going, _records: usize) -> (Answer, usize) {
         (Answer::Done(Reply::Silent), 0)
     }

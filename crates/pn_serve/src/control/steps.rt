@@ -22,7 +22,7 @@ use std::time::Clock;
 
 /// What a line comes to.
 #[derive(Drop)]
-pub(crate) enum Step {
+pub(crate) enum ControlStep {
     /// A reply.
     Replies(Reply),
     /// This many lines are to come.
@@ -41,12 +41,12 @@ impl<C: StatsSource + Drop> ControlSession<C> {
         alloc: Global,
         reader: &mut LiveReader,
         line: &[u8],
-    ) -> Step
+    ) -> ControlStep
         ensures { StepsBy reader.old line.now reader.new result }
     {
         match control_of(alloc, line) {
             Ok(command) => self.obey(rt, alloc, reader, command),
-            Err(refusal) => Step::Replies(Reply::Refused(refusal)),
+            Err(refusal) => ControlStep::Replies(Reply::Refused(refusal)),
         }
     }
 
@@ -57,11 +57,11 @@ impl<C: StatsSource + Drop> ControlSession<C> {
         alloc: Global,
         reader: &mut LiveReader,
         part: &[u8],
-    ) -> Step
+    ) -> ControlStep
         ensures { StepsLast reader.old part.now reader.new result }
     {
         match self.step(rt, alloc, reader, part) {
-            Step::Announces(_) => self.adopt(rt, alloc, Some(Vec::new(alloc))),
+            ControlStep::Announces(_) => self.adopt(rt, alloc, Some(Vec::new(alloc))),
             step => step,
         }
     }
@@ -72,15 +72,15 @@ impl<C: StatsSource + Drop> ControlSession<C> {
         rt: &R,
         alloc: Global,
         text: Option<Vec<u8>>,
-    ) -> Step
+    ) -> ControlStep
         ensures { AdoptsText (bytes_of text) result }
     {
         let Some(text) = text else {
-            return Step::Replies(Reply::Refused(Refusal::Memory));
+            return ControlStep::Replies(Reply::Refused(Refusal::Memory));
         };
         match read_text_by(rt, alloc, text, self.workers) {
             Ok(copy) => self.ask(rt, alloc, WriterCommand::Adopt(copy)),
-            Err(fault) => Step::Replies(refuse(alloc, CommandFault::CopyText(fault))),
+            Err(fault) => ControlStep::Replies(refuse(alloc, CommandFault::CopyText(fault))),
         }
     }
 
@@ -90,7 +90,7 @@ impl<C: StatsSource + Drop> ControlSession<C> {
         alloc: Global,
         reader: &mut LiveReader,
         command: ControlCommand,
-    ) -> Step
+    ) -> ControlStep
         ensures { ObeysControl reader.old (control_value command) reader.new result }
     {
         match command {
@@ -101,7 +101,7 @@ impl<C: StatsSource + Drop> ControlSession<C> {
             }
             ControlCommand::Advance => self.ask(rt, alloc, WriterCommand::Advance),
             ControlCommand::Stats => self.report(alloc, reader),
-            ControlCommand::Stop { seconds } => Step::Stops(seconds),
+            ControlCommand::Stop { seconds } => ControlStep::Stops(seconds),
         }
     }
 
@@ -112,47 +112,47 @@ impl<C: StatsSource + Drop> ControlSession<C> {
         alloc: Global,
         reader: &mut LiveReader,
         command: Command,
-    ) -> Step
+    ) -> ControlStep
         ensures { ObeysScript reader.old (command_value command) reader.new result }
     {
         match command {
-            Command::Adopt { lines } => Step::Announces(lines),
+            Command::Adopt { lines } => ControlStep::Announces(lines),
             Command::Lose { tablet } => self.ask(rt, alloc, WriterCommand::Lose { tablet }),
             Command::Marks => self.ask(rt, alloc, WriterCommand::Marks),
             Command::Tablets => self.ask(rt, alloc, WriterCommand::Tablets),
-            command => Step::Replies(look_up(alloc, reader, command)),
+            command => ControlStep::Replies(look_up(alloc, reader, command)),
         }
     }
 
     // What the writer answers, if it still takes commands.
-    fn ask<R: Wait>(&self, rt: &R, alloc: Global, command: WriterCommand) -> Step
+    fn ask<R: Wait>(&self, rt: &R, alloc: Global, command: WriterCommand) -> ControlStep
         ensures { Asks command result }
     {
         match self.mailboxes.ask(rt, self.number, command) {
-            Some(WriterAnswer::Reply(reply)) => Step::Replies(reply),
+            Some(WriterAnswer::Reply(reply)) => ControlStep::Replies(reply),
             Some(WriterAnswer::Found(since)) => {
-                Step::Replies(answer_text(notices_reply(alloc, &since)))
+                ControlStep::Replies(answer_text(notices_reply(alloc, &since)))
             }
-            None => Step::Ends,
+            None => ControlStep::Ends,
         }
     }
 
     // Shows what the server has done so far, and what its tablets have.
-    fn report(&self, alloc: Global, reader: &mut LiveReader) -> Step
+    fn report(&self, alloc: Global, reader: &mut LiveReader) -> ControlStep
         ensures { Reports reader.old reader.new result }
     {
         match count_tablets(alloc, reader) {
             Ok(tablets) => self.show_stats(alloc, tablets),
-            Err(fault) => Step::Replies(refuse(alloc, CommandFault::Lookup(fault))),
+            Err(fault) => ControlStep::Replies(refuse(alloc, CommandFault::Lookup(fault))),
         }
     }
 
-    fn show_stats(&self, alloc: Global, tablets: Vec<TabletStats>) -> Step
+    fn show_stats(&self, alloc: Global, tablets: Vec<TabletStats>) -> ControlStep
         ensures { RepliesWith (ShowsCounts (Ok tablets)) result }
     {
         match self.stats.stats(alloc, tablets) {
-            Ok(stats) => Step::Replies(answer_text(stats_reply(alloc, &stats))),
-            Err(_) => Step::Replies(Reply::Refused(Refusal::Memory)),
+            Ok(stats) => ControlStep::Replies(answer_text(stats_reply(alloc, &stats))),
+            Err(_) => ControlStep::Replies(Reply::Refused(Refusal::Memory)),
         }
     }
 

@@ -7,7 +7,7 @@ ghost use Rattle.pn_serve.specs.Copies.Reading.{AreAdded, AreRead, CopiesReaderV
 ghost use Rattle.pn_serve.specs.declared.copies.fault.CopiesFault.TheVariants.{Memory as no_memory};
 
 use crate::CopiesFault;
-use crate::copies::texts::{CopyText, CopyTexts};
+use crate::copies::texts::{CopyCut, CopyTexts};
 use pn_line::Source;
 use pn_tablet::{CopyTextFault, MAX_BOUNDS, TabletCopy, read_copy_by};
 use std::alloc::Global;
@@ -101,7 +101,7 @@ impl<S: Source + Drop> CopiesReader<S> {
 fn read_each<R: Threads + Sync>(
     rt: &R,
     alloc: Global,
-    texts: Vec<CopyText>,
+    texts: Vec<CopyCut>,
     workers: usize,
 ) -> Result<Vec<Result<TabletCopy, CopiesFault>>, CopiesFault>
     ensures read { IfOk result (λ reads. AreRead texts.items reads.items) }
@@ -115,7 +115,7 @@ fn read_each<R: Threads + Sync>(
 fn read_text<R: Threads>(
     rt: &R,
     alloc: Global,
-    text: CopyText,
+    text: CopyCut,
     workers: usize,
 ) -> Result<TabletCopy, CopiesFault>
     ensures { IsUnless CopiesFault.Memory result (copy_in_cut text) }
@@ -132,7 +132,7 @@ fn read_text<R: Threads>(
 }
 
 // The line of a fault. The text of a copy is truncated at the line that it lacks, and has a bad end in its last one.
-fn fault_in(text: &CopyText, fault: CopyTextFault) -> CopiesFault
+fn fault_in(text: &CopyCut, fault: CopyTextFault) -> CopiesFault
     ensures { result ≡ told_in text.now fault }
 {
     let after = text.first.saturating_add(text.lines);

@@ -16,7 +16,7 @@ const END_WORD: &[u8] = b"{\"end\":";
 
 /// The text of one copy.
 #[derive(Drop)]
-pub(crate) struct CopyText {
+pub(crate) struct CopyCut {
     pub(crate) text: Vec<u8>,
     /// The number of its first line in the whole text, from 1.
     pub(crate) first: u64,
@@ -26,10 +26,10 @@ pub(crate) struct CopyText {
     pub(crate) is_too_long: bool,
 }
 
-impl Model for CopyText {
-    ghost use Rattle.pn_serve.specs.Copies.Cutting.{CutValue};
+impl Model for CopyCut {
+    ghost use Rattle.pn_serve.specs.Copies.Cutting.{CopyCutValue};
 
-    ghost Value = { CutValue };
+    ghost Value = { CopyCutValue };
 
     ghost view = { λ cut. record { text = cut.text.items; first = cut.first; lines = cut.lines; is_too_long = cut.is_too_long } };
 }
@@ -67,7 +67,7 @@ impl<S: Source + Drop> CopyTexts<S> {
     }
 
     /// The texts of the next copies, at most this number. Fewer come only at the end.
-    pub(crate) fn next_texts(&mut self, most: usize) -> Result<Vec<CopyText>, CopiesFault>
+    pub(crate) fn next_texts(&mut self, most: usize) -> Result<Vec<CopyCut>, CopiesFault>
         ensures cuts { IfOk result (λ texts. (bytes : List ℕ) → S.left self.old.source ≡ Some bytes
             → (rest : List ℕ) × (S.left self.new.source ≡ Some rest)
             × AreCuts (record { next = self.old.next; bytes = bytes }) texts.items (record { next = self.new.next; bytes = rest })) }
@@ -85,7 +85,7 @@ impl<S: Source + Drop> CopyTexts<S> {
     }
 
     // The text of the next copy: up to and with the first line that begins as an end does. At the end it is what is left.
-    fn next_text(&mut self) -> Result<Option<CopyText>, CopiesFault>
+    fn next_text(&mut self) -> Result<Option<CopyCut>, CopiesFault>
         ensures cut { IfOk result (λ found. (bytes : List ℕ) → S.left self.old.source ≡ Some bytes
             → (rest : List ℕ) × (S.left self.new.source ≡ Some rest)
             × MatchOption found ((bytes ≡ []) × (rest ≡ []) × (self.new.next ≡ self.old.next))
@@ -95,29 +95,29 @@ impl<S: Source + Drop> CopyTexts<S> {
         let mut text = Vec::new(self.alloc);
         for lines in 0..u64::MAX {
             match self.add_line(&mut text)? {
-                Added::Line => {}
-                Added::End => return Ok(Some(self.cut_out(text, lines + 1, false))),
-                Added::Last if text.is_empty() => return Ok(None),
-                Added::Last => return Ok(Some(self.cut_out(text, lines, false))),
-                Added::TooLong => return Ok(Some(self.cut_out(text, lines, true))),
+                AddedLine::Line => {}
+                AddedLine::End => return Ok(Some(self.cut_out(text, lines + 1, false))),
+                AddedLine::Last if text.is_empty() => return Ok(None),
+                AddedLine::Last => return Ok(Some(self.cut_out(text, lines, false))),
+                AddedLine::TooLong => return Ok(Some(self.cut_out(text, lines, true))),
             }
         }
         unreachable!()
     }
 
     // Reads a line onto the text, with its newline.
-    fn add_line(&mut self, text: &mut Vec<u8>) -> Result<Added, CopiesFault>
+    fn add_line(&mut self, text: &mut Vec<u8>) -> Result<AddedLine, CopiesFault>
         ensures adds { IfOk result (λ added. (bytes : List ℕ) → S.left self.old.source ≡ Some bytes
             → Adds added text.old.items text.new.items bytes (S.left self.new.source)) }
         ensures next { self.new.next ≡ self.old.next }
-        ensures grows { result ≡ Ok Added.Line → vec_len text.old < vec_len text.new }
+        ensures grows { result ≡ Ok AddedLine.Line → vec_len text.old < vec_len text.new }
         ensures fault { IfErr result (IsNoTextFault S.may_fail) }
     {
         match self.read_line()? {
-            BoundedEnd::TooLong => Ok(Added::TooLong),
+            BoundedEnd::TooLong => Ok(AddedLine::TooLong),
             BoundedEnd::EndOfInput => {
                 add_bytes(text, self.line.bytes())?;
-                Ok(Added::Last)
+                Ok(AddedLine::Last)
             }
             BoundedEnd::Newline { .. } => {
                 add_bytes(text, self.line.bytes())?;
@@ -141,14 +141,14 @@ impl<S: Source + Drop> CopyTexts<S> {
     }
 
     // The text of a copy, whose lines are counted.
-    fn cut_out(&mut self, text: Vec<u8>, lines: u64, is_too_long: bool) -> CopyText
+    fn cut_out(&mut self, text: Vec<u8>, lines: u64, is_too_long: bool) -> CopyCut
         ensures cut { result ≡ record { text = text.items; first = self.old.next; lines = lines; is_too_long = is_too_long } }
         ensures source { self.new.source ≡ self.old.source }
         ensures next { self.new.next ≡ line_number (self.old.next + lines) }
     {
         let first = self.next;
         self.next = first.saturating_add(lines);
-        CopyText {
+        CopyCut {
             text,
             first,
             lines,
@@ -159,7 +159,7 @@ impl<S: Source + Drop> CopyTexts<S> {
 
 // What was added to a text.
 #[derive(Clone, Copy)]
-enum Added {
+enum AddedLine {
     /// A line.
     Line,
     /// A line that begins as an end does.
@@ -180,13 +180,13 @@ fn add_bytes(text: &mut Vec<u8>, bytes: &[u8]) -> Result<(), CopiesFault>
 }
 
 // Which line was added.
-fn added_line(line: &[u8]) -> Added
-    ensures end { begins_end line.now ≡ true → result ≡ Added.End }
-    ensures inner { begins_end line.now ≡ false → result ≡ Added.Line }
+fn added_line(line: &[u8]) -> AddedLine
+    ensures end { begins_end line.now ≡ true → result ≡ AddedLine.End }
+    ensures inner { begins_end line.now ≡ false → result ≡ AddedLine.Line }
 {
     if line.starts_with(END_WORD) {
-        Added::End
+        AddedLine::End
     } else {
-        Added::Line
+        AddedLine::Line
     }
 }

@@ -22,19 +22,19 @@ use std::thread::Threads;
 
 /// The text of a copy that is not complete yet.
 #[derive(Drop)]
-pub(crate) struct Announced {
+pub(crate) struct AnnouncedText {
     /// How many lines are still to come.
     left: u64,
     /// The text so far. None once memory ran out.
     text: Option<Vec<u8>>,
 }
 
-impl Announced {
+impl AnnouncedText {
     /// This many lines are to come, and none has come.
-    pub(crate) fn new(alloc: Global, lines: u64) -> Announced
+    pub(crate) fn new(alloc: Global, lines: u64) -> AnnouncedText
         ensures { mode_of (Some result) ≡ announced_mode lines (Some []) }
     {
-        Announced {
+        AnnouncedText {
             left: lines,
             text: Some(Vec::new(alloc)),
         }
@@ -43,25 +43,25 @@ impl Announced {
 
 /// What an announced line came to.
 #[derive(Drop)]
-pub(crate) enum Gathered {
+pub(crate) enum GatherOutcome {
     /// Further lines are to come.
-    More(Announced),
+    More(AnnouncedText),
     /// It was the last one: the text of all. None once memory ran out.
     Text(Option<Vec<u8>>),
 }
 
-impl Announced {
+impl AnnouncedText {
     /// Takes a line with its newline.
-    pub(crate) fn gather(self, line: &[u8]) -> Gathered
+    pub(crate) fn gather(self, line: &[u8]) -> GatherOutcome
         ensures { Gathers self.left (bytes_of self.text) line.now result }
     {
-        let Announced { left, text } = self;
+        let AnnouncedText { left, text } = self;
         let text = append_line(text, line, b"\n");
         if left > 1 {
             let left = left - 1;
-            return Gathered::More(Announced { left, text });
+            return GatherOutcome::More(AnnouncedText { left, text });
         }
-        Gathered::Text(text)
+        GatherOutcome::Text(text)
     }
 
     /// The text of all, after a last part of a line. None once memory ran out.
@@ -78,14 +78,14 @@ pub(crate) fn take_line<R: Threads>(
     alloc: Global,
     region: &mut Region,
     workers: usize,
-    announced: Announced,
+    announced: AnnouncedText,
     line: &[u8],
 ) -> ScriptAnswer
     ensures { AnswersBy ⊥ (with_mode (Some announced) region.old) line.now (with_mode result.1 region.new) result.0 }
 {
     match announced.gather(line) {
-        Gathered::More(announced) => (Reply::Silent, Some(announced)),
-        Gathered::Text(text) => (adopt(rt, alloc, region, workers, text), None),
+        GatherOutcome::More(announced) => (Reply::Silent, Some(announced)),
+        GatherOutcome::Text(text) => (adopt(rt, alloc, region, workers, text), None),
     }
 }
 
@@ -95,7 +95,7 @@ pub(crate) fn take_last_part<R: Threads>(
     alloc: Global,
     region: &mut Region,
     workers: usize,
-    announced: Announced,
+    announced: AnnouncedText,
     part: &[u8],
 ) -> Reply
     ensures { ConcludesBy ⊥ (with_mode (Some announced) region.old) part.now (machine_over region.new) result }

@@ -23,7 +23,7 @@ use std::alloc::Global;
 pub enum Answer {
     /// The reply.
     Done(Reply),
-    /// A look that is to be gone on with.
+    /// A look that is to be resumed.
     Going(Going),
 }
 
@@ -44,7 +44,7 @@ pub trait LineHandler {
     // The same for the last part of a line.
     ghost ends: { Self → List ℕ → Self → Reply → Type 0 };
 
-    // Relates the state before, a line that was begun, the state now, and the look that is to be gone on with.
+    // Relates the state before, a line that was begun, the state now, and the look that is to be resumed.
     ghost goes: { Self → List ℕ → Self → Going → Type 0 };
 
     // The same for the last part of a line.
@@ -65,7 +65,7 @@ pub trait LineHandler {
         ensures ends { (text : List ℕ) → part.now ≡ so_far text → AnswersLast ends goes_last self.old text self.new result }
         ensures knows { KnowsNoLess (reader self.old) (reader self.new) };
 
-    /// Goes on with a look, at at most `records` records, or with the next look. Returns how many records that counts for.
+    /// Resumes a look, at at most `records` records, or with the next look. Returns how many records that counts for.
     fn go_on(&mut self, alloc: Global, going: Going, records: usize) -> (Answer, usize)
         requires { ready }
         ensures lines { (was between : Self) (text : List ℕ) → goes was text between going → moves between self.old

@@ -5,7 +5,7 @@ ghost use Rattle.pn_region.specs.Prelude.{new_region};
 ghost use Rattle.pn_serve.specs.Machine.Outcomes.{new_machine};
 
 use crate::Settings;
-use crate::machine::adoption::Announced;
+use crate::machine::adoption::AnnouncedText;
 use crate::machine::command_reader::Json;
 use crate::machine::line_handler::{Answer, LineHandler};
 use crate::machine::{answer_end, answer_line};
@@ -25,7 +25,7 @@ pub(crate) struct ScriptHandler<'a, R> {
     region: Region,
     workers: usize,
     // The lines that are still to come. None: the next line is a command.
-    announced: Option<Announced>,
+    announced: Option<AnnouncedText>,
 }
 
 impl<'a, R> Model for ScriptHandler<'a, R> {
@@ -109,7 +109,7 @@ impl<'a, R: Threads + Sync> LineHandler for ScriptHandler<'a, R> {
         Answer::Done(reply)
     }
 
-    // No line is gone on with.
+    // No line is resumed.
     fn go_on(&mut self, _alloc: Global, _going: Going, _records: usize) -> (Answer, usize) {
         (Answer::Done(Reply::Silent), 0)
     }

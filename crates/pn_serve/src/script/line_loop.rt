@@ -5,7 +5,7 @@ ghost use Rattle.std.specs.Prelude.{◌≡◌, ◌⊎◌, ◌+◌, ◌<◌, ◌�
 ghost use Rattle.std.specs.Io.KnownBytes.{IsAtEnd};
 ghost use Rattle.pn_line.specs.Prelude.{so_far};
 ghost use Rattle.pn_line.specs.declared.line_buffer.TheConstants.{ENDLESS};
-ghost use Rattle.pn_serve.specs.Lines.Bounds.{CountsStages, CountsUnits, Foresees, ForeseesStep, HandsOnAtMost, HandsOnStep, IsIdleAt, IsOutAs, IsSettled, LooksAtMost, ReadsOn, WorksOn, records_by, records_in};
+ghost use Rattle.pn_serve.specs.Lines.Bounds.{CountsStages, CountsUnits, Foresees, ForeseesStep, HandsOnAtMost, HandsOnStep, IsWaitingAt, IsOutAs, IsSettled, LooksAtMost, ReadsOn, WorksOn, records_by, records_in};
 ghost use Rattle.pn_serve.specs.Lines.Faults.{EndsByAt, EndsByStep};
 ghost use Rattle.pn_serve.specs.Lines.Made.{MakesAtMost, made_by, made_in};
 ghost use Rattle.pn_serve.specs.Lines.States.{Start, new_loop, waits_in};
@@ -87,7 +87,7 @@ impl LineLoop {
         requires ready { M.ready }
         ensures steps { (start : Start M) (rest : Option (List ℕ)) → IsSteady M.reader M.moves → Stands (by M.moves M.makes M.ends M.goes M.goes_last) start (with_rest (S.left input.old) rest) (W.contents output.old) machine.old self.old
             → StepsTo (by M.moves M.makes M.ends M.goes M.goes_last) start (with_rest (S.left input.new) rest) (W.contents output.new) machine.new self.new result }
-        ensures idle { IsIdleAt result self.new }
+        ensures waiting { IsWaitingAt result self.new }
         ensures out { IsOutAs self.old (W.is_handed_on output.old) → IsOutAs self.new (W.is_handed_on output.new) }
         ensures handed_on { HandsOnStep result (W.is_handed_on output.new) }
         ensures few { HandsOnAtMost REPLY_CAPACITY self.old self.new }
@@ -126,7 +126,7 @@ impl LineLoop {
     pub fn end_input<M: LineHandler>(&mut self, machine: &mut M) -> u32
         requires ready { M.ready }
         requires reading { self.old.state.stage ≡ Stage.Reading }
-        requires idle { waits_in self.old ≡ [] }
+        requires sent { waits_in self.old ≡ [] }
         requires below { self.old.line.count < ENDLESS }
         ensures stands { (start : Start M) (left written : Option (List ℕ)) → IsSteady M.reader M.moves → IfSome start.left (λ _. left ≡ Some []) → Stands (by M.moves M.makes M.ends M.goes M.goes_last) start left written machine.old self.old
             → Stands (by M.moves M.makes M.ends M.goes M.goes_last) start left written machine.new self.new }

@@ -2,7 +2,7 @@
 
 ghost use Rattle.std.specs.Prelude.{◌≡◌, ◌≢◌, [], ◌∷◌, ◌++◌, map, vec_len, None, IfOk, IfSome, OnOk, MatchBool, MatchOption};
 ghost use Rattle.pn_serve.specs.Server.Reports.{name_in};
-ghost use Rattle.pn_serve.specs.declared.server.mailboxes.Held.TheVariants.{Nothing, Left, Closed};
+ghost use Rattle.pn_serve.specs.declared.server.mailboxes.HeldReport.TheVariants.{Nothing, Left, Closed};
 
 use crate::server::counter::Counter;
 use crate::server::reporter::Reporter;
@@ -174,13 +174,13 @@ pub(crate) fn share(counter: &Option<Arc<Counter>>) -> Result<Option<Arc<Counter
 /// Holds at most one report. A thread that puts another waits until it is taken.
 #[derive(Drop)]
 pub(crate) struct Mailbox {
-    held: Mutex<Held>,
+    held: Mutex<HeldReport>,
     emptied: Condvar,
 }
 
 // What a mailbox holds.
 #[derive(Drop)]
-enum Held {
+enum HeldReport {
     Nothing,
     /// A report, until it is taken.
     Left(Report),
@@ -192,7 +192,7 @@ impl Mailbox {
     /// A mailbox that holds nothing.
     pub(crate) fn new() -> Mailbox {
         Mailbox {
-            held: Mutex::new(Held::Nothing),
+            held: Mutex::new(HeldReport::Nothing),
             emptied: Condvar::new(),
         }
     }
@@ -240,23 +240,23 @@ impl Mailbox {
     }
 }
 
-impl Held {
+impl HeldReport {
     fn is_left(&self) -> bool {
-        matches!(self, Held::Left(_))
+        matches!(self, HeldReport::Left(_))
     }
 
     fn is_closed(&self) -> bool {
-        matches!(self, Held::Closed)
+        matches!(self, HeldReport::Closed)
     }
 
     // Puts a report into an empty mailbox. False if it is not empty.
     fn put(&mut self, report: Report) -> bool
         ensures { MatchBool result ((self.old ≡ Nothing) × (self.new ≡ Left report)) ((self.old ≢ Nothing) × (self.new ≡ self.old)) }
     {
-        if !matches!(self, Held::Nothing) {
+        if !matches!(self, HeldReport::Nothing) {
             return false;
         }
-        *self = Held::Left(report);
+        *self = HeldReport::Left(report);
         true
     }
 
@@ -265,11 +265,11 @@ impl Held {
         ensures taken { MatchOption result (self.new ≡ self.old) (λ report. (self.old ≡ Left report) × (self.new ≡ Nothing)) }
         ensures none { result ≡ None → self.old ≢ Nothing → self.old ≡ Closed }
     {
-        match mem::replace(self, Held::Nothing) {
-            Held::Left(report) => Some(report),
-            Held::Nothing => None,
-            Held::Closed => {
-                *self = Held::Closed;
+        match mem::replace(self, HeldReport::Nothing) {
+            HeldReport::Left(report) => Some(report),
+            HeldReport::Nothing => None,
+            HeldReport::Closed => {
+                *self = HeldReport::Closed;
                 None
             }
         }
@@ -278,6 +278,6 @@ impl Held {
     fn close(&mut self)
         ensures { self.new ≡ Closed }
     {
-        *self = Held::Closed;
+        *self = HeldReport::Closed;
     }
 }

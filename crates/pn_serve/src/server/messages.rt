@@ -9,7 +9,7 @@ pub(crate) const MAX_MESSAGES: usize = 1_000;
 
 /// 1 to 1,000 messages of a stream, for one round.
 #[derive(Drop)]
-pub(crate) struct Messages {
+pub(crate) struct RoundMessages {
     pub(crate) delivery: Delivery,
     pub(crate) ghost fit: { FitRound delivery },
 }

@@ -4,7 +4,7 @@ ghost use Rattle.std.specs.Prelude.{◌≡◌, ◌+◌, max, min, None, Some, Is
 ghost use Rattle.pn_join.specs.declared.marks.TheConstants.{LAST_POSITION};
 ghost use Rattle.pn_serve.specs.Server.Writers.{Gives, IsReaderFrom, line_after};
 
-use crate::server::messages::{MAX_MESSAGES, Messages};
+use crate::server::messages::{MAX_MESSAGES, RoundMessages};
 use crate::server::writers::WriterEnd;
 use pn_join::{LAST_POSITION, StreamName};
 use pn_line::Source;
@@ -31,7 +31,7 @@ pub(crate) fn workers_of_each(workers: usize, streams: usize) -> usize {
 #[derive(Drop)]
 pub(crate) enum Given {
     /// The next messages.
-    Messages(Messages),
+    Messages(RoundMessages),
     /// Nothing more.
     Ended(WriterEnd),
 }
@@ -104,7 +104,7 @@ impl<S: Source + Drop> WriterInput<S> {
             .next_ready_by(rt, memory, self.workers, MAX_MESSAGES)
         {
             Ok(delivery) if delivery.images().is_empty() => Given::Ended(WriterEnd::End),
-            Ok(delivery) => Given::Messages(Messages { delivery }),
+            Ok(delivery) => Given::Messages(RoundMessages { delivery }),
             Err(fault) => Given::Ended(self.fault(ResumeFault::Stream(fault))),
         }
     }
@@ -119,7 +119,7 @@ impl<S: Source + Drop> WriterInput<S> {
         match self.reader.resume(memory) {
             Ok(Some(delivery)) => {
                 self.before = Some(self.reader.position().saturating_sub(1));
-                Given::Messages(Messages { delivery })
+                Given::Messages(RoundMessages { delivery })
             }
             Ok(None) => Given::Ended(WriterEnd::End),
             Err(fault) => Given::Ended(self.fault(fault)),

@@ -1,4 +1,4 @@
-//! Lookups of a session that are gone on with: a page, the records of keys, or a copy.
+//! Lookups of a session that are resumed: a page, the records of keys, or a copy.
 
 ghost use Rattle.std.specs.Prelude.{◌≡◌, ◌<◌, ◌≤◌, ℕ, max, List, length, IfErr, IfOk};
 ghost use Rattle.pn_live.specs.Getting.{IsOnGet};

@@ -3,7 +3,7 @@
 ghost use Rattle.std.specs.Prelude.{◌≡◌, ◌<◌, ◌≤◌, ◌+◌, ◌*◌, ℕ, List, [], ◌++◌, length, Option, Some};
 ghost use Rattle.std.specs.Io.KnownBytes.{prepend_known};
 ghost use Rattle.pn_line.specs.Prelude.{so_far};
-ghost use Rattle.pn_serve.specs.Lines.Bounds.{IsIdleAt};
+ghost use Rattle.pn_serve.specs.Lines.Bounds.{IsWaitingAt};
 ghost use Rattle.pn_serve.specs.Lines.Faults.{EndsByAt, EndsByStep};
 ghost use Rattle.pn_serve.specs.Lines.Made.{made_by, made_in};
 ghost use Rattle.pn_serve.specs.Lines.States.{Start};
@@ -21,7 +21,7 @@ ghost use Rattle.pn_stay.specs.declared.steps.TheConstants.{UNIT_BYTES};
 use crate::connection_state::ThreadBuffers;
 use crate::input::Input;
 use crate::skipped_input::SkippedInput;
-use crate::steps::{Came, came_of, units_of};
+use crate::steps::{ReadOutcome, outcome_of, units_of};
 use pn_line::{ENDLESS, MAX_LINE_BYTES};
 use pn_serve::{MAX_LINES, RefusesSkipped, RunFault, Step};
 
@@ -33,7 +33,7 @@ pub(super) fn refuse_next<M: RefusesSkipped, R: Input>(
     input: &mut R,
 ) -> Step
     requires some { buffers.old.skipped ≡ Some skipped }
-    requires idle { IsIdleAt Step.NoInput buffers.old.lines }
+    requires waiting { IsWaitingAt Step.NoInput buffers.old.lines }
     ensures steps { (start : Start M) (written : Option (List ℕ)) → IsSteady M.reader M.moves → Continues (by M.moves M.makes M.ends M.goes M.goes_last) start (R.remaining input.old) written machine.old (in_buffers buffers.old)
         → StepsIn (by M.moves M.makes M.ends M.goes M.goes_last) start (R.remaining input.new) written machine.new buffers.new result }
     ensures waits { WaitsWell (in_buffers buffers.new) result }
@@ -64,7 +64,7 @@ fn skip_more<M: RefusesSkipped, R: Input>(
     input: &mut R,
 ) -> Step
     requires some { buffers.old.skipped ≡ Some skipped }
-    requires idle { IsIdleAt Step.NoInput buffers.old.lines }
+    requires waiting { IsWaitingAt Step.NoInput buffers.old.lines }
     requires lines { buffers.old.lines.state.counts.lines < MAX_LINES }
     ensures steps { (start : Start M) (written : Option (List ℕ)) (text : List ℕ) → IsSteady M.reader M.moves → IsPart skipped.part text → HoldsAs buffers.old.skipped buffers.old.lines.line buffers.old.input text
         → Stands (by M.moves M.makes M.ends M.goes M.goes_last) start (prepend_known text (R.remaining input.old)) written machine.old buffers.old.lines
@@ -79,15 +79,15 @@ fn skip_more<M: RefusesSkipped, R: Input>(
     ensures knows { KnowsNoLess (M.reader machine.old) (M.reader machine.new) }
 {
     let read = buffers.input.read_from(input);
-    match came_of(&read) {
-        Came::Input => Step::Next(skip_line(buffers, skipped.part, machine)),
-        Came::Nothing => Step::NoInput,
-        Came::End => {
+    match outcome_of(&read) {
+        ReadOutcome::Input => Step::Next(skip_line(buffers, skipped.part, machine)),
+        ReadOutcome::Nothing => Step::NoInput,
+        ReadOutcome::End => {
             buffers.skipped = None;
             let is_too_long = skipped.part > MAX_LINE_BYTES;
             Step::Next(buffers.lines.end_skipped(machine, is_too_long))
         }
-        Came::Fault => {
+        ReadOutcome::Fault => {
             buffers.lines.end_by(Err(RunFault::Read));
             Step::Next(0)
         }
@@ -96,7 +96,7 @@ fn skip_more<M: RefusesSkipped, R: Input>(
 
 // Skips what came of a line, and refuses it at its end. How many units that took.
 fn skip_line<M: RefusesSkipped>(buffers: &mut ThreadBuffers, part: usize, machine: &mut M) -> u32
-    requires idle { IsIdleAt Step.NoInput buffers.old.lines }
+    requires waiting { IsWaitingAt Step.NoInput buffers.old.lines }
     requires lines { buffers.old.lines.state.counts.lines < MAX_LINES }
     requires few { length buffers.old.input ≤ READ_SIZE }
     ensures continues { (start : Start M) (left written : Option (List ℕ)) (text : List ℕ) → IsSteady M.reader M.moves → IsPart part text → buffers.old.lines.line ≡ so_far []

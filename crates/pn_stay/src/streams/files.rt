@@ -26,7 +26,7 @@ pub struct OpenedFiles {
 
 /// Why the streams were not opened.
 #[derive(Drop)]
-pub enum OpenFault {
+pub enum StreamOpenFault {
     /// The system refuses the path of the stream of this name.
     Path {
         name: Name,
@@ -36,22 +36,22 @@ pub enum OpenFault {
     Memory,
 }
 
-impl OpenFault {
+impl StreamOpenFault {
     /// The system refuses a path.
-    pub(crate) fn of(name: Name, path: String, error: io::Error) -> OpenFault {
-        OpenFault::Path { name, path, error }
+    pub(crate) fn of(name: Name, path: String, error: io::Error) -> StreamOpenFault {
+        StreamOpenFault::Path { name, path, error }
     }
 }
 
-impl From<AllocError> for OpenFault {
-    fn from(_fault: AllocError) -> OpenFault {
-        OpenFault::Memory
+impl From<AllocError> for StreamOpenFault {
+    fn from(_fault: AllocError) -> StreamOpenFault {
+        StreamOpenFault::Memory
     }
 }
 
-impl<T: Drop> From<AllocFailed<T>> for OpenFault {
-    fn from(_fault: AllocFailed<T>) -> OpenFault {
-        OpenFault::Memory
+impl<T: Drop> From<AllocFailed<T>> for StreamOpenFault {
+    fn from(_fault: AllocFailed<T>) -> StreamOpenFault {
+        StreamOpenFault::Memory
     }
 }
 
@@ -61,7 +61,7 @@ pub fn open_files<R: Files<File = File>>(
     alloc: Global,
     streams: Vec<(Name, StreamPath)>,
     is_counted: bool,
-) -> Result<OpenedFiles, OpenFault>
+) -> Result<OpenedFiles, StreamOpenFault>
     ensures names { IfOk result (λ opened. map (λ reader. reader.name) opened.readers.items ≡ map (λ stream. stream.0) streams.items) }
     ensures first { IfOk result (λ opened. All (λ reader. reader.position ≡ 0) opened.readers.items) }
 {
@@ -82,7 +82,7 @@ fn open_file<R: Files<File = File>>(
     opened: &mut OpenedFiles,
     stream: (Name, StreamPath),
     counters: Option<Arc<InputCounters>>,
-) -> Result<(), OpenFault>
+) -> Result<(), StreamOpenFault>
     requires { All (λ reader. reader.position ≡ 0) opened.old.readers.items }
     ensures first { OnOk result (All (λ reader. reader.position ≡ 0) opened.new.readers.items) }
     ensures names { OnOk result (map (λ reader. reader.name) opened.new.readers.items ≡ map (λ reader. reader.name) opened.old.readers.items ++ stream.0 ∷ []) }
@@ -93,11 +93,11 @@ fn open_file<R: Files<File = File>>(
     };
     let file = match File::open(rt, path.as_str()) {
         Ok(file) => file,
-        Err(error) => return Err(OpenFault::of(name, path, error)),
+        Err(error) => return Err(StreamOpenFault::of(name, path, error)),
     };
     let size = read_size(&file);
     let Ok(source) = open_source(alloc, file, FILE_READ_SIZE, &counters) else {
-        return Err(OpenFault::Memory);
+        return Err(StreamOpenFault::Memory);
     };
     if let Some(input) = counters {
         opened.counters.push(StreamCounters {

@@ -4,7 +4,7 @@ use crate::counters::InputCounters;
 use crate::messages::Messages;
 use crate::reasons::{describe_error, describe_fault, format_failure};
 use crate::streams::status::StreamStatus;
-use crate::streams::writer::Progress;
+use crate::streams::writer::StreamPositions;
 use pn_join::Name;
 use pn_serve::{StreamFaultStats, StreamState, WriterEnd};
 use pn_stream::ResumeFault;
@@ -23,13 +23,13 @@ pub(crate) struct StreamNotes<R> {
     /// The counters of what is read, and the status of the stream, if somebody looks at them.
     pub(crate) counters: Option<Arc<InputCounters>>,
     pub(crate) status: Option<Arc<StreamStatus>>,
-    pub(crate) progress: Progress,
+    pub(crate) positions: StreamPositions,
 }
 
 impl<R: Wait + Clock + Drop> StreamNotes<R> {
     /// Notes that messages up to this position were handed to rounds.
     pub(crate) fn hand_on(&self, last: u64) {
-        self.progress.handed.set(last);
+        self.positions.handed.set(last);
         if let Some(status) = &self.status {
             status.note_message(&self.rt);
         }

@@ -6,14 +6,14 @@ use crate::counters::StreamCounters;
 use crate::messages::Messages;
 use crate::shared::share;
 use crate::streams::fifo::{FifoPoll, FifoWriters};
-use crate::streams::files::{OpenFault, new_counters, read_size};
+use crate::streams::files::{StreamOpenFault, new_counters, read_size};
 use crate::streams::input::{FILE_READ_SIZE, StreamInput, open_source};
 use crate::streams::listener::StreamListener;
 use crate::streams::notes::StreamNotes;
 use crate::streams::origin::{StreamOrigin, Writers};
 use crate::streams::sockets::SocketWriters;
 use crate::streams::status::StreamStatus;
-use crate::streams::writer::Progress;
+use crate::streams::writer::StreamPositions;
 use pn_join::Name;
 use pn_serve::{Counter, Stream, StreamPath};
 use std::alloc::{AllocError, Global};
@@ -35,7 +35,7 @@ pub struct OpenedStreams<R: Drop> {
 }
 
 // The writers of a stream, and how many bytes its file has, where it ends.
-type OpenedWriters<R> = Result<(Writers<R>, Option<u64>), OpenFault>;
+type OpenedWriters<R> = Result<(Writers<R>, Option<u64>), StreamOpenFault>;
 
 /// Where messages about streams go, whether what is read of them is counted, and the permissions of their sockets.
 #[derive(Drop)]
@@ -51,7 +51,7 @@ pub struct StreamSetting<R> {
 pub fn open_origins<R>(
     setting: &StreamSetting<R>,
     streams: Vec<(Name, StreamPath)>,
-) -> Result<OpenedStreams<R>, OpenFault>
+) -> Result<OpenedStreams<R>, StreamOpenFault>
 where
     R: Files<File = File> + Net + Wait + Clock + Copy + Drop,
     ensures names { IfOk result (λ opened. map (λ stream. stream.name) opened.streams.items ≡ map (λ stream. stream.0) streams.items) }
@@ -82,7 +82,7 @@ fn open_origin<R>(
     opened: &mut OpenedStreams<R>,
     name: Name,
     path: StreamPath,
-) -> Result<(), OpenFault>
+) -> Result<(), StreamOpenFault>
 where
     R: Files<File = File> + Net + Wait + Clock + Copy + Drop,
     ensures names { OnOk result (map (λ stream. stream.name) opened.new.streams.items ≡ map (λ stream. stream.name) opened.old.streams.items ++ name ∷ []) }
@@ -98,7 +98,7 @@ fn add_origin<R>(
     name: Name,
     origin: StreamOrigin<R>,
     size: Option<u64>,
-) -> Result<(), OpenFault>
+) -> Result<(), StreamOpenFault>
 where
     R: Files<File = File> + Net + Wait + Clock + Copy + Drop,
     ensures names { OnOk result (map (λ stream. stream.name) opened.new.streams.items ≡ map (λ stream. stream.name) opened.old.streams.items ++ name ∷ []) }
@@ -121,7 +121,7 @@ fn add_counters<R: Drop>(
     let notes = &origin.notes;
     if let Some(input) = share(&notes.counters)? {
         let told = share_told(notes, &origin.writers)?;
-        let taken = Some(Arc::try_clone(&notes.progress.taken)?);
+        let taken = Some(Arc::try_clone(&notes.positions.taken)?);
         let status = share(&notes.status)?;
         counters.push(StreamCounters {
             name: notes.name,
@@ -132,7 +132,7 @@ fn add_counters<R: Drop>(
             size,
         })?;
     }
-    Arc::try_clone(&notes.progress.taken)
+    Arc::try_clone(&notes.positions.taken)
 }
 
 // Shares the position that a writer was sent last, where writers are sent positions.
@@ -141,7 +141,7 @@ fn share_told<R: Drop>(
     writers: &Writers<R>,
 ) -> Result<Option<Arc<Counter>>, AllocError> {
     match writers {
-        Writers::Socket(_) => Ok(Some(Arc::try_clone(&notes.progress.told)?)),
+        Writers::Socket(_) => Ok(Some(Arc::try_clone(&notes.positions.told)?)),
         Writers::File(_) | Writers::Fifo(_) => Ok(None),
     }
 }
@@ -155,7 +155,7 @@ fn new_notes<R: Copy>(
     let messages = Arc::try_clone(&setting.messages)?;
     let counters = new_counters(alloc, setting.is_counted)?;
     let status = new_status(alloc, path, setting.is_counted)?;
-    let progress = Progress::new(alloc)?;
+    let positions = StreamPositions::new(alloc)?;
     Ok(StreamNotes {
         rt: setting.rt,
         alloc,
@@ -163,7 +163,7 @@ fn new_notes<R: Copy>(
         messages,
         counters,
         status,
-        progress,
+        positions,
     })
 }
 
@@ -201,7 +201,7 @@ where
         StreamPath::File(path) => match is_fifo(&notes.rt, path.as_str()) {
             Ok(true) => open_fifo(notes, path),
             Ok(false) => open_file(notes, path),
-            Err(error) => Err(OpenFault::of(notes.name, path, error)),
+            Err(error) => Err(StreamOpenFault::of(notes.name, path, error)),
         },
     }
 }
@@ -211,7 +211,7 @@ fn listen<R>(
     path: String,
     permissions: u32,
     sockets: &mut Vec<String>,
-) -> Result<Writers<R>, OpenFault>
+) -> Result<Writers<R>, StreamOpenFault>
 where
     R: Files<File = File> + Net + Wait + Clock + Copy + Drop,
 {
@@ -221,7 +221,7 @@ where
             sockets.push(path)?;
             Ok(Writers::Socket(SocketWriters::new(listener, shown)))
         }
-        Err(error) => Err(OpenFault::of(notes.name, path, error)),
+        Err(error) => Err(StreamOpenFault::of(notes.name, path, error)),
     }
 }
 
@@ -235,7 +235,7 @@ where
 {
     match FifoPoll::new(&notes.rt, notes.alloc) {
         Ok(poll) => Ok((Writers::Fifo(FifoWriters::new(path, poll)), None)),
-        Err(error) => Err(OpenFault::of(notes.name, path, error)),
+        Err(error) => Err(StreamOpenFault::of(notes.name, path, error)),
     }
 }
 
@@ -249,9 +249,9 @@ where
             let input = StreamInput::File(file);
             match open_source(notes.alloc, input, FILE_READ_SIZE, &notes.counters) {
                 Ok(source) => Ok((Writers::File(Some(source)), size)),
-                Err(_) => Err(OpenFault::Memory),
+                Err(_) => Err(StreamOpenFault::Memory),
             }
         }
-        Err(error) => Err(OpenFault::of(notes.name, path, error)),
+        Err(error) => Err(StreamOpenFault::of(notes.name, path, error)),
     }
 }

@@ -63,8 +63,8 @@ impl SocketWriters {
         R: Wait + Clock + Copy + Drop,
     {
         let stream = self.listener.accept()?;
-        let progress = notes.progress.try_clone()?;
-        let socket = WriterSocket::begin(notes.rt, notes.alloc, stream, progress, last)?;
+        let positions = notes.positions.try_clone()?;
+        let socket = WriterSocket::begin(notes.rt, notes.alloc, stream, positions, last)?;
         let input = StreamInput::Socket(socket);
         open_source(notes.alloc, input, SOCKET_READ_SIZE, &notes.counters)
     }

@@ -23,31 +23,31 @@ const PATIENCE: u64 = 1;
 
 /// The positions up to which a stream was handed to rounds and was taken by them, and the last one that its writer was sent.
 #[derive(Drop)]
-pub(crate) struct Progress {
+pub(crate) struct StreamPositions {
     pub(crate) handed: Arc<Counter>,
     pub(crate) taken: Arc<Counter>,
     pub(crate) told: Arc<Counter>,
 }
 
-impl Progress {
-    /// The progress of a stream of which nothing was handed to rounds.
-    pub(crate) fn new(alloc: Global) -> Result<Progress, AllocError> {
+impl StreamPositions {
+    /// The positions of a stream of which nothing was handed to rounds.
+    pub(crate) fn new(alloc: Global) -> Result<StreamPositions, AllocError> {
         let handed = Arc::new(alloc, Counter::new())?;
         let taken = Arc::new(alloc, Counter::new())?;
         let told = Arc::new(alloc, Counter::new())?;
-        Ok(Progress {
+        Ok(StreamPositions {
             handed,
             taken,
             told,
         })
     }
 
-    /// Another handle of the same progress.
-    pub(crate) fn try_clone(&self) -> Result<Progress, AllocError> {
+    /// Another handle of the same positions.
+    pub(crate) fn try_clone(&self) -> Result<StreamPositions, AllocError> {
         let handed = Arc::try_clone(&self.handed)?;
         let taken = Arc::try_clone(&self.taken)?;
         let told = Arc::try_clone(&self.told)?;
-        Ok(Progress {
+        Ok(StreamPositions {
             handed,
             taken,
             told,
@@ -61,7 +61,7 @@ pub struct WriterSocket<R> {
     rt: R,
     alloc: Global,
     stream: UnixStream,
-    progress: Progress,
+    positions: StreamPositions,
     // When the writer was sent a position last.
     told_at: Option<Instant>,
     // Whether a read ends after a tenth of a second.
@@ -76,16 +76,16 @@ impl<R: Clock + Drop> WriterSocket<R> {
         rt: R,
         alloc: Global,
         stream: UnixStream,
-        progress: Progress,
+        positions: StreamPositions,
         last: u64,
     ) -> io::Result<WriterSocket<R>> {
         stream.set_write_timeout(Some(Duration::from_millis(PATIENCE)))?;
-        progress.told.set(last);
+        positions.told.set(last);
         let mut socket = WriterSocket {
             rt,
             alloc,
             stream,
-            progress,
+            positions,
             told_at: None,
             is_timed: false,
             is_told: true,
@@ -96,11 +96,11 @@ impl<R: Clock + Drop> WriterSocket<R> {
 
     /// Sends the writer the position that was taken, unless it was sent.
     pub(crate) fn tell_taken(&mut self) {
-        let taken = self.progress.taken.get();
-        if taken > self.progress.told.get() {
+        let taken = self.positions.taken.get();
+        if taken > self.positions.told.get() {
             self.told_at = Instant::now(&self.rt).ok();
             if self.tell(format_taken(self.alloc, taken)) {
-                self.progress.told.set(taken);
+                self.positions.told.set(taken);
             }
         }
     }
@@ -128,7 +128,7 @@ impl<R: Clock + Drop> WriterSocket<R> {
 
     // Sends the position that was taken, ten times a second at most.
     fn tell_in_time(&mut self) {
-        if self.progress.taken.get() > self.progress.told.get()
+        if self.positions.taken.get() > self.positions.told.get()
             && is_over(&self.rt, &self.told_at)
         {
             self.tell_taken();
@@ -137,8 +137,8 @@ impl<R: Clock + Drop> WriterSocket<R> {
 
     // Whether rounds have not taken all that was handed to them, or the writer was not sent what they took.
     fn is_behind(&self) -> bool {
-        let told = self.progress.told.get();
-        told < self.progress.handed.get() || told < self.progress.taken.get()
+        let told = self.positions.told.get();
+        told < self.positions.handed.get() || told < self.positions.taken.get()
     }
 
     // A read ends after a tenth of a second where there may be a position to send then.

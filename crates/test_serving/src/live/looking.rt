@@ -1,4 +1,4 @@
-//! A page and a get that are gone on with while rounds change the tablets: a look shows its tablet as its entry found it.
+//! A page and a get that are resumed while rounds change the tablets: a look shows its tablet as its entry found it.
 
 use crate::regions::{end, open_one};
 use pn_apply::Open;

@@ -38,7 +38,7 @@ impl LineHandler for Echo {
         Answer::Done(reply_to(alloc, part))
     }
 
-    // No line is gone on with.
+    // No line is resumed.
     fn go_on(&mut self, _alloc: Global, _going: Going, _records: usize) -> (Answer, usize) {
         (Answer::Done(Reply::Silent), 0)
     }

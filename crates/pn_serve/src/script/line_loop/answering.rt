@@ -38,7 +38,7 @@ impl LineLoop {
         parsed.saturating_add(self.take_answer(&*machine, answer, true))
     }
 
-    /// Goes on with a look. How many units that took.
+    /// Resumes a look. How many units that took.
     pub(super) fn look_on<M: LineHandler>(
         &mut self,
         machine: &mut M,

@@ -5,7 +5,7 @@ ghost use Rattle.std.specs.Io.KnownBytes.{IsAtEnd, Keeps};
 ghost use Rattle.pn_line.specs.Prelude.{so_far};
 ghost use Rattle.pn_line.specs.Reads.{HasMore, Takes, newline_after};
 ghost use Rattle.pn_line.specs.declared.line_buffer.TheConstants.{ENDLESS};
-ghost use Rattle.pn_serve.specs.Lines.Bounds.{CountsUnits, Foresees, ForeseesStep, HandsOnAtMost, HandsOnStep, IsIdleAt, IsOutAs, ReadsOn};
+ghost use Rattle.pn_serve.specs.Lines.Bounds.{CountsUnits, Foresees, ForeseesStep, HandsOnAtMost, HandsOnStep, IsWaitingAt, IsOutAs, ReadsOn};
 ghost use Rattle.pn_serve.specs.Lines.Faults.{EndsByAt, EndsByStep, StopsBy};
 ghost use Rattle.pn_serve.specs.Lines.Made.{MakesAtMost, made_by};
 ghost use Rattle.pn_serve.specs.Lines.States.{Start};
@@ -34,7 +34,7 @@ impl LineLoop {
         requires made { self.old.state.left ≡ [] }
         ensures steps { (start : Start M) (rest : Option (List ℕ)) → IsSteady M.reader M.moves → Stands (by M.moves M.makes M.ends M.goes M.goes_last) start (with_rest (S.left input.old) rest) (W.contents output.old) machine.old self.old
             → StepsTo (by M.moves M.makes M.ends M.goes M.goes_last) start (with_rest (S.left input.new) rest) (W.contents output.new) machine.new self.new result }
-        ensures idle { IsIdleAt result self.new }
+        ensures waiting { IsWaitingAt result self.new }
         ensures out { IsOutAs self.old (W.is_handed_on output.old) → IsOutAs self.new (W.is_handed_on output.new) }
         ensures handed_on { HandsOnStep result (W.is_handed_on output.new) }
         ensures few { HandsOnAtMost REPLY_CAPACITY self.old self.new }

@@ -53,7 +53,7 @@ impl LineLoop {
         }
     }
 
-    // Goes on with looks, and writes, until the loop reads or its end is decided. `S` is the source that it reads.
+    // Resumes looks, and writes, until the loop reads or its end is decided. `S` is the source that it reads.
     fn settle<M: LineHandler, S: Source, W: Sink>(
         &mut self,
         machine: &mut M,

@@ -25,7 +25,7 @@ impl LineLoop {
     /// Refuses a line whose bytes were not kept, where none of the next was read. How many units that took.
     pub fn refuse_skipped<M: RefusesSkipped>(&mut self, machine: &mut M, is_too_long: bool) -> u32
         requires reading { self.old.state.stage ≡ Stage.Reading }
-        requires idle { waits_in self.old ≡ [] }
+        requires sent { waits_in self.old ≡ [] }
         requires few { self.old.state.counts.lines < MAX_LINES }
         ensures stands { (start : Start M) (left written : Option (List ℕ)) (text : List ℕ) → IsSteady M.reader M.moves → IsSkippedLine is_too_long text → self.old.line ≡ so_far []
             → Stands (by M.moves M.makes M.ends M.goes M.goes_last) start (prepend_known (text ++ 10 ∷ []) left) written machine.old self.old
@@ -45,7 +45,7 @@ impl LineLoop {
     /// many units that took.
     pub fn end_skipped<M: RefusesSkipped>(&mut self, machine: &mut M, is_too_long: bool) -> u32
         requires reading { self.old.state.stage ≡ Stage.Reading }
-        requires idle { waits_in self.old ≡ [] }
+        requires sent { waits_in self.old ≡ [] }
         requires few { self.old.state.counts.lines < MAX_LINES }
         ensures stands { (start : Start M) (left written : Option (List ℕ)) (text : List ℕ) → IsSteady M.reader M.moves → IfSome start.left (λ _. left ≡ Some []) → IsSkippedLine is_too_long text → text ≢ [] → self.old.line ≡ so_far []
             → Stands (by M.moves M.makes M.ends M.goes M.goes_last) start (prepend_known text left) written machine.old self.old

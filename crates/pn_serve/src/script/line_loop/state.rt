@@ -31,7 +31,7 @@ pub struct LineState {
     // Whether the input is at its end.
     is_last: bool,
     counts: Counts,
-    // How many records were looked at by lookups that were gone on with, as far as that has 64 bits.
+    // How many records were looked at by lookups that were resumed, as far as that has 64 bits.
     looked: u64,
 }
 
@@ -40,7 +40,7 @@ pub struct LineState {
 pub(super) enum Stage {
     /// The input is read.
     Reading,
-    /// A look is gone on with.
+    /// A look is resumed.
     Looking(Going),
     /// The loop ends so, once its replies are out.
     Ending(Result<Counts, RunFault>),

@@ -46,7 +46,7 @@ impl LineLoop {
         requires made { self.old.state.left ≡ [] }
         ensures waits { WaitsTo self.old (W.contents output.old) self.new (W.contents output.new) result }
         ensures out { IsOutAs self.old (W.is_handed_on output.old) → IsOutAs self.new (W.is_handed_on output.new) }
-        ensures idle { result ≡ Step.NoInput → self.new.state.out ≡ true }
+        ensures flushed { result ≡ Step.NoInput → self.new.state.out ≡ true }
         ensures few { HandsOnAtMost REPLY_CAPACITY self.old self.new }
         ensures written { MakesAtMost 0 (W.contents output.old) (W.contents output.new) self.old.replies self.new.replies }
         ensures same { KeepsLine self.old self.new }

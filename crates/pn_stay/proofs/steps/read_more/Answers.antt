@@ -18,7 +18,7 @@ returns-in-Input-clause-steps g c = λ start written steady stands.
     let H = by g.M.LineHandler.moves g.M.LineHandler.makes g.M.LineHandler.ends g.M.LineHandler.goes g.M.LineHandler.goes_last in
     let lines = c.args.buffers.now.lines in
     let was = subst (λ (h : List ℕ). Stands H start (prepend_known h (g.R.Input.remaining c.args.input.now)) written c.args.machine.now lines) c.requires.empty stands in
-    Stands-came H start written c.args.machine.now lines c.requires.idle.0 [] (g.R.Input.remaining c.args.input.now) (g.R.Input.remaining c.read_from-read.new.input) c.read_from-read.new.self
+    Stands-came H start written c.args.machine.now lines c.requires.waiting.0 [] (g.R.Input.remaining c.args.input.now) (g.R.Input.remaining c.read_from-read.new.input) c.read_from-read.new.self
     (at_input c.read_from-read.result _ c.in-Input.ensures c.read_from-read.ensures.came) was
 
 pub returns-in-Nothing-clause-steps : goal.returns-in-Nothing-clause-steps
@@ -31,10 +31,10 @@ returns-in-Nothing-clause-steps g c = λ start written steady stands.
     let none : c.read_from-read.new.self ≡ [] = at_nothing c.read_from-read.result _ c.in-Nothing.ensures c.read_from-read.ensures.none in
     let kept : Keeps left leaves = at_nothing c.read_from-read.result _ c.in-Nothing.ensures c.read_from-read.ensures.kept in
     subst (λ (h : List ℕ). Stands H start (prepend_known h leaves) written c.args.machine.now lines) (sym none)
-    (Stands-came H start written c.args.machine.now lines c.requires.idle.0 [] left leaves [] (Consumes-nothing left leaves kept) was)
+    (Stands-came H start written c.args.machine.now lines c.requires.waiting.0 [] left leaves [] (Consumes-nothing left leaves kept) was)
 
 pub returns-in-Nothing-clause-waits : goal.returns-in-Nothing-clause-waits
-returns-in-Nothing-clause-waits g c = (c.requires.idle.1, c.requires.idle.0)
+returns-in-Nothing-clause-waits g c = (c.requires.waiting.1, c.requires.waiting.0)
 
 pub returns-in-End-clause-steps : goal.returns-in-End-clause-steps
 returns-in-End-clause-steps g c = λ start written steady stands.
@@ -46,8 +46,8 @@ returns-in-End-clause-steps g c = λ start written steady stands.
     let came : Consumes left leaves c.read_from-read.new.self = at_end c.read_from-read.result (λ _. Consumes left leaves c.read_from-read.new.self) c.in-End.ensures c.read_from-read.ensures.came in
     let end : (c.read_from-read.new.self ≡ []) × IsAtEnd leaves =
     at_end c.read_from-read.result (λ (more : Bool). more ≡ false → (c.read_from-read.new.self ≡ []) × IsAtEnd leaves) c.in-End.ensures c.read_from-read.ensures.end refl in
-    let here = Stands-came H start written c.args.machine.now lines c.requires.idle.0 [] left leaves [] (subst (λ (b : List ℕ). Consumes left leaves b) end.0 came) was in
-    let known = Ends-known H start written c.args.machine.now lines c.requires.idle.0 leaves end.1 here in
+    let here = Stands-came H start written c.args.machine.now lines c.requires.waiting.0 [] left leaves [] (subst (λ (b : List ℕ). Consumes left leaves b) end.0 came) was in
+    let known = Ends-known H start written c.args.machine.now lines c.requires.waiting.0 leaves end.1 here in
     let ended = c.end_input.ensures.stands start (prepend_known [] leaves) written steady known here in
     subst (λ (h : List ℕ). Stands H start (prepend_known h leaves) written c.end_input.new.machine c.end_input.new.self) (sym end.0) ended
 
@@ -60,7 +60,7 @@ returns-in-Fault-clause-steps g c = λ start written steady stands.
     let was = subst (λ (h : List ℕ). Stands H start (prepend_known h left) written c.args.machine.now lines) c.requires.empty stands in
     let none : c.read_from-read.new.self ≡ [] = at_fault c.read_from-read.result _ c.in-Fault.ensures c.read_from-read.ensures.none in
     let kept : Keeps left leaves = at_fault c.read_from-read.result _ c.in-Fault.ensures c.read_from-read.ensures.kept in
-    let ended = Steps-read_fault H steady.preorder start (prepend_known [] left) (prepend_known [] leaves) written c.args.machine.now lines c.requires.idle.0 was (Keeps-front [] left leaves kept) in
+    let ended = Steps-read_fault H steady.preorder start (prepend_known [] left) (prepend_known [] leaves) written c.args.machine.now lines c.requires.waiting.0 was (Keeps-front [] left leaves kept) in
     subst (λ (h : List ℕ). Stands H start (prepend_known h leaves) written c.args.machine.now c.end_by.new.self) (sym none)
     (subst (λ (r : LineLoopValue). Stands H start (prepend_known [] leaves) written c.args.machine.now r) (sym c.end_by.ensures) ended)
 
@@ -103,16 +103,16 @@ pub returns-in-End-clause-looked : goal.returns-in-End-clause-looked
 returns-in-End-clause-looked g c = end_looked c.args.buffers.now.lines c.end_input.new.self c.end_input.ensures.some c.end_input.ensures.none
 
 pub returns-in-Input-clause-read_fault : goal.returns-in-Input-clause-read_fault
-returns-in-Input-clause-read_fault g c = λ ends. absurd (reads_on Read _ c.requires.idle.0 ends)
+returns-in-Input-clause-read_fault g c = λ ends. absurd (reads_on Read _ c.requires.waiting.0 ends)
 
 pub returns-in-Input-clause-write_fault : goal.returns-in-Input-clause-write_fault
-returns-in-Input-clause-write_fault g c = λ ends. reads_on Write _ c.requires.idle.0 ends
+returns-in-Input-clause-write_fault g c = λ ends. reads_on Write _ c.requires.waiting.0 ends
 
 pub returns-in-Nothing-clause-read_fault : goal.returns-in-Nothing-clause-read_fault
-returns-in-Nothing-clause-read_fault g c = λ ends. absurd (reads_on Read _ c.requires.idle.0 ends)
+returns-in-Nothing-clause-read_fault g c = λ ends. absurd (reads_on Read _ c.requires.waiting.0 ends)
 
 pub returns-in-Nothing-clause-write_fault : goal.returns-in-Nothing-clause-write_fault
-returns-in-Nothing-clause-write_fault g c = λ ends. reads_on Write _ c.requires.idle.0 ends
+returns-in-Nothing-clause-write_fault g c = λ ends. reads_on Write _ c.requires.waiting.0 ends
 
 pub returns-in-End-clause-read_fault : goal.returns-in-End-clause-read_fault
 returns-in-End-clause-read_fault g c = λ ends. absurd (c.end_input.ensures.faults Read ends)

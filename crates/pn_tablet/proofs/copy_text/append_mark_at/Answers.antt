@@ -3,8 +3,8 @@ use Rattle.std.proofs.Common.{rules, ◌≡◌, ℕ, ◌+◌, ◌^◌, ◌<◌, 
 use Rattle.std.proofs.lemmas.Option.{slice_get_within}
 use Rattle.std.specs.List.{slice_get}
 use Rattle.pn_tablet.specs.Copies.{TabletCopyValue}
-use Rattle.pn_tablet.specs.CopyMaking.{IsCopyPlace, MakesLine}
-use Rattle.pn_tablet.specs.declared.copy_text.CopyPlace.TheVariants.{Image, Mark}
+use Rattle.pn_tablet.specs.CopyMaking.{IsCopyCursor, MakesLine}
+use Rattle.pn_tablet.specs.declared.copy_text.CopyCursor.TheVariants.{Image, Mark}
 use Rattle.pn_tablet.proofs.CopyMade.{first_content, mark_next, no_mark, same_line}
 use Rattle.pn_tablet.proofs.copy_text.append_mark_at.Goals as goal
 
@@ -12,10 +12,10 @@ pub overflow_add-result : goal.overflow_add-result
 overflow_add-result c =
     omega (arith, slice_get_within c.copy.inside.marks c.args.index (c.in-Some.name.now, c.in-Some.position.now) (sym c.in-Some.ensures.entry), c.recall_count.ensures)
 
-pub append_image_at-requires-clause-place : goal.append_image_at-requires-clause-place
-append_image_at-requires-clause-place c =
+pub append_image_at-requires-clause-cursor : goal.append_image_at-requires-clause-cursor
+append_image_at-requires-clause-cursor c =
     let copy : TabletCopyValue = record { range = c.copy.inside.range; marks = c.copy.inside.marks; cells = c.copy.inside.cells } in
-    subst (λ (of : TabletCopyValue). IsCopyPlace of (Image 0 0)) c.copy.view_is (first_content copy c.recall_table.ensures 0)
+    subst (λ (of : TabletCopyValue). IsCopyCursor of (Image 0 0)) c.copy.view_is (first_content copy c.recall_table.ensures 0)
 
 pub returns-in-Some : goal.returns-in-Some
 returns-in-Some c =

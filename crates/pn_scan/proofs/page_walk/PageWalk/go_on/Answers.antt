@@ -1,4 +1,4 @@
--- The look that is gone on with comes to the same rows.
+-- The look that is resumed comes to the same rows.
 use Rattle.std.proofs.Common.{◌<◌, [], ◌++◌, length, Option, Result, Err, refl, sym, ap, ◌∙◌, subst}
 use Rattle.std.specs.Prelude.{IfSome}
 use Rattle.std.proofs.lemmas.Result.{err_from_is_err_and}

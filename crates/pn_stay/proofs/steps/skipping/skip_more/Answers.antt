@@ -21,7 +21,7 @@ returns-in-Input-clause-steps g c = λ start written text steady part held stand
     let left = g.R.Input.remaining c.args.input.now in
     let leaves = g.R.Input.remaining c.read_from-read.new.input in
     c.skip_line.ensures.continues start leaves written text steady part (held_line old.skipped old.lines.line old.input text c.requires.some held)
-    (Stands-came H start written c.args.machine.now old.lines c.requires.idle.0 text left leaves c.read_from-read.new.self (at_input c.read_from-read.result _ c.in-Input.ensures c.read_from-read.ensures.came) stands)
+    (Stands-came H start written c.args.machine.now old.lines c.requires.waiting.0 text left leaves c.read_from-read.new.self (at_input c.read_from-read.result _ c.in-Input.ensures c.read_from-read.ensures.came) stands)
 
 pub returns-in-Nothing-clause-steps : goal.returns-in-Nothing-clause-steps
 returns-in-Nothing-clause-steps g c = λ start written text steady part held stands.
@@ -31,14 +31,14 @@ returns-in-Nothing-clause-steps g c = λ start written text steady part held sta
     let leaves = g.R.Input.remaining c.read_from-read.new.input in
     let none : c.read_from-read.new.self ≡ [] = at_nothing c.read_from-read.result _ c.in-Nothing.ensures c.read_from-read.ensures.none in
     let kept : Keeps left leaves = at_nothing c.read_from-read.result _ c.in-Nothing.ensures c.read_from-read.ensures.kept in
-    let came = Stands-came H start written c.args.machine.now old.lines c.requires.idle.0 text left leaves [] (Consumes-nothing left leaves kept) stands in (
+    let came = Stands-came H start written c.args.machine.now old.lines c.requires.waiting.0 text left leaves [] (Consumes-nothing left leaves kept) stands in (
       text,
       held_same old.skipped old.skipped old.lines.line old.lines.line old.input c.read_from-read.new.self text refl refl (none ∙ sym (held_none old.skipped old.lines.line old.input text c.requires.some held)) held,
       subst (λ (t : List ℕ). Stands H start (prepend_known t leaves) written c.args.machine.now old.lines) (append-nil text) came,
     )
 
 pub returns-in-Nothing-clause-waits : goal.returns-in-Nothing-clause-waits
-returns-in-Nothing-clause-waits g c = (c.requires.idle.1, c.requires.idle.0)
+returns-in-Nothing-clause-waits g c = (c.requires.waiting.1, c.requires.waiting.0)
 
 pub returns-in-End-clause-steps : goal.returns-in-End-clause-steps
 returns-in-End-clause-steps g c = λ start written text steady part held stands.
@@ -49,9 +49,9 @@ returns-in-End-clause-steps g c = λ start written text steady part held stands.
     let came : Consumes left leaves c.read_from-read.new.self = at_end c.read_from-read.result (λ _. Consumes left leaves c.read_from-read.new.self) c.in-End.ensures c.read_from-read.ensures.came in
     let end : (c.read_from-read.new.self ≡ []) × IsAtEnd leaves =
     at_end c.read_from-read.result (λ (more : Bool). more ≡ false → (c.read_from-read.new.self ≡ []) × IsAtEnd leaves) c.in-End.ensures c.read_from-read.ensures.end refl in
-    let here = Stands-came H start written c.args.machine.now old.lines c.requires.idle.0 text left leaves [] (subst (λ (b : List ℕ). Consumes left leaves b) end.0 came) stands in
+    let here = Stands-came H start written c.args.machine.now old.lines c.requires.waiting.0 text left leaves [] (subst (λ (b : List ℕ). Consumes left leaves b) end.0 came) stands in
     let over = subst (λ (t : List ℕ). Stands H start (prepend_known t leaves) written c.args.machine.now old.lines) (append-nil text) here in
-    let known = Ends-left H start written c.args.machine.now old.lines c.requires.idle.0 text leaves end.1 over in
+    let known = Ends-left H start written c.args.machine.now old.lines c.requires.waiting.0 text leaves end.1 over in
     let ended = c.end_skipped.ensures.stands start leaves written text steady known (part_line c.args.skipped.part text part) part.some (held_line old.skipped old.lines.line old.input text c.requires.some held) over in
     ([], sym end.0, Stands-alone H start written c.end_skipped.new.machine c.end_skipped.new.self leaves ended)
 
@@ -63,7 +63,7 @@ returns-in-Fault-clause-steps g c = λ start written text steady part held stand
     let leaves = g.R.Input.remaining c.read_from-read.new.input in
     let none : c.read_from-read.new.self ≡ [] = at_fault c.read_from-read.result _ c.in-Fault.ensures c.read_from-read.ensures.none in
     let kept : Keeps left leaves = at_fault c.read_from-read.result _ c.in-Fault.ensures c.read_from-read.ensures.kept in
-    let ended = Steps-read_fault H steady.preorder start (prepend_known text left) (prepend_known text leaves) written c.args.machine.now old.lines c.requires.idle.0 stands (Keeps-front text left leaves kept) in (
+    let ended = Steps-read_fault H steady.preorder start (prepend_known text left) (prepend_known text leaves) written c.args.machine.now old.lines c.requires.waiting.0 stands (Keeps-front text left leaves kept) in (
       text,
       held_same old.skipped old.skipped old.lines.line c.end_by.new.self.line old.input c.read_from-read.new.self text refl (ap (λ (r : LineLoopValue). r.line) c.end_by.ensures)
           (none ∙ sym (held_none old.skipped old.lines.line old.input text c.requires.some held)) held,
@@ -112,10 +112,10 @@ pub returns-in-Input-clause-write_fault : goal.returns-in-Input-clause-write_fau
 returns-in-Input-clause-write_fault g c = c.skip_line.ensures.write_fault
 
 pub returns-in-Nothing-clause-read_fault : goal.returns-in-Nothing-clause-read_fault
-returns-in-Nothing-clause-read_fault g c = λ ends. absurd (reads_on Read _ c.requires.idle.0 ends)
+returns-in-Nothing-clause-read_fault g c = λ ends. absurd (reads_on Read _ c.requires.waiting.0 ends)
 
 pub returns-in-Nothing-clause-write_fault : goal.returns-in-Nothing-clause-write_fault
-returns-in-Nothing-clause-write_fault g c = λ ends. reads_on Write _ c.requires.idle.0 ends
+returns-in-Nothing-clause-write_fault g c = λ ends. reads_on Write _ c.requires.waiting.0 ends
 
 pub returns-in-End-clause-read_fault : goal.returns-in-End-clause-read_fault
 returns-in-End-clause-read_fault g c = λ ends. absurd (c.end_skipped.ensures.faults Read ends)

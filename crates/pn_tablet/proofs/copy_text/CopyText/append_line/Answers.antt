@@ -1,11 +1,11 @@
--- The line of the place that the text is at.
+-- The line of the cursor that the text is at.
 use Rattle.std.proofs.Common.{ap, subst}
 use Rattle.pn_json.specs.AppendedText.{MakesPiece}
 use Rattle.pn_tablet.specs.CopyMaking.{CopyTextValue, copy_rest}
 use Rattle.pn_tablet.proofs.copy_text.CopyText.append_line.Goals as goal
 
 pub invariant_of-self : goal.invariant_of-self
-invariant_of-self c = record { form_is = c.self.invariant.form_is; lines_are = c.self.invariant.lines_are; place_is = c.append_next-self-inside.ensures.place_is }
+invariant_of-self c = record { form_is = c.self.invariant.form_is; lines_are = c.self.invariant.lines_are; cursor_is = c.append_next-self-inside.ensures.cursor_is }
 
 pub returns-clause-line : goal.returns-clause-line
 returns-clause-line c =

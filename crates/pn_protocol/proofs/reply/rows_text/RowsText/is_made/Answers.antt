@@ -5,4 +5,4 @@ use Rattle.pn_protocol.proofs.MadeRows.{made_where}
 use Rattle.pn_protocol.proofs.reply.rows_text.RowsText.is_made.Goals as goal
 
 pub returns : goal.returns
-returns c = subst (λ (left : List ℕ). IsTrue c.is_end.result ↔ (left ≡ [])) c.self.view_is (made_where c.self.inside.shown c.self.inside.place c.is_end.result c.is_end.ensures)
+returns c = subst (λ (left : List ℕ). IsTrue c.is_end.result ↔ (left ≡ [])) c.self.view_is (made_where c.self.inside.shown c.self.inside.cursor c.is_end.result c.is_end.ensures)

@@ -1,4 +1,4 @@
--- No line is gone on with, so nothing is looked at.
+-- No line is resumed, so nothing is looked at.
 use Rattle.pn_serve.proofs.Knowing.{knows_itself}
 use Rattle.pn_serve.proofs.control.handler.ControlHandlerLineHandler.go_on.Goals as goal
 

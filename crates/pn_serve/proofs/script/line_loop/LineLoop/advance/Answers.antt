@@ -59,7 +59,7 @@ returns-in-NoInput-clause-runs g c =
     let r = c.in-NoInput.ensures.reads c.requires.settled in
     λ start steady stands.
     let stood = Stands-here (by M.moves M.makes M.ends M.goes M.goes_last) steady.preorder start after c.step.new.machine mid leaves (c.in-NoInput.ensures.steps start (Some []) steady (Stands-whole (by M.moves M.makes M.ends M.goes M.goes_last) steady.preorder start before c.args.machine.now old left stands)) in
-    let ended = at_end_of (by M.moves M.makes M.ends M.goes M.goes_last) steady.preorder start left leaves before after c.args.machine.now c.step.new.machine old mid r.0 c.in-NoInput.ensures.idle.0 stands stood (c.in-NoInput.ensures.at_end refl) in
+    let ended = at_end_of (by M.moves M.makes M.ends M.goes M.goes_last) steady.preorder start left leaves before after c.args.machine.now c.step.new.machine old mid r.0 c.in-NoInput.ensures.waiting.0 stands stood (c.in-NoInput.ensures.at_end refl) in
     c.settle-in-NoInput.ensures.runs start leaves steady (c.end_input.ensures.stands start leaves after steady ended stood)
 
 pub returns-in-NoInput-clause-reads : goal.returns-in-NoInput-clause-reads
@@ -86,7 +86,7 @@ pub returns-in-NoInput-clause-foresees : goal.returns-in-NoInput-clause-foresees
 returns-in-NoInput-clause-foresees g c =
     λ was.
     foresees_run g.S.Source.may_fail g.W.Sink.may_fail g.S.Source.may_end c.end_input.new.self c.settle-in-NoInput.new.self c.settle-in-NoInput.result c.settle-in-NoInput.ensures.foresees c.settle-in-NoInput.ensures.fault
-    (end_foresees g.S.Source.may_fail g.W.Sink.may_fail g.S.Source.may_end c.step.new.self c.end_input.new.self (c.in-NoInput.ensures.foresees was) c.in-NoInput.ensures.idle.0 (c.in-NoInput.ensures.end refl) c.end_input.ensures.some c.end_input.ensures.none)
+    (end_foresees g.S.Source.may_fail g.W.Sink.may_fail g.S.Source.may_end c.step.new.self c.end_input.new.self (c.in-NoInput.ensures.foresees was) c.in-NoInput.ensures.waiting.0 (c.in-NoInput.ensures.end refl) c.end_input.ensures.some c.end_input.ensures.none)
 
 pub returns-in-NoInput-clause-knows : goal.returns-in-NoInput-clause-knows
 returns-in-NoInput-clause-knows g c =

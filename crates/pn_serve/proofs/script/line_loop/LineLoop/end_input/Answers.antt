@@ -23,7 +23,7 @@ returns-clause-stands g c =
     ∙ ap (λ (r : LineLoopValue). let m : LineLoopValue = record r { line = so_far []; state = record r.state { last = true } } in m) c.self.view_is
     ∙ ap (λ (r : LineLoopValue). let m : LineLoopValue = record r { state = record r.state { last = true } } in m) (part_kept old c.has_part-is_line.new.self test has.some has.none) in
     λ start left written steady ended stands.
-    Steps-end (by M.moves M.makes M.ends M.goes M.goes_last) steady.preorder start left written c.args.machine.now c.answer_end-answer.new.self old new test ended c.requires.reading stands (waits_none old.replies old.state.left c.requires.idle).1 c.requires.below
+    Steps-end (by M.moves M.makes M.ends M.goes M.goes_last) steady.preorder start left written c.args.machine.now c.answer_end-answer.new.self old new test ended c.requires.reading stands (waits_none old.replies old.state.left c.requires.sent).1 c.requires.below
     (λ yes. (has.some yes).1) (λ no. (has.none no).1) (subst (λ (r : LineLoopValue). Takes test r new) mid_is c.take_answer.ensures.takes)
     (λ text is. subst (λ (r : LineLoopValue). TakesLine (AnswersLast M.ends M.goes_last) test c.args.machine.now text c.answer_end-answer.new.self r new) mid_is
     (c.take_answer.ensures.last c.args.machine.now c.answer_end-answer.new.self text

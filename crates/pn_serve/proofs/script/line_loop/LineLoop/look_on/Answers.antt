@@ -1,4 +1,4 @@
--- A look was gone on with, and what it looked at is counted.
+-- A look was resumed, and what it looked at is counted.
 use Rattle.std.proofs.Common.{◌+◌, ◌-◌, ◌^◌, length, min, true, ap, ◌∙◌, subst, arith}
 use Rattle.pn_serve.specs.Lines.Going.{AnswersLast, AnswersWith}
 use Rattle.pn_serve.specs.Lines.States.{LineLoopValue, LineStateValue}

@@ -19,7 +19,7 @@ use Rattle.pn_serve.specs.Lines.Made.{MakesAtMost, made_by, made_in}
 use Rattle.pn_serve.specs.Lines.States.{LineLoopValue, LineStateValue}
 use Rattle.pn_serve.specs.Lines.Stepping.{StepsTo, by, with_rest}
 use Rattle.pn_serve.specs.Lines.Taking.{Takes, TakesLine}
-use Rattle.pn_serve.proofs.Bounded.{counts_nothing, is_not_last, out_of, piece_foresees, sends_counted, shown_rest, stops_foresees, takes_foresees, takes_grows, takes_lines, takes_looked, takes_out, waits_counted, waits_foresees, waits_idle}
+use Rattle.pn_serve.proofs.Bounded.{counts_nothing, is_not_last, out_of, piece_foresees, sends_counted, shown_rest, stops_foresees, takes_foresees, takes_grows, takes_lines, takes_looked, takes_out, waits_counted, waits_foresees, waits_for_input}
 use Rattle.pn_serve.proofs.Faults.{ends_by_found, reads_on, sends_failed, sends_next_on, sends_no_read, takes_on, waits_failed, waits_no_next, waits_no_read}
 use Rattle.pn_serve.proofs.Knowing.{knows_itself}
 use Rattle.pn_serve.proofs.Made.{makes_none, makes_unwritten}
@@ -207,9 +207,9 @@ returns-in-Ok-NoMore-clause-reads g c =
 pub returns-in-Ok-NoMore-clause-waits : goal.returns-in-Ok-NoMore-clause-waits
 returns-in-Ok-NoMore-clause-waits g c = λ more out. let no : true ≡ false = sym c.if-not-may_read.false ∙ c.may_read.ensures ∙ ap₂ (λ a b. a || b) more out in cc
 
-pub returns-in-Ok-NoMore-clause-idle : goal.returns-in-Ok-NoMore-clause-idle
-returns-in-Ok-NoMore-clause-idle g c =
-    waits_idle c.read_piece.new.self c.wait_for_input.new.self _ _ c.wait_for_input.result (read_none g c) (c.in-Ok-NoMore.ensures.below (λ part. let no : NoMore ≡ Part = sym c.in-Ok-NoMore.field-0-is ∙ part in cc)) c.wait_for_input.ensures.idle c.wait_for_input.ensures.waits
+pub returns-in-Ok-NoMore-clause-waiting : goal.returns-in-Ok-NoMore-clause-waiting
+returns-in-Ok-NoMore-clause-waiting g c =
+    waits_for_input c.read_piece.new.self c.wait_for_input.new.self _ _ c.wait_for_input.result (read_none g c) (c.in-Ok-NoMore.ensures.below (λ part. let no : NoMore ≡ Part = sym c.in-Ok-NoMore.field-0-is ∙ part in cc)) c.wait_for_input.ensures.flushed c.wait_for_input.ensures.waits
 
 pub returns-in-Ok-NoMore-clause-out : goal.returns-in-Ok-NoMore-clause-out
 returns-in-Ok-NoMore-clause-out g c = λ is. c.wait_for_input.ensures.out (subst (λ (r : LineLoopValue). IsOutAs r (g.W.Sink.is_handed_on c.args.output.now)) (sym c.read_piece.ensures.line) is)

@@ -12,7 +12,7 @@ use Rattle.pn_serve.proofs.script.line_loop.LineLoop.refuse_skipped.Goals as goa
 pub take_answer-requires-clause-made : goal.take_answer-requires-clause-made
 take_answer-requires-clause-made g c =
     let old = c.args.self.now in
-    ap (λ (s : LineStateValue). s.left) c.set_more.ensures ∙ ap (λ (r : LineLoopValue). r.state.left) c.self.view_is ∙ (waits_none old.replies old.state.left c.requires.idle).1
+    ap (λ (s : LineStateValue). s.left) c.set_more.ensures ∙ ap (λ (r : LineLoopValue). r.state.left) c.self.view_is ∙ (waits_none old.replies old.state.left c.requires.sent).1
 
 pub returns-clause-stands : goal.returns-clause-stands
 returns-clause-stands g c =
@@ -23,7 +23,7 @@ returns-clause-stands g c =
     let mid_is = begun_as c.self.inside.line c.start.new.self c.self.inside.replies c.self.inside.state c.set_more.new.self (λ (s : LineStateValue). record s { more = false }) old c.start.ensures c.set_more.ensures c.self.view_is in
     λ start left written text steady skipped empty stands.
     Steps-skipped (by M.moves M.makes M.ends M.goes M.goes_last) steady.preorder start left written c.args.machine.now old c.requires.reading text empty now new c.args.is_too_long skipped c.requires.few
-    (waits_none old.replies old.state.left c.requires.idle).1 stands (subst (λ (r : LineLoopValue). Takes true r new) mid_is c.take_answer.ensures.takes)
+    (waits_none old.replies old.state.left c.requires.sent).1 stands (subst (λ (r : LineLoopValue). Takes true r new) mid_is c.take_answer.ensures.takes)
     (λ other same. subst (λ (r : LineLoopValue). TakesLine (AnswersWith M.makes M.goes) true c.args.machine.now other now r new) mid_is
     (c.take_answer.ensures.line c.args.machine.now now other (c.refuse_skipped-reply.ensures.lines other same)))
 

@@ -1,4 +1,4 @@
--- Text is written to its end, a look is gone on with, or nothing is left of either.
+-- Text is written to its end, a look is resumed, or nothing is left of either.
 use Rattle.std.proofs.Common.{◌≡◌, true, sym, ap, ◌∙◌, subst, arith}
 use Rattle.std.specs.Prelude.{Result, Err}
 use Rattle.pn_serve.specs.declared.script.RunFault.{RunFault}

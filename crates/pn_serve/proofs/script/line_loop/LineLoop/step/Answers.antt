@@ -13,7 +13,7 @@ use Rattle.pn_serve.specs.Lines.Made.{MakesAtMost, made_by, made_in}
 use Rattle.pn_serve.specs.Lines.States.{LineLoopValue, LineStateValue, with_looked}
 use Rattle.pn_serve.specs.Lines.Stepping.{Stands, StandsAt, by, with_rest}
 use Rattle.pn_serve.specs.Lines.Taking.{EndsTo, Takes, TakesLine}
-use Rattle.pn_serve.proofs.Bounded.{counts_nothing, ends_counted, ends_foresees, ends_idle, ends_no_input, sends_foresees, takes_foresees, takes_grows, takes_line, takes_lines, takes_out}
+use Rattle.pn_serve.proofs.Bounded.{counts_nothing, ends_counted, ends_foresees, ends_waiting, ends_no_input, sends_foresees, takes_foresees, takes_grows, takes_line, takes_lines, takes_out}
 use Rattle.pn_serve.proofs.Faults.{ends_no_turn, ends_read, ends_write, sends_next, sends_read, sends_write, takes_on}
 use Rattle.pn_serve.proofs.Knowing.{knows_itself}
 use Rattle.pn_serve.proofs.Looked.{same_look}
@@ -129,7 +129,7 @@ returns-in-Reading-clause-write_stage g c = λ units is ends. absurd (c.read_on.
 pub returns-in-Reading-clause-begun : goal.returns-in-Reading-clause-begun
 returns-in-Reading-clause-begun g c = λ none empty. c.read_on.ensures.begun none (ap (λ (r : LineLoopValue). r.line) (as_was g c) ∙ empty)
 
--- ---- a look is gone on with: an answer is taken by a loop that reads, and has counted the records
+-- ---- a look is resumed: an answer is taken by a loop that reads, and has counted the records
 
 looking : (g : _) (c : goal.After-look_on g) → c.args.self.now.state.stage ≡ Looking c.in-Looking.going
 looking g c = sym (ap (λ (r : LineLoopValue). r.state.stage) c.self.view_is) ∙ sym c.take_stage.ensures.stage ∙ c.in-Looking.is
@@ -234,8 +234,8 @@ returns-in-Ending-clause-steps g c =
     λ start rest steady stands. Steps-ended (by M.moves M.makes M.ends M.goes M.goes_last) steady.preorder start (with_rest left rest) before _ c.args.machine.now (in_stage old Reading) c.end_once_out.new.self c.in-Ending.ended
     (subst (λ (s : Stage). StandsAt (by M.moves M.makes M.ends M.goes M.goes_last) s start (with_rest left rest) before c.args.machine.now old) (ending g c) stands) c.end_once_out.result (ends g c)
 
-pub returns-in-Ending-clause-idle : goal.returns-in-Ending-clause-idle
-returns-in-Ending-clause-idle g c = ends_idle (in_stage c.args.self.now Reading) c.end_once_out.new.self _ _ c.in-Ending.ended c.end_once_out.result (ends g c)
+pub returns-in-Ending-clause-waiting : goal.returns-in-Ending-clause-waiting
+returns-in-Ending-clause-waiting g c = ends_waiting (in_stage c.args.self.now Reading) c.end_once_out.new.self _ _ c.in-Ending.ended c.end_once_out.result (ends g c)
 
 pub returns-in-Ending-clause-out : goal.returns-in-Ending-clause-out
 returns-in-Ending-clause-out g c = λ was out. let all = c.end_once_out.ensures.out out in (all.0, inr all.1)

@@ -1,4 +1,4 @@
--- A page, a get and a copy that are gone on with.
+-- A page, a get and a copy that are resumed.
 use Rattle.std.proofs.Common.{◌≤◌, ◌*◌, refl, sym, subst, arith}
 use Rattle.pn_scan.specs.Paging.{Stays}
 use Rattle.pn_serve.specs.declared.sessions.going.Going.{Going}
