@@ -2,6 +2,7 @@
 use Rattle.std.specs.Prelude.{◌≡◌, ◌⊎◌, ◌<◌, ◌≤◌, ℕ, ◌+◌, ◌-◌, ◌*◌, ◌^◌, Bool, true, false, if◌then◌else◌, [], length, max, min, Option, None, Some, Result, Ok, Err}
 use Rattle.pn_line.specs.declared.line_buffer.TheConstants.{ENDLESS}
 use Rattle.pn_live.specs.declared.reader.TheConstants.{ENTRY_RECORDS}
+use Rattle.pn_protocol.specs.declared.reply.text.TheConstants.{MAX_PIECE_BYTES}
 use Rattle.pn_serve.specs.declared.script.Counts.{Counts}
 use Rattle.pn_serve.specs.declared.script.RunFault.{RunFault}
 use Rattle.pn_serve.specs.declared.script.RunFault.TheVariants.{Read, Write, TooManyTurns, Memory}
@@ -9,7 +10,7 @@ use Rattle.pn_serve.specs.declared.script.TheConstants.{MAX_LINES}
 use Rattle.pn_serve.specs.declared.script.line_loop.state.Stage.{Stage}
 use Rattle.pn_serve.specs.declared.script.line_loop.state.Stage.TheVariants.{Reading, Looking, Ending}
 use Rattle.pn_serve.specs.declared.script.line_loop.steps.Step.{Step}
-use Rattle.pn_serve.specs.declared.script.line_loop.steps.TheConstants.{UNIT_RECORDS}
+use Rattle.pn_serve.specs.declared.script.line_loop.steps.TheConstants.{UNIT_BYTES, UNIT_RECORDS}
 use Rattle.pn_serve.specs.declared.script.line_loop.steps.Step.TheVariants.{Next, NoInput, NoRoom, Ends}
 use Rattle.pn_serve.specs.Lines.States.{LineLoopValue, waits_in}
 use Rattle.pn_serve.specs.Lines.Waiting.{HandsOn}
@@ -49,7 +50,7 @@ one_unless false = 1
 abbrev pub LooksAtMost : ℕ → LineLoopValue → LineLoopValue → Type 0
 LooksAtMost most old new = new.state.looked ≤ old.state.looked + most
 
--- the most records that a step looks at which may use so many units: as many as these count, or as one entry goes over
+-- the most records that a step with these units looks at: as many as they count, or as one entry goes over
 abbrev pub records_in : ℕ → ℕ
 records_in units = max (UNIT_RECORDS * units) ENTRY_RECORDS
 
@@ -72,7 +73,7 @@ CountsNothing old new = (new.state.counts.lines ≤ old.state.counts.lines) × (
 
 -- what a step did is counted: a line, and the bytes of a line or of replies; where it waits or ends it did nothing of that
 abbrev pub CountsUnits : LineLoopValue → LineLoopValue → Step → Type 0
-CountsUnits old new (Next units) = (new.state.counts.lines ≤ old.state.counts.lines + 1) × (old.line.count + length new.replies ≤ new.line.count + length old.replies + 1024 * (units + 1) + 65536)
+CountsUnits old new (Next units) = (new.state.counts.lines ≤ old.state.counts.lines + 1) × (old.line.count + length new.replies ≤ new.line.count + length old.replies + UNIT_BYTES * (units + 1) + MAX_PIECE_BYTES)
 CountsUnits old new NoInput = CountsNothing old new
 CountsUnits old new NoRoom = CountsNothing old new
 CountsUnits old new (Ends ended) = CountsNothing old new

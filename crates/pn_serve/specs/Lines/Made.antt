@@ -11,7 +11,7 @@ pub record AppendsAtMost (most : ℕ) (before after : Option (List ℕ)) : Type 
   pub appends : Appends before after written
   pub few : length written ≤ most
 
--- at most this number of bytes was made: so many more were written or wait now than waited before
+-- at most this number of bytes was made: written, or waiting beyond what waited before
 pub record MakesAtMost (most : ℕ) (before after : Option (List ℕ)) (waited waits : List ℕ) : Type 0 where
   pub written : List ℕ
   pub appends : Appends before after written

@@ -40,10 +40,10 @@ pub struct Watchers {
     pub controls: Option<Arc<ControlMailboxes>>,
 }
 
-/// Reads streams into a live region, each after its mark, until all have ended, or a control session asks the server to stop, at most 1,000 messages
-/// of each a round. Between two rounds it does what control sessions ask for. A stream's fault ends that stream alone. Where
-/// memory runs out, a round waits, or a stream's message, and is tried again after a second. The fault is `Start`, or `Round` where there are too many
-/// streams, after which no stream is read. Rounds are counted where somebody looks at the count.
+/// Reads streams into a live region, each after its mark, until all have ended or a control session asks the server to stop: at
+/// most 1,000 messages of each a round. Between two rounds it does what control sessions ask for. A stream's fault ends that
+/// stream alone. Where memory runs out, a round or a stream's message waits, and is tried again after a second. The fault is
+/// `Start`, or `Round` where there are too many streams, after which no stream is read.
 pub fn read_streams<R, S, O>(
     rt: &R,
     alloc: Global,
@@ -99,7 +99,7 @@ where
     Ok(mailboxes)
 }
 
-// No mailbox, with capacity for those of this many streams. A report wakes whom a command wakes.
+// No mailbox, with capacity for those of this many streams. Reports and commands wake the same thread.
 fn new_mailboxes(
     alloc: Global,
     streams: usize,

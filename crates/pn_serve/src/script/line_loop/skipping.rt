@@ -61,8 +61,8 @@ impl LineLoop {
         self.take_answer(&*machine, Answer::Done(last), true)
     }
 
-    /// A line whose bytes were not kept is as long as one may be, or comes after as many as may be answered: the loop ends so, once
-    /// its replies are written.
+    /// A line whose bytes were not kept is as long as a line may be, or comes after the last line that may be answered: the loop
+    /// ends by that, once its replies are written.
     pub fn stop_skipped<M: LineHandler>(&mut self, _machine: &M)
         requires reading { self.old.state.stage ≡ Stage.Reading }
         ensures ends { self.new ≡ record self.old { state = record self.old.state { stage = Stage.Ending (Err RunFault.TooManyTurns) } } }

@@ -1,4 +1,4 @@
--- The bytes are the first, and the others behind them stay.
+-- The bytes are the first, and the others after them stay.
 use Rattle.std.proofs.Common.{ℕ, List, ◌++◌, length, take, drop, ap, ◌∙◌}
 use Rattle.std.proofs.Math.Seq.{take-append_seam}
 use Rattle.pn_stay.proofs.input_buffer.copy_to_front.Goals as goal
