@@ -11,9 +11,9 @@ import (
 
 // An address says where a region is, and what opens a connection to it.
 type address struct {
-	network, place string
-	dialer         interface {
-		DialContext(ctx context.Context, network, place string) (net.Conn, error)
+	network, target string
+	dialer          interface {
+		DialContext(ctx context.Context, network, target string) (net.Conn, error)
 	}
 }
 
@@ -30,9 +30,9 @@ func addressOf(text string, configuration *tls.Config) (address, error) {
 	if port == "" {
 		port = "7070"
 	}
-	place := net.JoinHostPort(parts.Hostname(), port)
+	target := net.JoinHostPort(parts.Hostname(), port)
 	if parts.Scheme == "tls" {
-		return address{"tcp", place, &tls.Dialer{Config: configuration}}, nil
+		return address{"tcp", target, &tls.Dialer{Config: configuration}}, nil
 	}
-	return address{"tcp", place, &net.Dialer{}}, nil
+	return address{"tcp", target, &net.Dialer{}}, nil
 }

@@ -34,7 +34,7 @@ func TestAddresses(t *testing.T) {
 		where, err := addressOf(text, nil)
 		same(t, text, err == nil, wanted != "")
 		if err == nil {
-			same(t, text, where.network+" "+where.place, wanted)
+			same(t, text, where.network+" "+where.target, wanted)
 			_, isTLS := where.dialer.(*tls.Dialer)
 			same(t, text, isTLS, text[:3] == "tls")
 		}

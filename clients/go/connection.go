@@ -55,7 +55,7 @@ func newConnection() *connection {
 func (c *connection) run(where address, timeout time.Duration) {
 	opening, stop := context.WithTimeout(c.ended, timeout)
 	defer stop()
-	socket, err := where.dialer.DialContext(opening, where.network, where.place)
+	socket, err := where.dialer.DialContext(opening, where.network, where.target)
 	if err != nil {
 		c.end(&ConnectionFailed{err})
 		return
@@ -70,7 +70,8 @@ func (c *connection) run(where address, timeout time.Duration) {
 // end ends the connection. Calls without a reply fail with the first fault.
 func (c *connection) end(fault error) { c.ending.Do(func() { c.fault = fault; c.cancel() }) }
 
-// ask sends a line, and waits for its reply. A call that gives up leaves its place, so that later replies find theirs.
+// ask sends a line, and waits for its reply. A call that gives up is still counted among those that wait, so that each later
+// reply goes to its own call.
 func (c *connection) ask(ctx context.Context, asked *call) (received, error) {
 	c.calls.Add(1)
 	defer c.calls.Add(-1)

@@ -34,16 +34,16 @@ func (r *Regions) indexOf(key string) int {
 
 // Get is as that of a client, of all regions that have some of the keys, at once.
 func (r *Regions) Get(ctx context.Context, keys []string) ([]*Record, error) {
-	found, places, shares := make([]*Record, len(keys)), make([][]int, len(r.clients)), make([][]string, len(r.clients))
-	for place, key := range keys {
+	found, indexes, shares := make([]*Record, len(keys)), make([][]int, len(r.clients)), make([][]string, len(r.clients))
+	for index, key := range keys {
 		region := r.indexOf(key)
-		places[region] = append(places[region], place)
+		indexes[region] = append(indexes[region], index)
 		shares[region] = append(shares[region], key)
 	}
 	return found, together(len(r.clients), func(region int) error {
 		records, err := r.clients[region].Get(ctx, shares[region])
-		for at, place := range places[region] {
-			found[place] = records[at]
+		for at, index := range indexes[region] {
+			found[index] = records[at]
 		}
 		return err
 	})

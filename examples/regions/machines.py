@@ -243,7 +243,7 @@ class Machine:
     def control_line(self, name: str, *words: Word) -> list[Word]:
         return [sys.executable, "-m", "pnuts_client.ctl", "--control", self.path(name, "control"), *words]
 
-    def place(self, name: str) -> str:
+    def region_address(self, name: str) -> str:
         """Where others ask for the region of a range."""
         return f"tls://{self.address}:{PROXY_PORT + RANGES.index(name)}"
 

@@ -56,7 +56,7 @@ def lose_tablet(machine: Machine, peer: Machine, near: Near) -> float:
         with Control(f"unix:{machine.path('high', 'control')}") as region:
             region.lose(LOST)
         until("readers are told of the loss", lambda: near.recovering > 0)
-        machine.run_region("high", "recover", str(LOST), "--from", peer.place("high"), *SHOWN)
+        machine.run_region("high", "recover", str(LOST), "--from", peer.region_address("high"), *SHOWN)
         back, before = time.monotonic() - start, near.reads
         until("readers are shown records again", lambda: near.reads > before + len(KEYS))
         return back
@@ -72,8 +72,8 @@ def join(new: Machine, peers: Sequence[Machine], is_level: Callable[[str], bool]
     for name in RANGES:
         # The feed counts on from a pair of its neighbour, which is older than the copies.
         shutil.copy(peers[0].path(name, "pairs"), new.path(name, "pairs"))
-        places = [word for peer in peers for word in ("--from", peer.place(name))]
-        new.run_region(name, "save", new.path(name, "copies"), *places, *SHOWN)
+        sources = [word for peer in peers for word in ("--from", peer.region_address(name))]
+        new.run_region(name, "save", new.path(name, "copies"), *sources, *SHOWN)
         new.start_feed(name)
         new.start_region(name)
         new.keep_copies(name)

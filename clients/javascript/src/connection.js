@@ -27,8 +27,8 @@ export class Connection {
   }
 
   /**
-   * The reply to a line, within milliseconds. A call that gives up leaves its place, so that later replies find theirs.
-   * Where nothing came meanwhile, the connection ends.
+   * The reply to a line, within milliseconds. A call that gives up is still counted among those that wait, so that each
+   * later reply goes to its own call. Where nothing came meanwhile, the connection ends.
    */
   ask(line, hasLines, milliseconds) {
     return new Promise((resolve, reject) => {

@@ -27,10 +27,10 @@ export class Regions {
   async get(keys) {
     const found = new Array(keys.length);
     const shares = new Map(this.#clients.map((client) => [client, []]));
-    keys.forEach((key, place) => shares.get(this.of(key)).push(place));
-    const take = async ([client, places]) => {
-      const records = await client.get(places.map((place) => keys[place]));
-      records.forEach((record, at) => (found[places[at]] = record));
+    keys.forEach((key, index) => shares.get(this.of(key)).push(index));
+    const take = async ([client, indexes]) => {
+      const records = await client.get(indexes.map((index) => keys[index]));
+      records.forEach((record, at) => (found[indexes[at]] = record));
     };
     await Promise.all([...shares].map(take));
     return found;

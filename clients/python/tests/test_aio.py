@@ -55,7 +55,7 @@ class OfOthers(unittest.IsolatedAsyncioTestCase):
             async with AsyncClient(f"tcp://127.0.0.1:{port}") as client:
                 self.assertIsNone(await client.read("k"))
 
-    async def test_a_caller_that_gives_up_leaves_its_place(self) -> None:
+    async def test_a_call_that_gives_up_is_still_counted(self) -> None:
         late = '{"row":{"contents":[{"deleted":true,"master":"w"}],"key":"k","state":"deleted","version":[1,1]}}\n'
 
         def serve(connection: object) -> None:

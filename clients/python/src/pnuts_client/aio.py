@@ -127,7 +127,10 @@ class _Connection:
         return len(self._pipeline)
 
     async def reply(self, request: Request[Any]) -> Any:
-        """The reply to a request. A caller that gives up leaves its place, so that later replies find theirs."""
+        """The reply to a request.
+
+        A call that gives up is still counted among those that wait, so that each later reply goes to its own call.
+        """
         writer = await self._opened()
         answer: asyncio.Future[Any] = asyncio.get_running_loop().create_future()
         writer.write(self._pipeline.send(request, answer))

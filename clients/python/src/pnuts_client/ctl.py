@@ -75,7 +75,7 @@ def parser() -> argparse.ArgumentParser:
     stopped = command(stop_region, "stop", "end the region once all lines that have come are answered, and wait for that")
     stopped.add_argument("--seconds", type=int, default=10, metavar="N", help="end it after so many at most, 0 to 60 (default: %(default)s)")
     shown = command(export, "exporter", "show the region to people at /, to Prometheus at /metrics, and to load balancers at /healthz (needs python3-prometheus-client)")
-    shown.add_argument("--listen", type=_place, default=("127.0.0.1", 9107), metavar="ADDRESS:PORT", help="where (default: 127.0.0.1:9107)")
+    shown.add_argument("--listen", type=_address, default=("127.0.0.1", 9107), metavar="ADDRESS:PORT", help="where (default: 127.0.0.1:9107)")
     shown.add_argument("--silence", type=int, metavar="SECONDS", help="/healthz is 503 also where a stream brought nothing for longer")
     return words
 
@@ -104,7 +104,7 @@ def _seconds(text: str) -> float:
     return seconds
 
 
-def _place(text: str) -> tuple[str, int]:
+def _address(text: str) -> tuple[str, int]:
     """A host and a port."""
     host, _, port = text.rpartition(":")
     if not host or not port.isdecimal() or int(port) > 65_535:

@@ -158,17 +158,17 @@ class Server(ThreadingMixIn, WSGIServer):
     """Answers some clients at once, each by a thread."""
 
     daemon_threads = True
-    _places = threading.BoundedSemaphore(CLIENTS)
+    _permits = threading.BoundedSemaphore(CLIENTS)
 
     def process_request(self, request: Any, address: Any) -> None:
-        self._places.acquire()
+        self._permits.acquire()
         super().process_request(request, address)
 
     def process_request_thread(self, request: Any, address: Any) -> None:
         try:
             super().process_request_thread(request, address)
         finally:
-            self._places.release()
+            self._permits.release()
 
     def handle_error(self, *_: Any) -> None:
         """A client that goes too early is no fault."""

@@ -113,8 +113,8 @@ def streams(view: View, seen: Seen) -> Iterator[Html]:
         cells = (element("strong", it.name), state(it.state), f"{it.position:,}", f"{behind:,}", last, shown_bytes(it.bytes))
         yield row(STREAMS, (*cells, "-" if now is None else shown_rate(now), picture, it.path))
         if it.reason is not None:
-            place = "" if it.line is None else f", in line {it.line:,} of what its writer sent"
-            yield element("tr", element("td", f"{it.name}: {it.reason}{place}", colspan=len(STREAMS), class_="reason"), class_="fault")
+            line = "" if it.line is None else f", in line {it.line:,} of what its writer sent"
+            yield element("tr", element("td", f"{it.name}: {it.reason}{line}", colspan=len(STREAMS), class_="reason"), class_="fault")
 
 
 def lack(stream: StreamStats, tablet: Tablet) -> int:

@@ -8,7 +8,7 @@ from .elements import Html, element, joined
 from .history import Point
 
 WIDTH, HEIGHT = 200, 40
-"""The units of a picture, which has whatever size its place gives it."""
+"""The units of a picture, which takes the size of its container."""
 Dot = tuple[float, float]
 
 

@@ -21,7 +21,7 @@ def shown_status(stats: Stats, tablets: Sequence[Tablet]) -> str:
         f"lines: {lines.answered} answered, {lines.refused} of them refused{_kinds(lines)}",
         "",
         *table([STREAMS, *(_stream(it) for it in stats.streams)]),
-        *(f"{it.name}: {it.reason}{_place(it)}" for it in stats.streams if it.reason is not None),
+        *(f"{it.name}: {it.reason}{_line(it)}" for it in stats.streams if it.reason is not None),
         "",
         *table(_tablets(stats, tablets)),
     ]
@@ -45,7 +45,7 @@ def _stream(it: StreamStats) -> Sequence[str]:
     return (it.name, it.state, str(it.position), str(it.messages), shown_bytes(it.bytes), last, it.path)
 
 
-def _place(it: StreamStats) -> str:
+def _line(it: StreamStats) -> str:
     return "" if it.line is None else f" (line {it.line})"
 
 
