@@ -35,13 +35,13 @@ class Browser:
         line = [browser(), *WORDS, f"--user-data-dir={folder}/browser", "about:blank"]
         with open(f"{folder}/browser-said", "wb") as said:
             self.process = subprocess.Popen(line, stdin=subprocess.DEVNULL, stdout=said, stderr=said, start_new_session=True,
-                                            pass_fds=(READS, WRITES), preexec_fn=self._place_pipes)
+                                            pass_fds=(READS, WRITES), preexec_fn=self._put_pipes)
         os.close(self._given)
         os.close(self._taken)
         self.happened: list[Json] = []
         self._rest, self._last, self._page = b"", 0, ""
 
-    def _place_pipes(self) -> None:
+    def _put_pipes(self) -> None:
         """Puts the browser's ends where it looks for them; first both out of the way."""
         given, taken = (fcntl.fcntl(it, fcntl.F_DUPFD, WRITES + 1) for it in (self._given, self._taken))
         os.dup2(given, READS)

@@ -122,7 +122,7 @@ def region_of_two(folder: str, program: str, seed: int) -> Iterator[tuple[Sessio
     sockets = {name: socket_in(folder, f"{name}-{seed}") for name in STREAMS}
     control = f"{folder}/control-{seed}"
     streams = [stream for _, stream in sockets.values()]
-    streams = [(name, place) for name, (_, place) in zip(STREAMS, streams, strict=True)]
+    streams = [(name, address) for name, (_, address) in zip(STREAMS, streams, strict=True)]
     with Staying(program, folder, streams, "--bounds", BOUNDS, "--control", control), Session(control) as session:
         yield session, {name: path for name, (path, _) in sockets.items()}
 

@@ -87,7 +87,7 @@ def check_a_seventeenth_waits(program: str, folder: str) -> None:
             raise AssertionError(f"it is answered: {late.socket.recv(CHUNK)!r}")
         sessions[0].socket.close()
         late.socket.settimeout(SECONDS)
-        same("once there is a place", late.line(), b'{"marks":{"east":5}}\n')
+        same("once one of them has ended", late.line(), b'{"marks":{"east":5}}\n')
 
 
 def flood(session: Session, line: bytes) -> int:

@@ -24,10 +24,10 @@ SCAN = b'{"do":"scan","query":{"limit":1000}}\n'
 class Pipelining:
     """A client that sends lines without pause, and notes how many it had sent at some moment."""
 
-    def __init__(self, place: int | str) -> None:
-        self.socket = socket.create_connection(("127.0.0.1", place)) if isinstance(place, int) else socket.socket(socket.AF_UNIX)
-        if isinstance(place, str):
-            self.socket.connect(place)
+    def __init__(self, address: int | str) -> None:
+        self.socket = socket.create_connection(("127.0.0.1", address)) if isinstance(address, int) else socket.socket(socket.AF_UNIX)
+        if isinstance(address, str):
+            self.socket.connect(address)
         self.socket.setblocking(False)
         self.sent, self.unsent, self.came, self.is_over = 0, b"", b"", False
 

@@ -199,13 +199,13 @@ def check_writers(program: str, folder: str) -> None:
     """A writer at a socket is told what the copies have of its stream. What comes next is taken, and what would leave a gap is not."""
     for mark in (5, LAST_POSITION - 2):
         path = written(folder, "copies", f'{{"copy":1,"from":null,"to":null}}\n{{"at":{mark},"stream":"east"}}\n{{"end":1}}\n'.encode())
-        place, control = os.path.join(folder, "writers"), os.path.join(folder, "control")
-        with Staying(program, folder, [("east", f"listen:{place}")], "--copies", path, "--control", control), Session(control) as session:
+        address, control = os.path.join(folder, "writers"), os.path.join(folder, "control")
+        with Staying(program, folder, [("east", f"listen:{address}")], "--copies", path, "--control", control), Session(control) as session:
             until("the stream has its position", lambda: session.told(do="stats")["streams"][0]["position"] == mark)
             gap = f'{{"error":"gap","got":{mark + 2},"wanted":{mark + 1}}}\n'
             for at, wanted, then in ((mark + 2, gap, mark), (mark + 1, "", mark + 1)):
                 with socket.socket(socket.AF_UNIX) as writer, writer.makefile("rb") as told:
-                    writer.connect(place)
+                    writer.connect(address)
                     writer.sendall(message(at, "k", 0, "x"))
                     writer.shutdown(socket.SHUT_WR)
                     said = told.read().decode().replace(f'{{"taken":{at}}}\n', "")

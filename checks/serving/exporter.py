@@ -33,9 +33,9 @@ TOOLS = ("prometheus", "promtool")
 class Prometheus:
     """A Prometheus that scrapes an exporter each second and knows the alerts, until the block ends."""
 
-    def __init__(self, folder: str, place: str) -> None:
+    def __init__(self, folder: str, address: str) -> None:
         self.url = f"http://127.0.0.1:{free_port()}"
-        scrape = {"job_name": "pnuts", "static_configs": [{"targets": [place]}]}
+        scrape = {"job_name": "pnuts", "static_configs": [{"targets": [address]}]}
         told = {"global": {"evaluation_interval": "1s", "scrape_interval": "1s"}, "rule_files": [str(RULES)], "scrape_configs": [scrape]}
         path = os.path.join(folder, "prometheus.yml")
         with open(path, "w", encoding="utf-8") as file:
@@ -96,7 +96,7 @@ def check_rules(program: str, folder: str) -> None:
 
 def check_scrapes(program: str, folder: str) -> None:
     """Prometheus scrapes what a region does, and alerts of a lost tablet, a stream that fails, and a region that is gone."""
-    with region_in(folder, program) as (region, control, path), Exporter(control) as exporter, Prometheus(folder, exporter.place) as seen:
+    with region_in(folder, program) as (region, control, path), Exporter(control) as exporter, Prometheus(folder, exporter.address) as seen:
         with Session(control) as session:
             written(path, 1, 250)
             copy = session.copy(1)
@@ -150,7 +150,7 @@ def check_metrics(program: str, folder: str) -> None:
 def check_exporter_beside_silent_clients(program: str, folder: str) -> None:
     """Clients of an exporter that send nothing hold up no scrape, and a region that does not answer holds it up for a time only."""
     with region_in(folder, program) as (region, control, _), Exporter(control) as exporter, contextlib.ExitStack() as stack:
-        host, _, port = exporter.place.partition(":")
+        host, _, port = exporter.address.partition(":")
         idle = seconds_of(exporter.metrics)
         for _ in range(12):
             stack.enter_context(socket.create_connection((host, int(port))))

@@ -33,8 +33,8 @@ class Exporter:
     """An exporter of a region's control socket, until the block ends."""
 
     def __init__(self, control: str, *words: str) -> None:
-        self.place = f"127.0.0.1:{free_port()}"
-        line = [python(), "-m", "pnuts_client.ctl", "--control", control, "exporter", "--listen", self.place, *words]
+        self.address = f"127.0.0.1:{free_port()}"
+        line = [python(), "-m", "pnuts_client.ctl", "--control", control, "exporter", "--listen", self.address, *words]
         environment = {**os.environ, "PYTHONPATH": str(CLIENT), "PYTHONDONTWRITEBYTECODE": "1"}
         self.process = subprocess.Popen(line, env=environment, stdin=subprocess.DEVNULL)
 
@@ -48,15 +48,15 @@ class Exporter:
 
     def is_there(self) -> bool:
         with contextlib.suppress(OSError):
-            return answered(f"http://{self.place}/none")[0] == 404
+            return answered(f"http://{self.address}/none")[0] == 404
         return False
 
     def health(self) -> tuple[int, str]:
-        return answered(f"http://{self.place}/healthz")
+        return answered(f"http://{self.address}/healthz")
 
     def metrics(self) -> dict[str, float]:
         """The values of all metrics, by their names with labels."""
-        status, text = answered(f"http://{self.place}/metrics")
+        status, text = answered(f"http://{self.address}/metrics")
         same("the status of metrics", status, 200)
         lines = (line.rpartition(" ") for line in text.splitlines() if not line.startswith("#"))
         return {name: float(value) for name, _, value in lines}

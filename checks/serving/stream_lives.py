@@ -8,28 +8,28 @@ from common.served import Client, same, written
 from serving.staying import Beside, Staying, messages, pages, replayed, until, watch
 from serving.writers import Writer, said_of_faults, socket_in
 
-MESSAGES, PLACES, CLIENTS = 20_000, 1_000, 32
+MESSAGES, CUTS, CLIENTS = 20_000, 1_000, 32
 KILLED, STREAMS, OF_EACH = 60, 16, 2_000
 WORDS = ["--bounds", '["k030","k060"]', "--workers", "2"]
 
 
-def first_of(place: int, after: int, rng: random.Random) -> int:
+def first_of(number: int, after: int, rng: random.Random) -> int:
     """Where a writer begins: mostly with what the region does not have, often before that, and now and then with all."""
-    if place % 20 == 0:
+    if number % 20 == 0:
         return 1
-    return rng.randint(1, after + 1) if place % 3 == 0 else after + 1
+    return rng.randint(1, after + 1) if number % 3 == 0 else after + 1
 
 
-def go_at(path: str, place: int, after: int, text: bytes, starts: list[int], rng: random.Random) -> int:
-    """A writer that goes after so many bytes of a stream. How many messages of it are whole then."""
-    line = after + rng.randint(0, 2 * MESSAGES // PLACES)
+def go_at(path: str, number: int, after: int, text: bytes, starts: list[int], rng: random.Random) -> int:
+    """A writer that goes in the middle of a stream, at the cut of a number. How many messages of the stream are whole then."""
+    line = after + rng.randint(0, 2 * MESSAGES // CUTS)
     begin, end = starts[min(line, MESSAGES)], starts[min(line + 1, MESSAGES)]
-    # Each place in a line comes, from before its first byte to before its newline.
-    cut = begin + place % (end - begin) if end > begin else begin
+    # Lines are cut everywhere, from before their first byte to before their newline.
+    cut = begin + number % (end - begin) if end > begin else begin
     with Writer(path) as writer:
         # One that has not read what the region said leaves a reset connection.
-        same(f"what the region has at place {place}", writer.look() if place % 2 else writer.begin(), after)
-        writer.send(text[starts[first_of(place, after, rng) - 1] : cut])
+        same(f"what the region has at cut {number}", writer.look() if number % 2 else writer.begin(), after)
+        writer.send(text[starts[first_of(number, after, rng) - 1] : cut])
     return min(line, MESSAGES)
 
 
@@ -41,8 +41,8 @@ def starts_of(text: bytes) -> list[int]:
     return starts
 
 
-def check_thousand_places(program: str, folder: str) -> None:
-    """A writer goes at a thousand places, in lines and between, the next one comes at once: the region says what it has, and has all in the end.
+def check_thousand_cuts(program: str, folder: str) -> None:
+    """A stream is cut a thousand times, in lines and between, and the next writer comes at once: the region says what it has, and has all in the end.
 
     Another stream loads meanwhile, and 32 clients read: nobody is shown an older version.
     """
@@ -53,15 +53,15 @@ def check_thousand_places(program: str, folder: str) -> None:
     told = [east, ("west", written(folder, "west", streams["west"]))]
     with Staying(program, folder, told, *WORDS) as region, Beside(watch, region.port, CLIENTS), Client(region.port) as client:
         after = 0
-        for place in range(PLACES):
-            after = go_at(path, place, after, text, starts, rng)
+        for number in range(CUTS):
+            after = go_at(path, number, after, text, starts, rng)
         with Writer(path) as writer:
             same("what the region has after all", writer.begin(), after)
             writer.send(text[starts[after] :])
             wanted = replayed(program, streams, *WORDS)
             until("the records are those of a replay", lambda: list(pages(client)) == wanted)
         same("what is said of faults", said_of_faults(region), [])
-        print(f"  {PLACES} writers went, the last one after {after:,} messages; {len(wanted)} records of {MESSAGES:,} are there")
+        print(f"  {CUTS} writers went, the last one after {after:,} messages; {len(wanted)} records of {MESSAGES:,} are there")
 
 
 def write_slowly(is_over: Callable[[], bool], path: str, text: bytes) -> None:

@@ -33,7 +33,7 @@ def fails_at(program: str, path: str, why: str) -> None:
     same(f"whether it says where: {said!r}", said.startswith("pnuts: cannot ") and path in said and said.endswith(f": {why}\n"), True)
 
 
-def check_place_in_use(program: str, folder: str) -> None:
+def check_address_in_use(program: str, folder: str) -> None:
     """A socket that is stale is replaced, one that a program listens on and a file that is none stay, and its mode is for its owner alone."""
     path, east = socket_in(folder)
     old = os.umask(UMASK)
@@ -63,8 +63,8 @@ def check_place_in_use(program: str, folder: str) -> None:
 
 def check_without_staying(program: str, folder: str) -> None:
     """Without --stay such a word is the path of a file, and what is said has no reason."""
-    path, (name, place) = socket_in(folder)
-    same("what is said", refused(program, f"{name}={place}"), b"pnuts: cannot open east\n")
+    path, (name, address) = socket_in(folder)
+    same("what is said", refused(program, f"{name}={address}"), b"pnuts: cannot open east\n")
     same("whether a socket is there", os.path.exists(path), False)
 
 
