@@ -1,4 +1,4 @@
-"""Brokers of the tests' own, feeds as programs, and a reader in the region's place."""
+"""Brokers of the tests' own, feeds as programs, and a reader in place of the region."""
 
 from __future__ import annotations
 
@@ -32,7 +32,7 @@ def needs(*programs: str) -> None:
 
 
 def image(number: int) -> bytes:
-    """An image whose key tells its place in the stream."""
+    """An image whose key tells its number in the stream."""
     return b'{"fields":{"v":"xxxxxxxxxxxxxxxxxxxx"},"key":"k%d","master":"w","version":[1,0]}' % number
 
 
@@ -46,7 +46,7 @@ def wait_until(holds: Callable[[], bool], seconds: float = 30.0) -> None:
 
 
 class Feed:
-    """A feed that writes to a FIFO, and a program in the place of its region that keeps the lines."""
+    """A feed that writes to a FIFO, and a program in place of its region that keeps the lines."""
 
     def __init__(self, words: Sequence[str], folder: str) -> None:
         self.lines: list[bytes] = []
