@@ -6,7 +6,7 @@ Commands, members, refusals, options and the reasons that writers of streams are
 in docs/formats.md; commands also in README.md, the slow program and the fuzzer's words; what sessions have in clients/README.md
 and in each client; what control sessions have besides in the client for Python.
 Commands and options that README.md, docs/ or the packages name have to be those of the program, and its version is the same in
-all places (bin/version).
+all files (bin/version).
 
 Exit status: 0 where nothing is missing, 1 where something is, 2 for a wrong argument.
 """
