@@ -152,7 +152,7 @@ export interface Stats {
 export class Control extends Client {
   marks(): Promise<Marks>;
   stats(): Promise<Stats>;
-  /** What changed after a number. Where that is nothing, it waits for it so many seconds, at most 60, less than the timeout. */
+  /** What changed after a number. Where that is nothing, it waits for it this many seconds, at most 60, less than the timeout. */
   notices(since: number, wait?: number): Promise<Notices>;
   /**
    * The changes after a number as they come, or from now on, in a session of its own. Some are missed where it is given no number,

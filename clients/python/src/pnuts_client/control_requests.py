@@ -128,7 +128,7 @@ def tablets() -> Request[list[Tablet]]:
 
 
 def notices(since: int, wait: int = 0) -> Request[Notices]:
-    """What changed after a number. Where that is nothing, the reply waits for it so many seconds at most."""
+    """What changed after a number. Where that is nothing, the reply waits for it this many seconds at most."""
     return requests.ask({"do": "notices", "since": since, "wait": wait}, _notices)
 
 
@@ -154,7 +154,7 @@ def adopt(text: bytes) -> Request[int]:
 
 
 def stop(seconds: int = 10) -> Request[int]:
-    """Ends the region, once the lines that have come are answered, or after so many seconds."""
+    """Ends the region, once the lines that have come are answered, or after this many seconds."""
     return requests.ask({"do": "stop", "seconds": seconds}, lambda reply: int(reply["stopping"]))._replace(reads=False)
 
 

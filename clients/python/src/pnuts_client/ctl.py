@@ -73,7 +73,7 @@ def parser() -> argparse.ArgumentParser:
     ready.add_argument("--timeout", type=float, default=60.0, metavar="SECONDS", help="for how long (default: %(default)s)")
     ready.add_argument("--process", type=int, metavar="PID", help="give up once this process, which is the region's, has ended")
     stopped = command(stop_region, "stop", "end the region once all lines that have come are answered, and wait for that")
-    stopped.add_argument("--seconds", type=int, default=10, metavar="N", help="end it after so many at most, 0 to 60 (default: %(default)s)")
+    stopped.add_argument("--seconds", type=int, default=10, metavar="N", help="end it after this many at most, 0 to 60 (default: %(default)s)")
     shown = command(export, "exporter", "show the region to people at /, to Prometheus at /metrics, and to load balancers at /healthz (needs python3-prometheus-client)")
     shown.add_argument("--listen", type=_address, default=("127.0.0.1", 9107), metavar="ADDRESS:PORT", help="where (default: 127.0.0.1:9107)")
     shown.add_argument("--silence", type=int, metavar="SECONDS", help="/healthz is 503 also where a stream brought nothing for longer")

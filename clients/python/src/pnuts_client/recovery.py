@@ -15,7 +15,7 @@ from .saving import Unfit, head_of
 def recover(region: Control, tablet: int, peer: Client, timeout: float) -> int | None:
     """Has a lost tablet adopt a copy of a peer, which is asked until it has what the tablet needs.
 
-    The size of the copy, or None where the tablet serves. Raises the last refusal after so many seconds.
+    The size of the copy, or None where the tablet serves. Raises the last refusal after the timeout.
     """
     deadline, tries = time.monotonic() + timeout, 0
     while True:

@@ -14,7 +14,7 @@ PIECE = 256 * 1024
 
 
 def deadline_after(seconds: float | None) -> float | None:
-    """The moment after so many seconds from now, None for never."""
+    """The moment this many seconds from now, None for never."""
     return None if seconds is None else time.monotonic() + seconds
 
 

@@ -29,7 +29,7 @@ def shown_status(stats: Stats, tablets: Sequence[Tablet]) -> str:
 
 
 def faults_of(stats: Stats, tablets: Sequence[Tablet], silence: int | None) -> list[str]:
-    """What is wrong: tablets that are lost, and streams that have failed or are silent for longer than so many seconds."""
+    """What is wrong: tablets that are lost, and streams that have failed or are silent for longer than a given number of seconds."""
     found = [f"tablet {number} is recovering" for number, it in enumerate(tablets) if it.need is not None]
     for stream in stats.streams:
         since = stats.uptime if stream.since is None else stream.since
