@@ -72,14 +72,14 @@ def image_of_values(key: str, kind: type) -> str:
 
 
 def new_keys(count: int) -> list[str]:
-    """So many keys in a mixed order."""
+    """A given number of keys, in a mixed order."""
     keys = [f"record-{at:08}" for at in range(count)]
     random.Random(count).shuffle(keys)
     return keys
 
 
 def bounds(count: int, tablets: int) -> list[str]:
-    """The arguments that divide so many new keys into equal tablets."""
+    """The arguments that divide a given number of new keys into equal tablets."""
     return ["--bounds", text_of([f"record-{count * at // tablets:08}" for at in range(1, tablets)])]
 
 

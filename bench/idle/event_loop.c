@@ -17,7 +17,7 @@ enum { MOST_THREADS = 64, MOST_REPLY = 65536, INPUT_ROOM = 65536, OUTPUT_ROOM = 
 static const char USAGE[] =
     "usage: event_loop PORT THREADS BYTES\n"
     "\n"
-    "Answers each line of any number of connections to 127.0.0.1 with a reply of so many bytes, until it is killed.\n"
+    "Answers each line of any number of connections to 127.0.0.1 with a reply of BYTES bytes, until it is killed.\n"
     "The first line on standard output says that it listens.\n";
 
 static char reply[MOST_REPLY];

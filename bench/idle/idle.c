@@ -16,7 +16,7 @@ enum { MAX_SESSIONS = 64, MAX_REPLY = 65536, INPUT_ROOM = 65536, OUTPUT_ROOM = 1
 static const char USAGE[] =
     "usage: idle PORT SESSIONS BYTES\n"
     "\n"
-    "Answers each line of so many connections to 127.0.0.1 with a reply of so many bytes,\n"
+    "Answers each line of SESSIONS connections to 127.0.0.1 with a reply of BYTES bytes,\n"
     "and ends when all are over. The first line on standard output says that it listens.\n";
 
 static char reply[MAX_REPLY];

@@ -1,4 +1,4 @@
-// A client of many connections to 127.0.0.1, over one epoll: each keeps so many requests in flight, for a time.
+// A client of many connections to 127.0.0.1, over one epoll: each keeps a number of requests in flight, for a time.
 // It says how many replies came and in how many seconds. Each line of a file is a request, or a key that Redis is asked for.
 #include <arpa/inet.h>
 #include <errno.h>
@@ -17,7 +17,7 @@ enum { MOST_CONNECTIONS = 65536, MOST_IN_FLIGHT = 1024, INPUT_ROOM = 1 << 18, EV
 static const char USAGE[] =
     "usage: load lines|redis PORT CONNECTIONS IN_FLIGHT MILLISECONDS FILE\n"
     "\n"
-    "Sends the lines of a file to a server on 127.0.0.1, again and again, over connections with so many in flight on each.\n"
+    "Sends the lines of a file to a server on 127.0.0.1, again and again, over connections with IN_FLIGHT on each.\n"
     "lines: each is sent as it is, and a reply is a line. redis: each is a key that GET asks for.\n"
     "Says how many replies came, and in how many seconds.\n";
 

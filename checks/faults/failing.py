@@ -91,7 +91,7 @@ def failing_library(folder: str) -> str:
 def environment(library: str, call: str, number: int, size: int, once: bool = False, pause: int = 0) -> dict[str, str]:
     """An environment in which the call of a number fails, alone or with all after it, and each takes at most a size.
 
-    A call of `epoll_wait` fails after so many milliseconds.
+    A call of `epoll_wait` fails after a pause, in milliseconds.
     """
     words = {"FAILING_CALL": call, "FAILING_AT": str(number), "FAILING_BYTES": str(size), "FAILING_ONCE": str(int(once)), "FAILING_PAUSE": str(pause)}
     return with_library(library, words)

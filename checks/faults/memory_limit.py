@@ -33,7 +33,7 @@ MEMORY = b'{"error":"memory"}'
 NESTED, NO_OBJECT = b"[" * 127 + b"]" * 127, b'{"error":"bad-shape","member":"whole"}'
 CANNOT_LOAD = 127
 SECONDS = 300
-# A client asks until nothing new was shown for so many seconds.
+# A client asks until nothing new was shown for this many seconds.
 QUIET = 2
 SAMPLE = 100
 LINES = {b"pnuts: memory\n", b"pnuts: cannot start\n", b"pnuts: round failed\n", b"pnuts: close failed\n", b"pnuts: write\n",

@@ -82,7 +82,7 @@ def environment(library: str, number: int, mark: str, which: dict[str, str]) -> 
 
 # What is wrong in this environment, or None.
 FindFault = Callable[[dict[str, str]], str | None]
-# Threads take allocations in another order each time, so that none of so many in turn has to be there at the end.
+# Threads take allocations in another order each time, so that none of this many in turn has to be there at the end.
 NOT_THERE = 64
 
 

@@ -15,7 +15,7 @@ from serving.staying import CHUNK, PAGE, Staying, until
 
 NO_ROW = b'{"row":null}\n'
 READ = b'{"do":"read","key":"z"}\n'
-# How long one that waits for its turn to connect is looked at: so many seconds, and so many times as long as an answer took.
+# How long one that waits for its turn to connect is looked at: at least this many seconds, and this many times as long as an answer took.
 PATIENCE, TIMES = 0.5, 20
 # How long one waits for what has to come.
 PATIENT = 20
@@ -35,7 +35,7 @@ def none(folder: str) -> list[tuple[str, str]]:
 
 
 def is_answered(connection: socket.socket, seconds: float = SECONDS) -> bool:
-    """Whether a client is answered to a read; one that is not is ended, or waits for longer than so many seconds."""
+    """Whether a client is answered to a read; one that is not is ended, or waits for longer than this many seconds."""
     connection.settimeout(seconds)
     with contextlib.suppress(ConnectionError, TimeoutError):
         connection.sendall(READ)
@@ -50,7 +50,7 @@ def connected(port: int, count: int) -> Iterator[list[socket.socket]]:
 
 
 def same_limit(port: int, most: int, when: str) -> None:
-    """Fails unless just so many of one more are answered."""
+    """Fails unless this many clients are answered, and one more is not."""
     with connected(port, most + 1) as (*clients, late):
         start = time.monotonic()
         same(f"who is answered {when}", [is_answered(client) for client in clients], [True] * most)

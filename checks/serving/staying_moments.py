@@ -7,7 +7,7 @@ from collections.abc import Callable
 from common.served import Client, Json, same
 from serving.staying import PART, Beside, Staying, until
 
-# So many keys take several turns; each MARKED-th record is shown, so that one page has gone past all.
+# This many keys take several turns; each MARKED-th record is shown, so that one page has gone past all.
 KEYS, MARKED = 5_000, 5
 PAGE: Json = {"do": "scan", "query": {"limit": 1_000, "where": [["eq", "m", "1"]]}}
 COPY: Json = {"do": "copy", "tablet": 0}

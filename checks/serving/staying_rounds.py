@@ -13,7 +13,7 @@ MANY = 20_000
 MOST_ROUNDS = 60
 STREAMS = 16
 NAMES = ["east", "north", "south", "west"]
-# Four streams of so many messages make rounds that are wide enough for threads.
+# Four streams of this many messages make rounds that are wide enough for threads.
 WIDE = 8_000
 BOUNDS = ["--bounds", '["n","s","w"]']
 SECONDS = 30

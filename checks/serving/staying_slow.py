@@ -68,7 +68,7 @@ def has_ended(connection: socket.socket) -> bool:
 
 
 def slowly(port: int, act: Callable[[], None]) -> None:
-    """Acts with pauses, until an idle client beside was ended, and then until it took so many times as long."""
+    """Acts with pauses, until an idle client beside was ended, and then until it took four times as long."""
     start, took, longest = time.monotonic(), 0.0, 0.0
     with Client(port) as idle:
         while not took or time.monotonic() < start + TIMES * took:

@@ -126,7 +126,7 @@ def fails_beside(program: str, east: str, path: str, what: str) -> None:
 
 
 def check_sockets_in_use(program: str, folder: str) -> None:
-    """A socket that another program listens on stays, though nobody can connect: for want of right, or since too many wait there."""
+    """A socket that another program listens on stays, though nobody can connect: without the right, or since too many wait there."""
     east, path = written(folder, "east", b""), os.path.join(folder, "socket")
     with bound(path, True):
         os.chmod(path, 0)

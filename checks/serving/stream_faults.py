@@ -107,7 +107,7 @@ def check_steps(program: str, folder: str) -> None:
 
 
 def check_much_behind_a_fault(program: str, folder: str) -> None:
-    """A writer that goes on sending, megabytes behind its fault, is told all the same, and the next one is taken."""
+    """A writer that goes on sending, megabytes after its fault, is told all the same, and the next one is taken."""
     path, east = socket_in(folder)
     with Staying(program, folder, [east]):
         for _ in range(20):

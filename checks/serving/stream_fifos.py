@@ -1,4 +1,4 @@
-"""FIFOs whose writers come at once, too early or out of place, or whose region lacks something: checks of `checks/run streams`."""
+"""FIFOs whose writers come at once, too early or at a wrong position, or whose region lacks something: checks of `checks/run streams`."""
 import contextlib
 import fcntl
 import os
@@ -14,8 +14,8 @@ from serving.writers import Writer, failed, made, said_of_faults, socket_in
 
 ENDED = b"pnuts: stream east ended\n"
 LIVES, RESTARTS, QUIET_LIVES = 200, 50, 300
-# How soon a feed is started again. How long a region is given to see the end of one that has gone: so many seconds, and so many times
-# as long as it took once.
+# How soon a feed is started again. How long a region is given to see the end of one that has gone: at least this many seconds, and this
+# many times as long as it took once.
 GAPS, SEEN, TIMES = (0.0, 0.0005, 0.002, 0.01, 0.05), 0.3, 20
 # How long something is looked at, and how much of a processor a region may take in a second in which nothing happens.
 LOOKED, AT_REST = 2.0, 0.1

@@ -26,7 +26,7 @@ LOOKED, WAKE_UPS = 3.0, 30
 
 
 def read_all(handle: int, wanted: int) -> list[bytes]:
-    """Reads lines until there are so many with those that were dropped."""
+    """Reads lines until a given number has come, with those that were dropped."""
     os.set_blocking(handle, False)
     text = b""
 

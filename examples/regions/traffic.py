@@ -18,7 +18,7 @@ from pnuts_client.addresses import Tcp
 KEYS = 500
 # How often a reader asks other regions for what one does not have yet, before it waits.
 ATTEMPTS = 3
-# How long something may take at most: so many seconds, or on a machine that is busy, so many times as long as when nothing is killed.
+# How long something may take at most: this many seconds, or on a machine that is busy, this many times as long as when nothing is killed.
 LONGEST, SLOWER = 3.0, 50
 # Streams in files of some hundreds of messages, as whole files are dropped.
 STREAM = {"x-queue-type": "stream", "x-initial-cluster-size": 3, "x-stream-max-segment-size-bytes": 50_000}

@@ -66,7 +66,7 @@ class Feed:
             self.lines.extend(iter(lines.readline, b""))
 
     def wait_for(self, count: int) -> None:
-        """Until so many lines have come."""
+        """Waits until a given number of lines have come."""
         wait_until(lambda: len(self.lines) >= count or self.program.poll() is not None)
 
     def ended(self) -> tuple[int, str]:

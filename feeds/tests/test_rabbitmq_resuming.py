@@ -62,7 +62,7 @@ class RabbitMqResuming(resuming.Resuming):
         return int(json.loads(self.server.kept(self.stream)[0][1])["key"][1:])
 
     def read_all(self, count: int) -> None:
-        """A region reads so many, and the feed keeps pairs."""
+        """A region reads a given number of messages, and the feed keeps pairs."""
         with self.region() as region, self.feed(region) as program:
             self.wait_for(region, program, count)
 

@@ -14,7 +14,7 @@ use std::time::{Duration, Instant};
 const USAGE: &str = "\
 usage: load PORT SESSIONS IN_FLIGHT MILLISECONDS FILE
 
-Sends the lines of FILE in so many sessions to 127.0.0.1, and prints how many were answered and in how many seconds.";
+Sends the lines of FILE in SESSIONS sessions to 127.0.0.1, and prints how many were answered and in how many seconds.";
 
 const CAPACITY: usize = 65_536;
 
