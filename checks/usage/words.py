@@ -99,6 +99,7 @@ def all_faults() -> Iterator[str]:
     told = readme + text_of(sorted((TOP / "docs").glob("*.md")))
     yield from unknown("command", TOLD_COMMAND.findall(told), commands | controls, "README.md or docs/")
     yield from unknown("option", TOLD_OPTION.findall(told + text_of(below("packaging"))), options | BY_CLAP, "README.md, docs/ or packaging/")
+    yield from versions()
 
 
 def main(words: list[str]) -> int:
