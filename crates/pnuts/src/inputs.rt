@@ -5,7 +5,7 @@ use crate::failures::{fail_serving, is_explained, refuse_streams};
 use pn_join::Name;
 use pn_serve::{FaultLog, ServeFault, Service, Stream, StreamPath};
 use pn_stay::{
-    Counters, FileSource, MemoryMeter, Messages, StreamOpenFault, SocketAcceptor, StreamCounters,
+    Counters, FileSource, MemoryMeter, Messages, SocketAcceptor, StreamCounters, StreamOpenFault,
     StreamOrigin, StreamSetting, open_files, open_origins, remove_sockets, share,
 };
 use pn_stream::StreamReader;
