@@ -93,7 +93,7 @@ def run_cases(program: str) -> int:
     for line, answer in live_cases():
         with tempfile.TemporaryDirectory() as folder:
             ended = subprocess.run([program], env=environment(folder), input=line, stdout=subprocess.PIPE)
-            found += races(f"the case {line[:40].decode().strip()}", folder, ended.returncode or ended.stdout != answer)
+            found += races(f"the case {line[:40].decode().strip()}", folder, ended.returncode or int(ended.stdout != answer))
     return found
 
 
