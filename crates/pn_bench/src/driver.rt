@@ -1,6 +1,6 @@
 //! Loads a region, reads it and brings rounds to it, by the clock.
 
-use crate::plan::{Plan, Way};
+use crate::plan::{Workload, Way};
 use crate::readers::{READERS, Runner, found_all, read_all, runners_of};
 use crate::store::Store;
 use pn_join::Dup;
@@ -42,7 +42,7 @@ pub fn time<R: Clock + Threads + Wait + Sync, S: Source + Drop>(
     rt: &R,
     alloc: Global,
     stream: StreamReader<S>,
-    plan: Plan,
+    plan: Workload,
 ) -> Option<Took> {
     let (mut store, readers) = open_store(rt, alloc, plan.way)?;
     let took = time_store(rt, alloc, &mut store, readers, stream, plan);
@@ -71,7 +71,7 @@ fn time_store<R: Clock + Threads + Wait + Sync, S: Source + Drop>(
     store: &mut Store,
     readers: Vec<LiveReader>,
     mut stream: StreamReader<S>,
-    plan: Plan,
+    plan: Workload,
 ) -> Option<Took> {
     let keys = load(rt, alloc, store, &mut stream, plan.records)?;
     let mut runners = runners_of(alloc, readers, &keys)?;
@@ -91,7 +91,7 @@ fn time_last<R: Clock + Threads + Wait + Sync, S: Source + Drop>(
     store: &mut Store,
     runners: &mut Vec<Runner>,
     stream: &mut StreamReader<S>,
-    plan: Plan,
+    plan: Workload,
 ) -> Option<Duration> {
     let mut rounds = next_rounds(alloc, stream, plan.rounds, plan.in_round)?;
     time_way(rt, store, runners, &mut rounds, plan.way)

@@ -1,7 +1,7 @@
 //! Changes the layout of a region of sixteen tablets, by the clock.
 
 use crate::driver::{IN_BATCH, add_keys, next_rounds};
-use crate::plan::Plan;
+use crate::plan::Workload;
 use pn_apply::Open;
 use pn_join::Dup;
 use pn_line::Source;
@@ -60,7 +60,7 @@ pub fn time_layouts<R: Clock + Threads + Sync, S: Source + Drop>(
     rt: &R,
     alloc: Global,
     mut stream: StreamReader<S>,
-    plan: Plan,
+    plan: Workload,
 ) -> Option<Laid> {
     let first = next_rounds(
         alloc,
@@ -99,7 +99,7 @@ impl Laying {
         rt: &R,
         stream: &mut StreamReader<S>,
         first: Vec<Vec<Delivery>>,
-        plan: Plan,
+        plan: Workload,
     ) -> Option<Laid> {
         let built = time_rounds(rt, &mut self.region, first)?;
         let before = self.time_next(rt, stream, plan)?;
@@ -118,7 +118,7 @@ impl Laying {
         &mut self,
         rt: &R,
         stream: &mut StreamReader<S>,
-        plan: Plan,
+        plan: Workload,
     ) -> Option<u128> {
         let rounds = next_rounds(self.alloc, stream, plan.rounds, plan.in_round)?;
         time_rounds(rt, &mut self.region, rounds)

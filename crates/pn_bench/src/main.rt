@@ -17,7 +17,7 @@ mod store;
 
 use crate::driver::time;
 use crate::layouts::time_layouts;
-use crate::plan::{Plan, Way};
+use crate::plan::{Workload, Way};
 use pn_join::Name;
 use pn_line::Source;
 use pn_stream::StreamReader;
@@ -32,7 +32,7 @@ use std::{env, io};
 const INPUT_CAPACITY: usize = 65_536;
 
 fn main(rt: HostRuntime) -> io::Result<()> {
-    let Some(plan) = Plan::read(env::args(&rt)?) else {
+    let Some(plan) = Workload::read(env::args(&rt)?) else {
         return println!(rt; "no plan");
     };
     let input = BufReader::with_capacity(rt.alloc(), INPUT_CAPACITY, rt.reader())?;
@@ -48,7 +48,7 @@ fn measure<R: Clock + Threads + Wait + Sync, S: Source + Drop>(
     rt: &R,
     alloc: Global,
     input: S,
-    plan: Plan,
+    plan: Workload,
 ) -> Option<String> {
     let stream = StreamReader::new(alloc, Name::read(b"east").ok()?, 0, input);
     if plan.way == Way::Relayout {

@@ -30,21 +30,21 @@ impl Way {
 
 /// How many records there are at first, and how many rounds of how many new keys come then.
 #[derive(Clone, Copy)]
-pub struct Plan {
+pub struct Workload {
     pub way: Way,
     pub records: usize,
     pub in_round: usize,
     pub rounds: usize,
 }
 
-impl Plan {
+impl Workload {
     /// The plan of the program's arguments.
-    pub fn read(mut words: Args<Global>) -> Option<Plan> {
+    pub fn read(mut words: Args<Global>) -> Option<Workload> {
         let way = Way::read(words.nth(1)?.as_str())?;
         let records = number_of(&mut words)?;
         let in_round = number_of(&mut words)?;
         let rounds = number_of(&mut words)?;
-        Some(Plan {
+        Some(Workload {
             way,
             records,
             in_round,

@@ -24,7 +24,7 @@ was one = one.block.0
 abbrev pub becomes : {K C : Type 0} → Taken K C → List (K × C)
 becomes one = one.block.1
 
--- each was taken from one of so many blocks
+-- each was taken from one of `count` blocks
 abbrev pub AreWithin : {K C : Type 0} → List (Taken K C) → ℕ → Type 0
 AreWithin taken count = AllByRecursion (λ one. one.index < count) taken
 

@@ -21,8 +21,8 @@ use Rattle.pn_scan.specs.Visits.{GoesOn, IsVisit, IsWhole, IsScan}
 use Rattle.pn_scan.specs.WalkValues.{PageWalkValue, PartWalkValue}
 use Rattle.pn_scan.specs.declared.fault.ScanFault.{ScanFault}
 use Rattle.pn_scan.specs.declared.fault.ScanFault.TheVariants.{Memory}
-use Rattle.pn_scan.specs.declared.walk.Part.{Part}
-use Rattle.pn_scan.specs.declared.walk.Part.TheVariants.{Done as FoundAll, Rest}
+use Rattle.pn_scan.specs.declared.walk.TabletRows.{TabletRows}
+use Rattle.pn_scan.specs.declared.walk.TabletRows.TheVariants.{Done as FoundAll, Rest}
 use Rattle.pn_scan.proofs.Numbers.{Numbered, all_visited}
 use Rattle.pn_scan.proofs.Scans.{found_more, rows_more, refused_last, or_none, goes_on_more, few_more, after_front, all_taken, more_left, is_right_too, ok_value, some_seen}
 use Rattle.pn_scan.proofs.Visiting.{range_of, numbered_from}
@@ -278,7 +278,7 @@ scanned moves looks bounds query was now answer trace ends gaps =
     )
 
 -- a look that is resumed comes nearer to its end
-pub less_left : (part : Part) (next old : Option PartWalkValue) (walk : PartWalkValue) → next ≡ going_in part → old ≡ Some walk → (left_in part < length walk.rest) ⊎ IsDone part → steps_left next < steps_left old
+pub less_left : (part : TabletRows) (next old : Option PartWalkValue) (walk : PartWalkValue) → next ≡ going_in part → old ≡ Some walk → (left_in part < length walk.rest) ⊎ IsDone part → steps_left next < steps_left old
 less_left (FoundAll rows more looked) next old walk is was less = let none = ap steps_left is in let some = ap steps_left was in omega arith
 less_left (Rest rest) next old walk is was (inl less) = let left = ap steps_left is in let some = ap steps_left was in omega arith
 less_left (Rest rest) next old walk is was (inr done) = absurd done

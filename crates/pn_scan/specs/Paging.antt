@@ -13,8 +13,8 @@ use Rattle.pn_scan.specs.WalkValues.{PageWalkValue, PartWalkValue}
 use Rattle.pn_scan.specs.declared.fault.ScanFault.{ScanFault}
 use Rattle.pn_scan.specs.declared.page_walk.PageStep.{PageStep}
 use Rattle.pn_scan.specs.declared.page_walk.PageStep.TheVariants.{Done, Next}
-use Rattle.pn_scan.specs.declared.walk.Part.{Part}
-use Rattle.pn_scan.specs.declared.walk.Part.TheVariants.{Done as FoundAll, Rest}
+use Rattle.pn_scan.specs.declared.walk.TabletRows.{TabletRows}
+use Rattle.pn_scan.specs.declared.walk.TabletRows.TheVariants.{Done as FoundAll, Rest}
 
 -- a look as it was made: the view before it, the tablet and what was found, and the view after it
 pub record LookMade (V : Type 0) : Type 0 where
@@ -79,7 +79,7 @@ steps_left None = 0
 steps_left (Some walk) = suc (length walk.rest)
 
 -- the look that is resumed, if one is
-abbrev pub going_in : Part → Option PartWalkValue
+abbrev pub going_in : TabletRows → Option PartWalkValue
 going_in (FoundAll rows more looked) = None
 going_in (Rest walk) = Some walk
 

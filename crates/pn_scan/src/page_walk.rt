@@ -8,7 +8,7 @@ ghost use Rattle.pn_scan.specs.Queries.{QueryValue};
 ghost use Rattle.pn_scan.specs.declared.pages.TheConstants.{LOOK_RECORDS};
 
 use crate::pages::{LOOK_RECORDS, candidates, page_of, put_after};
-use crate::{Budget, Page, Part, PartWalk, Query, Row, ScanFault, View};
+use crate::{Budget, Page, TabletRows, PartWalk, Query, Row, ScanFault, View};
 use pn_join::NoMemory;
 use pn_tablet::Layout;
 use std::alloc::Global;
@@ -158,7 +158,7 @@ impl PageWalk {
     }
 
     // With what the look into a tablet has come to, which went over this number of records unless it is done.
-    fn with_part(self, part: Part, records: usize) -> Result<PageWalk, NoMemory>
+    fn with_part(self, part: TabletRows, records: usize) -> Result<PageWalk, NoMemory>
         ensures rows { IfOk result (λ walk. (query : QueryValue) → walk.rows ++ rows_to_come query walk.part ≡ self.rows ++ (part_at query part).0) }
         ensures part { IfOk result (λ walk. walk.part ≡ going_in part) }
         ensures ends { IfOk result (λ walk. (walk.next ≡ self.next) × (walk.end ≡ self.end)) }
@@ -171,14 +171,14 @@ impl PageWalk {
             ..
         } = self;
         match part {
-            Part::Done(more, _, looked) => Ok(PageWalk {
+            TabletRows::Done(more, _, looked) => Ok(PageWalk {
                 rows: put_after(rows, more)?,
                 part: None,
                 tablet,
                 end,
                 looked,
             }),
-            Part::Rest(part) => Ok(PageWalk {
+            TabletRows::Rest(part) => Ok(PageWalk {
                 rows,
                 part: Some(part),
                 tablet,

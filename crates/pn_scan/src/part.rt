@@ -13,7 +13,7 @@ ghost use Rattle.pn_record.specs.Prelude.{bytes_cmp};
 ghost use Rattle.pn_tablet.specs.Prelude.{is_from};
 
 use crate::walk::{PartWalk, WalkOutcome, walk_some};
-use crate::{Budget, Part, PartResult, Query, Row, ScanFault};
+use crate::{Budget, TabletRows, PartResult, Query, Row, ScanFault};
 use pn_join::{Dup, NoMemory};
 use pn_record::{Cell, Key, Records};
 use pn_tablet::{Status, TabletState, is_before};
@@ -38,7 +38,7 @@ pub fn part_of(
 
 // A walk from the first key that may be shown, found by a search, to the end of the range, one row past the room, or past the
 // budget's number of records.
-fn begin_walk(cells: &Records, query: &Query, room: usize, budget: Budget) -> Result<Part, NoMemory>
+fn begin_walk(cells: &Records, query: &Query, room: usize, budget: Budget) -> Result<TabletRows, NoMemory>
     ensures same { IfOk result (λ part. part_at query.now part ≡ walk_answer query.now (record { rows = []; rest = cells.now; room = room })) }
     ensures few { IfOk result (λ part. looked_in budget.records part ≤ budget.records) }
 {
@@ -46,7 +46,7 @@ fn begin_walk(cells: &Records, query: &Query, room: usize, budget: Budget) -> Re
     let index = first_index(cells, query);
     prefetch_cells(cells, index, query, room.min(budget.records));
     match walk_some(cells, index, query, room, budget.records, &mut rows)? {
-        WalkOutcome::All(more, looked) => Ok(Part::Done(rows, more, looked)),
+        WalkOutcome::All(more, looked) => Ok(TabletRows::Done(rows, more, looked)),
         WalkOutcome::To(next) => take_rest(cells, next, query, rows, room),
     }
 }
@@ -58,14 +58,14 @@ fn take_rest(
     query: &Query,
     rows: Vec<Row>,
     room: usize,
-) -> Result<Part, NoMemory>
+) -> Result<TabletRows, NoMemory>
     requires index { index ≤ length cells.now }
     requires few { length rows.items ≤ room }
     ensures same { IfOk result (λ part. part_at query.now part ≡ walk_answer query.now (record { rows = rows.items; rest = drop index cells.now; room = room })) }
     ensures rest { IfOk result (λ part. (records : ℕ) → looked_in records part ≡ records) }
 {
     let rest = cells.slice(index, end_of_range(cells, query).max(index))?;
-    Ok(Part::Rest(PartWalk::new(rest, rows, room)))
+    Ok(TabletRows::Rest(PartWalk::new(rest, rows, room)))
 }
 
 // How many records are below the end of a query.

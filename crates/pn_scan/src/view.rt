@@ -6,7 +6,7 @@ ghost use Rattle.pn_scan.specs.Candidates.{Look};
 ghost use Rattle.pn_scan.specs.Parts.{looked_in, part_at};
 ghost use Rattle.pn_scan.specs.Views.{LooksOnce, rows_at, cell_at};
 
-use crate::{Part, Query, ScanFault};
+use crate::{TabletRows, Query, ScanFault};
 use pn_record::{Cell, Key};
 use pn_tablet::Layout;
 use std::alloc::Global;
@@ -50,7 +50,7 @@ pub struct Budget {
 }
 
 /// What a look into a tablet has of its answer; or why none was made.
-pub type PartResult = Result<Part, ScanFault>;
+pub type PartResult = Result<TabletRows, ScanFault>;
 
 /// A view of the tablets of a layout, each read at one moment of its own. Between two reads tablets and view may
 /// change; the layout stays.

@@ -17,21 +17,21 @@ use std::marker::Model;
 
 /// What a look into a tablet has of its answer.
 #[derive(Drop)]
-pub enum Part {
+pub enum TabletRows {
     /// The first rows that a query shows of the tablet, whether it shows more, and how many records were looked at.
     Done(Vec<Row>, bool, usize),
     /// The look is to be resumed, over what it took of the tablet.
     Rest(PartWalk),
 }
 
-impl Part {
+impl TabletRows {
     /// The first rows, once all is looked at.
     pub fn into_rows(self, query: &Query) -> Result<Vec<Row>, NoMemory>
         ensures { IfOk result (λ rows. rows.items ≡ (part_at query.now self).0) }
     {
         match self {
-            Part::Done(rows, _, _) => Ok(rows),
-            Part::Rest(walk) => walk.into_rows(query),
+            TabletRows::Done(rows, _, _) => Ok(rows),
+            TabletRows::Rest(walk) => walk.into_rows(query),
         }
     }
 }
@@ -77,7 +77,7 @@ impl PartWalk {
     }
 
     /// Looks at at most `records` more records. The answer that it comes to stays.
-    pub fn go_on(self, query: &Query, records: usize) -> Result<Part, NoMemory>
+    pub fn go_on(self, query: &Query, records: usize) -> Result<TabletRows, NoMemory>
         ensures same { IfOk result (λ part. part_at query.now part ≡ walk_answer query.now self) }
         ensures few { IfOk result (LooksAtMost records (length self.rest)) }
         ensures less { 0 < records → IfOk result (λ part. (left_in part < length self.rest) ⊎ IsDone part) }
@@ -90,7 +90,7 @@ impl PartWalk {
         } = self;
         recall_len(&rest);
         if begins_below(&rest, index, query.from()) {
-            return Ok(Part::Rest(PartWalk {
+            return Ok(TabletRows::Rest(PartWalk {
                 rest,
                 index: index + records.min(1),
                 rows,
@@ -98,8 +98,8 @@ impl PartWalk {
             }));
         }
         match walk_some(&rest, index, query, room, records, &mut rows)? {
-            WalkOutcome::All(more, looked) => Ok(Part::Done(rows, more, looked)),
-            WalkOutcome::To(index) => Ok(Part::Rest(PartWalk {
+            WalkOutcome::All(more, looked) => Ok(TabletRows::Done(rows, more, looked)),
+            WalkOutcome::To(index) => Ok(TabletRows::Rest(PartWalk {
                 rest,
                 index,
                 rows,

@@ -124,7 +124,7 @@ module _ (form : Form) (text : List ℕ) (says : List CopyLine) (rest : List ℕ
   pub refused_then : (draft : DraftValue) (fault : CopyTextFault) → with_lines 2 draft says ≡ Err fault → read_on form 2 draft (pieces_of text) ≡ Err fault
   refused_then draft fault added = begun draft ∙ then_err (with_lines 2 draft says) (λ last. read_on form (2 + length says) last (pieces_of rest)) fault added
 
-  -- the rest is what is left behind the bytes of the lines
+  -- the rest is what is left after the bytes of the lines
   pub left : drop (length text - length rest) text ≡ rest
   left =
       let all : length text ≡ length (text_of is.lines) + length rest = ap length is.text_is ∙ length-append (text_of is.lines) rest in

@@ -27,7 +27,7 @@ use crate::table::block_ref::BlockRef;
 use crate::table::entries::Entries;
 use crate::table::entry_counts::copy_counts;
 use crate::{Dup, Join, NoMemory};
-pub use bulk_join::Told;
+pub use bulk_join::BulkJoin;
 use std::alloc::Global;
 use std::marker::Model;
 

@@ -9,7 +9,7 @@ ghost use Rattle.pn_join.specs.PutInLeaves.{IsPutOf, ChangesOneLeaf};
 ghost use Rattle.pn_join.specs.TableChanges.{AreChanges};
 ghost use Rattle.pn_join.specs.Tables.{contents_at, key_by_key, IsTable};
 
-use crate::table::block_list::{BlockList, Told};
+use crate::table::block_list::{BlockList, BulkJoin};
 use crate::table::entries::Entries;
 use crate::{Dup, Join, NoMemory};
 use std::alloc::Global;
@@ -167,7 +167,7 @@ impl<K: Ord + Dup, C: Join> LeafList<K, C> {
     }
 
     /// Does the same, and returns what the other's entries change.
-    pub(crate) fn join_and_tell(&mut self, other: &Self) -> Result<Told<K, C>, NoMemory>
+    pub(crate) fn join_and_tell(&mut self, other: &Self) -> Result<BulkJoin<K, C>, NoMemory>
         ensures changes { IfOk result (λ told. AreChanges K.cmp C.meaning C.joined C.valid (all_entries self.old) (all_entries other.now) told.changes.items) }
         ensures done { IfOk result (λ told. IsTrue told.is_done → contents_at K.cmp C.meaning (all_entries self.new)
             ≡ key_by_key C.joined (contents_at K.cmp C.meaning (all_entries self.old)) (contents_at K.cmp C.meaning (all_entries other.now))) }

@@ -19,7 +19,7 @@ use crate::{Dup, Join, NoMemory};
 
 /// What the entries of another table change, and whether they are joined.
 #[derive(Drop)]
-pub struct Told<K, C> {
+pub struct BulkJoin<K, C> {
     pub changes: Vec<TableChange<K, C>>,
     pub is_done: bool,
 }
@@ -42,7 +42,7 @@ impl<K: Ord + Dup, C: Join> BlockList<K, C> {
     }
 
     /// Does the same, and returns what the other's entries change.
-    pub fn join_and_tell(&mut self, other: &Self) -> Result<Told<K, C>, NoMemory>
+    pub fn join_and_tell(&mut self, other: &Self) -> Result<BulkJoin<K, C>, NoMemory>
         ensures changes { IfOk result (λ told. AreChanges K.cmp C.meaning C.joined C.valid (entries_in self.old) (entries_in other.now) told.changes.items) }
         ensures done { IfOk result (λ told. IsTrue told.is_done → contents_at K.cmp C.meaning (entries_in self.new)
             ≡ key_by_key C.joined (contents_at K.cmp C.meaning (entries_in self.old)) (contents_at K.cmp C.meaning (entries_in other.now))) }
@@ -55,7 +55,7 @@ impl<K: Ord + Dup, C: Join> BlockList<K, C> {
         let mut edits = self.edits_from(other)?;
         let changes = take_all_changes(self.alloc(), &mut edits)?;
         let is_done = self.put(edits)?;
-        Ok(Told { changes, is_done })
+        Ok(BulkJoin { changes, is_done })
     }
 
     /// What the entries of the other change, in each block that they belong into.
