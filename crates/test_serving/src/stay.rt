@@ -8,6 +8,7 @@ mod opening;
 mod served;
 mod stopped;
 mod talks;
+mod writer_reading;
 mod writers;
 
 use clients::{count_input, keep_input, read_input, take_turns};

@@ -1,0 +1,105 @@
+//! Writers of a stream, read to their ends one after another.
+
+use pn_join::LAST_POSITION;
+use pn_line::Source;
+use pn_serve::{Origin, Stream, WriterEnd};
+use pn_stay::{StreamOrigin, StreamSource};
+use pn_stream::{NoWait, ResumeFault, StreamFault, StreamReader};
+use std::alloc::Global;
+use std::fs::{File, Files};
+use std::net::Net;
+use std::sync::Wait;
+use std::time::Clock;
+
+/// How many messages a call reads at most.
+const MOST: usize = 10;
+
+/// How many calls read a writer at most.
+const CALLS: u32 = 100;
+
+/// Reads the next two writers of a stream to their ends.
+pub(super) fn read_two<R>(alloc: Global, stream: &mut Stream<StreamOrigin<R>>) -> Option<u64>
+where
+    R: Files<File = File> + Net + Wait + Clock + Copy + Drop,
+{
+    let last = read_writer(alloc, stream, 0)?;
+    read_writer(alloc, stream, last)
+}
+
+/// Reads the next writer of a stream to its end, and answers up to which position the stream was read.
+pub(super) fn read_writer<R>(
+    alloc: Global,
+    stream: &mut Stream<StreamOrigin<R>>,
+    last: u64,
+) -> Option<u64>
+where
+    R: Files<File = File> + Net + Wait + Clock + Copy + Drop,
+{
+    let last = last.min(LAST_POSITION);
+    let source = stream.origin.next_writer(last)?;
+    let mut reader = StreamReader::new(alloc, stream.name, last, source);
+    let end = read_to_end(alloc, stream, &mut reader);
+    let last = last.max(reader.position());
+    stream.origin.end_writer(reader.into_source(), &end, last);
+    Some(last)
+}
+
+fn read_to_end<R>(
+    alloc: Global,
+    stream: &mut Stream<StreamOrigin<R>>,
+    reader: &mut StreamReader<StreamSource<R>>,
+) -> WriterEnd
+where
+    R: Files<File = File> + Net + Wait + Clock + Copy + Drop,
+{
+    match reader.resume(&NoWait::new(alloc)) {
+        Ok(Some(_)) => note(stream, reader.position()),
+        Ok(None) => return WriterEnd::End,
+        Err(fault) => return end_of(fault, reader.position(), 1),
+    }
+    read_rest(stream, reader)
+}
+
+fn read_rest<R>(
+    stream: &mut Stream<StreamOrigin<R>>,
+    reader: &mut StreamReader<StreamSource<R>>,
+) -> WriterEnd
+where
+    R: Files<File = File> + Net + Wait + Clock + Copy + Drop,
+{
+    for line in 2..CALLS {
+        match has_read(reader) {
+            Ok(true) => note(stream, reader.position()),
+            Ok(false) => break,
+            Err(fault) => {
+                return end_of(ResumeFault::Stream(fault), reader.position(), line as u64);
+            }
+        }
+    }
+    WriterEnd::End
+}
+
+// Reads what is there. Whether there was a message.
+fn has_read<S: Source + Drop>(reader: &mut StreamReader<S>) -> Result<bool, StreamFault> {
+    let delivery = reader.next_ready(MOST)?;
+    Ok(!delivery.images().is_empty())
+}
+
+fn end_of(fault: ResumeFault, last: u64, line: u64) -> WriterEnd {
+    WriterEnd::Fault {
+        fault,
+        position: last.saturating_add(1),
+        line,
+    }
+}
+
+// Notes that all up to a position was handed on and taken.
+fn note<R>(stream: &mut Stream<StreamOrigin<R>>, position: u64)
+where
+    R: Files<File = File> + Net + Wait + Clock + Copy + Drop,
+{
+    stream.origin.hand_on(position);
+    if let Some(taken) = &stream.taken {
+        taken.set(position);
+    }
+}
