@@ -121,11 +121,16 @@ impl<K: Ord + Dup, C: Join> BlockRef<K, C> {
     {
         let mut block = self.take(alloc)?;
         let half = block.count() / 2;
-        let back = block.back(half);
-        if back.is_ok() {
-            block.truncate(half);
+        match block.back(half) {
+            Ok(back) => {
+                block.truncate(half);
+                *self = BlockRef::seal(alloc, block);
+                Ok(BlockRef::seal(alloc, back))
+            }
+            Err(NoMemory) => {
+                *self = BlockRef::seal(alloc, block);
+                Err(NoMemory)
+            }
         }
-        *self = BlockRef::seal(alloc, block);
-        Ok(BlockRef::seal(alloc, back?))
     }
 }

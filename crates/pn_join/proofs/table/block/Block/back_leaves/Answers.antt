@@ -1,5 +1,5 @@
 -- The next leaf comes after those so far, as in the block.
-use Rattle.std.proofs.Common.{◌≡◌, ◌<◌, [], length, get_or, refl, ap, ◌∙◌, arith, rules}
+use Rattle.std.proofs.Common.{◌≡◌, ◌<◌, [], length, get_or, refl, ap, ◌∙◌, arith}
 use Rattle.pn_join.specs.LeafEntries.{leaf_entries, leaves_of}
 use Rattle.pn_join.specs.Leaves.{IsLeaf, IsLeafList}
 use Rattle.pn_join.proofs.BlockGrowth.{next_leaves, next_parted}
@@ -15,7 +15,7 @@ push-requires-clause-table g c =
     let own = c.self.inside.leaves.items in
     let list = c.args.self.now in
     let now = c.loop-next in
-    let within : now.next < length own = search (rules, arith) in
+    let within : now.next < length own = omega (arith, c.self.inside.leaves.ok.0) in
     let inside : now.next < length (leaves_of own) = omega (arith, within, length-leaves own) in
     let leaf : leaf_entries c.in_ok-leaf.leaf ≡ get_or list now.next [] =
     c.in_ok-leaf.ensures ∙ leaf_is cmp valid own own now.next c.index.result.now refl inside c.index.ensures ∙ ap (λ ls. get_or ls now.next []) c.self.view_is in
@@ -30,7 +30,7 @@ push-requires-clause-size g c =
     let own = c.self.inside.leaves.items in
     let list = c.args.self.now in
     let now = c.loop-next in
-    let within : now.next < length own = search (rules, arith) in
+    let within : now.next < length own = omega (arith, c.self.inside.leaves.ok.0) in
     let inside : now.next < length (leaves_of own) = omega (arith, within, length-leaves own) in
     let leaf : leaf_entries c.in_ok-leaf.leaf ≡ get_or list now.next [] =
     c.in_ok-leaf.ensures ∙ leaf_is cmp valid own own now.next c.index.result.now refl inside c.index.ensures ∙ ap (λ ls. get_or ls now.next []) c.self.view_is in
@@ -45,7 +45,7 @@ loop-next-preserved g c =
     let own = c.self.inside.leaves.items in
     let list = c.args.self.now in
     let now = c.loop-next in
-    let within : now.next < length own = search (rules, arith) in
+    let within : now.next < length own = omega (arith, c.self.inside.leaves.ok.0) in
     let inside : now.next < length (leaves_of own) = omega (arith, within, length-leaves own) in
     let lt : now.next < length list = omega (arith, inside, ap length c.self.view_is) in
     let leaf : leaf_entries c.in_ok-leaf.leaf ≡ get_or list now.next [] =

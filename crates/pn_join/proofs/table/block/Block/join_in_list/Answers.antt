@@ -95,23 +95,9 @@ returns-in_err-back-clause-leaf_list g c =
 
 pub overflow_add-more : goal.overflow_add-more
 overflow_add-more g c =
-    let cmp = g.K.Ord.cmp in
-    let o = g.met.K.Ord.total in
-    let valid = g.C.Join.valid in
-    let key = c.args.key in
-    let own = c.self.inside.leaves.items in
-    let list = leaves_of own in
-    let i = c.leaf_for-index.result in
-    let within : i < length list = inside_list cmp valid key o list c.args.self.now i c.self.view_is c.requires.some c.leaf_for-index.ensures.leaf in
-    let leaf : leaf_entries c.index_mut-leaf.result.now ≡ get_or list i [] = leaf_is cmp valid own c.reserve.new.self.items i c.index_mut-leaf.result.now c.in_ok-reserve.ensures.items within c.index_mut-leaf.ensures.value in
     let front = leaf_entries c.join_in_leaf.new.leaf in
     let back = c.in_ok-back.back.items in
-    let is : IsPutOf cmp g.C.Join.meaning g.C.Join.joined valid key c.args.content (get_or list i []) (front ++ back) = rw leaf at c.in_ok-back.ensures.ok in
-    let had : length c.entries_of-before.result.now ≡ length (get_or list i []) = ap length c.entries_of-before.ensures.entries ∙ ap (λ ls. length (get_or ls i [])) (sym c.self.view_is) in
     let has : length c.entries-front.result.now ≡ length front = ap length c.entries-front.ensures in
-    let total : length (all_entries list) + 1 < 2 ^ 64 = omega (arith, c.start-start.ensures.fits, c.if-len.false, c.len.ensures.count, ap (λ ls. length (all_entries ls)) c.self.view_is) in
-    let starts : c.start-start.result ≡ length (all_entries (take i list)) = c.start-start.ensures.start ∙ ap (λ ls. length (all_entries (take i ls))) (sym c.self.view_is) in
-    let both : length (front ++ back) ≡ length front + length back = length-append front back in
     let backs : c.len-2.result ≡ length back = omega (arith, c.len-2.ensures, c.in_ok-back.back.ok.0) in
     omega (arith, has, backs, c.in_ok-back.ensures.sizes.0.1, c.in_ok-back.ensures.sizes.1)
 
@@ -131,8 +117,6 @@ overflow_sub-more g c =
     let is : IsPutOf cmp g.C.Join.meaning g.C.Join.joined valid key c.args.content (get_or list i []) (front ++ back) = rw leaf at c.in_ok-back.ensures.ok in
     let had : length c.entries_of-before.result.now ≡ length (get_or list i []) = ap length c.entries_of-before.ensures.entries ∙ ap (λ ls. length (get_or ls i [])) (sym c.self.view_is) in
     let has : length c.entries-front.result.now ≡ length front = ap length c.entries-front.ensures in
-    let total : length (all_entries list) + 1 < 2 ^ 64 = omega (arith, c.start-start.ensures.fits, c.if-len.false, c.len.ensures.count, ap (λ ls. length (all_entries ls)) c.self.view_is) in
-    let starts : c.start-start.result ≡ length (all_entries (take i list)) = c.start-start.ensures.start ∙ ap (λ ls. length (all_entries (take i ls))) (sym c.self.view_is) in
     let both : length (front ++ back) ≡ length front + length back = length-append front back in
     let backs : c.len-2.result ≡ length back = omega (arith, c.len-2.ensures, c.in_ok-back.back.ok.0) in
     omega (arith, has, had, backs, both, length-grows is)
@@ -151,12 +135,10 @@ overflow_add-start g c =
     let front = leaf_entries c.join_in_leaf.new.leaf in
     let back = c.in_ok-back.back.items in
     let is : IsPutOf cmp g.C.Join.meaning g.C.Join.joined valid key c.args.content (get_or list i []) (front ++ back) = rw leaf at c.in_ok-back.ensures.ok in
-    let had : length c.entries_of-before.result.now ≡ length (get_or list i []) = ap length c.entries_of-before.ensures.entries ∙ ap (λ ls. length (get_or ls i [])) (sym c.self.view_is) in
     let has : length c.entries-front.result.now ≡ length front = ap length c.entries-front.ensures in
     let total : length (all_entries list) + 1 < 2 ^ 64 = omega (arith, c.start-start.ensures.fits, c.if-len.false, c.len.ensures.count, ap (λ ls. length (all_entries ls)) c.self.view_is) in
     let starts : c.start-start.result ≡ length (all_entries (take i list)) = c.start-start.ensures.start ∙ ap (λ ls. length (all_entries (take i ls))) (sym c.self.view_is) in
     let both : length (front ++ back) ≡ length front + length back = length-append front back in
-    let backs : c.len-2.result ≡ length back = omega (arith, c.len-2.ensures, c.in_ok-back.back.ok.0) in
     omega (arith, has, both, length-by_one is, starts, total, leaf_within list i)
 
 pub add_to_counts-requires-clause-within : goal.add_to_counts-requires-clause-within
@@ -188,7 +170,6 @@ add_to_counts-requires-clause-fit g c =
     let had : length c.entries_of-before.result.now ≡ length (get_or list i []) = ap length c.entries_of-before.ensures.entries ∙ ap (λ ls. length (get_or ls i [])) (sym c.self.view_is) in
     let has : length c.entries-front.result.now ≡ length front = ap length c.entries-front.ensures in
     let total : length (all_entries list) + 1 < 2 ^ 64 = omega (arith, c.start-start.ensures.fits, c.if-len.false, c.len.ensures.count, ap (λ ls. length (all_entries ls)) c.self.view_is) in
-    let starts : c.start-start.result ≡ length (all_entries (take i list)) = c.start-start.ensures.start ∙ ap (λ ls. length (all_entries (take i ls))) (sym c.self.view_is) in
     let both : length (front ++ back) ≡ length front + length back = length-append front back in
     let backs : c.len-2.result ≡ length back = omega (arith, c.len-2.ensures, c.in_ok-back.back.ok.0) in
     let more = length c.entries-front.result.now + c.len-2.result - length c.entries_of-before.result.now in
@@ -269,12 +250,8 @@ returns-clause-one g c =
     let list = leaves_of own in
     let i = c.leaf_for-index.result in
     let within : i < length list = inside_list cmp valid key o list c.args.self.now i c.self.view_is c.requires.some c.leaf_for-index.ensures.leaf in
-    let leaf : leaf_entries c.index_mut-leaf.result.now ≡ get_or list i [] = leaf_is cmp valid own c.reserve.new.self.items i c.index_mut-leaf.result.now c.in_ok-reserve.ensures.items within c.index_mut-leaf.ensures.value in
     let front = leaf_entries c.join_in_leaf.new.leaf in
     let back = c.in_ok-back.back.items in
-    let is : IsPutOf cmp g.C.Join.meaning g.C.Join.joined valid key c.args.content (get_or list i []) (front ++ back) = rw leaf at c.in_ok-back.ensures.ok in
-    let at : i ≡ leaf_for cmp key list = c.leaf_for-index.ensures.leaf ∙ ap (leaf_for cmp key) (sym c.self.view_is) in
-    let some : 0 < length list = omega (arith, within) in
     let put : leaves_of (set c.reserve.new.self.items i c.join_in_leaf.new.leaf) ≡ set list i front = leaves_of-set c.reserve.new.self.items i c.join_in_leaf.new.leaf ∙ ap (λ ls. set (leaves_of ls) i front) c.in_ok-reserve.ensures.items in
     let new : leaves_of c.add_back.new.leaves.items ≡ with_back i back (set list i front) = c.add_back.ensures ∙ ap (with_back i back) put in
     rw (new, ← c.self.view_is) (one_leaf list i front back within)

@@ -12,8 +12,6 @@ use Rattle.pn_join.proofs.table.block.Block.split.Goals as goal
 
 pub index_mut-leaf-requires : goal.index_mut-leaf-requires
 index_mut-leaf-requires g c =
-    let cmp = g.K.Ord.cmp in
-    let valid = g.C.Join.valid in
     let own = c.self.inside.leaves.items in
     let list = leaves_of own in
     let i = c.args.index in
@@ -86,8 +84,6 @@ overflow_add-start g c =
 
 pub add_to_counts-requires-clause-within : goal.add_to_counts-requires-clause-within
 add_to_counts-requires-clause-within g c =
-    let cmp = g.K.Ord.cmp in
-    let valid = g.C.Join.valid in
     let own = c.self.inside.leaves.items in
     let list = leaves_of own in
     let i = c.args.index in
@@ -96,19 +92,14 @@ add_to_counts-requires-clause-within g c =
 
 pub add_to_counts-requires-clause-fit : goal.add_to_counts-requires-clause-fit
 add_to_counts-requires-clause-fit g c =
-    let cmp = g.K.Ord.cmp in
-    let valid = g.C.Join.valid in
     let own = c.self.inside.leaves.items in
     let list = leaves_of own in
     let i = c.args.index in
-    let within : i < length list = omega (arith, c.requires, ap length c.self.view_is) in
     let bound : (0 + length (all_entries list)) + 0 < 2 ^ 64 = omega (arith, c.self.invariant.1.fits) in
     rw (c.in_ok-reserve-2.ensures.items, c.self.invariant.1.each) (fit_counts 0 0 list bound i)
 
 pub add_back-requires-clause-within : goal.add_back-requires-clause-within
 add_back-requires-clause-within g c =
-    let cmp = g.K.Ord.cmp in
-    let valid = g.C.Join.valid in
     let own = c.self.inside.leaves.items in
     let list = leaves_of own in
     let i = c.args.index in
@@ -129,7 +120,6 @@ invariant_of-self-2 g c =
     let is : front ++ back ≡ get_or list i [] = c.in_ok-back.ensures.whole ∙ leaf in
     let has : length c.entries-front.result.now ≡ length front = ap length c.entries-front.ensures in
     let starts : c.start-start.result ≡ length (all_entries (take i list)) = c.start-start.ensures.start ∙ ap (λ ls. length (all_entries (take i ls))) (sym c.self.view_is) in
-    let both : length (front ++ back) ≡ length front + length back = length-append front back in
     let put : leaves_of (set c.reserve.new.self.items i c.cut_leaf.new.leaf) ≡ set list i front = leaves_of-set c.reserve.new.self.items i c.cut_leaf.new.leaf ∙ ap (λ ls. set (leaves_of ls) i front) c.in_ok-reserve.ensures.items in
     let new : leaves_of c.add_back.new.leaves.items ≡ with_back i back (set list i front) = c.add_back.ensures ∙ ap (with_back i back) put in
     let count_at : c.start-start.result + length c.entries-front.result.now ≡ length (all_entries (take i list)) + length front = omega (arith, starts, has) in
@@ -151,9 +141,6 @@ returns-clause-same g c =
     let front = leaf_entries c.cut_leaf.new.leaf in
     let back = c.in_ok-back.back.items in
     let is : front ++ back ≡ get_or list i [] = c.in_ok-back.ensures.whole ∙ leaf in
-    let has : length c.entries-front.result.now ≡ length front = ap length c.entries-front.ensures in
-    let starts : c.start-start.result ≡ length (all_entries (take i list)) = c.start-start.ensures.start ∙ ap (λ ls. length (all_entries (take i ls))) (sym c.self.view_is) in
-    let both : length (front ++ back) ≡ length front + length back = length-append front back in
     let put : leaves_of (set c.reserve.new.self.items i c.cut_leaf.new.leaf) ≡ set list i front = leaves_of-set c.reserve.new.self.items i c.cut_leaf.new.leaf ∙ ap (λ ls. set (leaves_of ls) i front) c.in_ok-reserve.ensures.items in
     let new : leaves_of c.add_back.new.leaves.items ≡ with_back i back (set list i front) = c.add_back.ensures ∙ ap (with_back i back) put in
     ap all_entries new ∙ all_split list i within front back is ∙ ap all_entries c.self.view_is
@@ -170,9 +157,6 @@ returns-clause-leaf_list g c =
     let front = leaf_entries c.cut_leaf.new.leaf in
     let back = c.in_ok-back.back.items in
     let is : front ++ back ≡ get_or list i [] = c.in_ok-back.ensures.whole ∙ leaf in
-    let has : length c.entries-front.result.now ≡ length front = ap length c.entries-front.ensures in
-    let starts : c.start-start.result ≡ length (all_entries (take i list)) = c.start-start.ensures.start ∙ ap (λ ls. length (all_entries (take i ls))) (sym c.self.view_is) in
-    let both : length (front ++ back) ≡ length front + length back = length-append front back in
     let put : leaves_of (set c.reserve.new.self.items i c.cut_leaf.new.leaf) ≡ set list i front = leaves_of-set c.reserve.new.self.items i c.cut_leaf.new.leaf ∙ ap (λ ls. set (leaves_of ls) i front) c.in_ok-reserve.ensures.items in
     let new : leaves_of c.add_back.new.leaves.items ≡ with_back i back (set list i front) = c.add_back.ensures ∙ ap (with_back i back) put in
     rw new (split_list cmp valid list i within front back is c.self.invariant.0 c.in_ok-back.ensures.sizes.0 c.in_ok-back.ensures.sizes.1)

@@ -28,25 +28,19 @@ returns-in_err-front-clause-blocks g c = rw (c.in_err-front.ensures.err, c.in_ok
 
 pub overflow_add-start : goal.overflow_add-start
 overflow_add-start g c =
-    let cmp = g.K.Ord.cmp in
-    let valid = g.C.Join.valid in
     let i = c.args.index in
     let old = c.reserve.new.self.items in
     let new = c.halve_at.new.blocks.items in
     let same : old ≡ c.args.self.now = c.in_ok-reserve.ensures.items ∙ c.self.view_is in
-    let are : AreBlocks cmp valid old = rw c.in_ok-reserve.ensures.items c.self.invariant.0 in
     let is = c.in_ok-front.ensures.ok in
     omega (arith, front_fits i _ _ old new is, c.entries_before-start.ensures.start, c.entries_before-start.ensures.fits, ap (λ bs. length (all_entries (take i (in_blocks bs)))) same, ap (λ bs. length (all_entries (in_blocks bs))) same)
 
 pub overflow_add-start_leaf : goal.overflow_add-start_leaf
 overflow_add-start_leaf g c =
-    let cmp = g.K.Ord.cmp in
-    let valid = g.C.Join.valid in
     let i = c.args.index in
     let old = c.reserve.new.self.items in
     let new = c.halve_at.new.blocks.items in
     let same : old ≡ c.args.self.now = c.in_ok-reserve.ensures.items ∙ c.self.view_is in
-    let are : AreBlocks cmp valid old = rw c.in_ok-reserve.ensures.items c.self.invariant.0 in
     let is = c.in_ok-front.ensures.ok in
     omega (arith, front_leaves_fit i _ _ old new is, c.leaves_before-start_leaf.ensures.start, c.leaves_before-start_leaf.ensures.fits, ap (λ bs. length (all_entries (take i bs))) same, ap (λ bs. length (all_entries bs)) same)
 
