@@ -7,6 +7,7 @@ pub mod Fields
 pub mod Gathering
 pub mod HeldRecords
 pub mod ImageLines
+pub mod ImageOrder
 pub mod ImageParts
 pub mod ImageText
 pub mod Inverses

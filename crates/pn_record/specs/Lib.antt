@@ -7,6 +7,7 @@ pub mod Coding
 pub mod Faults
 pub mod Grammar
 pub mod Held
+pub mod ImageMembers
 pub mod Laws
 pub mod Limits
 pub mod Marks

@@ -4,6 +4,7 @@ mod appending;
 mod content_writer;
 mod marks;
 mod moved;
+mod parts;
 mod ranges;
 mod read;
 mod unchecked;

@@ -29,6 +29,7 @@ use Rattle.pn_tablet.specs.Forms.{form_number, form_of}
 use Rattle.pn_tablet.specs.Ranges.{key_data}
 use Rattle.pn_tablet.specs.declared.copy_line.CopyLine.{CopyLine}
 use Rattle.pn_tablet.specs.declared.copy_line.CopyLine.TheVariants.{Record, End}
+use Rattle.pn_tablet.specs.declared.copy_line_appending.TheConstants.{MAX_COPY_LINE_BYTES}
 use Rattle.pn_tablet.specs.declared.copy_text.CopyCursor.{CopyCursor}
 use Rattle.pn_tablet.specs.declared.copy_text.CopyCursor.TheVariants.{Head, Mark, Image, Written}
 use Rattle.pn_tablet.specs.declared.form.Form.{Form}
@@ -157,7 +158,7 @@ at_some {X} P o x there holds = subst (λ (p : Option X). IfSome p P) there hold
 pub in_some : {X : Type 0} (P : X → Type 0) (o : Option X) (x : X) → o ≡ Some x → P x → IfSome o P
 in_some {X} P o x there holds = subst (λ (p : Option X). IfSome p P) (sym there) holds
 
-pub made_line : {copy : TabletCopyValue} {cursor next : CopyCursor} {old new : Vec ℕ Global} (d : Data) → AppendsText old new (line_text d) → length (line_text d) ≤ 60000 → copy_rest copy cursor ≡ line_text d ++ copy_rest copy next → IsCopyCursor copy next
+pub made_line : {copy : TabletCopyValue} {cursor next : CopyCursor} {old new : Vec ℕ Global} (d : Data) → AppendsText old new (line_text d) → length (line_text d) ≤ MAX_COPY_LINE_BYTES → copy_rest copy cursor ≡ line_text d ++ copy_rest copy next → IsCopyCursor copy next
     → MakesLine copy cursor old new next
 made_line d appended short split next = record {
   line = record { piece = line_text d; appended = appended; split = split; short = short; some = inr (omega (arith, length-append (compact_text d) (10 ∷ []))) };
@@ -169,7 +170,7 @@ head_rest copy form is = ap (λ (f : Form). line_text (head_data (f, copy.range)
 
 pub same_line : {copy : TabletCopyValue} {cursor other next : CopyCursor} {old new : Vec ℕ Global} → copy_rest copy cursor ≡ copy_rest copy other → MakesLine copy other old new next → MakesLine copy cursor old new next
 same_line {copy} {cursor} {other} {next} {old} {new} same made =
-    record { line = subst (λ (left : List ℕ). MakesPiece 60000 left (copy_rest copy next) old new) (sym same) made.line; cursor_is = made.cursor_is }
+    record { line = subst (λ (left : List ℕ). MakesPiece MAX_COPY_LINE_BYTES left (copy_rest copy next) old new) (sym same) made.line; cursor_is = made.cursor_is }
 
 pub none_left : (copy : TabletCopyValue) (v : Vec ℕ Global) → MakesLine copy Written v v Written
 none_left copy v = record { line = record { piece = []; appended = appended_none v; split = refl; short = omega arith; some = inl refl }; cursor_is = tt }
@@ -179,13 +180,13 @@ first_content copy table index = has_content copy.cells table.contents index
 
 -- the line of a mark
 pub mark_next : (copy : TabletCopyValue) (index : ℕ) (name : List ℕ) (position p : ℕ) (old new : Vec ℕ Global) → Some (name, position) ≡ slice_get copy.marks index
-    → AppendsText old new (line_text (mark_data (name, p))) → length (line_text (mark_data (name, p))) ≤ 60000 → p ≡ position → MakesLine copy (Mark index) old new (Mark (index + 1))
+    → AppendsText old new (line_text (mark_data (name, p))) → length (line_text (mark_data (name, p))) ≤ MAX_COPY_LINE_BYTES → p ≡ position → MakesLine copy (Mark index) old new (Mark (index + 1))
 mark_next copy index name position p old new there appended short same =
     made_line (mark_data (name, p)) appended short (mark_rest copy index (name, position) (sym there) ∙ ap (λ (n : ℕ). line_text (mark_data (name, n)) ++ copy_rest copy (Mark (index + 1))) (sym same)) tt
 
 -- the line of the end
 pub end_next : (copy : TabletCopyValue) (index content lines count : ℕ) (old new : Vec ℕ Global) → None ≡ slice_get copy.cells index → lines ≡ lines_of_copy copy → count ≡ lines - 2
-    → AppendsText old new (line_text (end_data count)) → length (line_text (end_data count)) ≤ 60000 → MakesLine copy (Image index content) old new Written
+    → AppendsText old new (line_text (end_data count)) → length (line_text (end_data count)) ≤ MAX_COPY_LINE_BYTES → MakesLine copy (Image index content) old new Written
 end_next copy index content lines count old new none are is appended short =
     let same : lines_between copy ≡ count = omega (arith, are, is, copy_lines copy) in
     made_line (end_data count) appended short (no_image copy index content (sym none) ∙ ap (λ (n : ℕ). line_text (end_data n) ++ copy_rest copy Written) same) tt
@@ -193,7 +194,7 @@ end_next copy index content lines count old new none are is appended short =
 -- the line of an image, and the next cursor
 pub image_next : (copy : TabletCopyValue) (index content count : ℕ) (entry : List ℕ × CellValue) (shown : ContentValue) (next : CopyCursor) (old new : Vec ℕ Global) → IsTable bytes_cmp HasContents copy.cells → Some entry ≡ slice_get copy.cells index
     → shown ≡ get_or (keys entry.1.1) content shown → content < length (keys entry.1.1) → AppendsText old new (line_text (image_data (record { key = entry.0; version = entry.1.0; content = shown })))
-    → length (line_text (image_data (record { key = entry.0; version = entry.1.0; content = shown }))) ≤ 60000 → count ≡ length (keys entry.1.1)
+    → length (line_text (image_data (record { key = entry.0; version = entry.1.0; content = shown }))) ≤ MAX_COPY_LINE_BYTES → count ≡ length (keys entry.1.1)
     → next ≡ cond (ltb (content + 1) count) (Image index (content + 1)) (Image (index + 1) 0) → MakesLine copy (Image index content) old new next
 image_next copy index content count entry shown next old new table there here within appended short counted is =
     subst (λ (cursor : CopyCursor). MakesLine copy (Image index content) old new cursor) (sym is) (by (ltb (content + 1) count) refl)

@@ -15,6 +15,7 @@ use Rattle.pn_tablet.specs.Forms.{form_of}
 use Rattle.pn_tablet.specs.Proofs.Coding.{copy_code}
 use Rattle.pn_tablet.specs.declared.copy_line.CopyLine.TheVariants.{Record, End}
 use Rattle.pn_tablet.specs.declared.copy_count.LineCount.{LineCount}
+use Rattle.pn_tablet.specs.declared.copy_line_appending.TheConstants.{MAX_COPY_LINE_BYTES}
 use Rattle.pn_tablet.specs.declared.copy_text.CopyCursor.{CopyCursor}
 use Rattle.pn_tablet.specs.declared.copy_text.CopyCursor.TheVariants.{Head, Mark, Image, Written}
 use Rattle.pn_tablet.specs.declared.form.Form.{Form}
@@ -73,5 +74,5 @@ pub record IsTextOf (copy : TabletCopyValue) (form : Form) (lines : ℕ) (cursor
 
 -- the next line was added to a buffer, if one was left
 pub record MakesLine (copy : TabletCopyValue) (cursor : CopyCursor) (old new : Vec ℕ Global) (next : CopyCursor) : Type 0 where
-  pub line : MakesPiece 60000 (copy_rest copy cursor) (copy_rest copy next) old new
+  pub line : MakesPiece MAX_COPY_LINE_BYTES (copy_rest copy cursor) (copy_rest copy next) old new
   pub cursor_is : IsCopyCursor copy next

@@ -6,6 +6,7 @@ ghost use Rattle.pn_record.specs.Prelude.{spell};
 ghost use Rattle.pn_tablet.specs.CopyMaking.{IsCopyCursor, IsTextOf, lines_of_copy, MakesLine};
 ghost use Rattle.pn_tablet.specs.CopyWriting.{copy_text};
 ghost use Rattle.pn_tablet.specs.Forms.{form_of};
+ghost use Rattle.pn_tablet.specs.declared.copy_line_appending.TheConstants.{MAX_COPY_LINE_BYTES};
 ghost use Rattle.pn_tablet.specs.declared.copy_text.CopyCursor.TheVariants.{Image, Mark, Written};
 
 use crate::TabletCopy;
@@ -78,7 +79,7 @@ impl CopyText {
 
     /// Adds the next line to what a buffer holds that has room for it, if one is left.
     pub fn append_line(&mut self, out: &mut Vec<u8>)
-        ensures line { MakesPiece 60000 self.old.left self.new.left out.old out.new }
+        ensures line { MakesPiece MAX_COPY_LINE_BYTES self.old.left self.new.left out.old out.new }
         ensures copy { self.new.copy ≡ self.old.copy }
     {
         self.cursor = append_next(out, &self.copy, self.form, self.lines, self.cursor);

@@ -30,6 +30,7 @@ pub use change::Change;
 pub use copy::TabletCopy;
 pub use copy_chunks::read_copy_by;
 pub use copy_count::{CopyCount, CopyStep};
+pub use copy_line_appending::MAX_COPY_LINE_BYTES;
 pub use copy_reading::read_copy;
 pub use copy_text::CopyText;
 pub use copy_writing::write_copy;

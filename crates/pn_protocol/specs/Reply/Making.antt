@@ -11,6 +11,7 @@ use Rattle.pn_json.specs.Prelude.{AppendsText}
 use Rattle.pn_record.specs.Sets.{CellValue}
 use Rattle.pn_record.specs.States.{state_of}
 use Rattle.pn_record.specs.Writing.{content_data, version_data}
+use Rattle.pn_protocol.specs.declared.reply.rows_text.TheConstants.{MAX_PART_BYTES}
 use Rattle.pn_protocol.specs.declared.reply.rows_text.RowsCursor.{RowsCursor}
 use Rattle.pn_protocol.specs.declared.reply.rows_text.RowsCursor.TheVariants.{Record, End}
 use Rattle.pn_protocol.specs.declared.reply.shown_records.ShownRecords.{ShownRecords}
@@ -103,6 +104,6 @@ pub record MakesRecord (found : Found) (content : ℕ) (old new : Vec ℕ Global
   pub part : List ℕ
   pub appended : AppendsText old new part
   pub split : record_rest content found ≡ part ++ after_part next found
-  pub short : length part ≤ 60000
+  pub short : length part ≤ MAX_PART_BYTES
   pub some : 0 < length part
   pub next_is : HasContent next found

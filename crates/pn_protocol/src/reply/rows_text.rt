@@ -5,12 +5,16 @@ ghost use Rattle.std.specs.Option.{option_copied};
 ghost use Rattle.pn_json.specs.Prelude.{AppendsText, MakesPiece};
 ghost use Rattle.pn_protocol.specs.Reply.Making.{HasContent, IsCursorOf, MakesRecord, before_text, end_of, found_in, next_cursor, cursor_rest, row_end, rows_text};
 ghost use Rattle.pn_protocol.specs.declared.reply.rows_text.RowsCursor.TheVariants.{End, Record};
+ghost use Rattle.pn_protocol.specs.declared.reply.text.TheConstants.{MAX_PIECE_BYTES};
 
 use crate::reply::rows::state_word;
 use crate::reply::shown_records::ShownRecords;
 use pn_json::{append_comma, append_string, append_text};
 use pn_record::{Cell, Key, append_content, append_version};
 use std::marker::Model;
+
+/// The most bytes of what a piece shows of a record.
+const MAX_PART_BYTES: usize = 60_000;
 
 /// Records whose rows are made in pieces, and the end of a reply that shows them.
 #[derive(Drop)]
@@ -62,7 +66,7 @@ impl RowsText {
 
     /// Makes a piece after what a buffer holds that has room for it.
     pub(crate) fn append_piece(&mut self, out: &mut Vec<u8>)
-        ensures { MakesPiece 65536 self.old self.new out.old out.new }
+        ensures { MakesPiece MAX_PIECE_BYTES self.old self.new out.old out.new }
     {
         self.cursor = append_at(out, &self.shown, self.cursor);
     }
@@ -71,7 +75,7 @@ impl RowsText {
 // Adds a piece from a cursor on. The next cursor.
 fn append_at(out: &mut Vec<u8>, shown: &ShownRecords, cursor: RowsCursor) -> RowsCursor
     requires { IsCursorOf (found_in shown.now) cursor }
-    ensures piece { MakesPiece 65536 (cursor_rest (found_in shown.now) (end_of shown.now) cursor)
+    ensures piece { MakesPiece MAX_PIECE_BYTES (cursor_rest (found_in shown.now) (end_of shown.now) cursor)
         (cursor_rest (found_in shown.now) (end_of shown.now) result) out.old out.new }
     ensures cursor { IsCursorOf (found_in shown.now) result }
 {
@@ -84,7 +88,7 @@ fn append_at(out: &mut Vec<u8>, shown: &ShownRecords, cursor: RowsCursor) -> Row
 // Adds the part of a record that begins with a content, or the end where there is no such record. The next cursor.
 fn append_from(out: &mut Vec<u8>, shown: &ShownRecords, index: usize, content: usize) -> RowsCursor
     requires { IsCursorOf (found_in shown.now) (Record index content) }
-    ensures piece { MakesPiece 65536 (cursor_rest (found_in shown.now) (end_of shown.now) (Record index content))
+    ensures piece { MakesPiece MAX_PIECE_BYTES (cursor_rest (found_in shown.now) (end_of shown.now) (Record index content))
         (cursor_rest (found_in shown.now) (end_of shown.now) result) out.old out.new }
     ensures cursor { IsCursorOf (found_in shown.now) result }
 {

@@ -147,7 +147,7 @@ impl ReplyText {
 
     // Makes a piece of the head, or of what comes after it.
     fn append_piece(&mut self, out: &mut Vec<u8>)
-        ensures { MakesPiece 65536 self.old self.new out.old out.new }
+        ensures { MakesPiece MAX_PIECE_BYTES self.old self.new out.old out.new }
     {
         let head = self.head.as_bytes();
         if self.made < head.len() {
@@ -189,7 +189,7 @@ impl Rest {
     }
 
     fn append_piece(&mut self, out: &mut Vec<u8>)
-        ensures { MakesPiece 65536 (rest_bytes self.old) (rest_bytes self.new) out.old out.new }
+        ensures { MakesPiece MAX_PIECE_BYTES (rest_bytes self.old) (rest_bytes self.new) out.old out.new }
     {
         match self {
             Rest::Nothing => {}

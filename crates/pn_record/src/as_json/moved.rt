@@ -1,6 +1,7 @@
 //! Images, moved out of parsed values.
 
-ghost use Rattle.std.specs.Prelude.{◌≡◌, map, Some, option_map, string_bytes, Ok, IfOk, IsOk, IsTrue};
+ghost use Rattle.std.specs.Prelude.{◌≡◌, codes, map, Some, option_map, string_bytes, Ok, IfOk, IsOk, IsTrue};
+ghost use Rattle.serde_json.specs.Find.{get};
 ghost use Rattle.serde_json.specs.View.{view, members_view};
 ghost use Rattle.pn_json.specs.Prelude.{seen, text_at};
 ghost use Rattle.pn_record.specs.Bodies.{names_rise as all_rise};
@@ -23,15 +24,32 @@ pub fn image_from(alloc: Global, value: Value) -> Result<Image, NoMemory>
     requires { IsOk (image_in (view value)) }
     ensures { IfOk result (λ image. image_in (view value) ≡ Ok image) }
 {
-    let key = Key::of_fitting(alloc, text_or_empty(value.get("key")))?;
-    let master = Name::of(text_or_empty(value.get("master")).as_bytes());
-    let (generation, number) = numbers_or_zeros(value.get("version"));
+    let (key, master, (generation, number)) = parts_after_body(&value);
+    let master = Name::of(master.as_bytes());
+    let key = Key::of_fitting(alloc, key)?;
     let body = body_from(alloc, member_from(value, "fields"))?;
     Ok(Image {
         key,
         version: Version { generation, number },
         content: Content { body, master },
     })
+}
+
+// The key, the master and the version. Their names come after the body's, in this order.
+fn parts_after_body(value: &Value) -> (&str, &str, (u64, u64))
+    requires { IsOk (image_in (view value.now)) }
+    ensures key { result.0.now ≡ text_at (get (codes "key") (view value.now)) }
+    ensures master { result.1.now ≡ text_at (get (codes "master") (view value.now)) }
+    ensures version { result.2 ≡ numbers_at (get (codes "version") (view value.now)) }
+{
+    let Some(members) = value.as_object() else {
+        unreachable!();
+    };
+    let mut values = members.values();
+    let _ = values.next();
+    let key = text_or_empty(values.next());
+    let master = text_or_empty(values.next());
+    (key, master, numbers_or_zeros(values.next()))
 }
 
 fn numbers_or_zeros(value: Option<&Value>) -> (u64, u64)

@@ -9,8 +9,9 @@ ghost use Rattle.pn_record.specs.Grammar.{numbers_in, two_numbers, shape_in};
 ghost use Rattle.pn_record.specs.Seen.{seen_fields, body_rises};
 ghost use Rattle.pn_record.specs.Writing.{image_data};
 
+use crate::as_json::parts::parts_of;
 use crate::{Member, value_of};
-use pn_json::{check_names, text_of};
+use pn_json::text_of;
 use serde_json::{Map, Value};
 use std::marker::Model;
 
@@ -71,13 +72,13 @@ pub fn unchecked_image(value: &Value) -> Result<UncheckedImage<'_>, Member>
     ensures rising { IfOk result (λ shape. IsTrue (body_rises shape.content.0)) }
 {
     let members = value.as_object().ok_or(Member::Whole)?;
-    let is_deleted = deleted_of(value.get("deleted"))?;
-    let fields = fields_of(is_deleted, value.get("fields"))?;
-    let key = text_of(value.get("key"), Member::Key)?;
-    let master = text_of(value.get("master"), Member::Master)?;
-    let version = version_numbers(value.get("version"))?;
-    let names = ["deleted", "fields", "key", "master", "version"];
-    check_names(members, &names, Member::Other)?;
+    let parts = parts_of(value, members);
+    let is_deleted = deleted_of(parts.deleted)?;
+    let fields = fields_of(is_deleted, parts.fields)?;
+    let key = text_of(parts.key, Member::Key)?;
+    let master = text_of(parts.master, Member::Master)?;
+    let version = version_numbers(parts.version)?;
+    parts.named?;
     Ok(UncheckedImage {
         fields,
         key,

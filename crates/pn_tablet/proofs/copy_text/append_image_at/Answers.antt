@@ -11,6 +11,7 @@ use Rattle.pn_tablet.specs.Copies.{TabletCopyValue}
 use Rattle.pn_tablet.specs.CopyMaking.{IsCopyCursor, MakesLine, lines_of_copy}
 use Rattle.pn_tablet.specs.CopyWriting.{line_text}
 use Rattle.pn_tablet.specs.declared.copy_text.CopyCursor.TheVariants.{Image, Written}
+use Rattle.pn_tablet.specs.declared.copy_line_appending.TheConstants.{MAX_COPY_LINE_BYTES}
 use Rattle.pn_tablet.proofs.CopyCounted.{copy_lines}
 use Rattle.pn_tablet.proofs.CopyMade.{at_some, end_next, image_next}
 use Rattle.pn_tablet.proofs.copy_text.append_image_at.Goals as goal
@@ -38,7 +39,7 @@ returns-in-Some c =
     let within = at_some (λ (e : List ℕ × CellValue). c.args.content < length (keys e.1.1)) (slice_get c.copy.inside.cells c.args.index) entry (sym c.in-Some.ensures.entry) cursor in
     let here : shown ≡ get_or (keys entry.1.1) c.args.content shown = c.index-contents-content.is ∙ ap (λ (l : List ContentValue). get_or l c.args.content shown) c.contents-contents.ensures.contents in
     let added = subst (λ (v : ℕ × ℕ). AppendsText c.args.out.now c.append_image_line.new.out (line_text (image_data (record { key = entry.0; version = v; content = shown })))) c.version.ensures.version c.append_image_line.ensures.added in
-    let short = subst (λ (v : ℕ × ℕ). length (line_text (image_data (record { key = entry.0; version = v; content = shown }))) ≤ 60000) c.version.ensures.version c.append_image_line.ensures.short in
+    let short = subst (λ (v : ℕ × ℕ). length (line_text (image_data (record { key = entry.0; version = v; content = shown }))) ≤ MAX_COPY_LINE_BYTES) c.version.ensures.version c.append_image_line.ensures.short in
     subst (λ (of : TabletCopyValue). MakesLine of (Image c.args.index c.args.content) c.args.out.now c.append_image_line.new.out c.next_cursor.result) c.copy.view_is
     (image_next copy c.args.index c.args.content (length c.contents-contents.result.now) entry shown c.next_cursor.result c.args.out.now c.append_image_line.new.out c.recall_table.ensures c.in-Some.ensures.entry here within added short
     (ap length c.contents-contents.ensures.contents) c.next_cursor.ensures)

@@ -14,7 +14,7 @@ use Rattle.pn_record.proofs.as_json.moved.image_from.Goals as goal
 
 pub of_fitting-requires : goal.of_fitting-requires
 of_fitting-requires c =
-    let text : c.text_or_empty.result.now ≡ text_at (get (codes "key") (view c.args.value)) = search rules in
+    let text : c.parts_after_body-generation.result.0.now ≡ text_at (get (codes "key") (view c.args.value)) = search rules in
     subst (λ t. IsTrue (is_key t)) (sym text) (parts_found (view c.args.value) c.requires).key
 
 pub of-master-requires : goal.of-master-requires
@@ -24,7 +24,7 @@ of-master-requires c =
 
 pub invariant_of-result : goal.invariant_of-result
 invariant_of-result c =
-    let numbers : c.numbers_or_zeros-generation.result ≡ numbers_at (get (codes "version") (view c.args.value)) = search rules in
+    let numbers : c.parts_after_body-generation.result.2 ≡ numbers_at (get (codes "version") (view c.args.value)) = search rules in
     subst (λ v. IsTrue (is_version v)) (sym numbers) (parts_found (view c.args.value) c.requires).version
 
 pub invariant_of-result-2 : goal.invariant_of-result-2

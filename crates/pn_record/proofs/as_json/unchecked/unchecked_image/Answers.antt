@@ -14,4 +14,4 @@ returns-clause-found c =
     let image : Image = record { key = c.in_ok-key.key.now; version = c.in_ok-version.version; content = (seen_fields c.in_ok-fields.fields, c.in_ok-master.master.now) } in
     let exact : shape_in (view c.args.value.now) ≡ Ok image = search rules in
     let members : Some (members_view c.in_ok-members.members.now.entries) ≡ as_object (view c.args.value.now) = search rules in
-    shape_found_in (view c.args.value.now) c.in_ok-members.members.now.entries image members c.check_names.ensures.ordered exact
+    shape_found_in (view c.args.value.now) c.in_ok-members.members.now.entries image members c.parts_of-parts.ensures.ordered exact

@@ -2,6 +2,7 @@
 use Rattle.std.proofs.Common.{ap, subst}
 use Rattle.pn_json.specs.AppendedText.{MakesPiece}
 use Rattle.pn_tablet.specs.CopyMaking.{CopyTextValue, copy_rest}
+use Rattle.pn_tablet.specs.declared.copy_line_appending.TheConstants.{MAX_COPY_LINE_BYTES}
 use Rattle.pn_tablet.proofs.copy_text.CopyText.append_line.Goals as goal
 
 pub invariant_of-self : goal.invariant_of-self
@@ -9,7 +10,7 @@ invariant_of-self c = record { form_is = c.self.invariant.form_is; lines_are = c
 
 pub returns-clause-line : goal.returns-clause-line
 returns-clause-line c =
-    subst (λ (text : CopyTextValue). MakesPiece 60000 text.left (copy_rest c.self.inside.copy c.append_next-self-inside.result) c.args.out.now c.append_next-self-inside.new.out) c.self.view_is c.append_next-self-inside.ensures.line
+    subst (λ (text : CopyTextValue). MakesPiece MAX_COPY_LINE_BYTES text.left (copy_rest c.self.inside.copy c.append_next-self-inside.result) c.args.out.now c.append_next-self-inside.new.out) c.self.view_is c.append_next-self-inside.ensures.line
 
 pub returns-clause-copy : goal.returns-clause-copy
 returns-clause-copy c = ap (λ (text : CopyTextValue). text.copy) c.self.view_is
