@@ -1,6 +1,8 @@
+pub mod Applied
 pub mod Cuts
-pub mod Parts
+pub mod Halves
 pub mod Prefixes
 pub mod ReduceLaws
 pub mod Sharing
 pub mod Tables
+pub mod Turns

@@ -1,5 +1,5 @@
 -- Operations on several tablets, each on its own.
-use Rattle.std.specs.Prelude.{◌≡◌, List, [], ◌∷◌, map, IsTrue, ◌⊎◌}
+use Rattle.std.specs.Prelude.{◌≡◌, ℕ, List, [], ◌∷◌, map, get_or, IsTrue, ◌⊎◌}
 use Rattle.std.specs.List.{AllByRecursion, zip}
 use Rattle.pn_tablet.specs.Operations.{HasPositions}
 use Rattle.pn_tablet.specs.Tablets.{TabletStateValue, lie_in}
@@ -7,7 +7,7 @@ use Rattle.pn_tablet.specs.Steps.{tablet_after}
 use Rattle.pn_tablet.specs.Changes.{answer}
 use Rattle.pn_tablet.specs.declared.change.Change.{Change}
 use Rattle.pn_tablet.specs.declared.state.TabletOp.{TabletOp}
-use Rattle.pn_tablet.specs.declared.state.TabletOp.TheVariants.{Join}
+use Rattle.pn_tablet.specs.declared.state.TabletOp.TheVariants.{Join, Lose}
 
 -- the operation is a join of keys that lie in the tablet's range
 abbrev pub IsJoinIn : TabletStateValue → TabletOp → Type 0
@@ -43,3 +43,7 @@ AreOldOrStepped _ _ _ = ⊥
 abbrev pub IsSomeOld : List TabletStateValue → List TabletStateValue → Type 0
 IsSomeOld (tablet ∷ tablets) (now ∷ nows) = (now ≡ tablet) ⊎ IsSomeOld tablets nows
 IsSomeOld _ _ = ⊥
+
+-- the operation of the tablet of this number
+abbrev pub operation_at : List TabletOp → ℕ → TabletOp
+operation_at operations n = get_or operations n Lose

@@ -1,13 +1,7 @@
--- What workers are given, and what they leave.
-use Rattle.std.specs.Prelude.{◌≡◌, ℕ, ◌+◌, ◌≤◌, ◌<◌, ◌^◌, List, length, map, Result, IfOk, OnOk, OnErr, Vec}
+-- Work in consecutive tablets.
+use Rattle.std.specs.Prelude.{◌≡◌, ℕ, ◌+◌, ◌≤◌, ◌<◌, ◌^◌, List, [], ◌∷◌, Result, IfOk, OnOk, OnErr, ◌⊎◌, Vec}
 use Rattle.std.specs.declared.alloc.Global.{Global}
 use Rattle.pn_join.specs.declared.memory.NoMemory.{NoMemory}
-use Rattle.pn_record.specs.declared.image.Image.{Image}
-use Rattle.pn_record.specs.CellMap.{Entries, table_of}
-use Rattle.pn_tablet.specs.Tablets.{TabletStateValue}
-use Rattle.pn_tablet.specs.declared.change.Change.{Change}
-use Rattle.pn_tablet.specs.declared.state.TabletOp.{TabletOp}
-use Rattle.pn_apply.specs.Applying.{AreJoinsIn, HavePositions, all_stepped, all_changes, AreOldOrStepped, IsSomeOld}
 use Rattle.pn_apply.specs.declared.cut.Span.{Span}
 
 -- the span is of this many tablets: enough for its workers, and each with a number
@@ -15,19 +9,29 @@ pub record IsSpanOf (tablets : ℕ) (span : Span) : Type 0 where
   pub enough : span.workers ≤ tablets
   pub numbers : span.first + tablets < 2 ^ 64
 
--- each operation is a join in the range of its own tablet, and the span is of these tablets
-pub record IsTask (tablets : List TabletStateValue) (operations : List TabletOp) (span : Span) : Type 0 where
-  pub joins : AreJoinsIn tablets operations
-  pub positions : HavePositions operations
-  pub spanned : IsSpanOf (length operations) span
+-- it holds for each member, by the numbers from this one on
+abbrev pub Each : {A : Type 0} → (ℕ → A → Type 0) → ℕ → List A → Type 0
+Each holds n [] = Unit {0}
+Each holds n (x ∷ xs) = holds n x × Each holds (n + 1) xs
 
--- each tablet has taken its operation, whose changes are the result; or memory ran out, and at least one has not
-pub record Applied (old : List TabletStateValue) (operations : List TabletOp) (result : Result (Vec (Vec Change Global) Global) NoMemory) (new : List TabletStateValue) : Type 0 where
-  pub ok : OnOk result (new ≡ all_stepped old operations)
-  pub changes : IfOk result (λ lists. map (λ list. list.items) lists.items ≡ all_changes old operations)
-  pub err : OnErr result (AreOldOrStepped old operations new)
-  pub left : OnErr result (IsSomeOld old new)
+-- it holds for each member of one list and its counterpart in the other, by the numbers from this one on
+abbrev pub EachOf : {A B : Type 0} → (ℕ → A → B → Type 0) → ℕ → List A → List B → Type 0
+EachOf holds n [] [] = Unit {0}
+EachOf holds n (x ∷ xs) (y ∷ ys) = holds n x y × EachOf holds (n + 1) xs ys
+EachOf _ _ _ _ = ⊥
 
--- the result is the cells of each tablet's images
-abbrev pub AreCellsOf : List (Vec Image Global) → Result (Vec Entries Global) NoMemory → Type 0
-AreCellsOf images result = IfOk result (λ cells. cells.items ≡ map (λ own. table_of own.items) images)
+-- it holds for a member of one list and its counterpart in the other
+abbrev pub OneOf : {A : Type 0} → (A → A → Type 0) → List A → List A → Type 0
+OneOf holds (x ∷ xs) (y ∷ ys) = holds x y ⊎ OneOf holds xs ys
+OneOf _ _ _ = ⊥
+
+-- the item is as it was, or as an error leaves it
+abbrev pub IsKept : {I : Type 0} → (I → I → Type 0) → I → I → Type 0
+IsKept kept old new = (new ≡ old) ⊎ kept old new
+
+-- each item is worked, and the result is what is made of them; or memory ran out, and at least one is not worked
+pub record Worked {I M : Type 0} (turns : ℕ → I → I → Type 0) (makes : ℕ → I → M → Type 0) (kept : I → I → Type 0) (first : ℕ) (old : List I) (result : Result (Vec M Global) NoMemory) (new : List I) : Type 0 where
+  pub ok : OnOk result (EachOf turns first old new)
+  pub made : IfOk result (λ all. EachOf makes first old all.items)
+  pub err : OnErr result (EachOf (λ n p q. turns n p q ⊎ IsKept kept p q) first old new)
+  pub left : OnErr result (OneOf (IsKept kept) old new)

@@ -1,14 +1,12 @@
 //! Operations applied, each to the slot of its own tablet.
 
-ghost use Rattle.std.specs.Prelude.{◌≡◌, ◌≤◌, length, map, IfOk, OnOk, OnErr};
-ghost use Rattle.std.specs.Thread.{IsSync, IsSend};
+ghost use Rattle.std.specs.Prelude.{◌≡◌, ◌≤◌, ◌<◌, length, map, IfOk, OnOk, OnErr};
 ghost use Rattle.pn_tablet.specs.Prelude.{HasPositions, tablet_after, answer};
-ghost use Rattle.pn_apply.specs.Applying.{IsJoinIn, AreJoinsIn, HavePositions, all_stepped, all_changes, AreOldOrStepped, IsSomeOld};
+ghost use Rattle.pn_apply.specs.Applying.{IsJoinIn, AreJoinsIn, HavePositions, all_stepped, all_changes, AreOldOrStepped, IsSomeOld, operation_at};
 ghost use Rattle.pn_apply.specs.declared.reducing.TheConstants.{MAX_WORKERS};
-ghost use Rattle.pn_apply.specs.Working.{IsTask, Applied};
 
-use crate::cut::{Span, call_both, is_worth_a_thread, join_results};
-use crate::gate::{GatePass, enter};
+use crate::gate::GatePass;
+use crate::working::{TabletWork, Task, work_all};
 use crate::{Gate, Slot};
 use pn_join::NoMemory;
 use pn_tablet::{Change, OpFault, TabletOp};
@@ -41,120 +39,52 @@ pub fn apply_all<R: Threads + Sync, S: Slot + Send, G: Gate + Sync>(
     ensures err { OnErr result (AreOldOrStepped (map S.tablet slots.old) operations.now (map S.tablet slots.new)) }
     ensures left { OnErr result (IsSomeOld (map S.tablet slots.old) (map S.tablet slots.new)) }
 {
-    let span = Span::new(gate, workers, operations.len(), count_images(operations));
-    work_span(rt, alloc, gate, Task { span, operations }, slots)
+    let work = Applying { operations };
+    let task = Task {
+        alloc,
+        work: &work,
+        gate,
+    };
+    work_all(rt, &task, workers, slots)
 }
 
-// The changes that each operation makes, in the order of the tablets.
-type Answer = Result<Vec<Vec<Change>>, NoMemory>;
-
-// The operations of consecutive tablets.
-#[derive(Clone, Copy)]
-struct Task<'a> {
-    span: Span,
+// The operations of a round, each for the tablet at its index.
+#[derive(Drop)]
+struct Applying<'a> {
     operations: &'a [TabletOp],
 }
 
-// Works the tablets of a span. One worker's part is cut off while there are two workers or more.
-#[cycle(parts)]
-fn work_span<R: Threads + Sync, S: Slot + Send, G: Gate + Sync>(
-    rt: &R,
-    alloc: Global,
-    gate: &G,
-    task: Task<'_>,
-    slots: &mut [S],
-) -> Answer
-    requires { IsTask (map S.tablet slots.old) task.operations.now task.span }
-    ensures { Applied (map S.tablet slots.old) task.entry.operations.now result (map S.tablet slots.new) }
-{
-    let Task { span, operations } = task;
-    if span.workers < 2 {
-        return work_alone(alloc, gate, span, operations, slots);
-    }
-    let results = Vec::with_capacity(alloc, operations.len())?;
-    let (front, back, index) = span.cut(operations.len());
-    let (first, second) = operations.split_at(index);
-    let tasks = (
-        Task {
-            span: front,
-            operations: first,
-        },
-        Task {
-            span: back,
-            operations: second,
-        },
-    );
-    let (low, high) = slots.split_at_mut(index);
-    let (front, back) = work_parts(rt, alloc, gate, tasks, low, high);
-    join_results(results, front, back)
-}
+impl<S: Slot> TabletWork<S, Vec<Change>> for Applying<'_> {
+    ghost fits = { λ work n slot. (n < length work.operations.now)
+        × IsJoinIn (S.tablet slot) (operation_at work.operations.now n) × HasPositions (operation_at work.operations.now n) };
 
-// Works both parts of a cut: at the same time if each is worth a thread.
-#[cycle(parts)]
-fn work_parts<R: Threads + Sync, S: Slot + Send, G: Gate + Sync>(
-    rt: &R,
-    alloc: Global,
-    gate: &G,
-    tasks: (Task<'_>, Task<'_>),
-    low: &mut [S],
-    high: &mut [S],
-) -> (Answer, Answer)
-    requires some { (1 ≤ tasks.0.span.workers) × (1 ≤ tasks.1.span.workers) }
-    requires low { IsTask (map S.tablet low.old) tasks.0.operations.now tasks.0.span }
-    requires high { IsTask (map S.tablet high.old) tasks.1.operations.now tasks.1.span }
-    ensures low { Applied (map S.tablet low.old) tasks.entry.0.operations.now result.0 (map S.tablet low.new) }
-    ensures high { Applied (map S.tablet high.old) tasks.entry.1.operations.now result.1 (map S.tablet high.new) }
-{
-    let (first, second) = tasks;
-    let at_once = is_worth_a_thread(gate, count_images(first.operations))
-        && is_worth_a_thread(gate, count_images(second.operations));
-    let mut front = || -> Answer
-        requires { IsSync R.row × IsSync G.row × IsSend S.row × (1 ≤ first.span.workers) × IsTask (map S.tablet low.now) first.operations.now first.span }
-        ensures { Applied (map S.tablet low.entry.now) first.entry.operations.now result (map S.tablet low.exit.now) }
-    { work_span(rt, alloc, gate, first, low) };
-    let mut back = || -> Answer
-        requires { IsSync R.row × IsSync G.row × IsSend S.row × (1 ≤ second.span.workers) × IsTask (map S.tablet high.now) second.operations.now second.span }
-        ensures { Applied (map S.tablet high.entry.now) second.entry.operations.now result (map S.tablet high.exit.now) }
-    { work_span(rt, alloc, gate, second, high) };
-    call_both(rt, at_once, &mut front, &mut back)
-}
+    ghost turns = { λ work n old new. S.tablet new ≡ tablet_after (S.tablet old) (operation_at work.operations.now n) };
 
-// How many images the operations join, a key's images as one.
-fn count_images(operations: &[TabletOp]) -> usize {
-    let mut count = 0_usize;
-    for operation in operations {
-        if let TabletOp::Join { cells, .. } = operation {
-            count = count.saturating_add(cells.len());
+    ghost makes = { λ work n old list. list.items
+        ≡ answer (operation_at work.operations.now n) (S.tablet old) (tablet_after (S.tablet old) (operation_at work.operations.now n)) };
+
+    ghost kept = { λ work old new. S.tablet new ≡ S.tablet old };
+
+    // A key's images count as one.
+    fn count_images(&self, tablet: usize, _slot: &S) -> usize {
+        match self.operations.get(tablet) {
+            Some(TabletOp::Join { cells, .. }) => cells.len(),
+            _ => 0,
         }
     }
-    count
-}
 
-// Works the tablets of a span one after another.
-fn work_alone<S: Slot, G: Gate>(
-    alloc: Global,
-    gate: &G,
-    span: Span,
-    operations: &[TabletOp],
-    slots: &mut [S],
-) -> Answer
-    requires { IsTask (map S.tablet slots.old) operations.now span }
-    ensures { Applied (map S.tablet slots.old) operations.now result (map S.tablet slots.new) }
-{
-    let mut results = Vec::with_capacity(alloc, operations.len())?;
-    for (index, operation) in operations.iter().enumerate() {
-        let entered = enter(gate, span.first + index);
-        results.push_reserved(apply_join(entered, &mut slots[index], operation)?);
+    fn work(
+        &self,
+        entered: GatePass,
+        _alloc: Global,
+        slot: &mut S,
+    ) -> Result<Vec<Change>, NoMemory> {
+        apply_join(slot, &self.operations[entered.tablet])
     }
-    Ok(results)
 }
 
 // Applies a join that lies in the slot's range: only memory can fail.
-fn apply_join<S: Slot>(
-    _entered: GatePass,
-    slot: &mut S,
-    operation: &TabletOp,
-) -> Result<Vec<Change>, NoMemory>
+fn apply_join<S: Slot>(slot: &mut S, operation: &TabletOp) -> Result<Vec<Change>, NoMemory>
     requires join { IsJoinIn (S.tablet slot.old) operation.now }
     requires positions { HasPositions operation.now }
     ensures ok { OnOk result (S.tablet slot.new ≡ tablet_after (S.tablet slot.old) operation.now) }

@@ -1,5 +1,7 @@
 //! Gates, which a worker enters before it works a tablet.
 
+ghost use Rattle.std.specs.Prelude.{◌≡◌};
+
 /// Entered with each tablet's number, by the thread that works the tablet.
 pub trait Gate {
     /// Returns once the worker may begin the tablet.
@@ -24,14 +26,20 @@ impl Gate for Open {
     }
 }
 
-/// Leave to work one tablet, which only entering the gate gives.
+/// Leave to work the tablet of this number, which only entering the gate gives.
 #[derive(Drop)]
 pub(crate) struct GatePass {
+    pub(crate) tablet: usize,
     _sealed: (),
 }
 
 /// Enters the gate with a tablet's number.
-pub(crate) fn enter<G: Gate>(gate: &G, tablet: usize) -> GatePass {
+pub(crate) fn enter<G: Gate>(gate: &G, tablet: usize) -> GatePass
+    ensures { result.tablet ≡ tablet }
+{
     gate.enter(tablet);
-    GatePass { _sealed: () }
+    GatePass {
+        tablet,
+        _sealed: (),
+    }
 }

@@ -11,6 +11,7 @@ pub mod laws;
 mod reducing;
 mod share;
 mod slot;
+mod working;
 
 pub use apply::apply_all;
 pub use gate::{Gate, Open};

@@ -1,19 +1,17 @@
 //! The join that deliveries bring to each tablet.
 
-ghost use Rattle.std.specs.Prelude.{◌≡◌, ◌≤◌, length, map, IsTrue, IfOk};
-ghost use Rattle.std.specs.Thread.{IsSync};
+ghost use Rattle.std.specs.Prelude.{◌≡◌, ◌≤◌, map, IsTrue, IfOk, ⊤};
 ghost use Rattle.pn_join.specs.Prelude.{are_positions};
 ghost use Rattle.pn_record.specs.Prelude.{table_of};
 ghost use Rattle.pn_tablet.specs.declared.state.TabletOp.TheVariants.{Join};
 ghost use Rattle.pn_apply.specs.declared.reducing.TheConstants.{MAX_WORKERS};
 ghost use Rattle.pn_apply.specs.Reducing.{all_images, joins_of};
 ghost use Rattle.pn_apply.specs.Shares.{lists};
-ghost use Rattle.pn_apply.specs.Working.{IsSpanOf, AreCellsOf};
 
 use crate::Gate;
-use crate::cut::{Span, call_both, is_worth_a_thread, join_results};
-use crate::gate::{GatePass, enter};
+use crate::gate::GatePass;
 use crate::share::{copy_deliveries, images_by_tablet};
+use crate::working::{TabletWork, Task, work_all};
 use pn_join::{Dup, Marks, NoMemory};
 use pn_record::{Image, Records, add_image};
 use pn_stream::Delivery;
@@ -79,7 +77,13 @@ fn joins_of_shares<R: Threads + Sync, G: Gate + Sync>(
 ) -> Result<Vec<TabletOp>, NoMemory>
     ensures { IfOk result (λ operations. operations.items ≡ map (λ own. Join (table_of own) marks.now) (lists shares.items)) }
 {
-    let cells = work_all(rt, alloc, gate, workers, shares.as_mut_slice())?;
+    let work = Joining;
+    let task = Task {
+        alloc,
+        work: &work,
+        gate,
+    };
+    let cells = work_all(rt, &task, workers, shares.as_mut_slice())?;
     joins(alloc, cells, marks)
 }
 
@@ -97,105 +101,36 @@ fn joins(alloc: Global, cells: Vec<Records>, marks: &Marks) -> Result<Vec<Tablet
     Ok(operations)
 }
 
-// The cells of each tablet's images.
-fn work_all<R: Threads + Sync, G: Gate + Sync>(
-    rt: &R,
-    alloc: Global,
-    gate: &G,
-    workers: usize,
-    images: &mut [Vec<Image>],
-) -> Result<Vec<Records>, NoMemory>
-    ensures { AreCellsOf images.old result }
-{
-    let span = Span::new(gate, workers, images.len(), count_images(images));
-    work_span(rt, alloc, gate, span, images)
-}
+// The images of each tablet, moved out of their lists into cells.
+#[derive(Drop)]
+struct Joining;
 
-// Works the tablets of a span. One worker's part is cut off while there are two workers or more.
-#[cycle(parts)]
-fn work_span<R: Threads + Sync, G: Gate + Sync>(
-    rt: &R,
-    alloc: Global,
-    gate: &G,
-    span: Span,
-    images: &mut [Vec<Image>],
-) -> Result<Vec<Records>, NoMemory>
-    requires { IsSpanOf (length images.old) span }
-    ensures { AreCellsOf images.old result }
-{
-    if span.workers < 2 {
-        return work_alone(alloc, gate, span, images);
+impl TabletWork<Vec<Image>, Records> for Joining {
+    ghost fits = { λ work n images. ⊤ };
+
+    ghost turns = { λ work n old new. ⊤ };
+
+    ghost makes = { λ work n images cells. cells ≡ table_of images.items };
+
+    ghost kept = { λ work old new. ⊤ };
+
+    fn count_images(&self, _tablet: usize, images: &Vec<Image>) -> usize {
+        images.len()
     }
-    let results = Vec::with_capacity(alloc, images.len())?;
-    let (front, back, index) = span.cut(images.len());
-    let (low, high) = images.split_at_mut(index);
-    let (front, back) = work_parts(rt, alloc, gate, (front, back), low, high);
-    join_results(results, front, back)
-}
 
-// Works both parts of a cut: at the same time if each is worth a thread.
-#[cycle(parts)]
-fn work_parts<R: Threads + Sync, G: Gate + Sync>(
-    rt: &R,
-    alloc: Global,
-    gate: &G,
-    spans: (Span, Span),
-    low: &mut [Vec<Image>],
-    high: &mut [Vec<Image>],
-) -> (
-    Result<Vec<Records>, NoMemory>,
-    Result<Vec<Records>, NoMemory>,
-)
-    requires some { (1 ≤ spans.0.workers) × (1 ≤ spans.1.workers) }
-    requires low { IsSpanOf (length low.old) spans.0 }
-    requires high { IsSpanOf (length high.old) spans.1 }
-    ensures low { AreCellsOf low.old result.0 }
-    ensures high { AreCellsOf high.old result.1 }
-{
-    let (first, second) = spans;
-    let at_once = is_worth_a_thread(gate, count_images(low))
-        && is_worth_a_thread(gate, count_images(high));
-    let mut front = || -> Result<Vec<Records>, NoMemory>
-        requires { IsSync R.row × IsSync G.row × (1 ≤ first.workers) × IsSpanOf (length low.now) first }
-        ensures { AreCellsOf low.entry.now result }
-    { work_span(rt, alloc, gate, first, low) };
-    let mut back = || -> Result<Vec<Records>, NoMemory>
-        requires { IsSync R.row × IsSync G.row × (1 ≤ second.workers) × IsSpanOf (length high.now) second }
-        ensures { AreCellsOf high.entry.now result }
-    { work_span(rt, alloc, gate, second, high) };
-    call_both(rt, at_once, &mut front, &mut back)
-}
-
-// How many images the tablets have together.
-fn count_images(images: &[Vec<Image>]) -> usize {
-    let mut count = 0_usize;
-    for own in images {
-        count = count.saturating_add(own.len());
+    fn work(
+        &self,
+        _entered: GatePass,
+        alloc: Global,
+        images: &mut Vec<Image>,
+    ) -> Result<Records, NoMemory> {
+        let own = mem::replace(images, Vec::new(alloc));
+        cells_of(alloc, own)
     }
-    count
-}
-
-// Works the tablets of a span one after another. Their images are moved out of their lists.
-fn work_alone<G: Gate>(
-    alloc: Global,
-    gate: &G,
-    span: Span,
-    images: &mut [Vec<Image>],
-) -> Result<Vec<Records>, NoMemory>
-    requires { IsSpanOf (length images.old) span }
-    ensures { AreCellsOf images.old result }
-{
-    let mut cells = Vec::with_capacity(alloc, images.len())?;
-    for index in 0..images.len() {
-        let entered = enter(gate, span.first + index);
-        let own = mem::replace(&mut images[index], Vec::new(alloc));
-        cells.push_reserved(cells_of(entered, alloc, own)?);
-    }
-    Ok(cells)
 }
 
 // The cells of images, which are moved into them.
-fn cells_of(_entered: GatePass, alloc: Global, images: Vec<Image>) -> Result<Records, NoMemory>
+fn cells_of(alloc: Global, images: Vec<Image>) -> Result<Records, NoMemory>
     ensures { IfOk result (λ cells. cells ≡ table_of images.items) }
 {
     let mut cells = Records::new(alloc);

@@ -1,6 +1,6 @@
 -- Fewer workers share what is left.
 use Rattle.std.proofs.Common.{◌+◌, ◌*◌, ◌-◌}
-use Rattle.pn_apply.proofs.reducing.+parts.Given as goal
+use Rattle.pn_apply.proofs.working.+parts.Given as goal
 
 abbrev pub decreases-work_span : goal.decreases-work_span
 decreases-work_span g l = 4 * l.span.workers
