@@ -1,6 +1,6 @@
 //! Loads a region, reads it and brings rounds to it, by the clock.
 
-use crate::plan::{Workload, Way};
+use crate::plan::{Way, Workload};
 use crate::readers::{READERS, Runner, found_all, read_all, runners_of};
 use crate::store::Store;
 use pn_join::Dup;

@@ -17,7 +17,7 @@ mod store;
 
 use crate::driver::time;
 use crate::layouts::time_layouts;
-use crate::plan::{Workload, Way};
+use crate::plan::{Way, Workload};
 use pn_join::Name;
 use pn_line::Source;
 use pn_stream::StreamReader;

@@ -28,4 +28,4 @@ pub use query_reading::{QueryFault, read_query};
 pub use query_writing::{query_value, write_query};
 pub use reads::{get, read_at_least};
 pub use view::{Budget, Page, PartResult, Row, View};
-pub use walk::{TabletRows, PartWalk};
+pub use walk::{PartWalk, TabletRows};

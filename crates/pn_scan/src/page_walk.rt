@@ -8,7 +8,7 @@ ghost use Rattle.pn_scan.specs.Queries.{QueryValue};
 ghost use Rattle.pn_scan.specs.declared.pages.TheConstants.{LOOK_RECORDS};
 
 use crate::pages::{LOOK_RECORDS, candidates, page_of, put_after};
-use crate::{Budget, Page, TabletRows, PartWalk, Query, Row, ScanFault, View};
+use crate::{Budget, Page, PartWalk, Query, Row, ScanFault, TabletRows, View};
 use pn_join::NoMemory;
 use pn_tablet::Layout;
 use std::alloc::Global;

@@ -13,7 +13,7 @@ ghost use Rattle.pn_record.specs.Prelude.{bytes_cmp};
 ghost use Rattle.pn_tablet.specs.Prelude.{is_from};
 
 use crate::walk::{PartWalk, WalkOutcome, walk_some};
-use crate::{Budget, TabletRows, PartResult, Query, Row, ScanFault};
+use crate::{Budget, PartResult, Query, Row, ScanFault, TabletRows};
 use pn_join::{Dup, NoMemory};
 use pn_record::{Cell, Key, Records};
 use pn_tablet::{Status, TabletState, is_before};
@@ -38,7 +38,12 @@ pub fn part_of(
 
 // A walk from the first key that may be shown, found by a search, to the end of the range, one row past the room, or past the
 // budget's number of records.
-fn begin_walk(cells: &Records, query: &Query, room: usize, budget: Budget) -> Result<TabletRows, NoMemory>
+fn begin_walk(
+    cells: &Records,
+    query: &Query,
+    room: usize,
+    budget: Budget,
+) -> Result<TabletRows, NoMemory>
     ensures same { IfOk result (λ part. part_at query.now part ≡ walk_answer query.now (record { rows = []; rest = cells.now; room = room })) }
     ensures few { IfOk result (λ part. looked_in budget.records part ≤ budget.records) }
 {

@@ -6,7 +6,7 @@ ghost use Rattle.pn_scan.specs.Candidates.{Look};
 ghost use Rattle.pn_scan.specs.Parts.{looked_in, part_at};
 ghost use Rattle.pn_scan.specs.Views.{LooksOnce, rows_at, cell_at};
 
-use crate::{TabletRows, Query, ScanFault};
+use crate::{Query, ScanFault, TabletRows};
 use pn_record::{Cell, Key};
 use pn_tablet::Layout;
 use std::alloc::Global;
