@@ -1,6 +1,7 @@
 -- Connections that are answered in turns.
 pub mod Connections
 pub mod Failures
+pub mod Faults
 pub mod IdleTimeouts
 pub mod Inputs
 pub mod Loops
@@ -10,4 +11,5 @@ pub mod Reasons
 pub mod Scripted
 pub mod Servers
 pub mod Skipping
+pub mod Stepping
 pub mod Turns

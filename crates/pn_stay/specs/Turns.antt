@@ -94,9 +94,9 @@ module _ {V : Type 0} (handling : Handling V) where
   abbrev pub Continues : Start V → Option (List ℕ) → Option (List ℕ) → V → ConnectionValue → Type 0
   Continues start left written machine kept = (text : List ℕ) × IsHeld kept text × Stands handling start (prepend_known text left) written machine (loop_of kept)
 
-  -- so at some buffers after a step
-  abbrev pub StepsIn : Start V → Option (List ℕ) → Option (List ℕ) → V → ThreadBuffers → Step → Type 0
-  StepsIn start left written machine buffers step = (text : List ℕ) × IsHeld (in_buffers buffers) text × LoopStepsTo handling start (prepend_known text left) written machine (loop_of (in_buffers buffers)) step
+  -- so after a step
+  abbrev pub StepsIn : Start V → Option (List ℕ) → Option (List ℕ) → V → ConnectionValue → Step → Type 0
+  StepsIn start left written machine kept step = (text : List ℕ) × IsHeld kept text × LoopStepsTo handling start (prepend_known text left) written machine (loop_of kept) step
 
   -- the connection goes on, or has ended as its session ends; without memory, as one whose writer fails
   abbrev pub TurnsTo : Start V → Option (List ℕ) → Option (List ℕ) → V → ConnectionValue → TurnOutcome → Type 0

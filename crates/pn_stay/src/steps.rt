@@ -5,11 +5,12 @@ ghost use Rattle.std.specs.Io.KnownBytes.{prepend_known};
 ghost use Rattle.pn_serve.specs.Lines.Bounds.{IsWaitingAt, records_by, records_in};
 ghost use Rattle.pn_serve.specs.Lines.Faults.{EndsByAt, EndsByStep};
 ghost use Rattle.pn_serve.specs.Lines.Made.{MakesAtMost, made_by};
-ghost use Rattle.pn_serve.specs.Lines.States.{Start};
 ghost use Rattle.pn_serve.specs.declared.script.line_loop.steps.TheConstants.{TURN_UNITS};
-ghost use Rattle.pn_serve.specs.Session.Knowing.{IsSteady, KnowsNoLess};
-ghost use Rattle.pn_serve.specs.Lines.Stepping.{by, Stands, StepsTo};
-ghost use Rattle.pn_stay.specs.Turns.{in_buffers, Continues, IsRead, StepsIn, WaitsWell};
+ghost use Rattle.pn_serve.specs.Session.Knowing.{KnowsNoLess};
+ghost use Rattle.pn_serve.specs.Lines.Stepping.{by};
+ghost use Rattle.pn_stay.specs.Faults.{AddsNoWriteFault, MayEndBy};
+ghost use Rattle.pn_stay.specs.Stepping.{at, LoopStepsOn, StepsOn};
+ghost use Rattle.pn_stay.specs.Turns.{in_buffers, IsRead, WaitsWell};
 ghost use Rattle.pn_stay.specs.Inputs.{most_taken, ReadsOnce, TakesAtMost};
 ghost use Rattle.pn_stay.specs.Outputs.{AnswersAtMost, LooksFew, lines_by, most_looked, most_made};
 ghost use Rattle.pn_stay.specs.declared.input_buffer.TheConstants.{READ_SIZE};
@@ -35,16 +36,16 @@ pub(crate) fn take_steps<M: RefusesSkipped, R: Input, W: Sink>(
     output: &mut W,
 ) -> Step
     requires ready { M.ready }
-    ensures steps { (start : Start M) → IsSteady M.reader M.moves → Continues (by M.moves M.makes M.ends M.goes M.goes_last) start (R.remaining input.old) (W.contents output.old) machine.old (in_buffers buffers.old)
-        → StepsIn (by M.moves M.makes M.ends M.goes M.goes_last) start (R.remaining input.new) (W.contents output.new) machine.new buffers.new result }
+    ensures steps { StepsOn M.reader (by M.moves M.makes M.ends M.goes M.goes_last) (at (R.remaining input.old) (W.contents output.old) machine.old (in_buffers buffers.old))
+        (at (R.remaining input.new) (W.contents output.new) machine.new (in_buffers buffers.new)) result }
     ensures waits { WaitsWell (in_buffers buffers.new) result }
     ensures few { TakesAtMost most_taken (R.remaining input.old) (R.remaining input.new) }
     ensures written { MakesAtMost most_made (W.contents output.old) (W.contents output.new) buffers.old.lines.replies buffers.new.lines.replies }
     ensures answers { AnswersAtMost TURN_UNITS buffers.old.lines.state buffers.new.lines.state }
     ensures looked { LooksFew most_looked buffers.old.lines.state buffers.new.lines.state }
-    ensures read_fault { EndsByStep RunFault.Read buffers.new.lines result → EndsByAt RunFault.Read buffers.old.lines.state.stage ⊎ R.has_failed input.new }
-    ensures write_fault { EndsByStep RunFault.Write buffers.new.lines result → EndsByAt RunFault.Write buffers.old.lines.state.stage ⊎ W.has_failed output.new }
-    ensures write_stage { (used : ℕ) → result ≡ Step.Next used → EndsByAt RunFault.Write buffers.new.lines.state.stage → EndsByAt RunFault.Write buffers.old.lines.state.stage }
+    ensures read_fault { EndsByStep RunFault.Read buffers.new.lines result → MayEndBy RunFault.Read (R.has_failed input.new) buffers.old.lines.state }
+    ensures write_fault { EndsByStep RunFault.Write buffers.new.lines result → MayEndBy RunFault.Write (W.has_failed output.new) buffers.old.lines.state }
+    ensures write_stage { AddsNoWriteFault result buffers.old.lines.state buffers.new.lines.state }
     ensures knows { KnowsNoLess (M.reader machine.old) (M.reader machine.new) }
 {
     let mut units = TURN_UNITS;
@@ -75,8 +76,8 @@ fn take_step<M: RefusesSkipped, R: Input, W: Sink>(
     units: u32,
 ) -> Step
     requires ready { M.ready }
-    ensures steps { (start : Start M) → IsSteady M.reader M.moves → Continues (by M.moves M.makes M.ends M.goes M.goes_last) start (R.remaining input.old) (W.contents output.old) machine.old (in_buffers buffers.old)
-        → StepsIn (by M.moves M.makes M.ends M.goes M.goes_last) start (R.remaining input.new) (W.contents output.new) machine.new buffers.new result }
+    ensures steps { StepsOn M.reader (by M.moves M.makes M.ends M.goes M.goes_last) (at (R.remaining input.old) (W.contents output.old) machine.old (in_buffers buffers.old))
+        (at (R.remaining input.new) (W.contents output.new) machine.new (in_buffers buffers.new)) result }
     ensures waits { WaitsWell (in_buffers buffers.new) result }
     ensures few { ReadsOnce result (R.remaining input.old) (R.remaining input.new) }
     ensures written { MakesAtMost (made_by result) (W.contents output.old) (W.contents output.new) buffers.old.lines.replies buffers.new.lines.replies }
@@ -84,8 +85,8 @@ fn take_step<M: RefusesSkipped, R: Input, W: Sink>(
     ensures looked { LooksFew (records_in units) buffers.old.lines.state buffers.new.lines.state }
     ensures records { LooksFew (records_by result) buffers.old.lines.state buffers.new.lines.state }
     ensures read_fault { EndsByStep RunFault.Read buffers.new.lines result → (EndsByAt RunFault.Read buffers.old.lines.state.stage × (input.new ≡ input.old)) ⊎ R.has_failed input.new }
-    ensures write_fault { EndsByStep RunFault.Write buffers.new.lines result → EndsByAt RunFault.Write buffers.old.lines.state.stage ⊎ W.has_failed output.new }
-    ensures write_stage { (used : ℕ) → result ≡ Step.Next used → EndsByAt RunFault.Write buffers.new.lines.state.stage → EndsByAt RunFault.Write buffers.old.lines.state.stage }
+    ensures write_fault { EndsByStep RunFault.Write buffers.new.lines result → MayEndBy RunFault.Write (W.has_failed output.new) buffers.old.lines.state }
+    ensures write_stage { AddsNoWriteFault result buffers.old.lines.state buffers.new.lines.state }
     ensures knows { KnowsNoLess (M.reader machine.old) (M.reader machine.new) }
 {
     let step = buffers
@@ -106,8 +107,8 @@ fn refuse_or_read<M: RefusesSkipped, R: Input>(
     requires ready { M.ready }
     requires empty { buffers.old.input ≡ [] }
     requires waiting { IsWaitingAt Step.NoInput buffers.old.lines }
-    ensures steps { (start : Start M) (written : Option (List ℕ)) → IsSteady M.reader M.moves → Continues (by M.moves M.makes M.ends M.goes M.goes_last) start (R.remaining input.old) written machine.old (in_buffers buffers.old)
-        → StepsIn (by M.moves M.makes M.ends M.goes M.goes_last) start (R.remaining input.new) written machine.new buffers.new result }
+    ensures steps { (written : Option (List ℕ)) → StepsOn M.reader (by M.moves M.makes M.ends M.goes M.goes_last) (at (R.remaining input.old) written machine.old (in_buffers buffers.old))
+        (at (R.remaining input.new) written machine.new (in_buffers buffers.new)) result }
     ensures waits { WaitsWell (in_buffers buffers.new) result }
     ensures few { ReadsOnce result (R.remaining input.old) (R.remaining input.new) }
     ensures makes { length buffers.new.lines.replies ≤ length buffers.old.lines.replies + made_by result }
@@ -132,8 +133,8 @@ fn read_more<M: LineHandler, R: Input>(
     requires ready { M.ready }
     requires empty { buffers.old.input ≡ [] }
     requires waiting { IsWaitingAt Step.NoInput buffers.old.lines }
-    ensures steps { (start : Start M) (written : Option (List ℕ)) → IsSteady M.reader M.moves → Stands (by M.moves M.makes M.ends M.goes M.goes_last) start (prepend_known buffers.old.input (R.remaining input.old)) written machine.old buffers.old.lines
-        → StepsTo (by M.moves M.makes M.ends M.goes M.goes_last) start (prepend_known buffers.new.input (R.remaining input.new)) written machine.new buffers.new.lines result }
+    ensures steps { (written : Option (List ℕ)) → LoopStepsOn M.reader (by M.moves M.makes M.ends M.goes M.goes_last) (at (prepend_known buffers.old.input (R.remaining input.old)) written machine.old buffers.old.lines)
+        (at (prepend_known buffers.new.input (R.remaining input.new)) written machine.new buffers.new.lines) result }
     ensures skipped { buffers.new.skipped ≡ buffers.old.skipped }
     ensures waits { WaitsWell (in_buffers buffers.new) result }
     ensures few { ReadsOnce result (R.remaining input.old) (R.remaining input.new) }

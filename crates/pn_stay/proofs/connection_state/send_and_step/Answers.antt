@@ -18,7 +18,7 @@ pub returns-in-Next-clause-steps : goal.returns-in-Next-clause-steps
 returns-in-Next-clause-steps g c = λ start steady goes.
     let held = held_same c.args.buffers.now.skipped c.send_waiting.new.buffers.skipped c.args.buffers.now.lines.line c.send_waiting.new.buffers.lines.line c.args.buffers.now.input c.send_waiting.new.buffers.input goes.0
     c.send_waiting.ensures.skipped c.in-Next.ensures.same.line c.send_waiting.ensures.input goes.1 in
-    c.step_and_send.ensures.steps start steady (goes.0, held, c.in-Next.ensures.steps start (prepend_known goes.0 (g.R.Input.remaining c.args.input.now)) steady goes.2)
+    c.step_and_send.ensures.steps start steady (goes.0, held, c.in-Next.ensures.steps (prepend_known goes.0 (g.R.Input.remaining c.args.input.now)) start steady goes.2)
 
 pub returns-in-Next-clause-written : goal.returns-in-Next-clause-written
 returns-in-Next-clause-written g c =
@@ -36,7 +36,7 @@ returns-in_default g c = record {
     goes.0,
     held_same c.args.buffers.now.skipped c.send_waiting.new.buffers.skipped c.args.buffers.now.lines.line c.send_waiting.new.buffers.lines.line c.args.buffers.now.input c.send_waiting.new.buffers.input goes.0
         c.send_waiting.ensures.skipped c.send_waiting.ensures.same.line c.send_waiting.ensures.input goes.1,
-    c.send_waiting.ensures.steps start (prepend_known goes.0 (g.R.Input.remaining c.args.input.now)) steady goes.2,
+    c.send_waiting.ensures.steps (prepend_known goes.0 (g.R.Input.remaining c.args.input.now)) start steady goes.2,
   );
   stops = c.send_waiting.ensures.stops;
   few = takes_nothing _ _;

@@ -13,7 +13,7 @@ returns-in-Next-clause-steps g c = λ start steady goes.
       took.0,
       held_same c.take_steps.new.buffers.skipped c.send_waiting.new.buffers.skipped c.take_steps.new.buffers.lines.line c.send_waiting.new.buffers.lines.line c.take_steps.new.buffers.input c.send_waiting.new.buffers.input took.0
           c.send_waiting.ensures.skipped c.send_waiting.ensures.same.line c.send_waiting.ensures.input took.1,
-      c.send_waiting.ensures.steps start (prepend_known took.0 (g.R.Input.remaining c.take_steps.new.input)) steady took.2,
+      c.send_waiting.ensures.steps (prepend_known took.0 (g.R.Input.remaining c.take_steps.new.input)) start steady took.2,
     )
 
 pub returns-in-Next-clause-written : goal.returns-in-Next-clause-written

@@ -14,7 +14,7 @@ use Rattle.pn_stay.proofs.Inputs.{reads_nothing}
 use Rattle.pn_stay.proofs.steps.read_more.Goals as goal
 
 pub returns-in-Input-clause-steps : goal.returns-in-Input-clause-steps
-returns-in-Input-clause-steps g c = λ start written steady stands.
+returns-in-Input-clause-steps g c = λ written start steady stands.
     let H = by g.M.LineHandler.moves g.M.LineHandler.makes g.M.LineHandler.ends g.M.LineHandler.goes g.M.LineHandler.goes_last in
     let lines = c.args.buffers.now.lines in
     let was = subst (λ (h : List ℕ). Stands H start (prepend_known h (g.R.Input.remaining c.args.input.now)) written c.args.machine.now lines) c.requires.empty stands in
@@ -22,7 +22,7 @@ returns-in-Input-clause-steps g c = λ start written steady stands.
     (at_input c.read_from-read.result _ c.in-Input.ensures c.read_from-read.ensures.came) was
 
 pub returns-in-Nothing-clause-steps : goal.returns-in-Nothing-clause-steps
-returns-in-Nothing-clause-steps g c = λ start written steady stands.
+returns-in-Nothing-clause-steps g c = λ written start steady stands.
     let H = by g.M.LineHandler.moves g.M.LineHandler.makes g.M.LineHandler.ends g.M.LineHandler.goes g.M.LineHandler.goes_last in
     let lines = c.args.buffers.now.lines in
     let left = g.R.Input.remaining c.args.input.now in
@@ -37,7 +37,7 @@ pub returns-in-Nothing-clause-waits : goal.returns-in-Nothing-clause-waits
 returns-in-Nothing-clause-waits g c = (c.requires.waiting.1, c.requires.waiting.0)
 
 pub returns-in-End-clause-steps : goal.returns-in-End-clause-steps
-returns-in-End-clause-steps g c = λ start written steady stands.
+returns-in-End-clause-steps g c = λ written start steady stands.
     let H = by g.M.LineHandler.moves g.M.LineHandler.makes g.M.LineHandler.ends g.M.LineHandler.goes g.M.LineHandler.goes_last in
     let lines = c.args.buffers.now.lines in
     let left = g.R.Input.remaining c.args.input.now in
@@ -52,7 +52,7 @@ returns-in-End-clause-steps g c = λ start written steady stands.
     subst (λ (h : List ℕ). Stands H start (prepend_known h leaves) written c.end_input.new.machine c.end_input.new.self) (sym end.0) ended
 
 pub returns-in-Fault-clause-steps : goal.returns-in-Fault-clause-steps
-returns-in-Fault-clause-steps g c = λ start written steady stands.
+returns-in-Fault-clause-steps g c = λ written start steady stands.
     let H = by g.M.LineHandler.moves g.M.LineHandler.makes g.M.LineHandler.ends g.M.LineHandler.goes g.M.LineHandler.goes_last in
     let lines = c.args.buffers.now.lines in
     let left = g.R.Input.remaining c.args.input.now in

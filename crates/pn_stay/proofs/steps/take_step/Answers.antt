@@ -17,7 +17,7 @@ returns-in-NoInput-clause-steps g c = λ start steady goes.
     let buffers = c.args.buffers.now in
     let before = g.W.Sink.contents c.args.output.now in
     let after = g.W.Sink.contents c.step-step.new.output in
-    c.refuse_or_read.ensures.steps start after steady
+    c.refuse_or_read.ensures.steps after start steady
     (Steps-held H start (g.R.Input.remaining c.args.input.now) before after c.args.machine.now c.step-step.new.machine buffers.lines c.step-step.new.self buffers.input c.step-step.new.input goes.0 NoInput
     (λ rest. c.in-NoInput.ensures.steps start rest steady) c.step-step.ensures.begun buffers.skipped goes.1 goes.2)
 

@@ -9,14 +9,14 @@ use Rattle.pn_serve.proofs.Knowing.{knows_itself}
 use Rattle.pn_stay.specs.Connections.{HoldsAs}
 use Rattle.pn_stay.specs.declared.skipped_input.SkippedInput.{SkippedInput}
 use Rattle.pn_stay.proofs.Inputs.{reads_none}
-use Rattle.pn_stay.proofs.Skipping.{IsPart-alone, held_same, held_skipped}
+use Rattle.pn_stay.proofs.Skipping.{held_same, held_skipped}
 use Rattle.pn_stay.proofs.SkippingSteps.{Stands-parted, refused_lines, stopped_read, stopped_write}
 use Rattle.pn_stay.proofs.steps.skipping.refuse_next.Goals as goal
 
 -- ---- as many as may be
 
 pub returns-then-counts-ge-MAX_LINES-clause-steps : goal.returns-then-counts-ge-MAX_LINES-clause-steps
-returns-then-counts-ge-MAX_LINES-clause-steps g c = λ start written steady goes.
+returns-then-counts-ge-MAX_LINES-clause-steps g c = λ written start steady goes.
     let old = c.args.buffers.now in
     let held = subst (λ (s : Option SkippedInput). HoldsAs s old.lines.line old.input goes.0) c.requires.some goes.1 in (
       goes.0,
@@ -48,7 +48,7 @@ returns-then-counts-ge-MAX_LINES-clause-knows g c = knows_itself _
 -- ---- the first line
 
 pub returns-then-skipped-gt0-clause-steps : goal.returns-then-skipped-gt0-clause-steps
-returns-then-skipped-gt0-clause-steps g c = λ start written steady goes.
+returns-then-skipped-gt0-clause-steps g c = λ written start steady goes.
     let H = by g.M.LineHandler.moves g.M.LineHandler.makes g.M.LineHandler.ends g.M.LineHandler.goes g.M.LineHandler.goes_last in
     let old = c.args.buffers.now in
     let left = g.R.Input.remaining c.args.input.now in
@@ -78,7 +78,5 @@ returns-then-skipped-gt0-clause-write_fault g c = λ ends. c.refuse_skipped.ensu
 -- ---- the only one
 
 pub returns-clause-steps : goal.returns-clause-steps
-returns-clause-steps g c = λ start written steady goes.
-    let old = c.args.buffers.now in
-    let held = subst (λ (s : Option SkippedInput). HoldsAs s old.lines.line old.input goes.0) c.requires.some goes.1 in
-    c.skip_more.ensures.steps start written goes.0 steady (IsPart-alone c.args.skipped goes.0 c.if-skipped-gt0.false held.0.0 held.0.1) goes.1 goes.2
+returns-clause-steps g c = λ written start steady goes.
+    c.skip_more.ensures.steps (omega (arith, c.if-skipped-gt0.false)) written start steady goes

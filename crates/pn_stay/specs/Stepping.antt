@@ -1,0 +1,44 @@
+-- How the session of a connection goes on by a step and by a turn.
+use Rattle.std.specs.Prelude.{◌≡◌, ℕ, List, [], ◌++◌, Option}
+use Rattle.std.specs.Io.KnownBytes.{prepend_known}
+use Rattle.pn_line.specs.Line.{so_far}
+use Rattle.pn_live.specs.Prelude.{LiveReaderValue}
+use Rattle.pn_serve.specs.declared.script.line_loop.steps.Step.{Step}
+use Rattle.pn_serve.specs.Lines.States.{LineLoopValue, Start}
+use Rattle.pn_serve.specs.Lines.Stepping.{Handling, Stands, StepsTo}
+use Rattle.pn_serve.specs.Session.Knowing.{IsSteady}
+use Rattle.pn_stay.specs.Connections.{ConnectionValue, loop_of}
+use Rattle.pn_stay.specs.Skipping.{IsPart}
+use Rattle.pn_stay.specs.Turns.{Continues, StepsIn, TurnsTo}
+use Rattle.pn_stay.specs.declared.connection_state.TurnOutcome.{TurnOutcome}
+
+-- where a session is: what is left of its source, what was written, its handler, and its connection or its line loop
+pub record Place (V K : Type 0) : Type 0 where
+  pub left : Option (List ℕ)
+  pub written : Option (List ℕ)
+  pub machine : V
+  pub kept : K
+
+abbrev pub at : {V K : Type 0} → Option (List ℕ) → Option (List ℕ) → V → K → Place V K
+at left written machine kept = record { left = left; written = written; machine = machine; kept = kept }
+
+module _ {V : Type 0} (reader : V → LiveReaderValue) (handling : Handling V) where
+  -- each session that was at the one place has come to the other by a step
+  abbrev pub StepsOn : Place V ConnectionValue → Place V ConnectionValue → Step → Type 0
+  StepsOn old new step = (start : Start V) → IsSteady reader handling.moves → Continues handling start old.left old.written old.machine old.kept → StepsIn handling start new.left new.written new.machine new.kept step
+
+  -- by a turn
+  abbrev pub TurnsOn : Place V ConnectionValue → Place V ConnectionValue → TurnOutcome → Type 0
+  TurnsOn old new outcome = (start : Start V) → IsSteady reader handling.moves → Continues handling start old.left old.written old.machine old.kept → TurnsTo handling start new.left new.written new.machine new.kept outcome
+
+  -- by a step of its line loop
+  abbrev pub LoopStepsOn : Place V LineLoopValue → Place V LineLoopValue → Step → Type 0
+  LoopStepsOn old new step = (start : Start V) → IsSteady reader handling.moves → Stands handling start old.left old.written old.machine old.kept → StepsTo handling start new.left new.written new.machine new.kept step
+
+  -- the loop stands over `count` bytes of a line that were skipped, and then what the connection holds
+  abbrev pub StandsAfterPart : ℕ → Start V → Place V ConnectionValue → Type 0
+  StandsAfterPart count start place = (text : List ℕ) × IsPart count text × (place.kept.line ≡ so_far []) × Stands handling start (prepend_known (text ++ place.kept.held) place.left) place.written place.machine (loop_of place.kept)
+
+  -- by skipping more of a line of which `count` bytes were skipped
+  abbrev pub SkipsOn : ℕ → Place V ConnectionValue → Place V ConnectionValue → Type 0
+  SkipsOn count old new = (start : Start V) → IsSteady reader handling.moves → StandsAfterPart count start old → Continues handling start new.left new.written new.machine new.kept
