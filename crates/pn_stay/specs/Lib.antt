@@ -1,4 +1,5 @@
 -- Connections that are answered in turns.
+pub mod Bounds
 pub mod Connections
 pub mod Failures
 pub mod Faults

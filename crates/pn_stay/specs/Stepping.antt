@@ -1,9 +1,11 @@
--- How the session of a connection goes on by a step and by a turn.
+-- How the session of a connection goes on: by a step, by a turn, and by what is skipped.
 use Rattle.std.specs.Prelude.{◌≡◌, ℕ, List, [], ◌++◌, Option}
 use Rattle.std.specs.Io.KnownBytes.{prepend_known}
 use Rattle.pn_line.specs.Line.{so_far}
 use Rattle.pn_live.specs.Prelude.{LiveReaderValue}
 use Rattle.pn_serve.specs.declared.script.line_loop.steps.Step.{Step}
+use Rattle.pn_serve.specs.declared.script.line_loop.steps.Step.TheVariants.{NoInput}
+use Rattle.pn_serve.specs.Lines.Bounds.{IsWaitingAt, KeepsLine}
 use Rattle.pn_serve.specs.Lines.States.{LineLoopValue, Start}
 use Rattle.pn_serve.specs.Lines.Stepping.{Handling, Stands, StepsTo}
 use Rattle.pn_serve.specs.Session.Knowing.{IsSteady}
@@ -22,23 +24,34 @@ pub record Place (V K : Type 0) : Type 0 where
 abbrev pub at : {V K : Type 0} → Option (List ℕ) → Option (List ℕ) → V → K → Place V K
 at left written machine kept = record { left = left; written = written; machine = machine; kept = kept }
 
+-- a connection reads on, and holds no input
+pub record NeedsInput (kept : ConnectionValue) : Type 0 where
+  pub empty : kept.held ≡ []
+  pub waiting : IsWaitingAt NoInput (loop_of kept)
+
+-- the input of a connection, the line that it reads, and what it has counted are as they were
+pub record LeavesInput (old new : ConnectionValue) : Type 0 where
+  pub input : new.held ≡ old.held
+  pub skipped : new.skipped ≡ old.skipped
+  pub line : KeepsLine (loop_of old) (loop_of new)
+
 module _ {V : Type 0} (reader : V → LiveReaderValue) (handling : Handling V) where
-  -- each session that was at the one place has come to the other by a step
+  -- whatever session was at the old place is at the new one after a step
   abbrev pub StepsOn : Place V ConnectionValue → Place V ConnectionValue → Step → Type 0
   StepsOn old new step = (start : Start V) → IsSteady reader handling.moves → Continues handling start old.left old.written old.machine old.kept → StepsIn handling start new.left new.written new.machine new.kept step
 
-  -- by a turn
+  -- after a turn
   abbrev pub TurnsOn : Place V ConnectionValue → Place V ConnectionValue → TurnOutcome → Type 0
   TurnsOn old new outcome = (start : Start V) → IsSteady reader handling.moves → Continues handling start old.left old.written old.machine old.kept → TurnsTo handling start new.left new.written new.machine new.kept outcome
 
-  -- by a step of its line loop
+  -- after a step of its line loop
   abbrev pub LoopStepsOn : Place V LineLoopValue → Place V LineLoopValue → Step → Type 0
   LoopStepsOn old new step = (start : Start V) → IsSteady reader handling.moves → Stands handling start old.left old.written old.machine old.kept → StepsTo handling start new.left new.written new.machine new.kept step
 
-  -- the loop stands over `count` bytes of a line that were skipped, and then what the connection holds
+  -- its loop stands over `count` bytes of a line that were skipped, and then over what the connection holds
   abbrev pub StandsAfterPart : ℕ → Start V → Place V ConnectionValue → Type 0
   StandsAfterPart count start place = (text : List ℕ) × IsPart count text × (place.kept.line ≡ so_far []) × Stands handling start (prepend_known (text ++ place.kept.held) place.left) place.written place.machine (loop_of place.kept)
 
-  -- by skipping more of a line of which `count` bytes were skipped
+  -- after more of a line was skipped, of which `count` bytes were skipped before
   abbrev pub SkipsOn : ℕ → Place V ConnectionValue → Place V ConnectionValue → Type 0
   SkipsOn count old new = (start : Start V) → IsSteady reader handling.moves → StandsAfterPart count start old → Continues handling start new.left new.written new.machine new.kept

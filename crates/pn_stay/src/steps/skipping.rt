@@ -2,13 +2,11 @@
 
 ghost use Rattle.std.specs.Prelude.{◌≡◌, ◌<◌, ◌≤◌, ◌+◌, ◌*◌, ℕ, List, length, Option, Some};
 ghost use Rattle.pn_serve.specs.Lines.Bounds.{IsWaitingAt};
-ghost use Rattle.pn_serve.specs.Lines.Faults.{EndsByAt, EndsByStep};
-ghost use Rattle.pn_serve.specs.Lines.Made.{made_by, made_in};
 ghost use Rattle.pn_serve.specs.Lines.Stepping.{by};
 ghost use Rattle.pn_serve.specs.Session.Knowing.{KnowsNoLess};
 ghost use Rattle.pn_serve.specs.declared.script.TheConstants.{MAX_LINES};
-ghost use Rattle.pn_stay.specs.Inputs.{ReadsOnce};
-ghost use Rattle.pn_stay.specs.Outputs.{AnswersAtMost, lines_by};
+ghost use Rattle.pn_stay.specs.Bounds.{AnswersOne, ReadsAndAnswers};
+ghost use Rattle.pn_stay.specs.Faults.{EndsOnlyIf};
 ghost use Rattle.pn_stay.specs.Stepping.{at, SkipsOn, StepsOn};
 ghost use Rattle.pn_stay.specs.Turns.{in_buffers, WaitsWell};
 ghost use Rattle.pn_stay.specs.declared.input_buffer.TheConstants.{READ_SIZE};
@@ -33,12 +31,8 @@ pub(super) fn refuse_next<M: RefusesSkipped, R: Input>(
     ensures steps { (written : Option (List ℕ)) → StepsOn M.reader (by M.moves M.makes M.ends M.goes M.goes_last) (at (R.remaining input.old) written machine.old (in_buffers buffers.old))
         (at (R.remaining input.new) written machine.new (in_buffers buffers.new)) result }
     ensures waits { WaitsWell (in_buffers buffers.new) result }
-    ensures few { ReadsOnce result (R.remaining input.old) (R.remaining input.new) }
-    ensures makes { length buffers.new.lines.replies ≤ length buffers.old.lines.replies + made_by result }
-    ensures answers { AnswersAtMost (lines_by result) buffers.old.lines.state buffers.new.lines.state }
-    ensures looked { buffers.new.lines.state.looked ≡ buffers.old.lines.state.looked }
-    ensures read_fault { EndsByStep RunFault.Read buffers.new.lines result → R.has_failed input.new }
-    ensures write_fault { EndsByStep RunFault.Write buffers.new.lines result → ⊥ }
+    ensures bounds { ReadsAndAnswers result (R.remaining input.old) (R.remaining input.new) buffers.old.lines buffers.new.lines }
+    ensures faults { EndsOnlyIf (R.has_failed input.new) ⊥ buffers.new.lines result }
     ensures knows { KnowsNoLess (M.reader machine.old) (M.reader machine.new) }
 {
     if buffers.lines.counts().lines >= MAX_LINES {
@@ -65,12 +59,8 @@ fn skip_more<M: RefusesSkipped, R: Input>(
     ensures steps { skipped.lines ≡ 0 → (written : Option (List ℕ)) → StepsOn M.reader (by M.moves M.makes M.ends M.goes M.goes_last) (at (R.remaining input.old) written machine.old (in_buffers buffers.old))
         (at (R.remaining input.new) written machine.new (in_buffers buffers.new)) result }
     ensures waits { WaitsWell (in_buffers buffers.new) result }
-    ensures few { ReadsOnce result (R.remaining input.old) (R.remaining input.new) }
-    ensures makes { length buffers.new.lines.replies ≤ length buffers.old.lines.replies + made_by result }
-    ensures answers { AnswersAtMost (lines_by result) buffers.old.lines.state buffers.new.lines.state }
-    ensures looked { buffers.new.lines.state.looked ≡ buffers.old.lines.state.looked }
-    ensures read_fault { EndsByStep RunFault.Read buffers.new.lines result → R.has_failed input.new }
-    ensures write_fault { EndsByStep RunFault.Write buffers.new.lines result → ⊥ }
+    ensures bounds { ReadsAndAnswers result (R.remaining input.old) (R.remaining input.new) buffers.old.lines buffers.new.lines }
+    ensures faults { EndsOnlyIf (R.has_failed input.new) ⊥ buffers.new.lines result }
     ensures knows { KnowsNoLess (M.reader machine.old) (M.reader machine.new) }
 {
     let read = buffers.input.read_from(input);
@@ -97,11 +87,8 @@ fn skip_line<M: RefusesSkipped>(buffers: &mut ThreadBuffers, part: usize, machin
     ensures continues { (left written : Option (List ℕ)) → SkipsOn M.reader (by M.moves M.makes M.ends M.goes M.goes_last) part (at left written machine.old (in_buffers buffers.old))
         (at left written machine.new (in_buffers buffers.new)) }
     ensures counted { length buffers.old.input ≤ UNIT_BYTES * (result + 1) }
-    ensures makes { length buffers.new.lines.replies ≤ length buffers.old.lines.replies + made_in result }
-    ensures answers { AnswersAtMost 1 buffers.old.lines.state buffers.new.lines.state }
-    ensures looked { buffers.new.lines.state.looked ≡ buffers.old.lines.state.looked }
-    ensures read_fault { EndsByAt RunFault.Read buffers.new.lines.state.stage → ⊥ }
-    ensures write_fault { EndsByAt RunFault.Write buffers.new.lines.state.stage → ⊥ }
+    ensures answers { AnswersOne (Step.Next result) buffers.old.lines buffers.new.lines }
+    ensures faults { EndsOnlyIf ⊥ ⊥ buffers.new.lines (Step.Next result) }
     ensures knows { KnowsNoLess (M.reader machine.old) (M.reader machine.new) }
 {
     let units = units_of(buffers.input.bytes());

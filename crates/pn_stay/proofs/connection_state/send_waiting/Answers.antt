@@ -33,23 +33,20 @@ pub returns-in-Err-clause-steps : goal.returns-in-Err-clause-steps
 returns-in-Err-clause-steps g c = λ left start steady stands.
     c.recall_cut.ensures start left (g.W.Sink.contents c.args.output.now) (g.W.Sink.contents c.flush.new.output) steady stands c.in-Err.ensures.err
 
-pub returns-in-Ok-All-clause-read_fault : goal.returns-in-Ok-All-clause-read_fault
-returns-in-Ok-All-clause-read_fault g c = λ ends. subst (λ (s : Stage). EndsByAt Read s) c.in-Ok-All.ensures.ok.kept.stage ends
-
-pub returns-in-Ok-All-clause-write_fault : goal.returns-in-Ok-All-clause-write_fault
-returns-in-Ok-All-clause-write_fault g c = λ ends. inl (subst (λ (s : Stage). EndsByAt Write s) c.in-Ok-All.ensures.ok.kept.stage ends)
-
-pub returns-in-Ok-Waits-clause-read_fault : goal.returns-in-Ok-Waits-clause-read_fault
-returns-in-Ok-Waits-clause-read_fault g c = λ ends. subst (λ (s : Stage). EndsByAt Read s) c.in-Ok-Waits.ensures.ok.kept.stage ends
-
-pub returns-in-Ok-Waits-clause-write_fault : goal.returns-in-Ok-Waits-clause-write_fault
-returns-in-Ok-Waits-clause-write_fault g c = λ ends. inl (subst (λ (s : Stage). EndsByAt Write s) c.in-Ok-Waits.ensures.ok.kept.stage ends)
-
 pub returns-in-Ok-All-clause-stage : goal.returns-in-Ok-All-clause-stage
 returns-in-Ok-All-clause-stage g c = λ units is. c.in-Ok-All.ensures.ok.kept.stage
 
-pub returns-in-Err-clause-read_fault : goal.returns-in-Err-clause-read_fault
-returns-in-Err-clause-read_fault g c = λ ends. absurd (write_no_read ends)
+pub returns-in-Ok-All-clause-faults : goal.returns-in-Ok-All-clause-faults
+returns-in-Ok-All-clause-faults g c = record {
+  read = λ ends. subst (λ (s : Stage). EndsByAt Read s) c.in-Ok-All.ensures.ok.kept.stage ends;
+  write = λ ends. inl (subst (λ (s : Stage). EndsByAt Write s) c.in-Ok-All.ensures.ok.kept.stage ends);
+}
 
-pub returns-in-Err-clause-write_fault : goal.returns-in-Err-clause-write_fault
-returns-in-Err-clause-write_fault g c = λ ends. inr c.in-Err.ensures.failed
+pub returns-in-Ok-Waits-clause-faults : goal.returns-in-Ok-Waits-clause-faults
+returns-in-Ok-Waits-clause-faults g c = record {
+  read = λ ends. subst (λ (s : Stage). EndsByAt Read s) c.in-Ok-Waits.ensures.ok.kept.stage ends;
+  write = λ ends. inl (subst (λ (s : Stage). EndsByAt Write s) c.in-Ok-Waits.ensures.ok.kept.stage ends);
+}
+
+pub returns-in-Err-clause-faults : goal.returns-in-Err-clause-faults
+returns-in-Err-clause-faults g c = record { read = λ ends. absurd (write_no_read ends); write = λ ends. inr c.in-Err.ensures.failed }

@@ -27,26 +27,21 @@ returns-clause-turns g c = λ start steady continues.
 pub returns-clause-pauses : goal.returns-clause-pauses
 returns-clause-pauses g c = c.store.ensures.pauses c.send_and_step-step.ensures.stops
 
-pub returns-clause-few : goal.returns-clause-few
-returns-clause-few g c = c.send_and_step-step.ensures.few
-
-pub returns-clause-written : goal.returns-clause-written
-returns-clause-written g c = c.send_and_step-step.ensures.written
-
-pub returns-clause-answers : goal.returns-clause-answers
-returns-clause-answers g c =
-    answers_stored TURN_UNITS c.args.self.now (in_buffers c.load.new.buffers) (in_buffers c.send_and_step-step.new.buffers) c.store.new.self c.load.ensures c.send_and_step-step.ensures.answers c.send_and_step-step.result c.store.result c.store.ensures.stores
-
-pub returns-clause-looked : goal.returns-clause-looked
-returns-clause-looked g c =
-    looked_stored most_looked c.args.self.now (in_buffers c.load.new.buffers) (in_buffers c.send_and_step-step.new.buffers) c.store.new.self c.load.ensures c.send_and_step-step.ensures.looked c.send_and_step-step.result c.store.result c.store.ensures.stores
+pub returns-clause-bounds : goal.returns-clause-bounds
+returns-clause-bounds g c =
+    let stepped = c.send_and_step-step.ensures.bounds in record {
+      few = stepped.few;
+      written = c.send_and_step-step.ensures.written;
+      answers = answers_stored TURN_UNITS c.args.self.now (in_buffers c.load.new.buffers) (in_buffers c.send_and_step-step.new.buffers) c.store.new.self c.load.ensures stepped.answers c.send_and_step-step.result c.store.result c.store.ensures.stores;
+      looked = looked_stored most_looked c.args.self.now (in_buffers c.load.new.buffers) (in_buffers c.send_and_step-step.new.buffers) c.store.new.self c.load.ensures stepped.looked c.send_and_step-step.result c.store.result c.store.ensures.stores;
+    }
 
 pub returns-clause-read_fault : goal.returns-clause-read_fault
 returns-clause-read_fault g c = λ ends.
     let stepped = fault_stored Read (in_buffers c.send_and_step-step.new.buffers) c.store.new.self c.send_and_step-step.result c.store.result c.store.ensures.stores ends in
-    before_or _ _ _ (λ was. subst (λ (k : ConnectionValue). EndsByAt Read k.state.stage) c.load.ensures was) (c.send_and_step-step.ensures.read_fault stepped)
+    before_or _ _ _ (λ was. subst (λ (k : ConnectionValue). EndsByAt Read k.state.stage) c.load.ensures was) (c.send_and_step-step.ensures.faults.read stepped)
 
 pub returns-clause-write_fault : goal.returns-clause-write_fault
 returns-clause-write_fault g c = λ ends.
     let stepped = fault_stored Write (in_buffers c.send_and_step-step.new.buffers) c.store.new.self c.send_and_step-step.result c.store.result c.store.ensures.stores ends in
-    before_or _ _ _ (λ was. subst (λ (k : ConnectionValue). EndsByAt Write k.state.stage) c.load.ensures was) (c.send_and_step-step.ensures.write_fault stepped)
+    before_or _ _ _ (λ was. subst (λ (k : ConnectionValue). EndsByAt Write k.state.stage) c.load.ensures was) (c.send_and_step-step.ensures.faults.write stepped)

@@ -10,6 +10,7 @@ use Rattle.pn_serve.proofs.Steps.{Steps-read_fault}
 use Rattle.pn_stay.proofs.Coming.{Consumes-nothing, Ends-left, Keeps-front, Stands-came, at_end, at_failed, at_fault, at_input, at_nothing}
 use Rattle.pn_stay.proofs.Faults.{ends_reading}
 use Rattle.pn_stay.proofs.Inputs.{reads_nothing}
+use Rattle.pn_stay.proofs.Outputs.{answers_ended, answers_nothing}
 use Rattle.pn_stay.proofs.Skipping.{held_line, held_none, held_part, held_same}
 use Rattle.pn_stay.proofs.SkippingSteps.{Stands-alone, part_line, refused_lines}
 use Rattle.pn_stay.proofs.steps.skipping.skip_more.Goals as goal
@@ -81,55 +82,52 @@ returns-in-Nothing-clause-knows g c = knows_itself _
 pub returns-in-Fault-clause-knows : goal.returns-in-Fault-clause-knows
 returns-in-Fault-clause-knows g c = knows_itself _
 
-pub returns-in-Input-clause-few : goal.returns-in-Input-clause-few
-returns-in-Input-clause-few g c = record {
-  taken = c.read_from-read.new.self;
-  consumes = at_input c.read_from-read.result _ c.in-Input.ensures c.read_from-read.ensures.came;
-  few = c.read_from-read.ensures.few;
-  counted = c.skip_line.ensures.counted;
+pub returns-in-Input-clause-bounds : goal.returns-in-Input-clause-bounds
+returns-in-Input-clause-bounds g c = record {
+  few = record {
+    taken = c.read_from-read.new.self;
+    consumes = at_input c.read_from-read.result _ c.in-Input.ensures c.read_from-read.ensures.came;
+    few = c.read_from-read.ensures.few;
+    counted = c.skip_line.ensures.counted;
+  };
+  line = c.skip_line.ensures.answers;
 }
 
-pub returns-in-Nothing-clause-few : goal.returns-in-Nothing-clause-few
-returns-in-Nothing-clause-few g c = reads_nothing _ _ _ (Consumes-nothing _ _ (at_nothing c.read_from-read.result _ c.in-Nothing.ensures c.read_from-read.ensures.kept))
+pub returns-in-Nothing-clause-bounds : goal.returns-in-Nothing-clause-bounds
+returns-in-Nothing-clause-bounds g c = record { few = reads_nothing _ _ _ (Consumes-nothing _ _ (at_nothing c.read_from-read.result _ c.in-Nothing.ensures c.read_from-read.ensures.kept)); line = answers_nothing _ _ }
 
-pub returns-in-End-clause-few : goal.returns-in-End-clause-few
-returns-in-End-clause-few g c =
+pub returns-in-End-clause-bounds : goal.returns-in-End-clause-bounds
+returns-in-End-clause-bounds g c =
     let left = g.R.Input.remaining c.args.input.now in
     let leaves = g.R.Input.remaining c.read_from-read.new.input in
     let came : Consumes left leaves c.read_from-read.new.self = at_end c.read_from-read.result (λ _. Consumes left leaves c.read_from-read.new.self) c.in-End.ensures c.read_from-read.ensures.came in
     let end : (c.read_from-read.new.self ≡ []) × IsAtEnd leaves =
-    at_end c.read_from-read.result (λ (more : Bool). more ≡ false → (c.read_from-read.new.self ≡ []) × IsAtEnd leaves) c.in-End.ensures c.read_from-read.ensures.end refl in
-    reads_nothing _ _ _ (subst (λ (b : List ℕ). Consumes left leaves b) end.0 came)
+    at_end c.read_from-read.result (λ (more : Bool). more ≡ false → (c.read_from-read.new.self ≡ []) × IsAtEnd leaves) c.in-End.ensures c.read_from-read.ensures.end refl in record {
+      few = reads_nothing _ _ _ (subst (λ (b : List ℕ). Consumes left leaves b) end.0 came);
+      line = record {
+        makes = c.end_skipped.ensures.makes;
+        answers = refused_lines c.args.buffers.now.lines c.end_skipped.new.self _ c.end_skipped.ensures.replied.1.counts;
+        looked = c.end_skipped.ensures.replied.1.looked;
+      };
+    }
 
-pub returns-in-Fault-clause-few : goal.returns-in-Fault-clause-few
-returns-in-Fault-clause-few g c = reads_nothing _ _ _ (Consumes-nothing _ _ (at_fault c.read_from-read.result _ c.in-Fault.ensures c.read_from-read.ensures.kept))
+pub returns-in-Fault-clause-bounds : goal.returns-in-Fault-clause-bounds
+returns-in-Fault-clause-bounds g c = record {
+  few = reads_nothing _ _ _ (Consumes-nothing _ _ (at_fault c.read_from-read.result _ c.in-Fault.ensures c.read_from-read.ensures.kept));
+  line = answers_ended _ _ _ c.end_by.ensures;
+}
 
-pub returns-in-End-clause-answers : goal.returns-in-End-clause-answers
-returns-in-End-clause-answers g c = refused_lines c.args.buffers.now.lines c.end_skipped.new.self _ c.end_skipped.ensures.replied.1.counts
+pub returns-in-Input-clause-faults : goal.returns-in-Input-clause-faults
+returns-in-Input-clause-faults g c = record { read = λ ends. absurd (c.skip_line.ensures.faults.read ends); write = c.skip_line.ensures.faults.write }
 
-pub returns-in-End-clause-looked : goal.returns-in-End-clause-looked
-returns-in-End-clause-looked g c = c.end_skipped.ensures.replied.1.looked
+pub returns-in-Nothing-clause-faults : goal.returns-in-Nothing-clause-faults
+returns-in-Nothing-clause-faults g c = record { read = λ ends. absurd (reads_on Read _ c.requires.waiting.0 ends); write = λ ends. reads_on Write _ c.requires.waiting.0 ends }
 
-pub returns-in-Input-clause-read_fault : goal.returns-in-Input-clause-read_fault
-returns-in-Input-clause-read_fault g c = λ ends. absurd (c.skip_line.ensures.read_fault ends)
+pub returns-in-End-clause-faults : goal.returns-in-End-clause-faults
+returns-in-End-clause-faults g c = record { read = λ ends. absurd (c.end_skipped.ensures.faults Read ends); write = λ ends. c.end_skipped.ensures.faults Write ends }
 
-pub returns-in-Input-clause-write_fault : goal.returns-in-Input-clause-write_fault
-returns-in-Input-clause-write_fault g c = c.skip_line.ensures.write_fault
-
-pub returns-in-Nothing-clause-read_fault : goal.returns-in-Nothing-clause-read_fault
-returns-in-Nothing-clause-read_fault g c = λ ends. absurd (reads_on Read _ c.requires.waiting.0 ends)
-
-pub returns-in-Nothing-clause-write_fault : goal.returns-in-Nothing-clause-write_fault
-returns-in-Nothing-clause-write_fault g c = λ ends. reads_on Write _ c.requires.waiting.0 ends
-
-pub returns-in-End-clause-read_fault : goal.returns-in-End-clause-read_fault
-returns-in-End-clause-read_fault g c = λ ends. absurd (c.end_skipped.ensures.faults Read ends)
-
-pub returns-in-End-clause-write_fault : goal.returns-in-End-clause-write_fault
-returns-in-End-clause-write_fault g c = λ ends. c.end_skipped.ensures.faults Write ends
-
-pub returns-in-Fault-clause-read_fault : goal.returns-in-Fault-clause-read_fault
-returns-in-Fault-clause-read_fault g c = λ ends. at_failed c.read_from-read.result _ c.in-Fault.ensures c.read_from-read.ensures.failed
-
-pub returns-in-Fault-clause-write_fault : goal.returns-in-Fault-clause-write_fault
-returns-in-Fault-clause-write_fault g c = λ ends. ends_reading c.args.buffers.now.lines c.end_by.new.self c.end_by.ensures ends
+pub returns-in-Fault-clause-faults : goal.returns-in-Fault-clause-faults
+returns-in-Fault-clause-faults g c = record {
+  read = λ ends. at_failed c.read_from-read.result _ c.in-Fault.ensures c.read_from-read.ensures.failed;
+  write = λ ends. ends_reading c.args.buffers.now.lines c.end_by.new.self c.end_by.ensures ends;
+}
