@@ -76,7 +76,8 @@ fn take_step<M: RefusesSkipped, R: Input, W: Sink>(
     ensures waits { WaitsWell (in_buffers buffers.new) result }
     ensures bounds { StepsWithin units result (R.remaining input.old) (R.remaining input.new) buffers.old.lines.state buffers.new.lines.state }
     ensures written { MakesAtMost (made_by result) (W.contents output.old) (W.contents output.new) buffers.old.lines.replies buffers.new.lines.replies }
-    ensures faults { EndsOnlyIf ((EndsByAt RunFault.Read buffers.old.lines.state.stage × (input.new ≡ input.old)) ⊎ R.has_failed input.new) (MayEndBy RunFault.Write (W.has_failed output.new) buffers.old.lines.state) buffers.new.lines result }
+    ensures faults { EndsOnlyIf ((EndsByAt RunFault.Read buffers.old.lines.state.stage × (input.new ≡ input.old)) ⊎ R.has_failed input.new)
+        (MayEndBy RunFault.Write (W.has_failed output.new) buffers.old.lines.state) buffers.new.lines result }
     ensures write_stage { AddsNoWriteFault result buffers.old.lines.state buffers.new.lines.state }
     ensures knows { KnowsNoLess (M.reader machine.old) (M.reader machine.new) }
 {
