@@ -8,6 +8,7 @@ pub mod Inputs
 pub mod Loops
 pub mod Messages
 pub mod Outputs
+pub mod Places
 pub mod Reasons
 pub mod Scripted
 pub mod Servers

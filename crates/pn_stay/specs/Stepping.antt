@@ -1,5 +1,5 @@
 -- How the session of a connection goes on: by a step, by a turn, and by what is skipped.
-use Rattle.std.specs.Prelude.{◌≡◌, ℕ, List, [], ◌++◌, Option}
+use Rattle.std.specs.Prelude.{◌≡◌, ℕ, List, [], ◌++◌}
 use Rattle.std.specs.Io.KnownBytes.{prepend_known}
 use Rattle.pn_line.specs.Line.{so_far}
 use Rattle.pn_live.specs.Prelude.{LiveReaderValue}
@@ -10,19 +10,10 @@ use Rattle.pn_serve.specs.Lines.States.{LineLoopValue, Start}
 use Rattle.pn_serve.specs.Lines.Stepping.{Handling, Stands, StepsTo}
 use Rattle.pn_serve.specs.Session.Knowing.{IsSteady}
 use Rattle.pn_stay.specs.Connections.{ConnectionValue, loop_of}
+use Rattle.pn_stay.specs.Places.{Place}
 use Rattle.pn_stay.specs.Skipping.{IsPart}
 use Rattle.pn_stay.specs.Turns.{Continues, StepsIn, TurnsTo}
 use Rattle.pn_stay.specs.declared.connection_state.TurnOutcome.{TurnOutcome}
-
--- where a session is: what is left of its source, what was written, its handler, and its connection or its line loop
-pub record Place (V K : Type 0) : Type 0 where
-  pub left : Option (List ℕ)
-  pub written : Option (List ℕ)
-  pub machine : V
-  pub kept : K
-
-abbrev pub at : {V K : Type 0} → Option (List ℕ) → Option (List ℕ) → V → K → Place V K
-at left written machine kept = record { left = left; written = written; machine = machine; kept = kept }
 
 -- a connection reads on, and holds no input
 pub record NeedsInput (kept : ConnectionValue) : Type 0 where
@@ -38,11 +29,11 @@ pub record LeavesInput (old new : ConnectionValue) : Type 0 where
 module _ {V : Type 0} (reader : V → LiveReaderValue) (handling : Handling V) where
   -- whatever session was at the old place is at the new one after a step
   abbrev pub StepsOn : Place V ConnectionValue → Place V ConnectionValue → Step → Type 0
-  StepsOn old new step = (start : Start V) → IsSteady reader handling.moves → Continues handling start old.left old.written old.machine old.kept → StepsIn handling start new.left new.written new.machine new.kept step
+  StepsOn old new step = (start : Start V) → IsSteady reader handling.moves → Continues handling start old → StepsIn handling start new step
 
   -- after a turn
   abbrev pub TurnsOn : Place V ConnectionValue → Place V ConnectionValue → TurnOutcome → Type 0
-  TurnsOn old new outcome = (start : Start V) → IsSteady reader handling.moves → Continues handling start old.left old.written old.machine old.kept → TurnsTo handling start new.left new.written new.machine new.kept outcome
+  TurnsOn old new outcome = (start : Start V) → IsSteady reader handling.moves → Continues handling start old → TurnsTo handling start new outcome
 
   -- after a step of its line loop
   abbrev pub LoopStepsOn : Place V LineLoopValue → Place V LineLoopValue → Step → Type 0
@@ -54,4 +45,4 @@ module _ {V : Type 0} (reader : V → LiveReaderValue) (handling : Handling V) w
 
   -- after more of a line was skipped, of which `count` bytes were skipped before
   abbrev pub SkipsOn : ℕ → Place V ConnectionValue → Place V ConnectionValue → Type 0
-  SkipsOn count old new = (start : Start V) → IsSteady reader handling.moves → StandsAfterPart count start old → Continues handling start new.left new.written new.machine new.kept
+  SkipsOn count old new = (start : Start V) → IsSteady reader handling.moves → StandsAfterPart count start old → Continues handling start new

@@ -5,22 +5,22 @@ use Rattle.pn_serve.specs.declared.script.line_loop.steps.Step.TheVariants.{Next
 use Rattle.pn_serve.specs.declared.script.line_loop.steps.TheConstants.{TURN_UNITS}
 use Rattle.pn_serve.specs.Lines.Faults.{EndsByAt}
 use Rattle.pn_serve.specs.Lines.Made.{MakesAtMost}
-use Rattle.pn_serve.specs.Lines.States.{Start}
 use Rattle.pn_serve.specs.Lines.Stepping.{by}
-use Rattle.pn_serve.specs.Session.Knowing.{IsSteady, KnowsNoLess}
+use Rattle.pn_serve.specs.Session.Knowing.{KnowsNoLess}
 use Rattle.pn_stay.specs.Bounds.{StaysWithin}
 use Rattle.pn_stay.specs.Faults.{EndsAsFailed}
 use Rattle.pn_stay.specs.Outputs.{most_made}
-use Rattle.pn_stay.specs.Turns.{Continues, in_buffers}
+use Rattle.pn_stay.specs.Places.{at}
+use Rattle.pn_stay.specs.Stepping.{StepsOn}
+use Rattle.pn_stay.specs.Turns.{in_buffers}
 use Rattle.pn_stay.proofs.Inputs.{TakesWithin}
 use Rattle.pn_stay.proofs.Outputs.{LooksOn, MakesWithin}
 use Rattle.pn_stay.proofs.steps.take_steps.Given as goal
 
 abbrev pub invariant-steps : goal.invariant-steps
 invariant-steps g l = record {
-  stands : (start : Start g.row.M.Denot) → IsSteady g.M.LineHandler.reader g.M.LineHandler.moves
-      → Continues (by g.M.LineHandler.moves g.M.LineHandler.makes g.M.LineHandler.ends g.M.LineHandler.goes g.M.LineHandler.goes_last) start (g.R.Input.remaining l.initial.input) (g.W.Sink.contents l.initial.output) l.initial.machine (in_buffers l.initial.buffers)
-      → Continues (by g.M.LineHandler.moves g.M.LineHandler.makes g.M.LineHandler.ends g.M.LineHandler.goes g.M.LineHandler.goes_last) start (g.R.Input.remaining l.input) (g.W.Sink.contents l.output) l.machine (in_buffers l.buffers);
+  stands : StepsOn g.M.LineHandler.reader (by g.M.LineHandler.moves g.M.LineHandler.makes g.M.LineHandler.ends g.M.LineHandler.goes g.M.LineHandler.goes_last)
+      (at (g.R.Input.remaining l.initial.input) (g.W.Sink.contents l.initial.output) l.initial.machine (in_buffers l.initial.buffers)) (at (g.R.Input.remaining l.input) (g.W.Sink.contents l.output) l.machine (in_buffers l.buffers)) (Next 0);
   within : TakesWithin l.units (g.R.Input.remaining l.initial.input) (g.R.Input.remaining l.input);
   makes : MakesWithin l.units (g.W.Sink.contents l.initial.output) (g.W.Sink.contents l.output) l.initial.buffers.lines.replies l.buffers.lines.replies;
   written : MakesAtMost most_made (g.W.Sink.contents l.initial.output) (g.W.Sink.contents l.output) l.initial.buffers.lines.replies l.buffers.lines.replies;

@@ -8,6 +8,7 @@ use Rattle.pn_serve.specs.Lines.States.{waits_in}
 use Rattle.pn_serve.specs.Lines.Stepping.{by}
 use Rattle.pn_stay.specs.Connections.{ConnectionValue, loop_of}
 use Rattle.pn_stay.specs.Outputs.{most_looked}
+use Rattle.pn_stay.specs.Places.{at}
 use Rattle.pn_stay.specs.Turns.{Continues, in_buffers}
 use Rattle.pn_stay.proofs.Faults.{before_or}
 use Rattle.pn_stay.proofs.Storing.{AppendsPrefix-none, Turns-stored, answers_stored, fault_stored, looked_stored}
@@ -19,7 +20,7 @@ returns-clause-turns g c = λ start steady continues.
     let kept : ConnectionValue = in_buffers c.send_and_step-step.new.buffers in
     let left = g.R.Input.remaining c.send_and_step-step.new.input in
     let written = g.W.Sink.contents c.send_and_step-step.new.output in
-    let loaded = subst (λ (k : ConnectionValue). Continues H start (g.R.Input.remaining c.args.input.now) (g.W.Sink.contents c.args.output.now) c.args.machine.now k) (sym c.load.ensures) continues in
+    let loaded = subst (λ (k : ConnectionValue). Continues H start (at (g.R.Input.remaining c.args.input.now) (g.W.Sink.contents c.args.output.now) c.args.machine.now k)) (sym c.load.ensures) continues in
     let stepped = c.send_and_step-step.ensures.steps start steady loaded in
     Turns-stored H start left written c.send_and_step-step.new.machine kept c.store.new.self c.send_and_step-step.result c.store.result stepped.0 c.store.ensures.stores stepped.1 stepped.2
     (λ stands. c.recall_cut.ensures start (prepend_known stepped.0 left) written written steady stands (AppendsPrefix-none written (waits_in (loop_of kept))))
