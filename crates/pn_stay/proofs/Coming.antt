@@ -16,6 +16,7 @@ use Rattle.pn_serve.proofs.Standing.{at_untold, told_or}
 use Rattle.pn_serve.specs.Session.Knowing.{IsSteady}
 use Rattle.pn_serve.proofs.Running.{Stands-new}
 use Rattle.pn_stay.specs.Connections.{ConnectionValue, new_connection}
+use Rattle.pn_stay.specs.Places.{at}
 use Rattle.pn_stay.specs.Turns.{Continues, IsRead, WaitsWell}
 use Rattle.pn_stay.specs.declared.steps.ReadOutcome.TheVariants as outcomes
 
@@ -95,7 +96,7 @@ Keeps-front text (Some x) None kept = absurd kept
 Keeps-front text (Some x) (Some y) kept = ap (λ (l : List ℕ). text ++ l) kept
 
 -- a new connection stands at the start of its script
-pub Continues-new : {V : Type 0} (handling : Handling V) (reader : V → LiveReaderValue) → IsSteady reader handling.moves → (machine : V) (left written : Option (List ℕ)) → Continues handling (start_at machine left written) left written machine new_connection
+pub Continues-new : {V : Type 0} (handling : Handling V) (reader : V → LiveReaderValue) → IsSteady reader handling.moves → (machine : V) (left written : Option (List ℕ)) → Continues handling (start_at machine left written) (at left written machine new_connection)
 Continues-new handling reader steady machine None written = ([], refl, Stands-new handling steady.preorder machine None written new_loop refl)
 Continues-new handling reader steady machine (Some script) written = ([], refl, Stands-new handling steady.preorder machine (Some script) written new_loop refl)
 

@@ -1,7 +1,8 @@
 -- How many lines are answered, how many records looked at, and how many bytes made and written, by one step of a turn after another.
-use Rattle.std.proofs.Common.{◌≤◌, ◌<◌, ◌+◌, ◌*◌, ℕ, Option, List, [], ◌++◌, length, arith, length-append}
+use Rattle.std.proofs.Common.{◌≡◌, ◌≤◌, ◌<◌, ◌+◌, ◌*◌, ℕ, Option, List, [], ◌++◌, length, refl, sym, subst, arith, length-append}
 use Rattle.std.specs.Io.KnownBytes.{Appends}
 use Rattle.std.proofs.KnownBytes.{Appends-nil, Appends-trans}
+use Rattle.pn_serve.specs.declared.script.line_loop.state.Stage.{Stage}
 use Rattle.pn_serve.specs.declared.script.line_loop.steps.Step.{Step}
 use Rattle.pn_serve.specs.declared.script.line_loop.steps.Step.TheVariants.{Next, NoInput, NoRoom, Ends}
 use Rattle.pn_serve.specs.declared.script.line_loop.steps.TheConstants.{TURN_UNITS}
@@ -9,6 +10,7 @@ use Rattle.pn_serve.specs.declared.script.replies.TheConstants.{REPLY_CAPACITY}
 use Rattle.pn_serve.specs.Lines.Bounds.{CountsUnits, records_by, records_in}
 use Rattle.pn_serve.specs.Lines.Made.{AppendsAtMost, MakesAtMost, made_by}
 use Rattle.pn_serve.specs.Lines.States.{LineLoopValue, LineStateValue}
+use Rattle.pn_stay.specs.Bounds.{AnswersOne}
 use Rattle.pn_stay.specs.declared.steps.TheConstants.{UNIT_BYTES}
 use Rattle.pn_stay.specs.Outputs.{AnswersAtMost, LooksFew, lines_by, most_looked, most_made, most_written}
 
@@ -86,6 +88,13 @@ answers_counted old new (Next units) counted = counted.0
 answers_counted old new NoInput counted = omega (arith, counted.0)
 answers_counted old new NoRoom counted = omega (arith, counted.0)
 answers_counted old new (Ends ended) counted = omega (arith, counted.0)
+
+-- a loop that is as it was, or only at another stage, has answered nothing
+pub answers_nothing : (step : Step) (run : LineLoopValue) → AnswersOne step run run
+answers_nothing step run = record { makes = omega arith; answers = omega arith; looked = refl }
+
+pub answers_ended : (step : Step) (old new : LineLoopValue) {stage : Stage} → new ≡ record old { state = record old.state { stage = stage } } → AnswersOne step old new
+answers_ended step old new is = subst (λ (r : LineLoopValue). AnswersOne step old r) (sym is) (record { makes = omega arith; answers = omega arith; looked = refl })
 
 -- a step answers one line at most
 pub one_line : (step : Step) → lines_by step ≤ 1

@@ -156,6 +156,12 @@ held_none was line held text some is = (subst (λ (s : Option SkippedInput). Hol
 pub held_line : (was : Option SkippedInput) (line : LineBufferValue) (held text : List ℕ) {skipped : SkippedInput} → was ≡ Some skipped → HoldsAs was line held text → line ≡ so_far []
 held_line was line held text some is = (subst (λ (s : Option SkippedInput). HoldsAs s line held text) some is).2
 
+-- where no line of it has ended it is a part of one
+pub held_part : (was : Option SkippedInput) (line : LineBufferValue) (held text : List ℕ) {skipped : SkippedInput} → was ≡ Some skipped → skipped.lines ≡ 0 → HoldsAs was line held text → IsPart skipped.part text
+held_part was line held text {skipped = skipped} some none is =
+    let skips = subst (λ (s : Option SkippedInput). HoldsAs s line held text) some is in
+    IsPart-alone skipped text (omega (arith, none)) skips.0.0 skips.0.1
+
 -- the same
 pub held_same : (was now : Option SkippedInput) (line new_line : LineBufferValue) (held new_held text : List ℕ) → now ≡ was → new_line ≡ line → new_held ≡ held → HoldsAs was line held text → HoldsAs now new_line new_held text
 held_same was now line new_line held new_held text skipped begun same is =

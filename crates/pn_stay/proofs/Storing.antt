@@ -27,6 +27,7 @@ use Rattle.pn_serve.proofs.Standing.{at_told, at_untold, told_or}
 use Rattle.pn_stay.specs.Connections.{ConnectionValue, HoldsAs, IsHeld, IsKept, KeepsInput, SameInput, line_at, loop_of}
 use Rattle.pn_stay.specs.Outputs.{AnswersAtMost, LooksFew}
 use Rattle.pn_stay.specs.Skipping.{SkipsAll, SkipsInput}
+use Rattle.pn_stay.specs.Places.{at}
 use Rattle.pn_stay.specs.Turns.{AnswersFew, Continues, EndsTurnBy, KeepsOr, LooksWithin, Stores, TurnsTo}
 use Rattle.pn_stay.specs.declared.skipped_input.SkippedInput.{SkippedInput}
 use Rattle.pn_stay.specs.declared.connection_state.Pause.{Pause}
@@ -166,7 +167,7 @@ module _ {V : Type 0} (handling : Handling V) (start : Start V) (left written : 
     subst (λ (l : LineBufferValue). Stands handling start (prepend_known text left) written machine (record { line = l; replies = old.replies; state = old.state })) (held.2 ∙ sym keeps.1) stands,
   )
 
-  pub Continues-kept : (old new : ConnectionValue) → IsKept old new → Continues handling start left written machine old → Continues handling start left written machine new
+  pub Continues-kept : (old new : ConnectionValue) → IsKept old new → Continues handling start (at left written machine old) → Continues handling start (at left written machine new)
   Continues-kept old new kept goes =
       let put = kept_at old new old.skipped goes.0 goes.1 kept.input goes.2 in
       let replied = subst (λ (r : List ℕ). Stands handling start (prepend_known put.0 left) written machine (record { line = new.line; replies = r; state = old.state })) (sym kept.replies) put.2 in
@@ -174,16 +175,16 @@ module _ {V : Type 0} (handling : Handling V) (start : Start V) (left written : 
 
   -- it is kept, or there was no memory
   kept_or : (old new : ConnectionValue) (pause : Pause) (outcome : TurnOutcome) (text : List ℕ) → KeepsOr old pause new outcome → IsHeld old text → Stands handling start (prepend_known text left) written machine (loop_of old)
-      → HasEnded handling start (prepend_known text left) written machine (Err Write) → TurnsTo handling start left written machine new outcome
+      → HasEnded handling start (prepend_known text left) written machine (Err Write) → TurnsTo handling start (at left written machine new) outcome
   kept_or old new pause (Goes other) text keeps held stands cut = Continues-kept old new keeps.1 (text, held, stands)
   kept_or old new pause (Ended ended) text keeps held stands cut = absurd keeps
   kept_or old new pause OutOfMemory text keeps held stands cut = (text, cut)
 
-  ended_so : (new : ConnectionValue) (text : List ℕ) (ended : Result Counts RunFault) (outcome : TurnOutcome) → outcome ≡ Ended ended → HasEnded handling start (prepend_known text left) written machine ended → TurnsTo handling start left written machine new outcome
-  ended_so new text ended outcome is has = subst (λ (o : TurnOutcome). TurnsTo handling start left written machine new o) (sym is) (text, has)
+  ended_so : (new : ConnectionValue) (text : List ℕ) (ended : Result Counts RunFault) (outcome : TurnOutcome) → outcome ≡ Ended ended → HasEnded handling start (prepend_known text left) written machine ended → TurnsTo handling start (at left written machine new) outcome
+  ended_so new text ended outcome is has = subst (λ (o : TurnOutcome). TurnsTo handling start (at left written machine new) o) (sym is) (text, has)
 
   pub Turns-stored : (old new : ConnectionValue) (step : Step) (outcome : TurnOutcome) (text : List ℕ) → Stores old step new outcome → IsHeld old text → StepsTo handling start (prepend_known text left) written machine (loop_of old) step
-      → (Stands handling start (prepend_known text left) written machine (loop_of old) → HasEnded handling start (prepend_known text left) written machine (Err Write)) → TurnsTo handling start left written machine new outcome
+      → (Stands handling start (prepend_known text left) written machine (loop_of old) → HasEnded handling start (prepend_known text left) written machine (Err Write)) → TurnsTo handling start (at left written machine new) outcome
   Turns-stored old new (Next units) outcome text stores held steps cut = kept_or old new Turn outcome text stores held steps (cut steps)
   Turns-stored old new NoInput outcome text stores held steps cut = kept_or old new Input outcome text stores held steps (cut steps)
   Turns-stored old new NoRoom outcome text stores held steps cut = kept_or old new Output outcome text stores held steps.0 steps.2

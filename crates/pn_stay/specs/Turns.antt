@@ -1,5 +1,5 @@
 -- What a step and a turn of a connection come to: it is its line loop, between waits.
-use Rattle.std.specs.Prelude.{◌≡◌, ◌≢◌, ◌⊎◌, ℕ, Bool, true, false, List, [], Option, Result, Ok, Err}
+use Rattle.std.specs.Prelude.{◌≡◌, ◌≢◌, ◌⊎◌, ℕ, Bool, true, false, List, [], Result, Ok, Err}
 use Rattle.std.specs.IoError.{error_kind}
 use Rattle.std.specs.Io.KnownBytes.{prepend_known}
 use Rattle.std.specs.declared.io.Error.{Error}
@@ -14,6 +14,7 @@ use Rattle.pn_serve.specs.Lines.States.{Start, waits_in}
 use Rattle.pn_serve.specs.Lines.Stepping.{Handling, HasEnded, Stands, StepsTo as LoopStepsTo}
 use Rattle.pn_stay.specs.Connections.{ConnectionValue, IsEndless, IsHeld, IsKept, loop_of}
 use Rattle.pn_stay.specs.Outputs.{AnswersAtMost, LooksFew}
+use Rattle.pn_stay.specs.Places.{Place}
 use Rattle.pn_stay.specs.declared.connection_state.ThreadBuffers.{ThreadBuffers}
 use Rattle.pn_stay.specs.declared.connection_state.Pause.{Pause}
 use Rattle.pn_stay.specs.declared.connection_state.Pause.TheVariants.{Turn, Input, Output}
@@ -90,16 +91,16 @@ Stores old NoRoom new outcome = KeepsOr old Output new outcome
 Stores old (Ends ended) new outcome = outcome ≡ Ended ended
 
 module _ {V : Type 0} (handling : Handling V) where
-  -- its loop stands over the input that it holds or has skipped, and what is left of its source
-  abbrev pub Continues : Start V → Option (List ℕ) → Option (List ℕ) → V → ConnectionValue → Type 0
-  Continues start left written machine kept = (text : List ℕ) × IsHeld kept text × Stands handling start (prepend_known text left) written machine (loop_of kept)
+  -- the loop of a connection stands over the input that it holds or has skipped, and what is left of its source
+  abbrev pub Continues : Start V → Place V ConnectionValue → Type 0
+  Continues start place = (text : List ℕ) × IsHeld place.kept text × Stands handling start (prepend_known text place.left) place.written place.machine (loop_of place.kept)
 
-  -- so at some buffers after a step
-  abbrev pub StepsIn : Start V → Option (List ℕ) → Option (List ℕ) → V → ThreadBuffers → Step → Type 0
-  StepsIn start left written machine buffers step = (text : List ℕ) × IsHeld (in_buffers buffers) text × LoopStepsTo handling start (prepend_known text left) written machine (loop_of (in_buffers buffers)) step
+  -- so after a step
+  abbrev pub StepsIn : Start V → Place V ConnectionValue → Step → Type 0
+  StepsIn start place step = (text : List ℕ) × IsHeld place.kept text × LoopStepsTo handling start (prepend_known text place.left) place.written place.machine (loop_of place.kept) step
 
   -- the connection goes on, or has ended as its session ends; without memory, as one whose writer fails
-  abbrev pub TurnsTo : Start V → Option (List ℕ) → Option (List ℕ) → V → ConnectionValue → TurnOutcome → Type 0
-  TurnsTo start left written machine kept (Goes pause) = Continues start left written machine kept
-  TurnsTo start left written machine kept (Ended ended) = (held : List ℕ) × HasEnded handling start (prepend_known held left) written machine ended
-  TurnsTo start left written machine kept OutOfMemory = (held : List ℕ) × HasEnded handling start (prepend_known held left) written machine (Err Write)
+  abbrev pub TurnsTo : Start V → Place V ConnectionValue → TurnOutcome → Type 0
+  TurnsTo start place (Goes pause) = Continues start place
+  TurnsTo start place (Ended ended) = (held : List ℕ) × HasEnded handling start (prepend_known held place.left) place.written place.machine ended
+  TurnsTo start place OutOfMemory = (held : List ℕ) × HasEnded handling start (prepend_known held place.left) place.written place.machine (Err Write)

@@ -1,18 +1,19 @@
 //! The state of a connection: it is answered as a session is, in turns, between which it keeps as little as it can.
 
-ghost use Rattle.std.specs.Prelude.{◌≡◌, ◌⊎◌, ◌+◌, ◌-◌, ◌^◌, ◌≤◌, ℕ, List, Option, min};
-ghost use Rattle.pn_serve.specs.Lines.Stepping.{by, Stands, StepsTo};
-ghost use Rattle.pn_serve.specs.Lines.Bounds.{HandsOnAtMost, KeepsLine};
-ghost use Rattle.pn_serve.specs.Lines.Faults.{EndsByAt, EndsByStep};
+ghost use Rattle.std.specs.Prelude.{◌≡◌, ◌+◌, ◌-◌, ◌^◌, ℕ, List, Option, min};
+ghost use Rattle.pn_serve.specs.Lines.Bounds.{HandsOnAtMost};
+ghost use Rattle.pn_serve.specs.Lines.Faults.{EndsByAt};
 ghost use Rattle.pn_serve.specs.Lines.Made.{AppendsAtMost, MakesAtMost};
-ghost use Rattle.pn_serve.specs.Lines.States.{Start};
-ghost use Rattle.pn_serve.specs.declared.script.line_loop.steps.TheConstants.{TURN_UNITS};
+ghost use Rattle.pn_serve.specs.Lines.Stepping.{by};
+ghost use Rattle.pn_serve.specs.Session.Knowing.{KnowsNoLess};
 ghost use Rattle.pn_serve.specs.declared.script.replies.TheConstants.{REPLY_CAPACITY};
+ghost use Rattle.pn_stay.specs.Bounds.{StaysWithin, TurnsWithin};
 ghost use Rattle.pn_stay.specs.Connections.{new_connection};
-ghost use Rattle.pn_stay.specs.Turns.{in_buffers, AnswersFew, Continues, EndsTurnBy, LooksWithin, PausesWell, StepsIn, StopsWell, TurnsTo};
-ghost use Rattle.pn_stay.specs.Inputs.{most_taken, TakesAtMost};
-ghost use Rattle.pn_stay.specs.Outputs.{AnswersAtMost, LooksFew, most_looked, most_made, most_written};
-ghost use Rattle.pn_serve.specs.Session.Knowing.{IsSteady, KnowsNoLess};
+ghost use Rattle.pn_stay.specs.Faults.{EndsAsFailed, EndsOnlyIf, MayEndBy};
+ghost use Rattle.pn_stay.specs.Outputs.{most_made, most_written};
+ghost use Rattle.pn_stay.specs.Places.{at};
+ghost use Rattle.pn_stay.specs.Stepping.{LeavesInput, LoopStepsOn, StepsOn, TurnsOn};
+ghost use Rattle.pn_stay.specs.Turns.{in_buffers, EndsTurnBy, PausesWell, StopsWell};
 
 mod storage;
 
@@ -150,15 +151,12 @@ impl ConnectionState {
         output: &mut W,
     ) -> TurnOutcome
         requires ready { M.ready }
-        ensures turns { (start : Start M) → IsSteady M.reader M.moves → Continues (by M.moves M.makes M.ends M.goes M.goes_last) start (R.remaining input.old) (W.contents output.old) machine.old self.old
-            → TurnsTo (by M.moves M.makes M.ends M.goes M.goes_last) start (R.remaining input.new) (W.contents output.new) machine.new self.new result }
+        ensures turns { TurnsOn M.reader (by M.moves M.makes M.ends M.goes M.goes_last) (at (R.remaining input.old) (W.contents output.old) machine.old self.old)
+            (at (R.remaining input.new) (W.contents output.new) machine.new self.new) result }
         ensures pauses { PausesWell self.new result }
-        ensures few { TakesAtMost most_taken (R.remaining input.old) (R.remaining input.new) }
-        ensures written { AppendsAtMost most_written (W.contents output.old) (W.contents output.new) }
-        ensures answers { AnswersFew TURN_UNITS self.old self.new result }
-        ensures looked { LooksWithin most_looked self.old self.new result }
-        ensures read_fault { EndsTurnBy RunFault.Read self.new result → EndsByAt RunFault.Read self.old.state.stage ⊎ R.has_failed input.new }
-        ensures write_fault { EndsTurnBy RunFault.Write self.new result → EndsByAt RunFault.Write self.old.state.stage ⊎ W.has_failed output.new }
+        ensures bounds { TurnsWithin (R.remaining input.old) (R.remaining input.new) (W.contents output.old) (W.contents output.new) self.old self.new result }
+        ensures read_fault { EndsTurnBy RunFault.Read self.new result → MayEndBy RunFault.Read (R.has_failed input.new) self.old.state }
+        ensures write_fault { EndsTurnBy RunFault.Write self.new result → MayEndBy RunFault.Write (W.has_failed output.new) self.old.state }
         ensures knows { KnowsNoLess (M.reader machine.old) (M.reader machine.new) }
     {
         self.load(buffers);
@@ -179,15 +177,12 @@ fn send_and_step<M: RefusesSkipped, R: Input, W: Sink>(
     output: &mut W,
 ) -> Step
     requires ready { M.ready }
-    ensures steps { (start : Start M) → IsSteady M.reader M.moves → Continues (by M.moves M.makes M.ends M.goes M.goes_last) start (R.remaining input.old) (W.contents output.old) machine.old (in_buffers buffers.old)
-        → StepsIn (by M.moves M.makes M.ends M.goes M.goes_last) start (R.remaining input.new) (W.contents output.new) machine.new buffers.new result }
+    ensures steps { StepsOn M.reader (by M.moves M.makes M.ends M.goes M.goes_last) (at (R.remaining input.old) (W.contents output.old) machine.old (in_buffers buffers.old))
+        (at (R.remaining input.new) (W.contents output.new) machine.new (in_buffers buffers.new)) result }
     ensures stops { StopsWell (in_buffers buffers.new) result }
-    ensures few { TakesAtMost most_taken (R.remaining input.old) (R.remaining input.new) }
+    ensures bounds { StaysWithin (R.remaining input.old) (R.remaining input.new) buffers.old.lines.state buffers.new.lines.state }
     ensures written { AppendsAtMost most_written (W.contents output.old) (W.contents output.new) }
-    ensures answers { AnswersAtMost TURN_UNITS buffers.old.lines.state buffers.new.lines.state }
-    ensures looked { LooksFew most_looked buffers.old.lines.state buffers.new.lines.state }
-    ensures read_fault { EndsByStep RunFault.Read buffers.new.lines result → EndsByAt RunFault.Read buffers.old.lines.state.stage ⊎ R.has_failed input.new }
-    ensures write_fault { EndsByStep RunFault.Write buffers.new.lines result → EndsByAt RunFault.Write buffers.old.lines.state.stage ⊎ W.has_failed output.new }
+    ensures faults { EndsAsFailed (R.has_failed input.new) (W.has_failed output.new) buffers.old.lines buffers.new.lines result }
     ensures knows { KnowsNoLess (M.reader machine.old) (M.reader machine.new) }
 {
     match send_waiting(buffers, &*machine, output) {
@@ -204,15 +199,12 @@ fn step_and_send<M: RefusesSkipped, R: Input, W: Sink>(
     output: &mut W,
 ) -> Step
     requires ready { M.ready }
-    ensures steps { (start : Start M) → IsSteady M.reader M.moves → Continues (by M.moves M.makes M.ends M.goes M.goes_last) start (R.remaining input.old) (W.contents output.old) machine.old (in_buffers buffers.old)
-        → StepsIn (by M.moves M.makes M.ends M.goes M.goes_last) start (R.remaining input.new) (W.contents output.new) machine.new buffers.new result }
+    ensures steps { StepsOn M.reader (by M.moves M.makes M.ends M.goes M.goes_last) (at (R.remaining input.old) (W.contents output.old) machine.old (in_buffers buffers.old))
+        (at (R.remaining input.new) (W.contents output.new) machine.new (in_buffers buffers.new)) result }
     ensures stops { StopsWell (in_buffers buffers.new) result }
-    ensures few { TakesAtMost most_taken (R.remaining input.old) (R.remaining input.new) }
+    ensures bounds { StaysWithin (R.remaining input.old) (R.remaining input.new) buffers.old.lines.state buffers.new.lines.state }
     ensures written { MakesAtMost most_made (W.contents output.old) (W.contents output.new) buffers.old.lines.replies buffers.new.lines.replies }
-    ensures answers { AnswersAtMost TURN_UNITS buffers.old.lines.state buffers.new.lines.state }
-    ensures looked { LooksFew most_looked buffers.old.lines.state buffers.new.lines.state }
-    ensures read_fault { EndsByStep RunFault.Read buffers.new.lines result → EndsByAt RunFault.Read buffers.old.lines.state.stage ⊎ R.has_failed input.new }
-    ensures write_fault { EndsByStep RunFault.Write buffers.new.lines result → EndsByAt RunFault.Write buffers.old.lines.state.stage ⊎ W.has_failed output.new }
+    ensures faults { EndsAsFailed (R.has_failed input.new) (W.has_failed output.new) buffers.old.lines buffers.new.lines result }
     ensures knows { KnowsNoLess (M.reader machine.old) (M.reader machine.new) }
 {
     match take_steps(buffers, machine, input, output) {
@@ -227,17 +219,14 @@ fn send_waiting<M: LineHandler, W: Sink>(
     machine: &M,
     output: &mut W,
 ) -> Step
-    ensures steps { (start : Start M) (left : Option (List ℕ)) → IsSteady M.reader M.moves → Stands (by M.moves M.makes M.ends M.goes M.goes_last) start left (W.contents output.old) machine.now buffers.old.lines
-        → StepsTo (by M.moves M.makes M.ends M.goes M.goes_last) start left (W.contents output.new) machine.now buffers.new.lines result }
-    ensures input { buffers.new.input ≡ buffers.old.input }
-    ensures skipped { buffers.new.skipped ≡ buffers.old.skipped }
+    ensures steps { (left : Option (List ℕ)) → LoopStepsOn M.reader (by M.moves M.makes M.ends M.goes M.goes_last) (at left (W.contents output.old) machine.now buffers.old.lines)
+        (at left (W.contents output.new) machine.now buffers.new.lines) result }
+    ensures same { LeavesInput (in_buffers buffers.old) (in_buffers buffers.new) }
     ensures stops { StopsWell (in_buffers buffers.new) result }
     ensures few { HandsOnAtMost REPLY_CAPACITY buffers.old.lines buffers.new.lines }
     ensures written { MakesAtMost 0 (W.contents output.old) (W.contents output.new) buffers.old.lines.replies buffers.new.lines.replies }
-    ensures same { KeepsLine buffers.old.lines buffers.new.lines }
     ensures stage { (units : ℕ) → result ≡ Step.Next units → buffers.new.lines.state.stage ≡ buffers.old.lines.state.stage }
-    ensures read_fault { EndsByStep RunFault.Read buffers.new.lines result → EndsByAt RunFault.Read buffers.old.lines.state.stage }
-    ensures write_fault { EndsByStep RunFault.Write buffers.new.lines result → EndsByAt RunFault.Write buffers.old.lines.state.stage ⊎ W.has_failed output.new }
+    ensures faults { EndsOnlyIf (EndsByAt RunFault.Read buffers.old.lines.state.stage) (MayEndBy RunFault.Write (W.has_failed output.new) buffers.old.lines.state) buffers.new.lines result }
 {
     if buffers.lines.is_sent() {
         return Step::Next(0);

@@ -5,6 +5,7 @@ ghost use Rattle.std.specs.Io.KnownBytes.{prepend_known};
 ghost use Rattle.pn_serve.specs.Lines.States.{Start};
 ghost use Rattle.pn_serve.specs.Lines.Stepping.{HasEnded, by};
 ghost use Rattle.pn_serve.specs.Session.Knowing.{IsSteady};
+ghost use Rattle.pn_stay.specs.Places.{at};
 ghost use Rattle.pn_stay.specs.Scripted.{bytes_of, begin_with};
 ghost use Rattle.pn_stay.specs.Turns.{Continues};
 
@@ -46,7 +47,7 @@ fn take_turns<M: RefusesSkipped, R: Input, W: Sink>(
     turns: u32,
 ) -> Option<Result<Counts, RunFault>>
     requires ready { M.ready }
-    ensures { (start : Start M) → IsSteady M.reader M.moves → Continues (by M.moves M.makes M.ends M.goes M.goes_last) start (R.remaining input.old) (W.contents output.old) machine.old state.old
+    ensures { (start : Start M) → IsSteady M.reader M.moves → Continues (by M.moves M.makes M.ends M.goes M.goes_last) start (at (R.remaining input.old) (W.contents output.old) machine.old state.old)
         → IfSome result (λ ended. (held : List ℕ) × HasEnded (by M.moves M.makes M.ends M.goes M.goes_last) start (prepend_known held (R.remaining input.new)) (W.contents output.new) machine.new ended) }
 {
     'turns: for _turn in 0..turns {

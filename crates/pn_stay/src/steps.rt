@@ -1,17 +1,17 @@
 //! The steps of a connection's turn: those of its line loop, and reads where no more input is at hand.
 
-ghost use Rattle.std.specs.Prelude.{◌≡◌, ◌⊎◌, ◌<◌, ◌≤◌, ◌+◌, ◌*◌, ℕ, List, [], length, Option};
+ghost use Rattle.std.specs.Prelude.{◌≡◌, ◌⊎◌, ◌<◌, ◌≤◌, ◌+◌, ◌*◌, ℕ, List, length, Option};
 ghost use Rattle.std.specs.Io.KnownBytes.{prepend_known};
-ghost use Rattle.pn_serve.specs.Lines.Bounds.{IsWaitingAt, records_by, records_in};
-ghost use Rattle.pn_serve.specs.Lines.Faults.{EndsByAt, EndsByStep};
+ghost use Rattle.pn_serve.specs.Lines.Faults.{EndsByAt};
 ghost use Rattle.pn_serve.specs.Lines.Made.{MakesAtMost, made_by};
-ghost use Rattle.pn_serve.specs.Lines.States.{Start};
-ghost use Rattle.pn_serve.specs.declared.script.line_loop.steps.TheConstants.{TURN_UNITS};
-ghost use Rattle.pn_serve.specs.Session.Knowing.{IsSteady, KnowsNoLess};
-ghost use Rattle.pn_serve.specs.Lines.Stepping.{by, Stands, StepsTo};
-ghost use Rattle.pn_stay.specs.Turns.{in_buffers, Continues, IsRead, StepsIn, WaitsWell};
-ghost use Rattle.pn_stay.specs.Inputs.{most_taken, ReadsOnce, TakesAtMost};
-ghost use Rattle.pn_stay.specs.Outputs.{AnswersAtMost, LooksFew, lines_by, most_looked, most_made};
+ghost use Rattle.pn_serve.specs.Lines.Stepping.{by};
+ghost use Rattle.pn_serve.specs.Session.Knowing.{KnowsNoLess};
+ghost use Rattle.pn_stay.specs.Bounds.{ReadsAndAnswers, StaysWithin, StepsWithin};
+ghost use Rattle.pn_stay.specs.Faults.{AddsNoWriteFault, EndsAsFailed, EndsOnlyIf, MayEndBy};
+ghost use Rattle.pn_stay.specs.Outputs.{most_made};
+ghost use Rattle.pn_stay.specs.Places.{at};
+ghost use Rattle.pn_stay.specs.Stepping.{LoopStepsOn, NeedsInput, StepsOn};
+ghost use Rattle.pn_stay.specs.Turns.{in_buffers, IsRead, WaitsWell};
 ghost use Rattle.pn_stay.specs.declared.input_buffer.TheConstants.{READ_SIZE};
 
 mod skipping;
@@ -35,16 +35,13 @@ pub(crate) fn take_steps<M: RefusesSkipped, R: Input, W: Sink>(
     output: &mut W,
 ) -> Step
     requires ready { M.ready }
-    ensures steps { (start : Start M) → IsSteady M.reader M.moves → Continues (by M.moves M.makes M.ends M.goes M.goes_last) start (R.remaining input.old) (W.contents output.old) machine.old (in_buffers buffers.old)
-        → StepsIn (by M.moves M.makes M.ends M.goes M.goes_last) start (R.remaining input.new) (W.contents output.new) machine.new buffers.new result }
+    ensures steps { StepsOn M.reader (by M.moves M.makes M.ends M.goes M.goes_last) (at (R.remaining input.old) (W.contents output.old) machine.old (in_buffers buffers.old))
+        (at (R.remaining input.new) (W.contents output.new) machine.new (in_buffers buffers.new)) result }
     ensures waits { WaitsWell (in_buffers buffers.new) result }
-    ensures few { TakesAtMost most_taken (R.remaining input.old) (R.remaining input.new) }
+    ensures bounds { StaysWithin (R.remaining input.old) (R.remaining input.new) buffers.old.lines.state buffers.new.lines.state }
     ensures written { MakesAtMost most_made (W.contents output.old) (W.contents output.new) buffers.old.lines.replies buffers.new.lines.replies }
-    ensures answers { AnswersAtMost TURN_UNITS buffers.old.lines.state buffers.new.lines.state }
-    ensures looked { LooksFew most_looked buffers.old.lines.state buffers.new.lines.state }
-    ensures read_fault { EndsByStep RunFault.Read buffers.new.lines result → EndsByAt RunFault.Read buffers.old.lines.state.stage ⊎ R.has_failed input.new }
-    ensures write_fault { EndsByStep RunFault.Write buffers.new.lines result → EndsByAt RunFault.Write buffers.old.lines.state.stage ⊎ W.has_failed output.new }
-    ensures write_stage { (used : ℕ) → result ≡ Step.Next used → EndsByAt RunFault.Write buffers.new.lines.state.stage → EndsByAt RunFault.Write buffers.old.lines.state.stage }
+    ensures faults { EndsAsFailed (R.has_failed input.new) (W.has_failed output.new) buffers.old.lines buffers.new.lines result }
+    ensures write_stage { AddsNoWriteFault result buffers.old.lines.state buffers.new.lines.state }
     ensures knows { KnowsNoLess (M.reader machine.old) (M.reader machine.new) }
 {
     let mut units = TURN_UNITS;
@@ -75,17 +72,14 @@ fn take_step<M: RefusesSkipped, R: Input, W: Sink>(
     units: u32,
 ) -> Step
     requires ready { M.ready }
-    ensures steps { (start : Start M) → IsSteady M.reader M.moves → Continues (by M.moves M.makes M.ends M.goes M.goes_last) start (R.remaining input.old) (W.contents output.old) machine.old (in_buffers buffers.old)
-        → StepsIn (by M.moves M.makes M.ends M.goes M.goes_last) start (R.remaining input.new) (W.contents output.new) machine.new buffers.new result }
+    ensures steps { StepsOn M.reader (by M.moves M.makes M.ends M.goes M.goes_last) (at (R.remaining input.old) (W.contents output.old) machine.old (in_buffers buffers.old))
+        (at (R.remaining input.new) (W.contents output.new) machine.new (in_buffers buffers.new)) result }
     ensures waits { WaitsWell (in_buffers buffers.new) result }
-    ensures few { ReadsOnce result (R.remaining input.old) (R.remaining input.new) }
+    ensures bounds { StepsWithin units result (R.remaining input.old) (R.remaining input.new) buffers.old.lines.state buffers.new.lines.state }
     ensures written { MakesAtMost (made_by result) (W.contents output.old) (W.contents output.new) buffers.old.lines.replies buffers.new.lines.replies }
-    ensures answers { AnswersAtMost (lines_by result) buffers.old.lines.state buffers.new.lines.state }
-    ensures looked { LooksFew (records_in units) buffers.old.lines.state buffers.new.lines.state }
-    ensures records { LooksFew (records_by result) buffers.old.lines.state buffers.new.lines.state }
-    ensures read_fault { EndsByStep RunFault.Read buffers.new.lines result → (EndsByAt RunFault.Read buffers.old.lines.state.stage × (input.new ≡ input.old)) ⊎ R.has_failed input.new }
-    ensures write_fault { EndsByStep RunFault.Write buffers.new.lines result → EndsByAt RunFault.Write buffers.old.lines.state.stage ⊎ W.has_failed output.new }
-    ensures write_stage { (used : ℕ) → result ≡ Step.Next used → EndsByAt RunFault.Write buffers.new.lines.state.stage → EndsByAt RunFault.Write buffers.old.lines.state.stage }
+    ensures faults { EndsOnlyIf ((EndsByAt RunFault.Read buffers.old.lines.state.stage × (input.new ≡ input.old)) ⊎ R.has_failed input.new)
+        (MayEndBy RunFault.Write (W.has_failed output.new) buffers.old.lines.state) buffers.new.lines result }
+    ensures write_stage { AddsNoWriteFault result buffers.old.lines.state buffers.new.lines.state }
     ensures knows { KnowsNoLess (M.reader machine.old) (M.reader machine.new) }
 {
     let step = buffers
@@ -104,17 +98,12 @@ fn refuse_or_read<M: RefusesSkipped, R: Input>(
     input: &mut R,
 ) -> Step
     requires ready { M.ready }
-    requires empty { buffers.old.input ≡ [] }
-    requires waiting { IsWaitingAt Step.NoInput buffers.old.lines }
-    ensures steps { (start : Start M) (written : Option (List ℕ)) → IsSteady M.reader M.moves → Continues (by M.moves M.makes M.ends M.goes M.goes_last) start (R.remaining input.old) written machine.old (in_buffers buffers.old)
-        → StepsIn (by M.moves M.makes M.ends M.goes M.goes_last) start (R.remaining input.new) written machine.new buffers.new result }
+    requires waiting { NeedsInput (in_buffers buffers.old) }
+    ensures steps { (written : Option (List ℕ)) → StepsOn M.reader (by M.moves M.makes M.ends M.goes M.goes_last) (at (R.remaining input.old) written machine.old (in_buffers buffers.old))
+        (at (R.remaining input.new) written machine.new (in_buffers buffers.new)) result }
     ensures waits { WaitsWell (in_buffers buffers.new) result }
-    ensures few { ReadsOnce result (R.remaining input.old) (R.remaining input.new) }
-    ensures makes { length buffers.new.lines.replies ≤ length buffers.old.lines.replies + made_by result }
-    ensures answers { AnswersAtMost (lines_by result) buffers.old.lines.state buffers.new.lines.state }
-    ensures looked { buffers.new.lines.state.looked ≡ buffers.old.lines.state.looked }
-    ensures read_fault { EndsByStep RunFault.Read buffers.new.lines result → R.has_failed input.new }
-    ensures write_fault { EndsByStep RunFault.Write buffers.new.lines result → ⊥ }
+    ensures bounds { ReadsAndAnswers result (R.remaining input.old) (R.remaining input.new) buffers.old.lines buffers.new.lines }
+    ensures faults { EndsOnlyIf (R.has_failed input.new) ⊥ buffers.new.lines result }
     ensures knows { KnowsNoLess (M.reader machine.old) (M.reader machine.new) }
 {
     match buffers.skipped {
@@ -130,18 +119,13 @@ fn read_more<M: LineHandler, R: Input>(
     input: &mut R,
 ) -> Step
     requires ready { M.ready }
-    requires empty { buffers.old.input ≡ [] }
-    requires waiting { IsWaitingAt Step.NoInput buffers.old.lines }
-    ensures steps { (start : Start M) (written : Option (List ℕ)) → IsSteady M.reader M.moves → Stands (by M.moves M.makes M.ends M.goes M.goes_last) start (prepend_known buffers.old.input (R.remaining input.old)) written machine.old buffers.old.lines
-        → StepsTo (by M.moves M.makes M.ends M.goes M.goes_last) start (prepend_known buffers.new.input (R.remaining input.new)) written machine.new buffers.new.lines result }
+    requires waiting { NeedsInput (in_buffers buffers.old) }
+    ensures steps { (written : Option (List ℕ)) → LoopStepsOn M.reader (by M.moves M.makes M.ends M.goes M.goes_last) (at (prepend_known buffers.old.input (R.remaining input.old)) written machine.old buffers.old.lines)
+        (at (prepend_known buffers.new.input (R.remaining input.new)) written machine.new buffers.new.lines) result }
     ensures skipped { buffers.new.skipped ≡ buffers.old.skipped }
     ensures waits { WaitsWell (in_buffers buffers.new) result }
-    ensures few { ReadsOnce result (R.remaining input.old) (R.remaining input.new) }
-    ensures makes { length buffers.new.lines.replies ≤ length buffers.old.lines.replies + made_by result }
-    ensures answers { AnswersAtMost (lines_by result) buffers.old.lines.state buffers.new.lines.state }
-    ensures looked { buffers.new.lines.state.looked ≡ buffers.old.lines.state.looked }
-    ensures read_fault { EndsByStep RunFault.Read buffers.new.lines result → R.has_failed input.new }
-    ensures write_fault { EndsByStep RunFault.Write buffers.new.lines result → ⊥ }
+    ensures bounds { ReadsAndAnswers result (R.remaining input.old) (R.remaining input.new) buffers.old.lines buffers.new.lines }
+    ensures faults { EndsOnlyIf (R.has_failed input.new) ⊥ buffers.new.lines result }
     ensures knows { KnowsNoLess (M.reader machine.old) (M.reader machine.new) }
 {
     let read = buffers.input.read_from(input);

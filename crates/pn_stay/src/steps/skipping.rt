@@ -1,20 +1,15 @@
 //! The steps of a connection that has skipped input: each line of it is refused, as soon as its end is known.
 
-ghost use Rattle.std.specs.Prelude.{◌≡◌, ◌<◌, ◌≤◌, ◌+◌, ◌*◌, ℕ, List, [], ◌++◌, length, Option, Some};
-ghost use Rattle.std.specs.Io.KnownBytes.{prepend_known};
-ghost use Rattle.pn_line.specs.Prelude.{so_far};
+ghost use Rattle.std.specs.Prelude.{◌≡◌, ◌<◌, ◌≤◌, ◌+◌, ◌*◌, ℕ, List, length, Option, Some};
 ghost use Rattle.pn_serve.specs.Lines.Bounds.{IsWaitingAt};
-ghost use Rattle.pn_serve.specs.Lines.Faults.{EndsByAt, EndsByStep};
-ghost use Rattle.pn_serve.specs.Lines.Made.{made_by, made_in};
-ghost use Rattle.pn_serve.specs.Lines.States.{Start};
-ghost use Rattle.pn_serve.specs.Lines.Stepping.{by, Stands};
-ghost use Rattle.pn_serve.specs.Session.Knowing.{IsSteady, KnowsNoLess};
+ghost use Rattle.pn_serve.specs.Lines.Stepping.{by};
+ghost use Rattle.pn_serve.specs.Session.Knowing.{KnowsNoLess};
 ghost use Rattle.pn_serve.specs.declared.script.TheConstants.{MAX_LINES};
-ghost use Rattle.pn_stay.specs.Inputs.{ReadsOnce};
-ghost use Rattle.pn_stay.specs.Outputs.{AnswersAtMost, lines_by};
-ghost use Rattle.pn_stay.specs.Connections.{HoldsAs};
-ghost use Rattle.pn_stay.specs.Skipping.{IsPart};
-ghost use Rattle.pn_stay.specs.Turns.{in_buffers, Continues, StepsIn, WaitsWell};
+ghost use Rattle.pn_stay.specs.Bounds.{AnswersOne, ReadsAndAnswers};
+ghost use Rattle.pn_stay.specs.Faults.{EndsOnlyIf};
+ghost use Rattle.pn_stay.specs.Places.{at};
+ghost use Rattle.pn_stay.specs.Stepping.{SkipsOn, StepsOn};
+ghost use Rattle.pn_stay.specs.Turns.{in_buffers, WaitsWell};
 ghost use Rattle.pn_stay.specs.declared.input_buffer.TheConstants.{READ_SIZE};
 ghost use Rattle.pn_stay.specs.declared.steps.TheConstants.{UNIT_BYTES};
 
@@ -34,15 +29,11 @@ pub(super) fn refuse_next<M: RefusesSkipped, R: Input>(
 ) -> Step
     requires some { buffers.old.skipped ≡ Some skipped }
     requires waiting { IsWaitingAt Step.NoInput buffers.old.lines }
-    ensures steps { (start : Start M) (written : Option (List ℕ)) → IsSteady M.reader M.moves → Continues (by M.moves M.makes M.ends M.goes M.goes_last) start (R.remaining input.old) written machine.old (in_buffers buffers.old)
-        → StepsIn (by M.moves M.makes M.ends M.goes M.goes_last) start (R.remaining input.new) written machine.new buffers.new result }
+    ensures steps { (written : Option (List ℕ)) → StepsOn M.reader (by M.moves M.makes M.ends M.goes M.goes_last) (at (R.remaining input.old) written machine.old (in_buffers buffers.old))
+        (at (R.remaining input.new) written machine.new (in_buffers buffers.new)) result }
     ensures waits { WaitsWell (in_buffers buffers.new) result }
-    ensures few { ReadsOnce result (R.remaining input.old) (R.remaining input.new) }
-    ensures makes { length buffers.new.lines.replies ≤ length buffers.old.lines.replies + made_by result }
-    ensures answers { AnswersAtMost (lines_by result) buffers.old.lines.state buffers.new.lines.state }
-    ensures looked { buffers.new.lines.state.looked ≡ buffers.old.lines.state.looked }
-    ensures read_fault { EndsByStep RunFault.Read buffers.new.lines result → R.has_failed input.new }
-    ensures write_fault { EndsByStep RunFault.Write buffers.new.lines result → ⊥ }
+    ensures bounds { ReadsAndAnswers result (R.remaining input.old) (R.remaining input.new) buffers.old.lines buffers.new.lines }
+    ensures faults { EndsOnlyIf (R.has_failed input.new) ⊥ buffers.new.lines result }
     ensures knows { KnowsNoLess (M.reader machine.old) (M.reader machine.new) }
 {
     if buffers.lines.counts().lines >= MAX_LINES {
@@ -66,16 +57,11 @@ fn skip_more<M: RefusesSkipped, R: Input>(
     requires some { buffers.old.skipped ≡ Some skipped }
     requires waiting { IsWaitingAt Step.NoInput buffers.old.lines }
     requires lines { buffers.old.lines.state.counts.lines < MAX_LINES }
-    ensures steps { (start : Start M) (written : Option (List ℕ)) (text : List ℕ) → IsSteady M.reader M.moves → IsPart skipped.part text → HoldsAs buffers.old.skipped buffers.old.lines.line buffers.old.input text
-        → Stands (by M.moves M.makes M.ends M.goes M.goes_last) start (prepend_known text (R.remaining input.old)) written machine.old buffers.old.lines
-        → StepsIn (by M.moves M.makes M.ends M.goes M.goes_last) start (R.remaining input.new) written machine.new buffers.new result }
+    ensures steps { skipped.lines ≡ 0 → (written : Option (List ℕ)) → StepsOn M.reader (by M.moves M.makes M.ends M.goes M.goes_last) (at (R.remaining input.old) written machine.old (in_buffers buffers.old))
+        (at (R.remaining input.new) written machine.new (in_buffers buffers.new)) result }
     ensures waits { WaitsWell (in_buffers buffers.new) result }
-    ensures few { ReadsOnce result (R.remaining input.old) (R.remaining input.new) }
-    ensures makes { length buffers.new.lines.replies ≤ length buffers.old.lines.replies + made_by result }
-    ensures answers { AnswersAtMost (lines_by result) buffers.old.lines.state buffers.new.lines.state }
-    ensures looked { buffers.new.lines.state.looked ≡ buffers.old.lines.state.looked }
-    ensures read_fault { EndsByStep RunFault.Read buffers.new.lines result → R.has_failed input.new }
-    ensures write_fault { EndsByStep RunFault.Write buffers.new.lines result → ⊥ }
+    ensures bounds { ReadsAndAnswers result (R.remaining input.old) (R.remaining input.new) buffers.old.lines buffers.new.lines }
+    ensures faults { EndsOnlyIf (R.has_failed input.new) ⊥ buffers.new.lines result }
     ensures knows { KnowsNoLess (M.reader machine.old) (M.reader machine.new) }
 {
     let read = buffers.input.read_from(input);
@@ -99,15 +85,11 @@ fn skip_line<M: RefusesSkipped>(buffers: &mut ThreadBuffers, part: usize, machin
     requires waiting { IsWaitingAt Step.NoInput buffers.old.lines }
     requires lines { buffers.old.lines.state.counts.lines < MAX_LINES }
     requires few { length buffers.old.input ≤ READ_SIZE }
-    ensures continues { (start : Start M) (left written : Option (List ℕ)) (text : List ℕ) → IsSteady M.reader M.moves → IsPart part text → buffers.old.lines.line ≡ so_far []
-        → Stands (by M.moves M.makes M.ends M.goes M.goes_last) start (prepend_known (text ++ buffers.old.input) left) written machine.old buffers.old.lines
-        → Continues (by M.moves M.makes M.ends M.goes M.goes_last) start left written machine.new (in_buffers buffers.new) }
+    ensures continues { (left written : Option (List ℕ)) → SkipsOn M.reader (by M.moves M.makes M.ends M.goes M.goes_last) part (at left written machine.old (in_buffers buffers.old))
+        (at left written machine.new (in_buffers buffers.new)) }
     ensures counted { length buffers.old.input ≤ UNIT_BYTES * (result + 1) }
-    ensures makes { length buffers.new.lines.replies ≤ length buffers.old.lines.replies + made_in result }
-    ensures answers { AnswersAtMost 1 buffers.old.lines.state buffers.new.lines.state }
-    ensures looked { buffers.new.lines.state.looked ≡ buffers.old.lines.state.looked }
-    ensures read_fault { EndsByAt RunFault.Read buffers.new.lines.state.stage → ⊥ }
-    ensures write_fault { EndsByAt RunFault.Write buffers.new.lines.state.stage → ⊥ }
+    ensures answers { AnswersOne (Step.Next result) buffers.old.lines buffers.new.lines }
+    ensures faults { EndsOnlyIf ⊥ ⊥ buffers.new.lines (Step.Next result) }
     ensures knows { KnowsNoLess (M.reader machine.old) (M.reader machine.new) }
 {
     let units = units_of(buffers.input.bytes());

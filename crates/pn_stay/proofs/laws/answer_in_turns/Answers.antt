@@ -2,6 +2,7 @@
 use Rattle.std.proofs.Common.{sym, subst}
 use Rattle.pn_serve.specs.Lines.Stepping.{by}
 use Rattle.pn_stay.specs.Connections.{ConnectionValue}
+use Rattle.pn_stay.specs.Places.{at}
 use Rattle.pn_stay.specs.Scripted.{begin_with}
 use Rattle.pn_stay.specs.Turns.{Continues}
 use Rattle.pn_stay.proofs.Coming.{Continues-new}
@@ -14,6 +15,6 @@ returns g c =
     let written = g.W.Sink.contents c.args.output.now in
     record {
       ends = c.take_turns.ensures _ c.recall_moves.ensures
-          (subst (λ (k : ConnectionValue). Continues H (begin_with c.args.machine.now left written) left written c.args.machine.now k) (sym c.new-state.ensures)
+          (subst (λ (k : ConnectionValue). Continues H (begin_with c.args.machine.now left written) (at left written c.args.machine.now k)) (sym c.new-state.ensures)
           (Continues-new H g.M.LineHandler.reader c.recall_moves.ensures c.args.machine.now left written));
     }

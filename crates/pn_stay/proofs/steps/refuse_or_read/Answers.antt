@@ -6,7 +6,7 @@ use Rattle.pn_stay.proofs.Skipping.{held_whole, whole_held}
 use Rattle.pn_stay.proofs.steps.refuse_or_read.Goals as goal
 
 pub returns-in-None-clause-steps : goal.returns-in-None-clause-steps
-returns-in-None-clause-steps g c = λ start written steady goes.
+returns-in-None-clause-steps g c = λ written start steady goes.
     let H = by g.M.LineHandler.moves g.M.LineHandler.makes g.M.LineHandler.ends g.M.LineHandler.goes g.M.LineHandler.goes_last in
     let buffers = c.args.buffers.now in
     let left = g.R.Input.remaining c.args.input.now in
@@ -14,5 +14,5 @@ returns-in-None-clause-steps g c = λ start written steady goes.
     let stands = subst (λ (h : List ℕ). Stands H start (prepend_known h left) written c.args.machine.now buffers.lines) text_is goes.2 in (
       c.read_more.new.buffers.input,
       held_whole c.read_more.new.buffers.skipped c.read_more.new.buffers.lines.line c.read_more.new.buffers.input (c.read_more.ensures.skipped ∙ c.in-None.is),
-      c.read_more.ensures.steps start written steady stands,
+      c.read_more.ensures.steps written start steady stands,
     )

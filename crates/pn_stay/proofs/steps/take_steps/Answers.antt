@@ -7,23 +7,35 @@ use Rattle.pn_stay.proofs.Outputs.{looks_after, looks_all, looks_last, makes_aft
 use Rattle.pn_stay.proofs.steps.take_steps.Goals as goal
 
 pub steps-init : goal.steps-init
-steps-init g c = record { stands = λ start steady stands. stands; within = within_all _; few = within_turn _ _ _ (within_all _); makes = makes_all _ _; written = makes_turn _ _ _ _ _ (makes_all _ _); lines = omega arith; answers = omega arith; looks = looks_all _; looked = omega arith; read_fault = λ ends. inl ends; write_fault = λ ends. inl ends; write_stage = λ ends. ends; knows = knows_itself _ }
+steps-init g c = record {
+  stands = λ start steady stands. stands;
+  within = within_all _;
+  makes = makes_all _ _;
+  written = makes_turn _ _ _ _ _ (makes_all _ _);
+  lines = omega arith;
+  looks = looks_all _;
+  bounds = record { few = within_turn _ _ _ (within_all _); answers = omega arith; looked = omega arith };
+  faults = record { read = λ ends. inl ends; write = λ ends. inl ends };
+  write_stage = λ ends. ends;
+  knows = knows_itself _;
+}
 
 pub steps-preserved : goal.steps-preserved
-steps-preserved g c = let within = within_after _ _ _ _ _ _ c.steps-test.true c.units_after-units.ensures.fewer c.units_after-units.ensures.counted c.steps.invariant.within c.in-Next.ensures.few in
+steps-preserved g c =
+    let within = within_after _ _ _ _ _ _ c.steps-test.true c.units_after-units.ensures.fewer c.units_after-units.ensures.counted c.steps.invariant.within c.in-Next.ensures.bounds.few in
     let makes = makes_after _ _ _ _ _ _ _ _ _ c.steps-test.true c.units_after-units.ensures.fewer c.units_after-units.ensures.counted c.steps.invariant.makes c.in-Next.ensures.written in
-    let looks = looks_after _ _ _ _ _ c.take_step.new.buffers.lines.state c.steps-test.true c.units_after-units.ensures.fewer c.units_after-units.ensures.counted c.steps.invariant.looks c.in-Next.ensures.looked c.in-Next.ensures.records in record {
+    let looks = looks_after _ _ _ _ _ c.take_step.new.buffers.lines.state c.steps-test.true c.units_after-units.ensures.fewer c.units_after-units.ensures.counted c.steps.invariant.looks c.in-Next.ensures.bounds.looked c.in-Next.ensures.bounds.records in record {
       stands = λ start steady stands. c.in-Next.ensures.steps start steady (c.steps.invariant.stands start steady stands);
       within = within;
-      few = within_turn _ _ _ within;
       makes = makes;
       written = makes_turn _ _ _ _ _ makes;
-      lines = omega (arith, c.steps.invariant.lines, c.in-Next.ensures.answers, c.units_after-units.ensures.fewer);
-      answers = omega (arith, c.steps.invariant.lines, c.in-Next.ensures.answers, c.steps-test.true);
+      lines = omega (arith, c.steps.invariant.lines, c.in-Next.ensures.bounds.answers, c.units_after-units.ensures.fewer);
       looks = looks;
-      looked = looks.few;
-      read_fault = λ ends. after_read g.R.Input.has_failed _ _ _ _ c.steps.invariant.read_fault (c.in-Next.ensures.read_fault ends);
-      write_fault = λ ends. inl (c.steps.invariant.write_stage (c.in-Next.ensures.write_stage _ refl ends));
+      bounds = record { few = within_turn _ _ _ within; answers = omega (arith, c.steps.invariant.lines, c.in-Next.ensures.bounds.answers, c.steps-test.true); looked = looks.few };
+      faults = record {
+        read = λ ends. after_read g.R.Input.has_failed _ _ _ _ c.steps.invariant.faults.read (c.in-Next.ensures.faults.read ends);
+        write = λ ends. inl (c.steps.invariant.write_stage (c.in-Next.ensures.write_stage _ refl ends));
+      };
       write_stage = λ ends. c.steps.invariant.write_stage (c.in-Next.ensures.write_stage _ refl ends);
       knows = knows_on _ _ _ c.steps.invariant.knows c.take_step.ensures.knows;
     }
@@ -32,12 +44,16 @@ pub returns-in_default : goal.returns-in_default
 returns-in_default g c = record {
   steps = λ start steady stands. c.take_step.ensures.steps start steady (c.steps.invariant.stands start steady stands);
   waits = c.take_step.ensures.waits;
-  few = within_last _ _ _ _ _ c.steps-test.true c.steps.invariant.within c.take_step.ensures.few;
+  bounds = record {
+    few = within_last _ _ _ _ _ c.steps-test.true c.steps.invariant.within c.take_step.ensures.bounds.few;
+    answers = omega (arith, c.steps.invariant.lines, c.take_step.ensures.bounds.answers, one_line c.take_step.result, c.steps-test.true);
+    looked = looks_last _ _ _ c.take_step.new.buffers.lines.state c.steps-test.true c.steps.invariant.looks c.take_step.ensures.bounds.looked;
+  };
   written = makes_last _ _ _ _ _ _ _ _ c.steps-test.true c.steps.invariant.makes c.take_step.ensures.written;
-  answers = omega (arith, c.steps.invariant.lines, c.take_step.ensures.answers, one_line c.take_step.result, c.steps-test.true);
-  looked = looks_last _ _ _ c.take_step.new.buffers.lines.state c.steps-test.true c.steps.invariant.looks c.take_step.ensures.looked;
-  read_fault = λ ends. after_read g.R.Input.has_failed _ _ _ _ c.steps.invariant.read_fault (c.take_step.ensures.read_fault ends);
-  write_fault = λ ends. before_or _ _ _ c.steps.invariant.write_stage (c.take_step.ensures.write_fault ends);
+  faults = record {
+    read = λ ends. after_read g.R.Input.has_failed _ _ _ _ c.steps.invariant.faults.read (c.take_step.ensures.faults.read ends);
+    write = λ ends. before_or _ _ _ c.steps.invariant.write_stage (c.take_step.ensures.faults.write ends);
+  };
   write_stage = λ used is ends. c.steps.invariant.write_stage (c.take_step.ensures.write_stage used is ends);
   knows = knows_on _ _ _ c.steps.invariant.knows c.take_step.ensures.knows;
 }

@@ -1,0 +1,12 @@
+-- Where a session is.
+use Rattle.std.specs.Prelude.{ℕ, List, Option}
+
+-- where a session is: what is left of its source, what was written, its handler, and its connection or its line loop
+pub record Place (V K : Type 0) : Type 0 where
+  pub left : Option (List ℕ)
+  pub written : Option (List ℕ)
+  pub machine : V
+  pub kept : K
+
+abbrev pub at : {V K : Type 0} → Option (List ℕ) → Option (List ℕ) → V → K → Place V K
+at left written machine kept = record { left = left; written = written; machine = machine; kept = kept }
