@@ -1,11 +1,11 @@
 -- The members of a batch and of a `deliver` command.
-use Rattle.std.proofs.Common.{◌≡◌, ℕ, List, [], ◌∷◌, length, codes, true, Option, unwrap_or, option_and_then, Result, Ok, IsOk, IsTrue, refl, sym, ap, ◌∙◌}
+use Rattle.std.proofs.Common.{◌≡◌, ℕ, List, [], ◌∷◌, length, codes, true, Option, Some, None, unwrap_or, option_and_then, Result, Ok, IsOk, IsTrue, refl, sym, ap, ◌∙◌}
 use Rattle.std.specs.Option.{ok_or}
-use Rattle.serde_json.specs.Data.{Data, object, Items, no_items, item}
+use Rattle.serde_json.specs.Data.{Data, null, boolean, number, string, array, object, Items, no_items, item, Members}
 use Rattle.serde_json.specs.Find.{get, get_member, as_str, as_array, as_object}
 use Rattle.pn_join.specs.Naming.{is_name}
 use Rattle.pn_json.specs.Members.{whole_number, member_as, each_in}
-use Rattle.pn_json.proofs.Inverses.{bind_ok, guard_ok, ok_or_ok}
+use Rattle.pn_json.proofs.Inverses.{bind_ok, guard_ok, object_from_as_object, ok_or_ok}
 use Rattle.pn_record.specs.Grammar.{shape_in, ranges_in, image_in}
 use Rattle.pn_json.specs.Members.{text_at}
 use Rattle.pn_record.specs.declared.image.Image.{Image}
@@ -22,6 +22,19 @@ use Rattle.pn_protocol.specs.declared.refusal.Refusal.{Refusal}
 use Rattle.pn_protocol.specs.declared.refusal.Refusal.TheVariants.{BadShape, OutOfRange}
 use Rattle.pn_protocol.proofs.CommandParts.{object_of}
 use Rattle.pn_protocol.proofs.EachFits.{both_fit, as_ok}
+
+-- nothing is found in a value that is no object
+pub nothing_in : (q : List ℕ) (d : Data) → as_object d ≡ None → get q d ≡ None
+nothing_in q null is = refl
+nothing_in q (boolean b) is = refl
+nothing_in q (number n) is = refl
+nothing_in q (string s) is = refl
+nothing_in q (array ds) is = refl
+nothing_in q (object ms) is = absurd (cc)
+
+-- what is found in an object is found among its members
+pub found_among : (q : List ℕ) (d : Data) (ms : Members) → as_object d ≡ Some ms → get_member q ms ≡ get q d
+found_among q d ms is = ap (get q) (sym (object_from_as_object d ms is))
 
 -- where each item has its shape and what is in it fits, each is read whole
 each_whole : {A F : Type 0} (shape : Data → Result A Refusal) (check : A → Result (Unit {0}) Refusal) (whole : Data → Result A F)

@@ -1,4 +1,5 @@
 -- Lines as commands.
+pub mod BatchMembers
 pub mod ControlGrammar
 pub mod Controls
 pub mod Deliveries

@@ -1,5 +1,6 @@
 //! The commands that lines say.
 
+mod batch_parts;
 mod build;
 pub(crate) mod control;
 pub(crate) mod kind;

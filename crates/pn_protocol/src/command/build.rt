@@ -1,12 +1,14 @@
 //! Builds deliveries and keys from checked values.
 
-ghost use Rattle.std.specs.Prelude.{◌≡◌, option_map, IfOk, IsOk, IsTrue, Ok};
+ghost use Rattle.std.specs.Prelude.{◌≡◌, codes, option_map, IfOk, IsOk, IsTrue, Ok};
 ghost use Rattle.std.specs.List.{list_all};
+ghost use Rattle.serde_json.specs.Find.{get};
 ghost use Rattle.serde_json.specs.View.{view, items_view};
-ghost use Rattle.pn_json.specs.Prelude.{seen, texts, each_in};
+ghost use Rattle.pn_json.specs.Prelude.{seen, text_at, texts, each_in};
 ghost use Rattle.pn_record.specs.Prelude.{image_in, is_key};
 ghost use Rattle.pn_protocol.specs.Command.Deliveries.{batch_in, number_at, items_at as items_there};
 
+use crate::command::batch_parts::batch_parts;
 use pn_join::{Name, NoMemory};
 use pn_json::{items_from, member_from, text_or_empty};
 use pn_record::{Image, Key, image_from};
@@ -33,10 +35,22 @@ fn build_delivery(alloc: Global, batch: Value) -> Result<Delivery, NoMemory>
     requires { IsOk (batch_in (view batch)) }
     ensures { IfOk result (λ delivery. batch_in (view batch) ≡ Ok delivery) }
 {
-    let first = number_or_zero(batch.get("first"));
-    let stream = Name::of(text_or_empty(batch.get("stream")).as_bytes());
+    let (first, stream) = first_and_stream(&batch);
+    let stream = Name::of(stream.as_bytes());
     let images = items_at(alloc, member_from(batch, "images"));
     Ok(Delivery::of(stream, first, build_images(alloc, images)?))
+}
+
+// The position of the first image, or 0, and the name of the stream, or the empty one.
+fn first_and_stream(batch: &Value) -> (u64, &str)
+    ensures first { result.0 ≡ number_at (get (codes "first") (view batch.now)) }
+    ensures stream { result.1.now ≡ text_at (get (codes "stream") (view batch.now)) }
+{
+    let Some(members) = batch.as_object() else {
+        return (0, "");
+    };
+    let parts = batch_parts(members);
+    (number_or_zero(parts.first), text_or_empty(parts.stream))
 }
 
 fn number_or_zero(value: Option<&Value>) -> u64

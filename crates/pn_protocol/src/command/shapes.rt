@@ -5,7 +5,7 @@ ghost use Rattle.serde_json.specs.View.{view, items_view};
 ghost use Rattle.pn_json.specs.Prelude.{IsUnless, Shows, ShowsUnless, seen, texts, each_in};
 ghost use Rattle.pn_protocol.specs.Command.ShapeChecks.{image_shape, batch_shape, key_shape, required_in, version_shape};
 
-use crate::command::members::{check_members, find_member};
+use crate::command::batch_parts::batch_parts;
 use crate::{Part, Refusal};
 use pn_join::NoMemory;
 use pn_json::{items_of, text_of, whole_number_of};
@@ -54,20 +54,12 @@ fn batch_of(alloc: Global, value: &Value) -> Result<BatchShape<'_>, Refusal>
     ensures { IsUnless Refusal.Memory result (batch_shape (view value.now)) }
 {
     let members = value.as_object().ok_or(Refusal::BadShape(Part::Batches))?;
-    let first = whole_number_of(
-        find_member(members, "first"),
-        Refusal::BadShape(Part::First),
-    )?;
-    let items = items_of(
-        find_member(members, "images"),
-        Refusal::BadShape(Part::Images),
-    )?;
+    let parts = batch_parts(members);
+    let first = whole_number_of(parts.first, Refusal::BadShape(Part::First))?;
+    let items = items_of(parts.images, Refusal::BadShape(Part::Images))?;
     let images = images_of(alloc, items)?;
-    let stream = text_of(
-        find_member(members, "stream"),
-        Refusal::BadShape(Part::Stream),
-    )?;
-    check_members(members, &["first", "images", "stream"])?;
+    let stream = text_of(parts.stream, Refusal::BadShape(Part::Stream))?;
+    parts.named?;
     Ok(BatchShape {
         first,
         images,

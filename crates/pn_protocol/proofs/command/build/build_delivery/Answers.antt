@@ -23,13 +23,13 @@ build_images-requires c =
 pub of-requires : goal.of-requires
 of-requires c =
     let array : items_view c.items_at-images.result.items ≡ items_at (get (codes "images") (view c.args.batch)) = search rules in
-    let first : c.number_or_zero-first.result ≡ number_at (get (codes "first") (view c.args.batch)) = search rules in
-    record { fit = positions_found (view c.args.batch) c.requires c.number_or_zero-first.result c.in_ok-build_images.field-0.items first (ap (each_in image_in) (sym array) ∙ c.in_ok-build_images.ensures) }
+    let first : c.first_and_stream-first.result.0 ≡ number_at (get (codes "first") (view c.args.batch)) = search rules in
+    record { fit = positions_found (view c.args.batch) c.requires c.first_and_stream-first.result.0 c.in_ok-build_images.field-0.items first (ap (each_in image_in) (sym array) ∙ c.in_ok-build_images.ensures) }
 
 pub returns : goal.returns
 returns c =
     let array : items_view c.items_at-images.result.items ≡ items_at (get (codes "images") (view c.args.batch)) = search rules in
-    let first : c.number_or_zero-first.result ≡ number_at (get (codes "first") (view c.args.batch)) = search rules in
+    let first : c.first_and_stream-first.result.0 ≡ number_at (get (codes "first") (view c.args.batch)) = search rules in
     let stream : c.of-stream.result ≡ text_at (get (codes "stream") (view c.args.batch)) = search rules in
-    let batch : DeliveryValue = record { stream = c.of-stream.result; first = c.number_or_zero-first.result; images = c.in_ok-build_images.field-0.items } in
+    let batch : DeliveryValue = record { stream = c.of-stream.result; first = c.first_and_stream-first.result.0; images = c.in_ok-build_images.field-0.items } in
     rw c.of.ensures.made (batch_found (view c.args.batch) c.requires batch stream first (ap (each_in image_in) (sym array) ∙ c.in_ok-build_images.ensures))
