@@ -16,7 +16,7 @@ use Rattle.pn_serve.proofs.Standing.{at_untold, told_or}
 use Rattle.pn_serve.specs.Session.Knowing.{IsSteady}
 use Rattle.pn_serve.proofs.Running.{Stands-new}
 use Rattle.pn_stay.specs.Connections.{ConnectionValue, new_connection}
-use Rattle.pn_stay.specs.Places.{at}
+use Rattle.pn_stay.specs.Moments.{at}
 use Rattle.pn_stay.specs.Turns.{Continues, IsRead, WaitsWell}
 use Rattle.pn_stay.specs.declared.steps.ReadOutcome.TheVariants as outcomes
 

@@ -27,7 +27,7 @@ use Rattle.pn_serve.proofs.Standing.{at_told, at_untold, told_or}
 use Rattle.pn_stay.specs.Connections.{ConnectionValue, HoldsAs, IsHeld, IsKept, KeepsInput, SameInput, line_at, loop_of}
 use Rattle.pn_stay.specs.Outputs.{AnswersAtMost, LooksFew}
 use Rattle.pn_stay.specs.Skipping.{SkipsAll, SkipsInput}
-use Rattle.pn_stay.specs.Places.{at}
+use Rattle.pn_stay.specs.Moments.{at}
 use Rattle.pn_stay.specs.Turns.{AnswersFew, Continues, EndsTurnBy, KeepsOr, LooksWithin, Stores, TurnsTo}
 use Rattle.pn_stay.specs.declared.skipped_input.SkippedInput.{SkippedInput}
 use Rattle.pn_stay.specs.declared.connection_state.Pause.{Pause}

@@ -7,8 +7,8 @@ pub mod IdleTimeouts
 pub mod Inputs
 pub mod Loops
 pub mod Messages
+pub mod Moments
 pub mod Outputs
-pub mod Places
 pub mod Reasons
 pub mod Scripted
 pub mod Servers

@@ -10,7 +10,7 @@ use Rattle.pn_serve.specs.Lines.States.{LineLoopValue, Start}
 use Rattle.pn_serve.specs.Lines.Stepping.{Handling, Stands, StepsTo}
 use Rattle.pn_serve.specs.Session.Knowing.{IsSteady}
 use Rattle.pn_stay.specs.Connections.{ConnectionValue, loop_of}
-use Rattle.pn_stay.specs.Places.{Place}
+use Rattle.pn_stay.specs.Moments.{Moment}
 use Rattle.pn_stay.specs.Skipping.{IsPart}
 use Rattle.pn_stay.specs.Turns.{Continues, StepsIn, TurnsTo}
 use Rattle.pn_stay.specs.declared.connection_state.TurnOutcome.{TurnOutcome}
@@ -27,22 +27,22 @@ pub record LeavesInput (old new : ConnectionValue) : Type 0 where
   pub line : KeepsLine (loop_of old) (loop_of new)
 
 module _ {V : Type 0} (reader : V → LiveReaderValue) (handling : Handling V) where
-  -- whatever session was at the old place is at the new one after a step
-  abbrev pub StepsOn : Place V ConnectionValue → Place V ConnectionValue → Step → Type 0
+  -- whatever session was at the old moment is at the new one after a step
+  abbrev pub StepsOn : Moment V ConnectionValue → Moment V ConnectionValue → Step → Type 0
   StepsOn old new step = (start : Start V) → IsSteady reader handling.moves → Continues handling start old → StepsIn handling start new step
 
   -- after a turn
-  abbrev pub TurnsOn : Place V ConnectionValue → Place V ConnectionValue → TurnOutcome → Type 0
+  abbrev pub TurnsOn : Moment V ConnectionValue → Moment V ConnectionValue → TurnOutcome → Type 0
   TurnsOn old new outcome = (start : Start V) → IsSteady reader handling.moves → Continues handling start old → TurnsTo handling start new outcome
 
   -- after a step of its line loop
-  abbrev pub LoopStepsOn : Place V LineLoopValue → Place V LineLoopValue → Step → Type 0
+  abbrev pub LoopStepsOn : Moment V LineLoopValue → Moment V LineLoopValue → Step → Type 0
   LoopStepsOn old new step = (start : Start V) → IsSteady reader handling.moves → Stands handling start old.left old.written old.machine old.kept → StepsTo handling start new.left new.written new.machine new.kept step
 
   -- its loop stands over `count` bytes of a line that were skipped, and then over what the connection holds
-  abbrev pub StandsAfterPart : ℕ → Start V → Place V ConnectionValue → Type 0
-  StandsAfterPart count start place = (text : List ℕ) × IsPart count text × (place.kept.line ≡ so_far []) × Stands handling start (prepend_known (text ++ place.kept.held) place.left) place.written place.machine (loop_of place.kept)
+  abbrev pub StandsAfterPart : ℕ → Start V → Moment V ConnectionValue → Type 0
+  StandsAfterPart count start moment = (text : List ℕ) × IsPart count text × (moment.kept.line ≡ so_far []) × Stands handling start (prepend_known (text ++ moment.kept.held) moment.left) moment.written moment.machine (loop_of moment.kept)
 
   -- after more of a line was skipped, of which `count` bytes were skipped before
-  abbrev pub SkipsOn : ℕ → Place V ConnectionValue → Place V ConnectionValue → Type 0
+  abbrev pub SkipsOn : ℕ → Moment V ConnectionValue → Moment V ConnectionValue → Type 0
   SkipsOn count old new = (start : Start V) → IsSteady reader handling.moves → StandsAfterPart count start old → Continues handling start new

@@ -14,7 +14,7 @@ use Rattle.pn_serve.specs.Lines.States.{Start, waits_in}
 use Rattle.pn_serve.specs.Lines.Stepping.{Handling, HasEnded, Stands, StepsTo as LoopStepsTo}
 use Rattle.pn_stay.specs.Connections.{ConnectionValue, IsEndless, IsHeld, IsKept, loop_of}
 use Rattle.pn_stay.specs.Outputs.{AnswersAtMost, LooksFew}
-use Rattle.pn_stay.specs.Places.{Place}
+use Rattle.pn_stay.specs.Moments.{Moment}
 use Rattle.pn_stay.specs.declared.connection_state.ThreadBuffers.{ThreadBuffers}
 use Rattle.pn_stay.specs.declared.connection_state.Pause.{Pause}
 use Rattle.pn_stay.specs.declared.connection_state.Pause.TheVariants.{Turn, Input, Output}
@@ -92,15 +92,15 @@ Stores old (Ends ended) new outcome = outcome ≡ Ended ended
 
 module _ {V : Type 0} (handling : Handling V) where
   -- the loop of a connection stands over the input that it holds or has skipped, and what is left of its source
-  abbrev pub Continues : Start V → Place V ConnectionValue → Type 0
-  Continues start place = (text : List ℕ) × IsHeld place.kept text × Stands handling start (prepend_known text place.left) place.written place.machine (loop_of place.kept)
+  abbrev pub Continues : Start V → Moment V ConnectionValue → Type 0
+  Continues start moment = (text : List ℕ) × IsHeld moment.kept text × Stands handling start (prepend_known text moment.left) moment.written moment.machine (loop_of moment.kept)
 
   -- so after a step
-  abbrev pub StepsIn : Start V → Place V ConnectionValue → Step → Type 0
-  StepsIn start place step = (text : List ℕ) × IsHeld place.kept text × LoopStepsTo handling start (prepend_known text place.left) place.written place.machine (loop_of place.kept) step
+  abbrev pub StepsIn : Start V → Moment V ConnectionValue → Step → Type 0
+  StepsIn start moment step = (text : List ℕ) × IsHeld moment.kept text × LoopStepsTo handling start (prepend_known text moment.left) moment.written moment.machine (loop_of moment.kept) step
 
   -- the connection goes on, or has ended as its session ends; without memory, as one whose writer fails
-  abbrev pub TurnsTo : Start V → Place V ConnectionValue → TurnOutcome → Type 0
-  TurnsTo start place (Goes pause) = Continues start place
-  TurnsTo start place (Ended ended) = (held : List ℕ) × HasEnded handling start (prepend_known held place.left) place.written place.machine ended
-  TurnsTo start place OutOfMemory = (held : List ℕ) × HasEnded handling start (prepend_known held place.left) place.written place.machine (Err Write)
+  abbrev pub TurnsTo : Start V → Moment V ConnectionValue → TurnOutcome → Type 0
+  TurnsTo start moment (Goes pause) = Continues start moment
+  TurnsTo start moment (Ended ended) = (held : List ℕ) × HasEnded handling start (prepend_known held moment.left) moment.written moment.machine ended
+  TurnsTo start moment OutOfMemory = (held : List ℕ) × HasEnded handling start (prepend_known held moment.left) moment.written moment.machine (Err Write)

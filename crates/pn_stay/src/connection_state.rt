@@ -11,7 +11,7 @@ ghost use Rattle.pn_stay.specs.Bounds.{StaysWithin, TurnsWithin};
 ghost use Rattle.pn_stay.specs.Connections.{new_connection};
 ghost use Rattle.pn_stay.specs.Faults.{EndsAsFailed, EndsOnlyIf, MayEndBy};
 ghost use Rattle.pn_stay.specs.Outputs.{most_made, most_written};
-ghost use Rattle.pn_stay.specs.Places.{at};
+ghost use Rattle.pn_stay.specs.Moments.{at};
 ghost use Rattle.pn_stay.specs.Stepping.{LeavesInput, LoopStepsOn, StepsOn, TurnsOn};
 ghost use Rattle.pn_stay.specs.Turns.{in_buffers, EndsTurnBy, PausesWell, StopsWell};
 

@@ -5,7 +5,7 @@ ghost use Rattle.std.specs.Io.KnownBytes.{prepend_known};
 ghost use Rattle.pn_serve.specs.Lines.States.{Start};
 ghost use Rattle.pn_serve.specs.Lines.Stepping.{HasEnded, by};
 ghost use Rattle.pn_serve.specs.Session.Knowing.{IsSteady};
-ghost use Rattle.pn_stay.specs.Places.{at};
+ghost use Rattle.pn_stay.specs.Moments.{at};
 ghost use Rattle.pn_stay.specs.Scripted.{bytes_of, begin_with};
 ghost use Rattle.pn_stay.specs.Turns.{Continues};
 

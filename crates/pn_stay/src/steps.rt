@@ -9,7 +9,7 @@ ghost use Rattle.pn_serve.specs.Session.Knowing.{KnowsNoLess};
 ghost use Rattle.pn_stay.specs.Bounds.{ReadsAndAnswers, StaysWithin, StepsWithin};
 ghost use Rattle.pn_stay.specs.Faults.{AddsNoWriteFault, EndsAsFailed, EndsOnlyIf, MayEndBy};
 ghost use Rattle.pn_stay.specs.Outputs.{most_made};
-ghost use Rattle.pn_stay.specs.Places.{at};
+ghost use Rattle.pn_stay.specs.Moments.{at};
 ghost use Rattle.pn_stay.specs.Stepping.{LoopStepsOn, NeedsInput, StepsOn};
 ghost use Rattle.pn_stay.specs.Turns.{in_buffers, IsRead, WaitsWell};
 ghost use Rattle.pn_stay.specs.declared.input_buffer.TheConstants.{READ_SIZE};

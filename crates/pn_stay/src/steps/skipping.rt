@@ -7,7 +7,7 @@ ghost use Rattle.pn_serve.specs.Session.Knowing.{KnowsNoLess};
 ghost use Rattle.pn_serve.specs.declared.script.TheConstants.{MAX_LINES};
 ghost use Rattle.pn_stay.specs.Bounds.{AnswersOne, ReadsAndAnswers};
 ghost use Rattle.pn_stay.specs.Faults.{EndsOnlyIf};
-ghost use Rattle.pn_stay.specs.Places.{at};
+ghost use Rattle.pn_stay.specs.Moments.{at};
 ghost use Rattle.pn_stay.specs.Stepping.{SkipsOn, StepsOn};
 ghost use Rattle.pn_stay.specs.Turns.{in_buffers, WaitsWell};
 ghost use Rattle.pn_stay.specs.declared.input_buffer.TheConstants.{READ_SIZE};

@@ -2,7 +2,7 @@
 use Rattle.std.proofs.Common.{sym, subst}
 use Rattle.pn_serve.specs.Lines.Stepping.{by}
 use Rattle.pn_stay.specs.Connections.{ConnectionValue}
-use Rattle.pn_stay.specs.Places.{at}
+use Rattle.pn_stay.specs.Moments.{at}
 use Rattle.pn_stay.specs.Scripted.{begin_with}
 use Rattle.pn_stay.specs.Turns.{Continues}
 use Rattle.pn_stay.proofs.Coming.{Continues-new}

@@ -2,7 +2,7 @@
 use Rattle.pn_serve.specs.Lines.States.{Start}
 use Rattle.pn_serve.specs.Lines.Stepping.{by}
 use Rattle.pn_serve.specs.Session.Knowing.{IsSteady}
-use Rattle.pn_stay.specs.Places.{at}
+use Rattle.pn_stay.specs.Moments.{at}
 use Rattle.pn_stay.specs.Turns.{Continues}
 use Rattle.pn_stay.proofs.laws.take_turns.Given as goal
 

@@ -10,7 +10,7 @@ use Rattle.pn_serve.specs.Session.Knowing.{KnowsNoLess}
 use Rattle.pn_stay.specs.Bounds.{StaysWithin}
 use Rattle.pn_stay.specs.Faults.{EndsAsFailed}
 use Rattle.pn_stay.specs.Outputs.{most_made}
-use Rattle.pn_stay.specs.Places.{at}
+use Rattle.pn_stay.specs.Moments.{at}
 use Rattle.pn_stay.specs.Stepping.{StepsOn}
 use Rattle.pn_stay.specs.Turns.{in_buffers}
 use Rattle.pn_stay.proofs.Inputs.{TakesWithin}

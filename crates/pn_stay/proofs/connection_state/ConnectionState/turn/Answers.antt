@@ -8,7 +8,7 @@ use Rattle.pn_serve.specs.Lines.States.{waits_in}
 use Rattle.pn_serve.specs.Lines.Stepping.{by}
 use Rattle.pn_stay.specs.Connections.{ConnectionValue, loop_of}
 use Rattle.pn_stay.specs.Outputs.{most_looked}
-use Rattle.pn_stay.specs.Places.{at}
+use Rattle.pn_stay.specs.Moments.{at}
 use Rattle.pn_stay.specs.Turns.{Continues, in_buffers}
 use Rattle.pn_stay.proofs.Faults.{before_or}
 use Rattle.pn_stay.proofs.Storing.{AppendsPrefix-none, Turns-stored, answers_stored, fault_stored, looked_stored}
