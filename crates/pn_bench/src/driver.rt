@@ -1,8 +1,8 @@
 //! Loads a region, reads it and brings rounds to it, by the clock.
 
-use crate::plan::{Way, Workload};
 use crate::readers::{READERS, Runner, found_all, read_all, runners_of};
 use crate::store::Store;
+use crate::workload::{Mode, Workload};
 use pn_join::Dup;
 use pn_line::Source;
 use pn_live::{LiveReader, LiveRegion};
@@ -24,12 +24,12 @@ const PASSES: usize = 8;
 
 /// How long it took to read each key once, and how long the rounds took.
 #[derive(Drop)]
-pub struct Took {
+pub struct Times {
     pub reads: Duration,
     pub rounds: Duration,
 }
 
-impl Took {
+impl Times {
     /// What it prints.
     pub fn text(&self, alloc: Global) -> Option<String> {
         let (reads, rounds) = (self.reads.as_micros(), self.rounds.as_micros());
@@ -37,23 +37,23 @@ impl Took {
     }
 }
 
-/// Measures a plan, where the stream has enough messages and each key is found.
+/// Measures a workload, where the stream has enough messages and each key is found.
 pub fn time<R: Clock + Threads + Wait + Sync, S: Source + Drop>(
     rt: &R,
     alloc: Global,
     stream: StreamReader<S>,
-    plan: Workload,
-) -> Option<Took> {
-    let (mut store, readers) = open_store(rt, alloc, plan.way)?;
-    let took = time_store(rt, alloc, &mut store, readers, stream, plan);
+    workload: Workload,
+) -> Option<Times> {
+    let (mut store, readers) = open_store(rt, alloc, workload.mode)?;
+    let took = time_store(rt, alloc, &mut store, readers, stream, workload);
     store.close(rt, alloc).ok()?;
     took
 }
 
 // A region of one tablet, and the readers of a live one.
-fn open_store<R: Wait>(rt: &R, alloc: Global, way: Way) -> Option<(Store, Vec<LiveReader>)> {
+fn open_store<R: Wait>(rt: &R, alloc: Global, mode: Mode) -> Option<(Store, Vec<LiveReader>)> {
     let layout = Layout::new(Vec::new(alloc)).ok()?;
-    if way == Way::Plain {
+    if mode == Mode::Plain {
         let region = Region::new(alloc, layout).ok()?;
         return Some((Store::Plain(region), Vec::new(alloc)));
     }
@@ -71,14 +71,14 @@ fn time_store<R: Clock + Threads + Wait + Sync, S: Source + Drop>(
     store: &mut Store,
     readers: Vec<LiveReader>,
     mut stream: StreamReader<S>,
-    plan: Workload,
-) -> Option<Took> {
-    let keys = load(rt, alloc, store, &mut stream, plan.records)?;
+    workload: Workload,
+) -> Option<Times> {
+    let keys = load(rt, alloc, store, &mut stream, workload.records)?;
     let mut runners = runners_of(alloc, readers, &keys)?;
     let reads = time_reads(rt, store, &mut runners, &keys)?;
-    let rounds = time_last(rt, alloc, store, &mut runners, &mut stream, plan)?;
+    let rounds = time_last(rt, alloc, store, &mut runners, &mut stream, workload)?;
     if found_all(&runners) {
-        Some(Took { reads, rounds })
+        Some(Times { reads, rounds })
     } else {
         None
     }
@@ -91,21 +91,21 @@ fn time_last<R: Clock + Threads + Wait + Sync, S: Source + Drop>(
     store: &mut Store,
     runners: &mut Vec<Runner>,
     stream: &mut StreamReader<S>,
-    plan: Workload,
+    workload: Workload,
 ) -> Option<Duration> {
-    let mut rounds = next_rounds(alloc, stream, plan.rounds, plan.in_round)?;
-    time_way(rt, store, runners, &mut rounds, plan.way)
+    let mut rounds = next_rounds(alloc, stream, workload.rounds, workload.in_round)?;
+    time_mode(rt, store, runners, &mut rounds, workload.mode)
 }
 
 // How long the rounds take, with readers that read on or not.
-fn time_way<R: Clock + Threads + Wait + Sync>(
+fn time_mode<R: Clock + Threads + Wait + Sync>(
     rt: &R,
     store: &mut Store,
     runners: &mut Vec<Runner>,
     rounds: &mut Vec<Vec<Delivery>>,
-    way: Way,
+    mode: Mode,
 ) -> Option<Duration> {
-    if way == Way::Busy {
+    if mode == Mode::Busy {
         // On four processors the writer then has one of its own.
         let _spare = runners.pop();
         time_busy(rt, store, runners, rounds)

@@ -1,7 +1,7 @@
 //! Changes the layout of a region of sixteen tablets, by the clock.
 
 use crate::driver::{IN_BATCH, add_keys, next_rounds};
-use crate::plan::Workload;
+use crate::workload::Workload;
 use pn_apply::Open;
 use pn_join::Dup;
 use pn_line::Source;
@@ -21,7 +21,7 @@ const CHANGES: usize = 100;
 
 /// How many microseconds a region took to be built, and rounds before and after changes of its layout.
 #[derive(Clone, Copy)]
-pub struct Laid {
+pub struct LayoutTimes {
     built: u128,
     before: u128,
     after: u128,
@@ -38,7 +38,7 @@ struct Changes {
     leaves_after: usize,
 }
 
-impl Laid {
+impl LayoutTimes {
     /// What it prints.
     pub fn text(&self, alloc: Global) -> Option<String> {
         let changes = self.changes;
@@ -55,57 +55,57 @@ impl Laid {
     }
 }
 
-/// Measures a plan, where the stream has enough messages.
+/// Measures a workload, where the stream has enough messages.
 pub fn time_layouts<R: Clock + Threads + Sync, S: Source + Drop>(
     rt: &R,
     alloc: Global,
     mut stream: StreamReader<S>,
-    plan: Workload,
-) -> Option<Laid> {
+    workload: Workload,
+) -> Option<LayoutTimes> {
     let first = next_rounds(
         alloc,
         &mut stream,
-        plan.records.div_ceil(IN_BATCH),
+        workload.records.div_ceil(IN_BATCH),
         IN_BATCH,
     )?;
-    let mut laying = Laying::new(alloc, &first)?;
-    laying.time(rt, &mut stream, first, plan)
+    let mut bench = LayoutBench::new(alloc, &first)?;
+    bench.time(rt, &mut stream, first, workload)
 }
 
 /// A region of sixteen tablets, and the keys that it was built with.
 #[derive(Drop)]
-struct Laying {
+struct LayoutBench {
     region: Region,
     keys: Vec<Key>,
     alloc: Global,
 }
 
-impl Laying {
+impl LayoutBench {
     // An empty region, whose tablets are to have equal numbers of the rounds' keys.
-    fn new(alloc: Global, rounds: &[Vec<Delivery>]) -> Option<Laying> {
+    fn new(alloc: Global, rounds: &[Vec<Delivery>]) -> Option<LayoutBench> {
         let keys = sorted_keys(alloc, rounds)?;
         let layout = layout_from(alloc, &keys, keys.len() / TABLETS)?;
         let region = Region::new(alloc, layout).ok()?;
-        Some(Laying {
+        Some(LayoutBench {
             region,
             keys,
             alloc,
         })
     }
 
-    // How long the first rounds take, and the plan's rounds before and after changes.
+    // How long the first rounds take, and the workload's rounds before and after changes.
     fn time<R: Clock + Threads + Sync, S: Source + Drop>(
         &mut self,
         rt: &R,
         stream: &mut StreamReader<S>,
         first: Vec<Vec<Delivery>>,
-        plan: Workload,
-    ) -> Option<Laid> {
+        workload: Workload,
+    ) -> Option<LayoutTimes> {
         let built = time_rounds(rt, &mut self.region, first)?;
-        let before = self.time_next(rt, stream, plan)?;
+        let before = self.time_next(rt, stream, workload)?;
         let changes = self.time_changes(rt)?;
-        let after = self.time_next(rt, stream, plan)?;
-        Some(Laid {
+        let after = self.time_next(rt, stream, workload)?;
+        Some(LayoutTimes {
             built,
             before,
             after,
@@ -113,14 +113,14 @@ impl Laying {
         })
     }
 
-    // How long the plan's next rounds take.
+    // How long the next rounds of the workload take.
     fn time_next<R: Clock + Threads + Sync, S: Source + Drop>(
         &mut self,
         rt: &R,
         stream: &mut StreamReader<S>,
-        plan: Workload,
+        workload: Workload,
     ) -> Option<u128> {
-        let rounds = next_rounds(self.alloc, stream, plan.rounds, plan.in_round)?;
+        let rounds = next_rounds(self.alloc, stream, workload.rounds, workload.in_round)?;
         time_rounds(rt, &mut self.region, rounds)
     }
 

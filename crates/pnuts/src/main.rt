@@ -45,13 +45,13 @@ const SCRIPT_READ_SIZE: usize = 65_536;
 const REFUSED: u8 = 2;
 
 fn main(rt: HostRuntime) -> ExitCode {
-    let Prepared {
+    let ServeSetup {
         settings,
         service,
         opened,
         endpoints,
     } = match prepare(&rt) {
-        Ok(prepared) => prepared,
+        Ok(setup) => setup,
         Err(status) => return status,
     };
     let Endpoints {
@@ -88,7 +88,7 @@ fn main(rt: HostRuntime) -> ExitCode {
 
 // What is to be served.
 #[derive(Drop)]
-struct Planned {
+struct ServePlan {
     settings: Settings,
     service: Service,
     streams: Vec<(Name, StreamPath)>,
@@ -96,10 +96,10 @@ struct Planned {
 
 // Parses what is to be served. The error is the status with which the program ends: it has done all that it was asked, or
 // its words are refused.
-fn plan_serving<R>(rt: &R) -> Result<Planned, ExitCode>
+fn plan_serving<R>(rt: &R) -> Result<ServePlan, ExitCode>
 where
     R: AllocGlobal + Env + Input + Print + Eprint + Threads + Sync,
-    ensures { IfOk result (λ planned. (1 ≤ planned.service.sessions) × (planned.service.sessions ≤ MAX_SESSIONS)) }
+    ensures { IfOk result (λ plan. (1 ≤ plan.service.sessions) × (plan.service.sessions ≤ MAX_SESSIONS)) }
 {
     let Ok(words) = collect_words(rt) else {
         return Err(fail(rt, "memory"));
@@ -111,7 +111,7 @@ where
                 service,
                 streams,
             },
-        ) => Ok(Planned {
+        ) => Ok(ServePlan {
             settings,
             service,
             streams,
@@ -123,7 +123,7 @@ where
 }
 
 // What is served, from which region, and where.
-struct Prepared<R: Drop> {
+struct ServeSetup<R: Drop> {
     settings: Settings,
     service: Service,
     opened: Option<OpenedRegion>,
@@ -132,7 +132,7 @@ struct Prepared<R: Drop> {
 
 // Parses what is to be served, starts from copies where some are named, opens the streams, and listens. The error is the status
 // with which the program ends.
-fn prepare<R>(rt: &R) -> Result<Prepared<R>, ExitCode>
+fn prepare<R>(rt: &R) -> Result<ServeSetup<R>, ExitCode>
 where
     R: AllocGlobal
         + Files<File = File>
@@ -147,18 +147,18 @@ where
         + Sync
         + Copy
         + Drop,
-    ensures sessions { IfOk result (λ prepared. (1 ≤ prepared.service.sessions) × (prepared.service.sessions ≤ MAX_SESSIONS)) }
-    ensures own { IfOk result (λ prepared. IfSome prepared.opened (λ region. AllRead (tablets_in region.live) region.readers.items)) }
-    ensures readers { IfOk result (λ prepared. IfSome prepared.opened (λ region. prepared.service.sessions ≤ vec_len region.readers)) }
+    ensures sessions { IfOk result (λ setup. (1 ≤ setup.service.sessions) × (setup.service.sessions ≤ MAX_SESSIONS)) }
+    ensures own { IfOk result (λ setup. IfSome setup.opened (λ region. AllRead (tablets_in region.live) region.readers.items)) }
+    ensures readers { IfOk result (λ setup. IfSome setup.opened (λ region. setup.service.sessions ≤ vec_len region.readers)) }
 {
-    let Planned {
+    let ServePlan {
         settings,
         service,
         streams,
     } = plan_serving(rt)?;
     let opened = start_from_copies(rt, &settings, &service, &streams)?;
     match open_endpoints(rt, &service, streams) {
-        Ok(endpoints) => Ok(Prepared {
+        Ok(endpoints) => Ok(ServeSetup {
             settings,
             service,
             opened,

@@ -5,7 +5,7 @@ use std::env::Args;
 
 /// Which region takes the rounds, and who reads it meanwhile.
 #[derive(Clone, Copy, PartialEq, Eq)]
-pub enum Way {
+pub enum Mode {
     /// A plain region, which nobody reads.
     Plain,
     /// A live region, which nobody reads.
@@ -16,13 +16,13 @@ pub enum Way {
     Relayout,
 }
 
-impl Way {
-    fn read(word: &str) -> Option<Way> {
+impl Mode {
+    fn read(word: &str) -> Option<Mode> {
         match word {
-            "plain" => Some(Way::Plain),
-            "live" => Some(Way::Live),
-            "busy" => Some(Way::Busy),
-            "relayout" => Some(Way::Relayout),
+            "plain" => Some(Mode::Plain),
+            "live" => Some(Mode::Live),
+            "busy" => Some(Mode::Busy),
+            "relayout" => Some(Mode::Relayout),
             _ => None,
         }
     }
@@ -31,21 +31,21 @@ impl Way {
 /// How many records there are at first, and how many rounds of how many new keys come then.
 #[derive(Clone, Copy)]
 pub struct Workload {
-    pub way: Way,
+    pub mode: Mode,
     pub records: usize,
     pub in_round: usize,
     pub rounds: usize,
 }
 
 impl Workload {
-    /// The plan of the program's arguments.
+    /// The workload of the program's arguments.
     pub fn read(mut words: Args<Global>) -> Option<Workload> {
-        let way = Way::read(words.nth(1)?.as_str())?;
+        let mode = Mode::read(words.nth(1)?.as_str())?;
         let records = number_of(&mut words)?;
         let in_round = number_of(&mut words)?;
         let rounds = number_of(&mut words)?;
         Some(Workload {
-            way,
+            mode,
             records,
             in_round,
             rounds,
