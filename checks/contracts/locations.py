@@ -11,7 +11,7 @@ FUNCTION = re.compile(r"^\s*(?:pub(?:\(\w+\))? )?(?:const )?fn (\w+)", re.M)
 SIGNATURE_END = re.compile(r"^\s*(?:\{|.*\{)$", re.M)
 BEGINS_ITEM = re.compile(r"^(?:pub(?:\(\w+\))? )?(?:const|static|struct|enum|impl|trait|mod|use|type|macro_rules!)\b", re.M)
 # The head of an impl or of a trait whose items follow.
-BLOCK = re.compile(r"^(?:(impl)\b(.*?)|(?:pub(?:\(\w+\))? )?trait (\w+)[^{]*?)(?: ?\{|\n *where\b[^{]*\{)$", re.M)
+BLOCK = re.compile(r"^(?:(impl)\b((?:.|\n +(?!where\b))*?)|(?:pub(?:\(\w+\))? )?trait (\w+)[^{]*?)(?: ?\{|\n *where\b[^{]*\{)$", re.M)
 TYPE = re.compile(r"^(?:pub(?:\(\w+\))? )?(?:struct|enum) (\w+)", re.M)
 CLOSES, OPENS = {">": "<", ")": "(", "]": "["}, "<(["
 
@@ -75,6 +75,7 @@ def location_at(crate: str, path: str, text: str, at: int) -> Location | None:
 def owner_of(head: str) -> tuple[str, bool]:
     """The word by which a check names what an impl has, whose head this is after `impl`, and whether it is of no trait."""
     parameters: set[str] = set()
+    head = " ".join(head.split())
     if head.startswith("<"):
         bound, head = cut(head[1:], ">")
         parameters = {part.partition(":")[0].strip() for part in parts_of(bound)}
@@ -93,7 +94,7 @@ def shown(text: str, parameters: set[str]) -> tuple[str, list[str]]:
     name = head.rpartition("::")[2]
     name = "Ref" + name.removeprefix("Ref&") if head.startswith("Ref&") else name
     arguments = [it.strip() for it in parts_of(cut(rest, ">")[0])] if rest else []
-    named = [shown(it, parameters)[0] for it in arguments if it not in parameters and not it.startswith("'")]
+    named = ["".join([own, *inner]) for own, inner in (shown(it, parameters) for it in arguments if it not in parameters and not it.startswith("'"))]
     return "Any" if name in parameters else name, named
 
 
