@@ -20,7 +20,7 @@ pub use arguments::options::{MAX_SESSIONS, VERSION, numbers_are_as_written};
 pub use arguments::plan;
 pub use arguments::plans::{Address, Plan, Service, StreamPath};
 pub use control::laws::commands_are_events;
-pub use control::mailboxes::{ControlMailboxes, MAX_CONTROLS};
+pub use control::mailboxes::{ControlMailboxes, ControlsClosed, MAX_CONTROLS, StopAsked};
 pub use control::session::{ControlSession, StatsSource};
 pub use copies::{CopiesFault, CopiesReader, open_copies};
 pub use laws::regions_converge;
@@ -45,7 +45,7 @@ pub use script::{Counts, MAX_LINES, RunFault, run, run_to_exit};
 pub use server::{
     Acceptor, ComesBack, Counter, FaultLog, OpenedRegion, Origin, ServeFault, SessionThread,
     Stream, StreamFailure, Watchers, WriterEnd, close_region, join_sessions, open_region,
-    read_streams, serve, serve_from, take_commands,
+    read_streams, serve, serve_from, take_commands, take_commands_for,
 };
 pub use sessions::counting_reader::CountingReader;
 pub use sessions::going::Going;
