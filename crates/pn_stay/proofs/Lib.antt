@@ -2,6 +2,7 @@ pub mod Buffers
 pub mod Coming
 pub mod Crossing
 pub mod Faults
+pub mod Held
 pub mod Inputs
 pub mod Outputs
 pub mod Pieces

@@ -5,7 +5,7 @@ ghost use Rattle.std.specs.Io.{ReadsAtMost, WritesAtMost};
 ghost use Rattle.std.specs.IoError.{error_kind};
 ghost use Rattle.pn_stay.specs.Failures.{NotesFailure};
 
-use libc::net::{POLLHUP, poll};
+use libc::net::{POLLHUP, SHUT_RD, poll, shutdown};
 use libc::types::pollfd;
 use mio::unix::SourceFd;
 use mio::{Interest, Registry, Token};
@@ -75,7 +75,8 @@ impl Socket {
         poll(&mut looks, 0) > 0 && looks[0].revents & POLLHUP != 0
     }
 
-    fn number(&self) -> RawFd {
+    /// The number of its descriptor.
+    pub(crate) fn number(&self) -> RawFd {
         match self {
             Socket::Tcp(stream) => stream.as_raw_fd(),
             Socket::Unix(stream) => stream.as_raw_fd(),
@@ -109,6 +110,11 @@ impl Socket {
             Socket::Unix(stream) => (&*stream).write(buf),
         }
     }
+}
+
+/// As `end_input`, for a socket that is open by its number.
+pub(crate) fn end_input_of(socket: RawFd) {
+    let _ = shutdown(socket, SHUT_RD);
 }
 
 /// A socket that is read or written, whether anything went over it, and whether a call of it has failed.
