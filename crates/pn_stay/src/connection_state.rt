@@ -174,7 +174,9 @@ impl ConnectionState {
     // It holds no more input than fits into the buffer of a thread.
     fn recall_held(&self)
         ensures { LeavesUnits self.now }
-    {}
+    {
+        let _ = &self.held;
+    }
 }
 
 // Sends what waits, and takes the steps of a turn where nothing is left of it.
