@@ -47,6 +47,20 @@ use Rattle.pn_serve.proofs.Stopping.{bytes_within}
 abbrev pub controls : Handling ControlState
 controls = by Stays AnswersControl EndsControl (λ _ _ _ _. ⊥) (λ _ _ _ _. ⊥)
 
+-- ---- as many lines as may be answered
+
+no_most : (lines : List (List ℕ)) → length lines < MAX_LINES → length lines ≡ MAX_LINES → ⊥
+no_most lines few many = omega (arith, few, many)
+
+few_lines : (count : ℕ) (lines : List (List ℕ)) → count < MAX_LINES → count ≡ length lines → length lines < MAX_LINES
+few_lines count lines few is = omega (arith, few, is)
+
+few_within : (lines within : List (List ℕ)) → length lines < MAX_LINES → within ≡ lines → length within < MAX_LINES
+few_within lines within few same = subst (λ (l : List (List ℕ)). length l < MAX_LINES) (sym same) few
+
+no_more : (count : ℕ) → count < MAX_LINES → MAX_LINES ≤ count → ⊥
+no_more count few many = omega (arith, few, many)
+
 -- ---- lines that were answered, and then more
 
 all_append : (was : ControlState) (lines : List (List ℕ)) (replies : List Reply) (between : ControlState) (more : List (List ℕ)) (later : List Reply) (now : ControlState)
@@ -140,7 +154,7 @@ module _ (start : Start ControlState) (script : List ℕ) (since : Start Control
 
     endless_on : length (lines_within before.read.rest) < MAX_LINES → Exceeded AnswersControl EndsControl since before.read.rest left written state → Endless start script left written state
     endless_on few is = elim is.stopped [
-      | inl many ↦ absurd (omega (arith, few, many.0))
+      | inl many ↦ absurd (no_most (lines_within before.read.rest) few many.0)
       | inr long ↦ record {
         broken = broken_on (record { lines = lines_within before.read.rest; part = is.part; read = is.read; replies = is.replies; made = is.made; wrote = is.wrote });
         long = long;
@@ -164,12 +178,11 @@ pub record Underway (start : Start ControlState) (left written : Option (List �
   pub since : Start ControlState
   pub before : IfSome start.left (λ script. AnsweredSome start script since.left since.written since.machine)
   pub stands : Stands controls since left written state run
-  pub few : run.state.stage ≡ Reading → run.state.counts.lines < MAX_LINES
   pub endless : EndsByAt TooManyTurns run.state.stage → IfSome since.left (λ rest. length (lines_within rest) < MAX_LINES)
 
 -- a run that is new
-few_new : (run : LineLoopValue) → run ≡ new_loop → run.state.counts.lines < MAX_LINES
-few_new run is = omega (arith, ap (λ (r : LineLoopValue). r.state.counts.lines) is)
+pub few_new : (run : LineLoopValue) → run ≡ new_loop → run.state.counts.lines < MAX_LINES
+few_new run is = subst (λ (r : LineLoopValue). r.state.counts.lines < MAX_LINES) (sym is) (omega arith)
 
 none_new : (run : LineLoopValue) → run ≡ new_loop → EndsByAt TooManyTurns run.state.stage → ⊥
 none_new run is ends = subst (λ (r : LineLoopValue). EndsByAt TooManyTurns r.state.stage) is ends
@@ -186,7 +199,6 @@ underway_new state left written run is = record {
   since = start_at state left written;
   before = none_before state left written;
   stands = Stands-new controls stays_preorder state left written run is;
-  few = λ reading. few_new run is;
   endless = λ ends. absurd (none_new run is ends);
 }
 
@@ -198,12 +210,12 @@ module _ (since : Start ControlState) (left written : Option (List ℕ)) (state 
   long_line : (rest : List ℕ) → IsReading controls since rest left written state run → run.state.counts.lines < MAX_LINES → run.line.count ≡ ENDLESS → length (lines_within rest) < MAX_LINES
   long_line rest is few long =
       let count : length is.part ≡ run.line.count = sym (ap (λ (l : LineBufferValue). l.count) is.line_is) in
-      let within = bytes_within rest left is.lines is.part is.read is.short (count ∙ long) (omega (arith, few, is.answered.lines_are)) in
-      omega (arith, few, is.answered.lines_are, ap length within)
+      let less = few_lines run.state.counts.lines is.lines few is.answered.lines_are in
+      few_within is.lines (lines_within rest) less (bytes_within rest left is.lines is.part is.read is.short (count ∙ long) less)
 
   pub long_at : run.state.counts.lines < MAX_LINES → IsAtLimit run → IfSome since.left (λ rest. length (lines_within rest) < MAX_LINES)
   long_at few (inl long) = OnTold since.left _ _ (λ rest is. long_line rest is few long) reads
-  long_at few (inr many) = absurd (omega (arith, few, many))
+  long_at few (inr many) = absurd (no_more run.state.counts.lines few many)
 
   -- what waited was written between two lines
   answered_some : (after : Option (List ℕ)) (rest : List ℕ) → IsReading controls since rest left written state run → run.line.count ≡ 0 → Appends written after (waits_in run) → AnsweredSome since rest left after state
@@ -233,26 +245,25 @@ module _ (since : Start ControlState) (left written : Option (List ℕ)) (state 
 
 module _ (start : Start ControlState) (left written : Option (List ℕ)) (state : ControlState) (run : LineLoopValue) (was : Underway start left written state run) where
   -- why a run may end by the limits of its input
-  pub limit_since : EndsByAt TooManyTurns run.state.stage ⊎ ((run.state.stage ≡ Reading) × IsAtLimit run) → IfSome was.since.left (λ rest. length (lines_within rest) < MAX_LINES)
-  limit_since (inl ends) = was.endless ends
-  limit_since (inr at) = long_at was.since left written state run at.0 was.stands (was.few at.0) at.1
+  pub limit_since : (run.state.stage ≡ Reading → run.state.counts.lines < MAX_LINES) → EndsByAt TooManyTurns run.state.stage ⊎ ((run.state.stage ≡ Reading) × IsAtLimit run) → IfSome was.since.left (λ rest. length (lines_within rest) < MAX_LINES)
+  limit_since few (inl ends) = was.endless ends
+  limit_since few (inr at) = long_at was.since left written state run at.0 was.stands (few at.0) at.1
 
   -- the run goes on
-  pub underway_on : (leaves after : Option (List ℕ)) (now : ControlState) (new : LineLoopValue) → Stands controls was.since leaves after now new → (new.state.stage ≡ Reading → new.state.counts.lines < MAX_LINES)
+  pub underway_on : (leaves after : Option (List ℕ)) (now : ControlState) (new : LineLoopValue) → Stands controls was.since leaves after now new → (run.state.stage ≡ Reading → run.state.counts.lines < MAX_LINES)
       → (EndsByAt TooManyTurns new.state.stage → EndsByAt TooManyTurns run.state.stage ⊎ ((run.state.stage ≡ Reading) × IsAtLimit run)) → Underway start leaves after now new
   underway_on leaves after now new stands few limit = record {
     since = was.since;
     before = was.before;
     stands = stands;
-    few = few;
-    endless = λ ends. limit_since (limit ends);
+    endless = λ ends. limit_since few (limit ends);
   }
 
   -- the session ends with the run
   pub session_ends : (leaves after : Option (List ℕ)) (now : ControlState) (ended : Result Counts RunFault) → EndsBy AnswersControl EndsControl was.since leaves after now ended
-      → (ended ≡ Err TooManyTurns → EndsByAt TooManyTurns run.state.stage ⊎ ((run.state.stage ≡ Reading) × IsAtLimit run)) → (ended ≡ Err Memory → ⊥) → ControlEnds start leaves after now (uncounted ended)
+      → (ended ≡ Err TooManyTurns → IfSome was.since.left (λ rest. length (lines_within rest) < MAX_LINES)) → (ended ≡ Err Memory → ⊥) → ControlEnds start leaves after now (uncounted ended)
   session_ends leaves after now ended is limit memory =
-      OnTold start.left _ _ (λ script before. ends_on start script was.since before leaves after now ended is (λ ends. limit_since (limit ends)) memory) was.before
+      OnTold start.left _ _ (λ script before. ends_on start script was.since before leaves after now ended is limit memory) was.before
 
   module _ (reading : run.state.stage ≡ Reading) (after : Option (List ℕ)) where
     -- the run is done
@@ -267,7 +278,6 @@ module _ (start : Start ControlState) (left written : Option (List ℕ)) (state 
       since = start_at state left after;
       before = run_done empty sent;
       stands = Stands-new controls stays_preorder state left after new is;
-      few = λ reading. few_new new is;
       endless = λ ends. absurd (none_new new is ends);
     }
 

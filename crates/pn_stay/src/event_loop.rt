@@ -78,7 +78,8 @@ impl EventLoop {
         })
     }
 
-    /// Answers connections until the mailbox is closed and the last has ended. An error is one of the system's wait.
+    /// Answers connections until the mailbox is closed and the last has ended, or it is to answer nothing more. An error is one of the
+    /// system's wait.
     #[tactic(auto, using(pn_serve::proofs::Knowing::knows_on))]
     pub(crate) fn run<R: Wait + Clock, M: RefusesSkipped>(
         &mut self,
@@ -97,7 +98,7 @@ impl EventLoop {
             }
             self.take_turns(rt, mailbox, machine);
             self.lingering.close_ended(rt);
-            if self.is_over(rt, mailbox) {
+            if mailbox.is_cut(rt) || self.is_over(rt, mailbox) {
                 return Ok(());
             }
         }
@@ -219,7 +220,7 @@ impl EventLoop {
         }
     }
 
-    // Gives each connection that is ready one turn.
+    // Gives each connection that is ready one turn, while the thread is to answer.
     fn take_turns<R: Wait, M: RefusesSkipped>(
         &mut self,
         rt: &R,
@@ -232,6 +233,9 @@ impl EventLoop {
         let spare = mem::replace(&mut self.spare, Vec::new(self.alloc));
         let mut ready = mem::replace(&mut self.ready, spare);
         for key in ready.iter() {
+            if mailbox.is_cut(rt) {
+                continue;
+            }
             match self.give_turn(*key, machine) {
                 Some(Pause::Turn) => make_ready(&mut self.connections, &mut self.ready, *key),
                 Some(Pause::Input | Pause::Output) => {}

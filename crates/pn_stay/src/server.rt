@@ -132,7 +132,7 @@ impl StayingServer {
                 let live = &mut server.live;
                 let asked = take_commands(rt, alloc, live, controls);
                 let closed = server.stopping.run(rt, alloc, live, controls, asked);
-                server.end(closed);
+                server.end(rt, closed);
                 true
             }
             None => {
@@ -142,24 +142,25 @@ impl StayingServer {
         }
     }
 
-    /// Leaves the region, the readers and the threads to the end of the program. A thread that still answers does so from the region,
-    /// or not at all.
-    pub fn leave(self) {
+    /// Answers nothing any more, closes the region, and leaves its memory and the threads to the end of the program.
+    pub fn leave<R: Wait + Clock>(self, rt: &R) {
         let StayingServer {
             live,
             workers: _,
             running: _,
             readers,
             watchers: _,
-            stopping: _,
+            stopping,
         } = self;
-        mem::forget(live);
-        mem::forget(readers);
+        stopping.cut(rt);
+        if let Ok(region) = close_region(rt, live, readers) {
+            mem::forget(region);
+        }
     }
 
     // Ends a server that was stopped: no command is taken any more.
-    fn end(self, _closed: ControlsClosed) {
-        self.leave();
+    fn end<R: Wait + Clock>(self, rt: &R, _closed: ControlsClosed) {
+        self.leave(rt);
     }
 
     // Waits for the threads, which end where the system's wait for sockets fails, and closes the region.

@@ -5,7 +5,7 @@ ghost use Rattle.std.specs.Io.{ReadsAtMost, WritesAtMost};
 ghost use Rattle.std.specs.IoError.{error_kind};
 ghost use Rattle.pn_stay.specs.Failures.{NotesFailure};
 
-use libc::net::{POLLHUP, SHUT_RD, poll, shutdown};
+use libc::net::{POLLHUP, SHUT_RD, SHUT_RDWR, poll, shutdown};
 use libc::types::pollfd;
 use mio::unix::SourceFd;
 use mio::{Interest, Registry, Token};
@@ -115,6 +115,11 @@ impl Socket {
 /// As `end_input`, for a socket that is open by its number.
 pub(crate) fn end_input_of(socket: RawFd) {
     let _ = shutdown(socket, SHUT_RD);
+}
+
+/// Ends the input and the output of a socket that is open by its number.
+pub(crate) fn end_both_of(socket: RawFd) {
+    let _ = shutdown(socket, SHUT_RDWR);
 }
 
 /// A socket that is read or written, whether anything went over it, and whether a call of it has failed.

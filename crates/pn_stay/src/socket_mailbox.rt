@@ -24,7 +24,11 @@ struct MailboxState {
     is_quarter_over: bool,
     // Whether the thread is to end once the lines that have come are answered.
     is_stopping: bool,
+    // Whether the thread is to answer nothing more.
+    is_cut: bool,
     is_closed: bool,
+    // Whether the thread answers nothing more.
+    is_silent: bool,
     // Whether the thread has ended.
     has_ended: bool,
 }
@@ -61,22 +65,34 @@ impl MailboxState {
 
     // From now on it takes no socket.
     fn stop(&mut self)
-        ensures { self.new.is_closed ≡ true }
+        ensures closed { self.new.is_closed ≡ true }
+        ensures cut { self.new.is_cut ≡ self.old.is_cut }
     {
         self.is_stopping = true;
         let _ = self.close();
     }
 
+    // As `stop`, but the thread is to answer nothing more.
+    fn cut(&mut self)
+        ensures closed { self.new.is_closed ≡ true }
+        ensures cut { self.new.is_cut ≡ true }
+    {
+        self.is_cut = true;
+        self.stop();
+    }
+
     // The thread has ended, and it takes no socket.
     fn end(&mut self) -> Closed
-        ensures { self.new.is_closed ≡ true }
+        ensures closed { self.new.is_closed ≡ true }
+        ensures silent { self.new.is_silent ≡ true }
     {
         self.has_ended = true;
+        self.is_silent = true;
         self.close()
     }
 
     fn close(&mut self) -> Closed
-        ensures { self.new.is_closed ≡ true }
+        ensures { self.new ≡ record self.old { is_closed = true } }
     {
         self.is_closed = true;
         Closed(())
@@ -92,7 +108,9 @@ impl SocketMailbox {
                 sockets: Vec::new(alloc),
                 is_quarter_over: false,
                 is_stopping: false,
+                is_cut: false,
                 is_closed: false,
+                is_silent: false,
                 has_ended: false,
             }),
             waker,
@@ -129,6 +147,27 @@ impl SocketMailbox {
     pub(crate) fn tell_stop<R: Wait>(&self, rt: &R) -> io::Result<()> {
         self.state.lock(rt).stop();
         self.waker.wake()
+    }
+
+    /// Says that the thread is to answer nothing more, and wakes it.
+    pub(crate) fn tell_cut<R: Wait>(&self, rt: &R) -> io::Result<()> {
+        self.state.lock(rt).cut();
+        self.waker.wake()
+    }
+
+    /// Whether the thread is to answer nothing more.
+    pub(crate) fn is_cut<R: Wait>(&self, rt: &R) -> bool {
+        self.state.lock(rt).is_cut
+    }
+
+    /// The thread answers nothing more.
+    pub(crate) fn note_silence<R: Wait>(&self, rt: &R) {
+        self.state.lock(rt).is_silent = true;
+    }
+
+    /// Whether the thread answers nothing more.
+    pub(crate) fn is_silent<R: Wait>(&self, rt: &R) -> bool {
+        self.state.lock(rt).is_silent
     }
 
     /// Whether the thread is to end.
@@ -172,6 +211,16 @@ impl SocketMailbox {
 pub(crate) fn have_ended<R: Wait>(rt: &R, mailboxes: &[Arc<SocketMailbox>]) -> bool {
     for mailbox in mailboxes.iter() {
         if !mailbox.has_ended(rt) {
+            return false;
+        }
+    }
+    true
+}
+
+/// Whether the threads of all mailboxes answer nothing more.
+pub(crate) fn are_silent<R: Wait>(rt: &R, mailboxes: &[Arc<SocketMailbox>]) -> bool {
+    for mailbox in mailboxes.iter() {
+        if !mailbox.is_silent(rt) {
             return false;
         }
     }

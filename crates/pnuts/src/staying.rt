@@ -69,7 +69,7 @@ pub(crate) fn answer_on<R: AllocGlobal + Threads + Wait + Clock + Eprint + Files
     read: Result<(), ServeFault>,
 ) -> ExitCode {
     if let Err(ServeFault::Start) = &read {
-        server.leave();
+        server.leave(rt);
         remove_places(rt, service, sockets);
         return fail_serving(rt, ServeFault::Start, true);
     }

@@ -2,7 +2,7 @@
 
 ghost use Rattle.std.specs.Prelude.{◌≡◌, Some, None, true};
 
-use crate::socket::end_input_of;
+use crate::socket::{end_both_of, end_input_of};
 use std::os::fd::RawFd;
 use std::sync::{Mutex, Wait};
 
@@ -16,6 +16,8 @@ struct ClientState {
     socket: Option<RawFd>,
     // Whether the thread is to end once the lines that have come are answered.
     is_stopping: bool,
+    // Whether no client is answered any more.
+    is_cut: bool,
     has_ended: bool,
 }
 
@@ -25,6 +27,7 @@ impl ControlClient {
         ControlClient(Mutex::new(ClientState {
             socket: None,
             is_stopping: false,
+            is_cut: false,
             has_ended: false,
         }))
     }
@@ -42,6 +45,11 @@ impl ControlClient {
     /// The thread is to end once the lines that have come are answered.
     pub(super) fn stop<R: Wait>(&self, rt: &R) {
         self.0.lock(rt).stop();
+    }
+
+    /// From now on nothing is written to the client, nor to a later one.
+    pub(super) fn cut<R: Wait>(&self, rt: &R) {
+        self.0.lock(rt).cut();
     }
 
     /// Whether the thread is to end.
@@ -69,6 +77,9 @@ impl ClientState {
         if self.is_stopping {
             end_input_of(socket);
         }
+        if self.is_cut {
+            end_both_of(socket);
+        }
     }
 
     fn end(&mut self)
@@ -84,6 +95,15 @@ impl ClientState {
         self.is_stopping = true;
         if let Some(socket) = self.socket {
             end_input_of(socket);
+        }
+    }
+
+    fn cut(&mut self)
+        ensures { self.new.is_cut ≡ true }
+    {
+        self.is_cut = true;
+        if let Some(socket) = self.socket {
+            end_both_of(socket);
         }
     }
 }

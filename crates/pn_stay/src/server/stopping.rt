@@ -6,11 +6,12 @@ ghost use Rattle.pn_live.specs.Prelude.{tablets_in};
 use crate::counters::{Counters, StreamCounters};
 use crate::listener::Listener;
 use crate::server::control_client::ControlClient;
-use crate::socket_mailbox::{SocketMailbox, have_ended};
+use crate::socket_mailbox::{SocketMailbox, are_silent, have_ended};
 use pn_live::LiveRegion;
 use pn_serve::{ControlMailboxes, ControlsClosed, StopAsked, take_commands_for};
 use std::alloc::Global;
 use std::sync::{Arc, Wait};
+use std::thread;
 use std::time::{Clock, Duration, Instant};
 
 /// How many milliseconds the writer waits for a command before it looks at the threads again.
@@ -21,6 +22,13 @@ const TELLING: u64 = 200;
 
 /// For how many milliseconds control sessions may end also where no time is left.
 const CLOSING: u64 = 1_000;
+
+/// For how many milliseconds at most a thread that answers is waited for, once it is to answer nothing more. It is silent after the
+/// turn that it gives.
+const CUTTING: u64 = 10_000;
+
+/// How many milliseconds a wait for such threads takes.
+const CUT_STEP: u64 = 1;
 
 /// What a stop needs of a server: its listening sockets, the mailboxes and clients of its threads, and its counters.
 #[derive(Drop)]
@@ -105,6 +113,22 @@ impl Stopping {
         }
         if let Some(control) = &self.control {
             control.stop();
+        }
+    }
+
+    /// From now on nothing is answered.
+    pub(super) fn cut<R: Wait + Clock>(&self, rt: &R) {
+        for client in &self.clients {
+            client.cut(rt);
+        }
+        for mailbox in self.mailboxes.iter() {
+            let _ = mailbox.tell_cut(rt);
+        }
+        for _ in 0..CUTTING / CUT_STEP {
+            if are_silent(rt, &self.mailboxes) {
+                return;
+            }
+            thread::sleep(rt, Duration::from_millis(CUT_STEP));
         }
     }
 
