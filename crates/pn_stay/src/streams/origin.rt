@@ -4,7 +4,7 @@ use crate::streams::fifo::FifoWriters;
 use crate::streams::input::StreamSource;
 use crate::streams::notes::StreamNotes;
 use crate::streams::sockets::{SocketWriters, end_socket};
-use pn_serve::{Origin, StreamState, WriterEnd};
+use pn_serve::{Origin, WriterEnd};
 use std::fs::{File, Files};
 use std::net::Net;
 use std::sync::Wait;
@@ -33,15 +33,13 @@ where
     ghost may_go_on = { Unit {0} };
 
     fn next_writer(&mut self, last: u64) -> Option<StreamSource<R>> {
-        let source = match &mut self.writers {
-            Writers::File(source) => source.take(),
-            Writers::Fifo(writers) => Some(writers.next_writer(&self.notes)),
-            Writers::Socket(writers) => Some(writers.next_writer(&self.notes, last)),
+        let (source, open) = match &mut self.writers {
+            Writers::File(source) => (source.take()?, self.notes.open()),
+            Writers::Fifo(writers) => writers.next_writer(&self.notes),
+            Writers::Socket(writers) => writers.next_writer(&self.notes, last),
         };
-        if source.is_some() {
-            self.notes.set_state(StreamState::Open);
-        }
-        source
+        self.notes.keep_open(open);
+        Some(source)
     }
 
     fn hand_on(&mut self, last: u64) {
@@ -49,7 +47,7 @@ where
     }
 
     fn end_writer(&mut self, source: StreamSource<R>, end: &WriterEnd, _last: u64) {
-        self.notes.tell_end(end);
+        self.notes.tell_end(self.notes.reopen(), end);
         match &mut self.writers {
             Writers::File(_) => {}
             Writers::Fifo(writers) => writers.end_writer(source, end),
@@ -59,6 +57,6 @@ where
 
     fn stop_writer(&mut self, source: StreamSource<R>) {
         end_socket(source, &WriterEnd::End);
-        self.notes.set_state(StreamState::Ended);
+        self.notes.end(self.notes.reopen());
     }
 }

@@ -5,11 +5,14 @@ ghost use Rattle.std.specs.Prelude.{◌≡◌, true};
 use crate::seldom::Seldom;
 use crate::streams::input::{SOCKET_READ_SIZE, StreamInput, StreamSource, open_source};
 use crate::streams::listener::StreamListener;
-use crate::streams::notes::StreamNotes;
+use crate::streams::notes::{OpenStream, StreamNotes};
 use crate::streams::writer::WriterSocket;
 use pn_line::Source;
-use pn_serve::{StreamState, WriterEnd};
-use std::sync::Wait;
+use pn_serve::WriterEnd;
+use std::fs::{File, Files};
+use std::net::Net;
+use std::os::unix::net::UnixStream;
+use std::sync::{Arc, Wait};
 use std::time::{Clock, Duration};
 use std::{io, thread};
 
@@ -19,7 +22,7 @@ const RETRY: u64 = 100;
 /// The writers of a socket.
 #[derive(Drop)]
 pub(crate) struct SocketWriters {
-    listener: StreamListener,
+    listener: Arc<StreamListener>,
     path: String,
     has_begun: bool,
     refusals: Seldom,
@@ -27,7 +30,7 @@ pub(crate) struct SocketWriters {
 
 impl SocketWriters {
     /// The writers that come to the socket at a path.
-    pub(crate) fn new(listener: StreamListener, path: String) -> SocketWriters {
+    pub(crate) fn new(listener: Arc<StreamListener>, path: String) -> SocketWriters {
         SocketWriters {
             listener,
             path,
@@ -37,36 +40,59 @@ impl SocketWriters {
     }
 
     /// Waits for the next writer that writes anything. It is sent the position after which the stream goes on.
-    pub(crate) fn next_writer<R>(&mut self, notes: &StreamNotes<R>, last: u64) -> StreamSource<R>
+    pub(crate) fn next_writer<R>(
+        &mut self,
+        notes: &StreamNotes<R>,
+        last: u64,
+    ) -> (StreamSource<R>, OpenStream)
     where
-        R: Wait + Clock + Copy + Drop,
+        R: Files<File = File> + Net + Wait + Clock + Copy + Drop,
     {
         for _ in notes.rt.forever() {
+            self.listener.look(&notes.rt);
             match self.accept(notes, last) {
-                Ok(source) => {
+                Ok(Some(source)) => {
                     let mut source = source;
-                    notes.set_state(StreamState::Open);
+                    let open = notes.open();
                     if source.has_more().unwrap_or(false) {
                         self.note_begin(notes);
-                        return source;
+                        return (source, open);
                     }
-                    notes.set_state(StreamState::Ended);
+                    notes.end(open);
                 }
+                Ok(None) => {}
                 Err(error) => self.note_refusal(notes, &error),
             }
         }
         unreachable!()
     }
 
-    fn accept<R>(&self, notes: &StreamNotes<R>, last: u64) -> io::Result<StreamSource<R>>
+    // Waits for a writer, but not for long.
+    fn accept<R>(&self, notes: &StreamNotes<R>, last: u64) -> io::Result<Option<StreamSource<R>>>
     where
-        R: Wait + Clock + Copy + Drop,
+        R: Files<File = File> + Net + Wait + Clock + Copy + Drop,
     {
-        let stream = self.listener.accept()?;
+        match self.listener.accept(&notes.rt)? {
+            Some(stream) => Ok(Some(self.begin(notes, stream, last)?)),
+            None => Ok(None),
+        }
+    }
+
+    fn begin<R>(
+        &self,
+        notes: &StreamNotes<R>,
+        stream: UnixStream,
+        last: u64,
+    ) -> io::Result<StreamSource<R>>
+    where
+        R: Files<File = File> + Net + Wait + Clock + Copy + Drop,
+    {
         let positions = notes.positions.try_clone()?;
-        let socket = WriterSocket::begin(notes.rt, notes.alloc, stream, positions, last)?;
+        let listener = Arc::try_clone(&self.listener)?;
+        let alloc = notes.teller.alloc;
+        let socket = WriterSocket::begin(notes.rt, alloc, stream, positions, last, listener)?;
         let input = StreamInput::Socket(socket);
-        open_source(notes.alloc, input, SOCKET_READ_SIZE, &notes.counters)
+        open_source(alloc, input, SOCKET_READ_SIZE, &notes.counters)
     }
 
     // Every writer but the first begins again.
@@ -91,7 +117,10 @@ impl SocketWriters {
 }
 
 /// Sends a writer how its input ended, and closes its socket.
-pub(crate) fn end_socket<R: Clock + Drop>(source: StreamSource<R>, end: &WriterEnd) {
+pub(crate) fn end_socket<R>(source: StreamSource<R>, end: &WriterEnd)
+where
+    R: Files<File = File> + Net + Wait + Clock + Drop,
+{
     let (reader, _) = source.into_parts();
     if let StreamInput::Socket(socket) = reader.into_inner() {
         let mut socket = socket;
