@@ -6,7 +6,7 @@ ghost use Rattle.pn_stay.specs.declared.socket_file.ListenFault.TheVariants.{Loc
 
 use libc::net::listen;
 use mio::net::UnixStream as Caller;
-use std::alloc::{AllocError, Global};
+use std::alloc::{AllocError, AllocFailed, Global};
 use std::fs::{File, Files, Metadata, OpenOptions, Permissions, TryLockError};
 use std::io::ErrorKind;
 use std::net::Net;
@@ -35,6 +35,12 @@ pub enum ListenFault {
 impl From<AllocError> for ListenFault {
     fn from(fault: AllocError) -> ListenFault {
         ListenFault::Path(io::Error::from(fault))
+    }
+}
+
+impl<T: Drop> From<AllocFailed<T>> for ListenFault {
+    fn from(fault: AllocFailed<T>) -> ListenFault {
+        ListenFault::from(AllocError::from(fault))
     }
 }
 

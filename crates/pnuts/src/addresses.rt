@@ -81,7 +81,12 @@ where
     match &service.address {
         Address::Port(host, port) => match Listener::bind_port(rt, *host, *port) {
             Ok(listener) => Ok(listener),
-            Err(error) => Err(refuse_port(rt, SocketAddr::from((*host, *port)), error, is_explained)),
+            Err(error) => Err(refuse_port(
+                rt,
+                SocketAddr::from((*host, *port)),
+                error,
+                is_explained,
+            )),
         },
         Address::Path(path) => match bind_path(rt, path.as_str(), service.socket_mode, files) {
             Ok(listener) => Ok(listener),

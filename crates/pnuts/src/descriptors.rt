@@ -30,7 +30,9 @@ pub(crate) fn check_descriptors(
     if needed <= allowed {
         return Ok(());
     }
-    let _ = eprintln!(rt; "pnuts: cannot start: {needed} descriptors are needed, and {allowed} are allowed");
+    let _ = eprintln!(rt;
+        "pnuts: cannot start: {needed} descriptors are needed, and {allowed} are allowed"
+    );
     Err(ExitCode::FAILURE)
 }
 

@@ -136,7 +136,12 @@ where
                     }
                     self.wait(notes);
                 }
-                AtHand::Writer => self.wait(notes),
+                AtHand::Writer => {
+                    if self.is_replaced(notes) {
+                        self.tell_left(notes);
+                    }
+                    self.wait(notes);
+                }
                 AtHand::Nobody => {
                     self.is_faulty = false;
                     if self.is_replaced(notes) {
@@ -176,6 +181,16 @@ where
         if let Err(error) = self.poll.wait() {
             self.tell_refusal(notes, "wait for", &error);
             thread::sleep(&notes.rt, Duration::from_millis(RETRY));
+        }
+    }
+
+    // Tells that a writer of the FIFO that was at the path is waited for.
+    fn tell_left(&mut self, notes: &StreamNotes<R>) {
+        if self.refusals.is_due(&notes.rt) {
+            notes.tell_path(
+                "waits for a writer of the FIFO that was at",
+                self.path.as_str(),
+            );
         }
     }
 

@@ -1,6 +1,6 @@
 //! FIFOs that are opened, looked at and waited for without waiting for a writer.
 
-ghost use Rattle.std.specs.Prelude.{◌≡◌};
+ghost use Rattle.std.specs.Prelude.{◌≡◌, false, true};
 
 use crate::streams::listener::LOOK;
 use libc::net::{POLLHUP, POLLIN, poll};
@@ -66,7 +66,10 @@ pub(crate) fn look_at(number: RawFd) -> AtHand {
         revents: 0,
     }];
     poll(&mut looks, 0);
-    name_reports(looks[0].revents & POLLIN != 0, looks[0].revents & POLLHUP != 0)
+    name_reports(
+        looks[0].revents & POLLIN != 0,
+        looks[0].revents & POLLHUP != 0,
+    )
 }
 
 // What is at hand where the system reports that there are bytes, or that all writers have gone.

@@ -81,11 +81,13 @@ impl StreamListener {
             Ok(Some(listener)) => {
                 limit_wait(&listener);
                 now.listener = listener;
-                self.teller.tell_path(rt, "listens again at", self.file.path());
+                self.teller
+                    .tell_path(rt, "listens again at", self.file.path());
             }
             Err(error) => {
                 if now.refusals.is_due(rt) {
-                    self.teller.tell_error(rt, "listen for", self.file.path(), &error);
+                    self.teller
+                        .tell_error(rt, "listen for", self.file.path(), &error);
                 }
             }
         }
