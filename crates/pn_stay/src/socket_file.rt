@@ -4,6 +4,7 @@ ghost use Rattle.std.specs.Prelude.{◌≡◌, ◌≢◌, ◌++◌, codes, false
 ghost use Rattle.std.specs.IoError.{error_kind};
 ghost use Rattle.pn_stay.specs.declared.socket_file.ListenFault.TheVariants.{Lock, Path};
 
+use libc::EADDRINUSE;
 use libc::net::listen;
 use mio::net::UnixStream as Caller;
 use std::alloc::{AllocError, AllocFailed, Global};
@@ -198,9 +199,7 @@ fn lock_path<R: Files<File = File>>(
     };
     match file.try_lock() {
         Ok(()) => Ok(file),
-        Err(TryLockError::WouldBlock) => Err(ListenFault::Path(io::Error::from(
-            ErrorKind::AddrInUse,
-        ))),
+        Err(TryLockError::WouldBlock) => Err(ListenFault::Path(address_in_use())),
         Err(TryLockError::Error(error)) => Err(ListenFault::Lock(error)),
     }
 }
@@ -214,6 +213,11 @@ fn refuse_lock(error: io::Error) -> ListenFault
         ErrorKind::NotFound => ListenFault::Path(error),
         _ => ListenFault::Lock(error),
     }
+}
+
+// The system's error where somebody has an address.
+fn address_in_use() -> io::Error {
+    io::Error::from_raw_os_error(EADDRINUSE)
 }
 
 // Makes a socket at a path, and tells which file it is.
@@ -264,7 +268,7 @@ fn begin_to_listen<R: Files>(
 ) -> io::Result<UnixListener> {
     fs::set_permissions(rt, path, Permissions::from_mode(permissions))?;
     if listen(socket.as_raw_fd(), BACKLOG) != 0 {
-        return Err(io::Error::from(ErrorKind::AddrInUse));
+        return Err(address_in_use());
     }
     Ok(UnixListener::from(socket))
 }
