@@ -2,7 +2,7 @@
 
 use pn_join::LAST_POSITION;
 use pn_line::Source;
-use pn_serve::{Origin, Stream, WriterEnd};
+use pn_serve::{NextWriter, Origin, Stream, WriterEnd};
 use pn_stay::{StreamOrigin, StreamSource};
 use pn_stream::{NoWait, ResumeFault, StreamFault, StreamReader};
 use std::alloc::Global;
@@ -35,11 +35,11 @@ pub(super) fn read_writer<R>(
 where
     R: Files<File = File> + Net + Wait + Clock + Copy + Drop,
 {
-    let last = last.min(LAST_POSITION);
-    let source = stream.origin.next_writer(last)?;
-    let mut reader = StreamReader::new(alloc, stream.name, last, source);
+    let NextWriter { source, after } = stream.origin.next_writer(last)?;
+    let after = after.min(LAST_POSITION);
+    let mut reader = StreamReader::new(alloc, stream.name, after, source);
     let end = read_to_end(alloc, stream, &mut reader);
-    let last = last.max(reader.position());
+    let last = after.max(reader.position());
     stream.origin.end_writer(reader.into_source(), &end, last);
     Some(last)
 }
