@@ -1,6 +1,6 @@
 //! Streams from a socket: one writer after another.
 
-ghost use Rattle.std.specs.Prelude.{◌≡◌, true};
+ghost use Rattle.std.specs.Prelude.{◌≡◌, ◌≤◌, max, true, IfOk, IfSome};
 
 use crate::seldom::Seldom;
 use crate::streams::input::{SOCKET_READ_SIZE, StreamInput, StreamSource, open_source};
@@ -8,7 +8,7 @@ use crate::streams::listener::StreamListener;
 use crate::streams::notes::{OpenStream, StreamNotes};
 use crate::streams::writer::WriterSocket;
 use pn_line::Source;
-use pn_serve::WriterEnd;
+use pn_serve::{NextWriter, WriterEnd};
 use std::fs::{File, Files};
 use std::net::Net;
 use std::os::unix::net::UnixStream;
@@ -39,24 +39,26 @@ impl SocketWriters {
         }
     }
 
-    /// Waits for the next writer that writes anything. It is sent the position after which the stream goes on.
+    /// Waits for the next writer that writes anything. It is sent the position after which it begins: the greater of `last`
+    /// and the region's mark.
     pub(crate) fn next_writer<R>(
         &mut self,
         notes: &StreamNotes<R>,
         last: u64,
-    ) -> (StreamSource<R>, OpenStream)
+    ) -> (NextWriter<StreamSource<R>>, OpenStream)
     where
         R: Files<File = File> + Net + Wait + Clock + Copy + Drop,
+        ensures { last ≤ result.0.after }
     {
         for _ in notes.rt.forever() {
             self.listener.look(&notes.rt);
             match self.accept(notes, last) {
-                Ok(Some(source)) => {
-                    let mut source = source;
+                Ok(Some(next)) => {
+                    let mut next = next;
                     let open = notes.open();
-                    if source.has_more().unwrap_or(false) {
+                    if next.source.has_more().unwrap_or(false) {
                         self.note_begin(notes);
-                        return (source, open);
+                        return (next, open);
                     }
                     notes.end(open);
                 }
@@ -68,9 +70,14 @@ impl SocketWriters {
     }
 
     // Waits for a writer, but not for long.
-    fn accept<R>(&self, notes: &StreamNotes<R>, last: u64) -> io::Result<Option<StreamSource<R>>>
+    fn accept<R>(
+        &self,
+        notes: &StreamNotes<R>,
+        last: u64,
+    ) -> io::Result<Option<NextWriter<StreamSource<R>>>>
     where
         R: Files<File = File> + Net + Wait + Clock + Copy + Drop,
+        ensures { IfOk result (λ next. IfSome next (λ next. last ≤ next.after)) }
     {
         match self.listener.accept(&notes.rt)? {
             Some(stream) => Ok(Some(self.begin(notes, stream, last)?)),
@@ -83,16 +90,19 @@ impl SocketWriters {
         notes: &StreamNotes<R>,
         stream: UnixStream,
         last: u64,
-    ) -> io::Result<StreamSource<R>>
+    ) -> io::Result<NextWriter<StreamSource<R>>>
     where
         R: Files<File = File> + Net + Wait + Clock + Copy + Drop,
+        ensures { IfOk result (λ next. last ≤ next.after) }
     {
         let positions = notes.positions.try_clone()?;
+        let after = position_after(last, positions.taken.get());
         let listener = Arc::try_clone(&self.listener)?;
         let alloc = notes.teller.alloc;
-        let socket = WriterSocket::begin(notes.rt, alloc, stream, positions, last, listener)?;
+        let socket = WriterSocket::begin(notes.rt, alloc, stream, positions, after, listener)?;
         let input = StreamInput::Socket(socket);
-        open_source(alloc, input, SOCKET_READ_SIZE, &notes.counters)
+        let source = open_source(alloc, input, SOCKET_READ_SIZE, &notes.counters)?;
+        Ok(NextWriter { source, after })
     }
 
     // Every writer but the first begins again.
@@ -114,6 +124,13 @@ impl SocketWriters {
         }
         thread::sleep(&notes.rt, Duration::from_millis(RETRY));
     }
+}
+
+/// The position after which a writer begins, where messages up to `last` were handed to rounds and up to `taken` were taken.
+pub(crate) fn position_after(last: u64, taken: u64) -> u64
+    ensures { result ≡ max last taken }
+{
+    last.max(taken)
 }
 
 /// Sends a writer how its input ended, and closes its socket.
