@@ -101,10 +101,7 @@ fn remove_files<R: Files>(rt: &R, alloc: Global) -> io::Result<()> {
     Ok(())
 }
 
-fn listen<R: Files<File = File> + Net + Wait>(
-    rt: &R,
-    alloc: Global,
-) -> io::Result<SocketAcceptor> {
+fn listen<R: Files<File = File> + Net + Wait>(rt: &R, alloc: Global) -> io::Result<SocketAcceptor> {
     let (clients, _) = Listener::bind_path(rt, alloc, CLIENTS, OWNER_ALONE)?;
     let (control, _) = Listener::bind_path(rt, alloc, CONTROL, OWNER_ALONE)?;
     Ok(new_acceptor(alloc, clients, Some(control), None)?)
