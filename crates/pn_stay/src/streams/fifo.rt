@@ -1,6 +1,6 @@
 //! Streams from a FIFO: its descriptor is kept, and read on once another writer writes.
 
-ghost use Rattle.std.specs.Prelude.{◌≡◌, ◌↔◌, Some, IsFalse};
+ghost use Rattle.std.specs.Prelude.{◌≡◌, ◌↔◌, Some, true, IsFalse};
 ghost use Rattle.pn_serve.specs.declared.server.writers.WriterEnd.TheVariants.{End};
 
 use crate::seldom::Seldom;
