@@ -1,7 +1,7 @@
 //! Where the program listens.
 
 use crate::failures::{fail, fail_at, is_explained};
-use pn_serve::{Address, Service};
+use pn_arguments::{Address, Service};
 use pn_stay::{Listener, OWNER_ALONE, remove_sockets};
 use std::fs::File;
 use std::net::{Net, SocketAddr, TcpListener, TcpStream};

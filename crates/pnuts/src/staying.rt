@@ -2,12 +2,13 @@
 
 ghost use Rattle.std.specs.Prelude.{◌≤◌, vec_len, IfSome};
 ghost use Rattle.pn_live.specs.Prelude.{tablets_in};
-ghost use Rattle.pn_serve.specs.declared.arguments.options.TheConstants.{MAX_SESSIONS};
+ghost use Rattle.pn_serve.specs.declared.server.limits.TheConstants.{MAX_SESSIONS};
 ghost use Rattle.pn_serve.specs.Server.Sessions.{AllRead};
 
 use crate::addresses::remove_places;
 use crate::failures::{fail, fail_serving, fail_with};
-use pn_serve::{OpenedRegion, ServeFault, Service, Settings};
+use pn_arguments::Service;
+use pn_serve::{OpenedRegion, ServeFault, Settings};
 use pn_stay::{ServerSizes, SocketAcceptor, StayingServer, message_prefix};
 use std::io;
 use std::io::ErrorKind;
