@@ -9,7 +9,8 @@ use Rattle.clap.specs.ValueTests.{is_unsigned_in}
 use Rattle.clap.specs.Words.{Row, Text, all_of, first_of, one_of}
 use Rattle.pn_json.specs.Answers.{◌>>=◌}
 use Rattle.pn_apply.specs.declared.reducing.TheConstants.{MAX_WORKERS}
-use Rattle.pn_arguments.specs.declared.options.TheConstants.{MAX_CONNECTIONS, MAX_IDLE, MAX_PORT, MAX_SESSIONS}
+use Rattle.pn_arguments.specs.declared.options.TheConstants.{MAX_CONNECTIONS, MAX_IDLE, MAX_PORT}
+use Rattle.pn_serve.specs.declared.server.limits.TheConstants.{MAX_SESSIONS}
 use Rattle.pn_serve.specs.Settings.{SettingsValue}
 use Rattle.pn_arguments.specs.Bounds.{bounds_in}
 use Rattle.pn_arguments.specs.Permissions.{permissions_in}
