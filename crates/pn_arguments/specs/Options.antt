@@ -70,7 +70,7 @@ progress_flag = flag_option (codes "progress")
 
 -- how many connections are served at once
 abbrev pub connections_option : Rule
-connections_option = number_option (codes "connections") (codes "1024") MAX_CONNECTIONS
+connections_option = number_option (codes "connections") (codes "512") MAX_CONNECTIONS
 
 -- the text of copies that the region starts from
 abbrev pub copies_option : Rule

@@ -119,7 +119,7 @@ fn serve<'w>(alloc: Global) -> Result<Command<'w>, AllocError>
             alloc,
             "connections",
             "N",
-            "1024",
+            "512",
             MAX_CONNECTIONS,
             CONNECTIONS_HELP,
         ))?
