@@ -39,9 +39,9 @@ pub use script::line_loop::{LineLoop, LineState, Step, TURN_UNITS};
 pub use script::replies::{BLOCK, REPLY_CAPACITY, ReplyBuffer, SendOutcome};
 pub use script::{Counts, MAX_LINES, RunFault, run, run_to_exit};
 pub use server::{
-    Acceptor, ComesBack, Counter, FaultLog, MAX_SESSIONS, OpenedRegion, Origin, ServeFault,
-    SessionThread, Stream, StreamFailure, StreamPath, Watchers, WriterEnd, close_region,
-    join_sessions, open_region, read_streams, serve, serve_from, take_commands,
+    Acceptor, ComesBack, Counter, FaultLog, MAX_SESSIONS, NextWriter, OpenedRegion, Origin,
+    ServeFault, SessionThread, Stream, StreamFailure, StreamPath, Watchers, WriterEnd,
+    close_region, join_sessions, open_region, read_streams, serve, serve_from, take_commands,
 };
 pub use sessions::counting_reader::CountingReader;
 pub use sessions::going::Going;

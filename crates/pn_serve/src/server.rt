@@ -62,7 +62,7 @@ use std::thread::Threads;
 use std::time::Clock;
 pub use stream_path::StreamPath;
 pub use streams::{Watchers, read_streams};
-pub use writers::{Origin, Stream, WriterEnd};
+pub use writers::{NextWriter, Origin, Stream, WriterEnd};
 
 /// A live region and its readers. It is not `Drop`: end it by `close_region`.
 pub struct OpenedRegion {

@@ -1,6 +1,6 @@
 //! Streams from a socket: one writer after another.
 
-ghost use Rattle.std.specs.Prelude.{◌≡◌, true};
+ghost use Rattle.std.specs.Prelude.{◌≡◌, ◌≤◌, max, true, IfOk};
 
 use crate::seldom::Seldom;
 use crate::streams::input::{SOCKET_READ_SIZE, StreamInput, StreamSource, open_source};
@@ -8,7 +8,7 @@ use crate::streams::listener::StreamListener;
 use crate::streams::notes::StreamNotes;
 use crate::streams::writer::WriterSocket;
 use pn_line::Source;
-use pn_serve::{StreamState, WriterEnd};
+use pn_serve::{NextWriter, StreamState, WriterEnd};
 use std::sync::Wait;
 use std::time::{Clock, Duration};
 use std::{io, thread};
@@ -36,19 +36,25 @@ impl SocketWriters {
         }
     }
 
-    /// Waits for the next writer that writes anything. It is sent the position after which the stream goes on.
-    pub(crate) fn next_writer<R>(&mut self, notes: &StreamNotes<R>, last: u64) -> StreamSource<R>
+    /// Waits for the next writer that writes anything. It is sent the position after which it begins: the greater of `last`
+    /// and the region's mark.
+    pub(crate) fn next_writer<R>(
+        &mut self,
+        notes: &StreamNotes<R>,
+        last: u64,
+    ) -> NextWriter<StreamSource<R>>
     where
         R: Wait + Clock + Copy + Drop,
+        ensures { last ≤ result.after }
     {
         for _ in notes.rt.forever() {
             match self.accept(notes, last) {
-                Ok(source) => {
-                    let mut source = source;
+                Ok(next) => {
+                    let mut next = next;
                     notes.set_state(StreamState::Open);
-                    if source.has_more().unwrap_or(false) {
+                    if next.source.has_more().unwrap_or(false) {
                         self.note_begin(notes);
-                        return source;
+                        return next;
                     }
                     notes.set_state(StreamState::Ended);
                 }
@@ -58,15 +64,22 @@ impl SocketWriters {
         unreachable!()
     }
 
-    fn accept<R>(&self, notes: &StreamNotes<R>, last: u64) -> io::Result<StreamSource<R>>
+    fn accept<R>(
+        &self,
+        notes: &StreamNotes<R>,
+        last: u64,
+    ) -> io::Result<NextWriter<StreamSource<R>>>
     where
         R: Wait + Clock + Copy + Drop,
+        ensures { IfOk result (λ next. last ≤ next.after) }
     {
         let stream = self.listener.accept()?;
         let positions = notes.positions.try_clone()?;
-        let socket = WriterSocket::begin(notes.rt, notes.alloc, stream, positions, last)?;
+        let after = position_after(last, positions.taken.get());
+        let socket = WriterSocket::begin(notes.rt, notes.alloc, stream, positions, after)?;
         let input = StreamInput::Socket(socket);
-        open_source(notes.alloc, input, SOCKET_READ_SIZE, &notes.counters)
+        let source = open_source(notes.alloc, input, SOCKET_READ_SIZE, &notes.counters)?;
+        Ok(NextWriter { source, after })
     }
 
     // Every writer but the first begins again.
@@ -88,6 +101,13 @@ impl SocketWriters {
         }
         thread::sleep(&notes.rt, Duration::from_millis(RETRY));
     }
+}
+
+/// The position after which a writer begins, where messages up to `last` were handed to rounds and up to `taken` were taken.
+pub(crate) fn position_after(last: u64, taken: u64) -> u64
+    ensures { result ≡ max last taken }
+{
+    last.max(taken)
 }
 
 /// Sends a writer how its input ended, and closes its socket.
