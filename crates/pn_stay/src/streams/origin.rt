@@ -7,7 +7,7 @@ use crate::streams::input::StreamSource;
 use crate::streams::notes::StreamNotes;
 use crate::streams::sockets::{SocketWriters, end_socket, position_after};
 use crate::streams::writer::StreamPositions;
-use pn_serve::{NextWriter, Origin, StreamState, WriterEnd};
+use pn_serve::{NextWriter, Origin, WriterEnd};
 use std::fs::{File, Files};
 use std::net::Net;
 use std::sync::Wait;
@@ -39,15 +39,18 @@ where
 
     fn next_writer(&mut self, last: u64) -> Option<NextWriter<StreamSource<R>>> {
         let positions = &self.notes.positions;
-        let next = match &mut self.writers {
-            Writers::File(source) => begin_after(positions, last, source.take()?),
+        let (next, open) = match &mut self.writers {
+            Writers::File(source) => {
+                let source = source.take()?;
+                (begin_after(positions, last, source), self.notes.open())
+            }
             Writers::Fifo(writers) => {
-                let source = writers.next_writer(&self.notes);
-                begin_after(positions, last, source)
+                let (source, open) = writers.next_writer(&self.notes);
+                (begin_after(positions, last, source), open)
             }
             Writers::Socket(writers) => writers.next_writer(&self.notes, last),
         };
-        self.notes.set_state(StreamState::Open);
+        self.notes.keep_open(open);
         Some(next)
     }
 
@@ -56,7 +59,7 @@ where
     }
 
     fn end_writer(&mut self, source: StreamSource<R>, end: &WriterEnd, _last: u64) {
-        self.notes.tell_end(end);
+        self.notes.tell_end(self.notes.reopen(), end);
         match &mut self.writers {
             Writers::File(_) => {}
             Writers::Fifo(writers) => writers.end_writer(source, end),
@@ -66,7 +69,7 @@ where
 
     fn stop_writer(&mut self, source: StreamSource<R>) {
         end_socket(source, &WriterEnd::End);
-        self.notes.set_state(StreamState::Ended);
+        self.notes.end(self.notes.reopen());
     }
 }
 
