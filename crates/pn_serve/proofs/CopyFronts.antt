@@ -1,7 +1,8 @@
 -- A line of a copy's text that is at fault is so whatever follows the text.
 use Rattle.std.proofs.Common.{◌≡◌, ◌≢◌, ℕ, ◌+◌, ◌-◌, ◌==◌, ◌&&◌, Bool, true, false, if◌then◌else◌, List, [], ◌∷◌, ◌++◌, Result, Ok, Err, refl, sym, ap, ◌∙◌, subst, take, drop, ⊎_elim}
 use Rattle.std.proofs.lemmas.Bool.{cases_eq}
-use Rattle.pn_json.specs.Answers.{◌>>=◌}
+use Rattle.std.proofs.lemmas.List.{take-append-drop}
+use Rattle.pn_json.specs.Answers.{◌>>=◌, IsUnless}
 use Rattle.pn_line.specs.Text.{onto_first}
 use Rattle.pn_tablet.specs.Copies.{TabletCopyValue}
 use Rattle.pn_tablet.specs.CopyLineReading.{head_at, line_at}
@@ -16,6 +17,8 @@ use Rattle.pn_tablet.specs.declared.form.Form.{Form}
 use Rattle.pn_tablet.proofs.CopyPieces.{pieces_of-byte, pieces_of-newline, pieces_of-nil, pieces_of-some}
 use Rattle.pn_tablet.proofs.CopySteps.{read_on-cons, read_on-last}
 use Rattle.pn_serve.specs.Copies.Faulty.{has_faulty_line, is_of_line}
+use Rattle.pn_serve.specs.declared.copies.fault.CopiesFault.{CopiesFault}
+use Rattle.pn_serve.specs.declared.copies.fault.CopiesFault.TheVariants.{Memory}
 
 -- ---- the pieces of a text that goes on
 
@@ -128,3 +131,16 @@ pub faulty_still : (text more : List ℕ) → has_faulty_line (copy_at text) ≡
 faulty_still text more is =
     let (fault, found, of_line) = fault_of (copy_at text) is in
     ap has_faulty_line (fault_stays fault of_line text more found) ∙ of_line
+
+-- and so is a text with such a front
+pub front_faulty : (text : List ℕ) (k : ℕ) (result : Result Bool CopiesFault) → IsUnless Memory result (Ok (has_faulty_line (copy_at (take k text)))) → result ≡ Ok true
+    → has_faulty_line (copy_at text) ≡ true
+front_faulty text k (Err fault) found is = absurd (cc)
+front_faulty text k (Ok is_faulty) found is =
+    let front : has_faulty_line (copy_at (take k text)) ≡ true = cc in
+    subst (λ (t : List ℕ). has_faulty_line (copy_at t) ≡ true) (take-append-drop k text) (faulty_still (take k text) (drop k text) front)
+
+pub front_right : (text : List ℕ) (k : ℕ) (result : Result Bool CopiesFault) → IsUnless Memory result (Ok (has_faulty_line (copy_at (take k text)))) → result ≡ Ok false
+    → has_faulty_line (copy_at (take k text)) ≡ false
+front_right text k (Err fault) found is = absurd (cc)
+front_right text k (Ok is_faulty) found is = cc

@@ -1,6 +1,7 @@
 pub mod Buffers
 pub mod Coming
 pub mod Crossing
+pub mod Endings
 pub mod Faults
 pub mod Inputs
 pub mod Outputs

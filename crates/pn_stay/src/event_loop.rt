@@ -2,8 +2,10 @@
 
 ghost use Rattle.std.specs.Prelude.{◌≡◌, ◌≢◌, ◌+◌, ◌↔◌, ℕ, None, OnErr, OnOk, IsTrue, vec_len};
 ghost use Rattle.pn_serve.specs.Session.Knowing.{KnowsNoLess};
-ghost use Rattle.pn_stay.specs.Loops.{idle_at, quarter_later, EndsQuarter, IsIdleFor};
+ghost use Rattle.pn_stay.specs.Loops.{ending_at, idle_at, quarter_later, EndsQuarter, IsIdleFor};
 ghost use Rattle.slab.specs.Slab.{slab_len, Updates};
+
+mod ending;
 
 use crate::connection::Connection;
 use crate::connection_state::{Pause, ThreadBuffers};
@@ -189,19 +191,6 @@ impl EventLoop {
         self.lingering.close(rt);
     }
 
-    // Once the thread is to end, the input of each client ends after what has come of it.
-    fn end_inputs<R: Wait>(&mut self, rt: &R, mailbox: &SocketMailbox) {
-        if !mailbox.is_stopping(rt) {
-            return;
-        }
-        'inputs: for key in 0..self.connections.capacity() {
-            if let Some(connection) = self.connections.get_mut(key) {
-                connection.end_input();
-            }
-            make_ready(&mut self.connections, &mut self.ready, key);
-        }
-    }
-
     // Four times a second ends the connections whose clients are idle for too long.
     fn end_idle<R: Wait>(&mut self, rt: &R, mailbox: &SocketMailbox) {
         let Some(idle) = self.idle else { return };
@@ -289,7 +278,8 @@ fn age(connections: &mut Slab<Connection>, ready: &mut Vec<usize>, key: usize, i
 
 // Puts a connection among those that are ready, where there is memory for its key.
 fn make_ready(connections: &mut Slab<Connection>, ready: &mut Vec<usize>, key: usize)
-    ensures { (other : ℕ) → idle_at connections.new other ≡ idle_at connections.old other }
+    ensures idle { (other : ℕ) → idle_at connections.new other ≡ idle_at connections.old other }
+    ensures ending { (other : ℕ) → ending_at connections.new other ≡ ending_at connections.old other }
 {
     if let Some(connection) = connections.get_mut(key) {
         if !connection.is_ready {

@@ -1,8 +1,8 @@
 //! The mailbox of a session thread: sockets that were accepted for it.
 
-ghost use Rattle.std.specs.Prelude.{◌≡◌, true};
+ghost use Rattle.std.specs.Prelude.{◌≡◌, ◌+◌, false, true, OnErr, OnOk, vec_len};
 
-use crate::connection_limit::ConnectionLimit;
+use crate::connection_limit::{ConnectionLimit, Place};
 use crate::socket::Socket;
 use mio::Waker;
 use std::alloc::Global;
@@ -33,13 +33,30 @@ struct MailboxState {
 #[derive(Drop)]
 pub(crate) struct Closed(());
 
+/// Why a mailbox has no socket, with the place of its connection; or, with none, why its thread was not woken.
+pub(crate) struct Refusal {
+    pub(crate) error: io::Error,
+    pub(crate) place: Option<Place>,
+}
+
 impl MailboxState {
-    fn put(&mut self, socket: Socket) -> io::Result<()> {
+    fn put(&mut self, socket: Socket) -> io::Result<()>
+        ensures put { OnOk result (vec_len self.new.sockets ≡ vec_len self.old.sockets + 1) }
+        ensures refused { OnErr result (vec_len self.new.sockets ≡ vec_len self.old.sockets) }
+    {
         if self.is_closed {
             return Err(io::Error::from(io::ErrorKind::NotConnected));
         }
         self.sockets.push(socket)?;
         Ok(())
+    }
+
+    // Whether a quarter of a second is over since the last call.
+    fn take_quarter(&mut self) -> bool
+        ensures over { result ≡ self.old.is_quarter_over }
+        ensures taken { self.new.is_quarter_over ≡ false }
+    {
+        mem::replace(&mut self.is_quarter_over, false)
     }
 
     // From now on it takes no socket.
@@ -83,10 +100,18 @@ impl SocketMailbox {
         }
     }
 
-    /// Puts a socket in, and wakes the thread. An error drops the socket.
-    pub(crate) fn put<R: Wait>(&self, rt: &R, socket: Socket) -> io::Result<()> {
-        self.state.lock(rt).put(socket)?;
-        self.waker.wake()
+    /// Puts a socket in with the place of its connection, and wakes the thread. A socket that it refuses is dropped.
+    pub(crate) fn put<R: Wait>(&self, rt: &R, socket: Socket, place: Place) -> Result<(), Refusal> {
+        let put = self.state.lock(rt).put(socket);
+        if let Err(error) = put {
+            let place = Some(place);
+            return Err(Refusal { error, place });
+        }
+        place.hand_over();
+        match self.waker.wake() {
+            Ok(()) => Ok(()),
+            Err(error) => Err(Refusal { error, place: None }),
+        }
     }
 
     /// Takes all sockets.
@@ -118,7 +143,7 @@ impl SocketMailbox {
 
     /// Whether a quarter of a second is over since the last call.
     pub(crate) fn take_quarter<R: Wait>(&self, rt: &R) -> bool {
-        mem::replace(&mut self.state.lock(rt).is_quarter_over, false)
+        self.state.lock(rt).take_quarter()
     }
 
     /// The thread has ended: from now on it takes no socket. Those that it did not take are closed.
@@ -139,7 +164,7 @@ impl SocketMailbox {
 
     /// A connection has ended.
     pub(crate) fn release<R: Wait>(&self, rt: &R) {
-        self.limit.release(rt);
+        self.limit.release_ended(rt);
     }
 }
 

@@ -1,7 +1,7 @@
 //! Where the program listens.
 
 use crate::failures::{fail, fail_to_listen, is_explained};
-use pn_serve::{Address, Service};
+use pn_arguments::{Address, Service};
 use pn_stay::{ListenFault, Listener, OWNER_ALONE, SocketFile};
 use std::fs::File;
 use std::io;

@@ -1,10 +1,11 @@
 //! Whether the system allows as many descriptors as a server needs.
 
 ghost use Rattle.std.specs.Prelude.{◌≤◌};
-ghost use Rattle.pn_serve.specs.declared.arguments.options.TheConstants.{MAX_SESSIONS};
+ghost use Rattle.pn_serve.specs.declared.server.limits.TheConstants.{MAX_SESSIONS};
 
 use pn_join::Name;
-use pn_serve::{Service, StreamPath};
+use pn_arguments::Service;
+use pn_serve::StreamPath;
 use pn_stay::{DescriptorUses, allowed_descriptors, count_descriptors};
 use std::process::ExitCode;
 

@@ -1,7 +1,8 @@
 //! What is printed on standard error where the program fails.
 
+use pn_arguments::Service;
 use pn_join::Name;
-use pn_serve::{FaultLog, ServeFault, Service, StreamFailure, WriterEnd};
+use pn_serve::{FaultLog, ServeFault, StreamFailure, WriterEnd};
 use pn_stay::{ListenFault, StreamOpenFault, describe_error, format_failure, format_lock};
 use std::alloc::Global;
 use std::io;

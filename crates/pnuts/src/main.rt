@@ -3,7 +3,7 @@
 
 ghost use Rattle.std.specs.Prelude.{◌≤◌, vec_len, IfOk, IfSome};
 ghost use Rattle.pn_live.specs.Prelude.{tablets_in};
-ghost use Rattle.pn_serve.specs.declared.arguments.options.TheConstants.{MAX_SESSIONS};
+ghost use Rattle.pn_serve.specs.declared.server.limits.TheConstants.{MAX_SESSIONS};
 ghost use Rattle.pn_serve.specs.Server.Sessions.{AllRead};
 
 mod addresses;
@@ -20,10 +20,9 @@ use crate::failures::fail;
 use crate::inputs::{Notes, Streams, open_acceptor, open_streams, refuse_start};
 use crate::sessions::serve_streams;
 use crate::staying::{answer_on, fail_to_stay, start_server};
+use pn_arguments::{Plan, PlanFault, Service, plan};
 use pn_join::Name;
-use pn_serve::{
-    OpenedRegion, Plan, PlanFault, RunFault, Service, Settings, StreamPath, plan, run_to_exit,
-};
+use pn_serve::{OpenedRegion, RunFault, Settings, StreamPath, run_to_exit};
 use pn_stay::{
     Counters, MessagePrinter, Messages, Shortages, SocketAcceptor, SocketFile, message_prefix,
     remove_sockets, tell_progress,

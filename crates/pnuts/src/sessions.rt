@@ -2,11 +2,12 @@
 
 ghost use Rattle.std.specs.Prelude.{◌≤◌, IfSome};
 ghost use Rattle.pn_live.specs.Prelude.{tablets_in};
-ghost use Rattle.pn_serve.specs.declared.arguments.options.TheConstants.{MAX_SESSIONS};
+ghost use Rattle.pn_serve.specs.declared.server.limits.TheConstants.{MAX_SESSIONS};
 ghost use Rattle.pn_serve.specs.Server.Sessions.{AllRead};
 
 use crate::failures::fail_noted;
-use pn_serve::{OpenedRegion, Service, Settings, serve, serve_from};
+use pn_arguments::Service;
+use pn_serve::{OpenedRegion, Settings, serve, serve_from};
 use pn_stay::{FileSource, SocketAcceptor, message_prefix};
 use pn_stream::StreamReader;
 use std::fs::File;

@@ -2,11 +2,12 @@
 
 ghost use Rattle.std.specs.Prelude.{◌≤◌, vec_len, IfSome};
 ghost use Rattle.pn_live.specs.Prelude.{tablets_in};
-ghost use Rattle.pn_serve.specs.declared.arguments.options.TheConstants.{MAX_SESSIONS};
+ghost use Rattle.pn_serve.specs.declared.server.limits.TheConstants.{MAX_SESSIONS};
 ghost use Rattle.pn_serve.specs.Server.Sessions.{AllRead};
 
 use crate::failures::{fail, fail_serving, fail_with};
-use pn_serve::{OpenedRegion, ServeFault, Service, Settings};
+use pn_arguments::Service;
+use pn_serve::{OpenedRegion, ServeFault, Settings};
 use pn_stay::{
     ServerSizes, SocketAcceptor, SocketFile, StayingServer, message_prefix, remove_sockets,
 };

@@ -1,9 +1,10 @@
 //! Faulty lines of copies, found while their texts are read.
 
-ghost use Rattle.std.specs.Prelude.{◌≡◌, ◌*◌, ◌≤◌, ◌<◌, List, ℕ, ◌++◌, length, false, true, Ok, IfErr};
+ghost use Rattle.std.specs.Prelude.{◌≡◌, ◌-◌, ◌*◌, ◌/◌, ◌^◌, ◌≤◌, ◌<◌, length, min, take, false, true, Ok, IfErr};
 ghost use Rattle.pn_json.specs.Prelude.{IsUnless};
 ghost use Rattle.pn_tablet.specs.Prelude.{copy_at};
 ghost use Rattle.pn_serve.specs.Copies.Faulty.{has_faulty_line};
+ghost use Rattle.pn_serve.specs.declared.copies.fronts.TheConstants.{PART};
 
 use crate::CopiesFault;
 use pn_tablet::{CopyTextFault, read_copy_by};
@@ -38,6 +39,9 @@ impl FrontReader {
         workers: usize,
     ) -> Result<bool, CopiesFault>
         ensures faulty { result ≡ Ok true → has_faulty_line (copy_at text.now) ≡ true }
+        ensures right { self.old.due ≤ length text.now → result ≡ Ok false → has_faulty_line (copy_at (take (length text.now / PART) text.now)) ≡ false }
+        ensures later { self.old.due ≤ length text.now → self.new.due ≡ min (length text.now * 2) (2 ^ 64 - 1) }
+        ensures waits { length text.now < self.old.due → (result ≡ Ok false) × (self.new.due ≡ self.old.due) }
         ensures fault { IfErr result (λ fault. fault ≡ CopiesFault.Memory) }
     {
         if text.len() < self.due {

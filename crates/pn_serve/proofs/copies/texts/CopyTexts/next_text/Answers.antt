@@ -1,5 +1,5 @@
 -- A line more is gathered, or the text ends.
-use Rattle.std.proofs.Common.{◌≡◌, ◌∙◌, [], Ok, ap, length, refl, rules, arith}
+use Rattle.std.proofs.Common.{◌≡◌, ◌∙◌, [], Ok, ap, length, refl, rules, arith, sym}
 use Rattle.pn_serve.proofs.CopyTexts.{cut-end, cut-long, cut-part, gathered-line, gathered-none, none-left, nothing}
 use Rattle.pn_serve.proofs.copies.texts.CopyTexts.next_text.Goals as goal
 
@@ -32,7 +32,7 @@ returns-in-Last-clause-cut g c = λ bytes is.
     let same = c.in_ok-add_line.ensures.next ∙ c.loop-lines.invariant.next in
     let zero : length c.add_line.new.text.items ≡ 0 = search rules in
     let (all, left) = none-left bytes _ _ _ _ _ (c.loop-lines.invariant.gathered bytes is) adds (nothing _ zero) in
-    ([], left, (all, refl, same))
+    ([], left, (all, λ i. record { next = same i; bytes = sym all i }))
 
 pub returns-in-Last-2-clause-cut : goal.returns-in-Last-2-clause-cut
 returns-in-Last-2-clause-cut g c = λ bytes is.
