@@ -15,7 +15,7 @@ use std::thread::Threads;
 const FIRST_BYTES: usize = 1_048_576;
 
 /// The front is this part of the text.
-const PART: usize = 16;
+const PART: usize = 32;
 
 /// When the front of a text is read while the text grows.
 #[derive(Drop)]
@@ -30,7 +30,7 @@ impl FrontReader {
         FrontReader { due: FIRST_BYTES }
     }
 
-    /// Whether a line of the text is at fault, as far as it is read now: a sixteenth of it whenever it has doubled.
+    /// Whether a line of the text is at fault, as far as it is read now: a thirty-second of it whenever it has doubled.
     pub(crate) fn finds_fault<R: Threads>(
         &mut self,
         rt: &R,

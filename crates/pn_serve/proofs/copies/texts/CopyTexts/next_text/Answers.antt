@@ -1,6 +1,6 @@
 -- A line more is gathered, or the text ends.
 use Rattle.std.proofs.Common.{◌≡◌, ◌∙◌, [], Ok, ap, length, refl, rules, arith, sym}
-use Rattle.pn_serve.proofs.CopyTexts.{cut-end, cut-long, cut-part, gathered-line, gathered-none, none-left, nothing}
+use Rattle.pn_serve.proofs.CopyTexts.{cut-end, cut-faulty, cut-long, cut-part, gathered-line, gathered-none, none-left, nothing}
 use Rattle.pn_serve.proofs.copies.texts.CopyTexts.next_text.Goals as goal
 
 pub loop-lines-init : goal.loop-lines-init
@@ -20,11 +20,20 @@ loop-lines-preserved g c =
       few = omega (arith, c.loop-lines.invariant.few, grows);
     }
 
+pub returns-then-branch-clause-cut : goal.returns-then-branch-clause-cut
+returns-then-branch-clause-cut g c = λ bytes is.
+    let adds = rw c.in-Line.is at c.in_ok-add_line.ensures.adds in
+    let same = c.in_ok-add_line.ensures.next ∙ c.loop-lines.invariant.next in
+    let faulty = c.in_ok-finds_fault.ensures.faulty (ap Ok c.if-branch.true) in
+    let cut = c.cut_out.ensures in
+    rw cut.source (rw cut.cut (cut-faulty _ bytes _ _ _ _ _ _ (c.loop-lines.invariant.gathered bytes is) adds same refl faulty))
+
 pub returns-in-End-clause-cut : goal.returns-in-End-clause-cut
 returns-in-End-clause-cut g c = λ bytes is.
     let adds = rw c.in-End.is at c.in_ok-add_line.ensures.adds in
     let same = c.in_ok-add_line.ensures.next ∙ c.loop-lines.invariant.next in
-    rw c.cut_out.ensures.source (rw c.cut_out.ensures.cut (cut-end _ bytes _ _ _ _ _ _ _ (c.loop-lines.invariant.gathered bytes is) adds same c.cut_out.ensures.next))
+    let cut = c.cut_out-in-End.ensures in
+    rw cut.source (rw cut.cut (cut-end _ bytes _ _ _ _ _ _ _ (c.loop-lines.invariant.gathered bytes is) adds same cut.next))
 
 pub returns-in-Last-clause-cut : goal.returns-in-Last-clause-cut
 returns-in-Last-clause-cut g c = λ bytes is.
