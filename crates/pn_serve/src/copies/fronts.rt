@@ -4,7 +4,7 @@ ghost use Rattle.std.specs.Prelude.{◌≡◌, ◌-◌, ◌*◌, ◌/◌, ◌^�
 ghost use Rattle.pn_json.specs.Prelude.{IsUnless};
 ghost use Rattle.pn_tablet.specs.Prelude.{copy_at};
 ghost use Rattle.pn_serve.specs.Copies.Faulty.{has_faulty_line};
-ghost use Rattle.pn_serve.specs.declared.copies.fronts.TheConstants.{PART};
+ghost use Rattle.pn_serve.specs.declared.copies.fronts.TheConstants.{FIRST_BYTES, PART};
 
 use crate::CopiesFault;
 use pn_tablet::{CopyTextFault, read_copy_by};
@@ -26,7 +26,9 @@ pub(crate) struct FrontReader {
 
 impl FrontReader {
     /// Before the first byte of a text.
-    pub(crate) fn new() -> FrontReader {
+    pub(crate) fn new() -> FrontReader
+        ensures { result.due ≡ FIRST_BYTES }
+    {
         FrontReader { due: FIRST_BYTES }
     }
 
