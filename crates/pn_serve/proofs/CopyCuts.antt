@@ -153,7 +153,7 @@ whole_text left cut at =
     let found = walk left.next left.bytes (pieces_of at.rest) at.before at.inner (unbroken-pieces_of at.rest) bytes_are in
     let (fault, is, of_line) = fault_of (copy_at cut.text) at.faulty in
     let text : found.cut.text ≡ cut.text ++ found.more = found.text_is ∙ ap (λ (t : List ℕ). t ++ found.more) (sym at.text_is) in
-    let same : copy_at found.cut.text ≡ Err fault = ap copy_at text ∙ fault_stays fault of_line cut.text found.more is in (
+    let same : copy_at found.cut.text ≡ Err fault = ap copy_at text ∙ fault_stays cut.text found.more fault of_line is in (
       found.cut,
       found.later,
       found.is_cut,

@@ -4,7 +4,7 @@ ghost use Rattle.std.specs.Prelude.{◌≡◌, ◌-◌, ◌*◌, ◌/◌, ◌^�
 ghost use Rattle.pn_json.specs.Prelude.{IsUnless};
 ghost use Rattle.pn_tablet.specs.Prelude.{copy_at};
 ghost use Rattle.pn_serve.specs.Copies.Faulty.{has_faulty_line};
-ghost use Rattle.pn_serve.specs.declared.copies.fronts.TheConstants.{PART};
+ghost use Rattle.pn_serve.specs.declared.copies.fronts.TheConstants.{FIRST_BYTES, PART};
 
 use crate::CopiesFault;
 use pn_tablet::{CopyTextFault, read_copy_by};
@@ -15,7 +15,7 @@ use std::thread::Threads;
 const FIRST_BYTES: usize = 1_048_576;
 
 /// The front is this part of the text.
-const PART: usize = 16;
+const PART: usize = 32;
 
 /// When the front of a text is read while the text grows.
 #[derive(Drop)]
@@ -26,11 +26,13 @@ pub(crate) struct FrontReader {
 
 impl FrontReader {
     /// Before the first byte of a text.
-    pub(crate) fn new() -> FrontReader {
+    pub(crate) fn new() -> FrontReader
+        ensures { result.due ≡ FIRST_BYTES }
+    {
         FrontReader { due: FIRST_BYTES }
     }
 
-    /// Whether a line of the text is at fault, as far as it is read now: a sixteenth of it whenever it has doubled.
+    /// Whether a line of the text is at fault, as far as it is read now: a thirty-second of it whenever it has doubled.
     pub(crate) fn finds_fault<R: Threads>(
         &mut self,
         rt: &R,

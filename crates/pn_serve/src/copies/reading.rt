@@ -16,8 +16,8 @@ use std::thread;
 use std::thread::Threads;
 
 /// Reads the copies of a text by 1 to 16 workers, which share the lines of few copies. Beside the copies it takes the memory
-/// of one copy's text a worker, and of what its lines say. What comes after a faulty line is read up to 32 times what was before
-/// it, or a mebibyte, unless the copy's end comes first.
+/// of one copy's text a worker, and of what its lines say. A faulty line is found by the time that 64 times
+/// the bytes up to its end were read, or a mebibyte.
 ///
 /// The first faulty line of 64 copies decides; then that there are more.
 #[derive(Drop)]

@@ -4,7 +4,7 @@ ghost use Rattle.std.specs.Prelude.{◌≡◌, ◌+◌, ◌<◌, ◌≤◌, ℕ,
 ghost use Rattle.pn_line.specs.LineEnd.{ReadsTo};
 ghost use Rattle.pn_line.specs.Prelude.{so_far};
 ghost use Rattle.pn_serve.specs.Copies.Cutting.{begins_end, line_number};
-ghost use Rattle.pn_serve.specs.Copies.Faulty.{AreCutsToFault, CutsNext};
+ghost use Rattle.pn_serve.specs.Copies.Faulty.{AreCutsToFault, CutsNext, IsCutSoon};
 ghost use Rattle.pn_serve.specs.Copies.Lines.{Adds, IsNoTextFault};
 
 use crate::CopiesFault;
@@ -112,6 +112,7 @@ impl<S: Source + Drop> CopyTexts<S> {
         ensures cut { IfOk result (λ found. (bytes : List ℕ) → S.left self.old.source ≡ Some bytes
             → (rest : List ℕ) × (S.left self.new.source ≡ Some rest)
             × CutsNext (record { next = self.old.next; bytes = bytes }) found (record { next = self.new.next; bytes = rest })) }
+        ensures soon { IfOk result (λ found. (bytes : List ℕ) → S.left self.old.source ≡ Some bytes → IsCutSoon found) }
         ensures fault { IfErr result (IsNoTextFault S.may_fail) }
     {
         let mut text = Vec::new(self.alloc);
