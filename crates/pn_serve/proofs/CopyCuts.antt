@@ -35,11 +35,11 @@ with_line before line rest =
     ∙ ap (λ (l : List ℕ). l ++ rest) (sym (text_of-push before line))
 
 module _ (next : ℕ) (bytes : List ℕ) where
-  abbrev left : TextLeft
-  left = record { next = next; bytes = bytes }
+  abbrev from : TextLeft
+  from = record { next = next; bytes = bytes }
 
   -- up to this last part
-  to_part : (before : List (List ℕ)) (part : List ℕ) → All (IsLineThat false) before → IsUnbroken part → length part ≤ max_line_bytes → bytes ≡ text_of before ++ part → WholeText left (text_of before)
+  to_part : (before : List (List ℕ)) (part : List ℕ) → All (IsLineThat false) before → IsUnbroken part → length part ≤ max_line_bytes → bytes ≡ text_of before ++ part → WholeText from (text_of before)
   to_part before part inner unbroken short is = record {
     cut = record { text = text_of before ++ part; first = next; lines = length before; is_too_long = false };
     later = record { next = line_number (next + length before); bytes = [] };
@@ -64,7 +64,7 @@ module _ (next : ℕ) (bytes : List ℕ) where
   }
 
   -- up to this line, which is too long
-  to_long : (before : List (List ℕ)) (long after : List ℕ) → All (IsLineThat false) before → IsUnbroken long → max_line_bytes < length long → bytes ≡ text_of before ++ (long ++ after) → WholeText left (text_of before)
+  to_long : (before : List (List ℕ)) (long after : List ℕ) → All (IsLineThat false) before → IsUnbroken long → max_line_bytes < length long → bytes ≡ text_of before ++ (long ++ after) → WholeText from (text_of before)
   to_long before long after inner unbroken is_long is = record {
     cut = record { text = text_of before; first = next; lines = length before; is_too_long = true };
     later = record { next = line_number (next + length before); bytes = [] };
@@ -89,7 +89,7 @@ module _ (next : ℕ) (bytes : List ℕ) where
   }
 
   -- up to this line, which begins as an end does
-  to_end : (before : List (List ℕ)) (line rest : List ℕ) → All (IsLineThat false) before → IsLineThat true line → bytes ≡ text_of before ++ (line ++ 10 ∷ rest) → WholeText left (text_of before)
+  to_end : (before : List (List ℕ)) (line rest : List ℕ) → All (IsLineThat false) before → IsLineThat true line → bytes ≡ text_of before ++ (line ++ 10 ∷ rest) → WholeText from (text_of before)
   to_end before line rest inner ends is = record {
     cut = record { text = text_of (before ++ line ∷ []); first = next; lines = length before + 1; is_too_long = false };
     later = record { next = line_number (next + (length before + 1)); bytes = rest };
@@ -112,7 +112,7 @@ module _ (next : ℕ) (bytes : List ℕ) where
   }
 
   -- on from these pieces
-  walk : (pieces before : List (List ℕ)) → All (IsLineThat false) before → All IsUnbroken pieces → bytes ≡ text_of before ++ joined pieces → WholeText left (text_of before)
+  walk : (pieces before : List (List ℕ)) → All (IsLineThat false) before → All IsUnbroken pieces → bytes ≡ text_of before ++ joined pieces → WholeText from (text_of before)
   walk [] before inner unbroken is = to_part before [] inner (All-nil (λ b. b ≢ 10)) (omega arith) is
   walk (part ∷ []) before inner unbroken is =
       let here : IsUnbroken part = All-head IsUnbroken part [] unbroken in
@@ -126,7 +126,7 @@ module _ (next : ℕ) (bytes : List ℕ) where
       ⊎_elim
       (λ (long : max_line_bytes < length line). to_long before line (10 ∷ rest) inner here long is)
       (λ (short : length line ≤ max_line_bytes).
-      (elim (begins_end line) as (λ (ends : Bool). begins_end line ≡ ends → WholeText left (text_of before)) [
+      (elim (begins_end line) as (λ (ends : Bool). begins_end line ≡ ends → WholeText from (text_of before)) [
         | true ↦ λ ends. to_end before line rest inner (record { unbroken = here; short = short; begins = ends }) is
         | false ↦ λ no.
             let one : IsLineThat false line = record { unbroken = here; short = short; begins = no } in

@@ -34,13 +34,16 @@ module _ (text more : List ℕ) where
   }
 
   bad_on : (n : ℕ) → HasBadLine text n → HasBadLine (text ++ more) n
+  unfolding reaches_on
   bad_on n (inl first) = inl (first.0, (first.1.0, first.1.1 ++ more, cut_on [] first.1.0 first.1.1 first.1.2, first.1.3))
   bad_on n (inr later) = inr (reaches_on n later.0, later.1)
 
   outside_on : (n : ℕ) → LeavesRange text n → LeavesRange (text ++ more) n
+  unfolding reaches_on
   outside_on n outside = (reaches_on n outside.0, outside.1, outside.2, outside.3)
 
   fall_on : (n : ℕ) → HasFall text n → HasFall (text ++ more) n
+  unfolding reaches_on
   fall_on n falls = (reaches_on n falls.0, falls.1, falls.2, falls.3)
 
   -- the text has the same fault, whatever follows

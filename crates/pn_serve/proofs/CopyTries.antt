@@ -48,7 +48,7 @@ tried-wait due text line tried waits = record {
 }
 
 -- a line more, and then its front was looked at, and was right
-pub tried-look : (due : ℕ) (text : List ℕ) → due ≡ min (length text * 2) (2 ^ 64 - 1) → 0 < length text → length text < 2 ^ 63 → has_faulty_line (copy_at (take (length text / PART) text)) ≡ false → IsTried due text
+pub tried-look : (due : ℕ) (text : List ℕ) → due ≡ min (length text * 2) (2 ^ 64 - 1) → 0 < length text → length text < 2 ^ 64 - 1 → has_faulty_line (copy_at (take (length text / PART) text)) ≡ false → IsTried due text
 tried-look due text is some few right = record {
   waits = omega (arith, is, some, few);
   grown = omega (arith, is);
@@ -95,7 +95,7 @@ module _ (due : ℕ) (bytes text new : List ℕ) (count : ℕ) (left leaves : Op
       let none = adds so_far.rest so_far.leaves_is in
       subst EndsSoon (append-nil text ∙ sym none.text_is) (ends_soon due text [] tried (omega arith))
 
-  pub tried-line : (next : ℕ) → ((rest : List ℕ) → left ≡ Some rest → AddsLine false text new rest leaves) → 0 < length new → length new < 2 ^ 63
+  pub tried-line : (next : ℕ) → ((rest : List ℕ) → left ≡ Some rest → AddsLine false text new rest leaves) → 0 < length new → length new < 2 ^ 64 - 1
       → (due ≤ length new → has_faulty_line (copy_at (take (length new / PART) new)) ≡ false) → (due ≤ length new → next ≡ min (length new * 2) (2 ^ 64 - 1)) → (length new < due → next ≡ due) → IsTried next new
   tried-line next adds some few right later waits =
       let line = adds so_far.rest so_far.leaves_is in

@@ -1,5 +1,5 @@
 -- A line more is gathered, or the text ends.
-use Rattle.std.proofs.Common.{◌≡◌, ◌<◌, ◌∙◌, [], true, false, Ok, ap, length, refl, rules, arith, sym}
+use Rattle.std.proofs.Common.{◌≡◌, ◌-◌, ◌^◌, ◌<◌, ◌∙◌, [], true, false, Ok, ap, length, refl, rules, arith, sym}
 use Rattle.pn_serve.proofs.CopyTexts.{cut-end, cut-faulty, cut-long, cut-part, gathered-line, gathered-none, none-left, nothing}
 use Rattle.pn_serve.proofs.CopyTries.{soon-line, soon-none, soon-part, tried-line, tried-none}
 use Rattle.pn_serve.proofs.copies.texts.CopyTexts.next_text.Goals as goal
@@ -19,10 +19,14 @@ loop-lines-preserved g c =
     record {
       gathered = λ bytes is. gathered-line bytes _ _ _ _ _ (c.loop-lines.invariant.gathered bytes is) adds;
       tried = λ bytes is.
-          let looks = c.in_ok-finds_fault.ensures in
+          let looks = c.in_ok-finds_fault-in-Line.ensures in
+          let right = rw c.deref.ensures.value at looks.right in
+          let later = rw c.deref.ensures.value at looks.later in
+          let waits = rw c.deref.ensures.value at looks.waits in
           let some : 0 < length c.add_line.new.text.items = omega (arith, grows) in
-          tried-line _ bytes _ _ _ _ _ (c.loop-lines.invariant.gathered bytes is) (c.loop-lines.invariant.tried bytes is) _ adds some (search rules)
-          (λ now. looks.right now (ap Ok c.if-branch.false)) looks.later (λ before. (looks.waits before).1);
+          let few : length c.add_line.new.text.items < 2 ^ 64 - 1 = first_of (omega arith, search rules) in
+          tried-line _ bytes _ _ _ _ _ (c.loop-lines.invariant.gathered bytes is) (c.loop-lines.invariant.tried bytes is) _ adds some few
+          (λ now. right now (ap Ok c.if-branch.false)) later (λ before. (waits before).1);
       next = c.in_ok-add_line.ensures.next ∙ c.loop-lines.invariant.next;
       few = omega (arith, c.loop-lines.invariant.few, grows);
     }
@@ -31,7 +35,7 @@ pub returns-then-branch-clause-cut : goal.returns-then-branch-clause-cut
 returns-then-branch-clause-cut g c = λ bytes is.
     let adds = rw c.in-Line.is at c.in_ok-add_line.ensures.adds in
     let same = c.in_ok-add_line.ensures.next ∙ c.loop-lines.invariant.next in
-    let faulty = c.in_ok-finds_fault.ensures.faulty (ap Ok c.if-branch.true) in
+    let faulty = (rw c.deref.ensures.value at c.in_ok-finds_fault-in-Line.ensures.faulty) (ap Ok c.if-branch.true) in
     let cut = c.cut_out.ensures in
     rw cut.source (rw cut.cut (cut-faulty _ bytes _ _ _ _ _ _ (c.loop-lines.invariant.gathered bytes is) adds same refl faulty))
 

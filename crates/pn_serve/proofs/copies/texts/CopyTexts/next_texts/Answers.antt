@@ -10,7 +10,7 @@ pub loop-preserved : goal.loop-preserved
 loop-preserved g c = record {
   cuts = λ bytes is.
       let (rest, left_is, are) = c.loop.invariant.cuts bytes is in
-      let (later, leaves_is, cut) = (rw c.in-Whole.is at c.in_ok-next_text.ensures.cut) rest left_is in
+      let (later, leaves_is, cut) = (rw c.in-Whole.is at c.in_ok-text.ensures.cut) rest left_is in
       (later, leaves_is, rw c.in_ok-push-in-Whole.ensures.items (cuts-push _ _ _ _ _ are cut));
   count = ap length c.in_ok-push-in-Whole.ensures.items ∙ length_push _ _ ∙ ap (λ n. n + 1) c.loop.invariant.count;
 }
@@ -18,7 +18,7 @@ loop-preserved g c = record {
 pub returns-in-Faulty-clause-cuts : goal.returns-in-Faulty-clause-cuts
 returns-in-Faulty-clause-cuts g c = λ bytes is.
     let (rest, left_is, are) = c.loop.invariant.cuts bytes is in
-    let (later, leaves_is, cut) = (rw c.in-Faulty.is at c.in_ok-next_text.ensures.cut) rest left_is in
+    let (later, leaves_is, cut) = (rw c.in-Faulty.is at c.in_ok-text.ensures.cut) rest left_is in
     (later, leaves_is, rw c.in_ok-push-in-Faulty.ensures.items (faulty-push _ _ _ _ _ are cut))
 
 pub returns-in-Faulty-clause-none : goal.returns-in-Faulty-clause-none
@@ -28,13 +28,13 @@ returns-in-Faulty-clause-none g c = λ bytes is empty some.
 pub returns-in-Nothing-clause-cuts : goal.returns-in-Nothing-clause-cuts
 returns-in-Nothing-clause-cuts g c = λ bytes is.
     let (rest, left_is, are) = c.loop.invariant.cuts bytes is in
-    let (later, leaves_is, (all, same)) = (rw c.in-Nothing.is at c.in_ok-next_text.ensures.cut) rest left_is in
+    let (later, leaves_is, (all, same)) = (rw c.in-Nothing.is at c.in_ok-text.ensures.cut) rest left_is in
     (later, leaves_is, to_fault _ _ _ (rw same are))
 
 pub returns-in-Nothing-clause-none : goal.returns-in-Nothing-clause-none
 returns-in-Nothing-clause-none g c = λ bytes is empty some.
     let (rest, left_is, are) = c.loop.invariant.cuts bytes is in
-    let (later, leaves_is, (all, same)) = (rw c.in-Nothing.is at c.in_ok-next_text.ensures.cut) rest left_is in
+    let (later, leaves_is, (all, same)) = (rw c.in-Nothing.is at c.in_ok-text.ensures.cut) rest left_is in
     ap (λ (left : TextLeft). left.bytes) (rw empty at are) ∙ all
 
 pub returns-clause-cuts : goal.returns-clause-cuts
