@@ -1,7 +1,6 @@
-//! Runs scripts and sessions over regions, and parses the program's arguments.
+//! Runs scripts and sessions over regions.
 #![tactic(auto)]
 
-mod arguments;
 mod control;
 mod copies;
 mod laws;
@@ -14,11 +13,8 @@ mod sessions;
 mod settings;
 mod start_laws;
 mod stream_laws;
+mod version;
 
-pub use arguments::faults::{PlanFault, Refused, Why};
-pub use arguments::options::{MAX_SESSIONS, VERSION, numbers_are_as_written};
-pub use arguments::plan;
-pub use arguments::plans::{Address, Plan, Service, StreamPath};
 pub use control::laws::commands_are_events;
 pub use control::mailboxes::{ControlMailboxes, ControlsClosed, MAX_CONTROLS, StopAsked};
 pub use control::session::{ControlSession, StatsSource};
@@ -43,9 +39,10 @@ pub use script::line_loop::{LineLoop, LineState, Step, TURN_UNITS};
 pub use script::replies::{BLOCK, REPLY_CAPACITY, ReplyBuffer, SendOutcome};
 pub use script::{Counts, MAX_LINES, RunFault, run, run_to_exit};
 pub use server::{
-    Acceptor, ComesBack, Counter, FaultLog, OpenedRegion, Origin, ServeFault, SessionThread,
-    Stream, StreamFailure, Watchers, WriterEnd, close_region, join_sessions, open_region,
-    read_streams, serve, serve_from, take_commands, take_commands_for,
+    Acceptor, ComesBack, Counter, FaultLog, MAX_SESSIONS, NextWriter, OpenedRegion, Origin,
+    ServeFault, SessionThread, Stream, StreamFailure, StreamPath, Watchers, WriterEnd,
+    close_region, join_sessions, open_region, read_streams, serve, serve_from, take_commands,
+    take_commands_for,
 };
 pub use sessions::counting_reader::CountingReader;
 pub use sessions::going::Going;
@@ -55,3 +52,4 @@ pub use start_laws::a_start_from_copies_leaves_what_was_taken;
 pub use stream_laws::{
     streams_beside_commands_leave_what_was_taken, streams_that_resume_leave_what_was_published,
 };
+pub use version::VERSION;

@@ -5,6 +5,7 @@ ghost use Rattle.std.specs.Io.{ReadsAtMost, WritesAtMost};
 ghost use Rattle.std.specs.IoError.{error_kind};
 ghost use Rattle.pn_stay.specs.Failures.{NotesFailure};
 
+use crate::interrupts::is_interrupted;
 use libc::net::{POLLHUP, SHUT_RD, SHUT_RDWR, poll, shutdown};
 use libc::types::pollfd;
 use mio::unix::SourceFd;
@@ -92,8 +93,20 @@ impl Socket {
         )
     }
 
-    /// Reads what is at hand.
+    /// Reads what is at hand. Where a signal interrupts it, it is asked again, and its time begins anew.
     pub(crate) fn read_some(&self, buf: &mut [u8]) -> io::Result<usize>
+        ensures { ReadsAtMost result buf.new }
+    {
+        for _ in 0..u64::MAX {
+            let count = self.read_once(buf);
+            if !is_interrupted(&count) {
+                return count;
+            }
+        }
+        self.read_once(buf)
+    }
+
+    fn read_once(&self, buf: &mut [u8]) -> io::Result<usize>
         ensures { ReadsAtMost result buf.new }
     {
         match self {
@@ -102,7 +115,20 @@ impl Socket {
         }
     }
 
+    // As `read_some` reads.
     fn write_some(&self, buf: &[u8]) -> io::Result<usize>
+        ensures { WritesAtMost result buf.now }
+    {
+        for _ in 0..u64::MAX {
+            let count = self.write_once(buf);
+            if !is_interrupted(&count) {
+                return count;
+            }
+        }
+        self.write_once(buf)
+    }
+
+    fn write_once(&self, buf: &[u8]) -> io::Result<usize>
         ensures { WritesAtMost result buf.now }
     {
         match self {

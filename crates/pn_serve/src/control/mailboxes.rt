@@ -13,6 +13,7 @@ use crate::control::answers::{GivenAnswer, Question, give_answer};
 use crate::control::commands::{WriterAnswer, WriterCommand};
 use crate::control::log_watch::LogWatch;
 use crate::control::stop::{StopRequest, has_come};
+use crate::server::mailboxes::{StreamMailbox, show_marks};
 use crate::server::wakeup::Wakeup;
 use pn_live::LiveRegion;
 use std::alloc::{AllocError, Global};
@@ -143,8 +144,15 @@ impl ControlMailboxes {
         }
     }
 
-    /// Does one command of each session that asks, and notes the log.
-    pub(crate) fn obey_all<R: Wait>(&self, rt: &R, alloc: Global, live: &mut LiveRegion)
+    /// Does one command of each session that asks, and notes the log. The marks of these streams are shown before a session is
+    /// answered, so that a writer that comes after the reply begins after them.
+    pub(crate) fn obey_all<R: Wait>(
+        &self,
+        rt: &R,
+        alloc: Global,
+        live: &mut LiveRegion,
+        streams: &[StreamMailbox],
+    )
         ensures told { (at_fault : AtFault) (names : List (List ℕ)) (waiting : Option RoundInputValue) → ToldAll at_fault names waiting live.old live.new }
         ensures same { tablets_in live.new ≡ tablets_in live.old }
     {
@@ -152,7 +160,9 @@ impl ControlMailboxes {
             let Some(command) = mailbox.take(rt) else {
                 continue;
             };
-            mailbox.answer(rt, give_answer(rt, alloc, live, command));
+            let answer = give_answer(rt, alloc, live, command);
+            show_marks(streams, live.marks());
+            mailbox.answer(rt, answer);
             self.note_log(rt, live);
         }
     }

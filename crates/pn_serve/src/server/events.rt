@@ -15,7 +15,7 @@ ghost use Rattle.pn_serve.specs.declared.server.mailboxes.AtFault.TheVariants.{G
 
 use crate::ServeFault;
 use crate::control::mailboxes::{ControlMailboxes, StopAsked};
-use crate::server::mailboxes::StreamMailboxes;
+use crate::server::mailboxes::{StreamMailbox, StreamMailboxes};
 use crate::server::rounds::{RoundInput, take_round};
 use pn_live::LiveRegion;
 use std::alloc::Global;
@@ -48,7 +48,7 @@ pub(crate) fn run_rounds<R: Threads + Wait + Clock + Sync>(
             return Ok(());
         }
         await_work(rt, mailboxes, is_short);
-        obey_all(rt, alloc, live, controls);
+        obey_all(rt, alloc, live, controls, &mailboxes.streams);
         if waiting.is_none() && !mailboxes.has_report(rt) {
             continue;
         }
@@ -87,12 +87,13 @@ fn is_stop_asked<R: Wait>(rt: &R, controls: &Option<Arc<ControlMailboxes>>) -> b
     }
 }
 
-// Does the commands that control sessions have left.
+// Does the commands that control sessions have left, and shows these streams' mailboxes how far each takes the marks.
 fn obey_all<R: Wait>(
     rt: &R,
     alloc: Global,
     live: &mut LiveRegion,
     controls: &Option<Arc<ControlMailboxes>>,
+    streams: &[StreamMailbox],
 )
     ensures alone { controls.now ≡ None → live.new ≡ live.old }
     ensures rise { Reaches live.new.marks live.old.marks }
@@ -101,7 +102,7 @@ fn obey_all<R: Wait>(
 {
     recall_region(live);
     match controls {
-        Some(controls) => controls.obey_all(rt, alloc, live),
+        Some(controls) => controls.obey_all(rt, alloc, live, streams),
         None => {}
     }
 }
@@ -132,7 +133,7 @@ pub fn take_commands<R: Wait>(
 {
     controls.note_log(rt, live);
     for _ in rt.forever() {
-        controls.obey_all(rt, alloc, live);
+        controls.obey_all(rt, alloc, live, &[]);
         if let Some(asked) = controls.show_stop(rt) {
             return asked;
         }
@@ -154,5 +155,5 @@ pub fn take_commands_for<R: Wait + Clock>(
     ensures same { tablets_in live.new ≡ tablets_in live.old }
 {
     controls.wakeup.wait_at_most(rt, most);
-    controls.obey_all(rt, alloc, live);
+    controls.obey_all(rt, alloc, live, &[]);
 }

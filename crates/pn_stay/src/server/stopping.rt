@@ -85,7 +85,14 @@ impl Stopping {
             if controls.is_stop_over(rt) || self.have_connections_ended(rt, &began) {
                 return;
             }
-            take_commands_for(rt, alloc, live, controls, asked, Duration::from_millis(STEP));
+            take_commands_for(
+                rt,
+                alloc,
+                live,
+                controls,
+                asked,
+                Duration::from_millis(STEP),
+            );
         }
         unreachable!()
     }
@@ -149,7 +156,14 @@ impl Stopping {
             if is_over || have_clients_ended(rt, &self.clients) {
                 return;
             }
-            take_commands_for(rt, alloc, live, controls, asked, Duration::from_millis(STEP));
+            take_commands_for(
+                rt,
+                alloc,
+                live,
+                controls,
+                asked,
+                Duration::from_millis(STEP),
+            );
         }
         unreachable!()
     }

@@ -6,8 +6,8 @@ use pn_line::InMemory;
 use pn_live::{LiveReader, LiveRegion};
 use pn_serve::{
     ConnectionStats, ControlMailboxes, ControlSession, LineCounts, LineKinds, LineLoop, LineStats,
-    Stats, StatsSource, Stream, StreamFaultStats, StreamState, StreamStats, TabletStats, close_region,
-    open_region, take_commands,
+    Stats, StatsSource, Stream, StreamFaultStats, StreamState, StreamStats, TabletStats,
+    close_region, open_region, take_commands,
 };
 use std::alloc::{AllocError, Global};
 use std::sync::{Arc, Wait};
