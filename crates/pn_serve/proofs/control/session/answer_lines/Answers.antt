@@ -37,7 +37,7 @@ returns-in-Some-advance-clause-ends g c =
     let was = c.loop.invariant.underway in
     let ended = c.in-Some-advance.ended in
     let ends = HasEnded-alone AnswersControl EndsControl (λ _ _ _ _. ⊥) (λ _ _ _ _. ⊥) was.since left written c.advance.new.machine ended
-        (c.in-Some-advance.ensures.runs was.since (record { preorder = stays_preorder; same = λ old new is. ap (λ (s : ControlState). tablets_of s.reader) is }) was.stands) in
+    (c.in-Some-advance.ensures.runs was.since (record { preorder = stays_preorder; same = λ old new is. ap (λ (s : ControlState). tablets_of s.reader) is }) was.stands) in
     subst (λ (r : Result (Unit {0}) RunFault). ControlEnds start left written c.advance.new.machine r) (sym c.without_counts.ensures)
     (session_ends start (g.S.Source.left c.loop.input) (g.W.Sink.contents c.loop.output) c.loop.handler c.loop.lines was left written c.advance.new.machine ended ends
     (λ is. limit_since start (g.S.Source.left c.loop.input) (g.W.Sink.contents c.loop.output) c.loop.handler c.loop.lines was c.loop.invariant.few (c.in-Some-advance.ensures.limit is))
