@@ -16,7 +16,7 @@ mod stream_laws;
 mod version;
 
 pub use control::laws::commands_are_events;
-pub use control::mailboxes::{ControlMailboxes, MAX_CONTROLS};
+pub use control::mailboxes::{ControlMailboxes, ControlsClosed, MAX_CONTROLS, StopAsked};
 pub use control::session::{ControlSession, StatsSource};
 pub use copies::{CopiesFault, CopiesReader, open_copies};
 pub use laws::regions_converge;
@@ -42,6 +42,7 @@ pub use server::{
     Acceptor, ComesBack, Counter, FaultLog, MAX_SESSIONS, NextWriter, OpenedRegion, Origin,
     ServeFault, SessionThread, Stream, StreamFailure, StreamPath, Watchers, WriterEnd,
     close_region, join_sessions, open_region, read_streams, serve, serve_from, take_commands,
+    take_commands_for,
 };
 pub use sessions::counting_reader::CountingReader;
 pub use sessions::going::Going;

@@ -42,7 +42,7 @@ use crate::server::session_threads::{StartedSessions, start_sessions};
 use crate::server::stream_threads::{StartedStreams, StreamThread, join_streams, start_streams};
 use crate::server::writer_input::workers_of_each;
 pub use counter::Counter;
-pub use events::take_commands;
+pub use events::{take_commands, take_commands_for};
 pub use fault::ServeFault;
 pub use fault_log::{FaultLog, StreamFailure};
 pub use limits::MAX_SESSIONS;

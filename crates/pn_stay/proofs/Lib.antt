@@ -3,6 +3,7 @@ pub mod Coming
 pub mod Crossing
 pub mod Endings
 pub mod Faults
+pub mod Held
 pub mod Inputs
 pub mod Outputs
 pub mod Pieces

@@ -9,6 +9,7 @@ ghost use Rattle.pn_serve.specs.Server.Reading.{ReadsStreams};
 ghost use Rattle.pn_serve.specs.Server.Sessions.{AllRead};
 
 mod accepting;
+mod control_buffers;
 mod control_client;
 mod control_threads;
 pub(crate) mod starting;
@@ -25,8 +26,9 @@ use crate::server::threads::start_answering;
 use pn_line::Source;
 use pn_live::{LiveReader, LiveRegion};
 use pn_serve::{
-    Acceptor, Counter, MAX_CONTROLS, OpenedRegion, Origin, ServeFault, SessionThread, Settings,
-    Stream, Watchers, close_region, join_sessions, open_region, read_streams, take_commands,
+    Acceptor, ControlsClosed, Counter, MAX_CONTROLS, OpenedRegion, Origin, ServeFault,
+    SessionThread, Settings, Stream, Watchers, close_region, join_sessions, open_region,
+    read_streams, take_commands,
 };
 use pn_tablet::Layout;
 use std::alloc::{AllocError, Global};
@@ -128,10 +130,10 @@ impl StayingServer {
         let mut server = self;
         match &server.watchers.controls {
             Some(controls) => {
-                let seconds = take_commands(rt, alloc, &mut server.live, controls);
-                controls.close(rt);
-                server.stopping.run(rt, seconds);
-                server.leave(rt);
+                let live = &mut server.live;
+                let asked = take_commands(rt, alloc, live, controls);
+                let closed = server.stopping.run(rt, alloc, live, controls, asked);
+                server.end(closed);
                 true
             }
             None => {
@@ -141,8 +143,9 @@ impl StayingServer {
         }
     }
 
-    /// Closes the region, and leaves its memory and the threads to the end of the program.
-    pub fn leave<R: Wait>(self, rt: &R) {
+    /// Leaves the region, the readers and the threads to the end of the program. A thread that still answers does so from the region,
+    /// or not at all.
+    pub fn leave(self) {
         let StayingServer {
             live,
             workers: _,
@@ -151,9 +154,13 @@ impl StayingServer {
             watchers: _,
             stopping: _,
         } = self;
-        if let Ok(region) = close_region(rt, live, readers) {
-            mem::forget(region);
-        }
+        mem::forget(live);
+        mem::forget(readers);
+    }
+
+    // Ends a server that was stopped: no command is taken any more.
+    fn end(self, _closed: ControlsClosed) {
+        self.leave();
     }
 
     // Waits for the threads, which end where the system's wait for sockets fails, and closes the region.

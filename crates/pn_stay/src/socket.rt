@@ -6,7 +6,7 @@ ghost use Rattle.std.specs.IoError.{error_kind};
 ghost use Rattle.pn_stay.specs.Failures.{NotesFailure};
 
 use crate::interrupts::is_interrupted;
-use libc::net::{POLLHUP, poll};
+use libc::net::{POLLHUP, SHUT_RD, poll, shutdown};
 use libc::types::pollfd;
 use mio::unix::SourceFd;
 use mio::{Interest, Registry, Token};
@@ -76,7 +76,8 @@ impl Socket {
         poll(&mut looks, 0) > 0 && looks[0].revents & POLLHUP != 0
     }
 
-    fn number(&self) -> RawFd {
+    /// The number of its descriptor.
+    pub(crate) fn number(&self) -> RawFd {
         match self {
             Socket::Tcp(stream) => stream.as_raw_fd(),
             Socket::Unix(stream) => stream.as_raw_fd(),
@@ -135,6 +136,11 @@ impl Socket {
             Socket::Unix(stream) => (&*stream).write(buf),
         }
     }
+}
+
+/// As `end_input`, for a socket that is open by its number.
+pub(crate) fn end_input_of(socket: RawFd) {
+    let _ = shutdown(socket, SHUT_RD);
 }
 
 /// A socket that is read or written, whether anything went over it, and whether a call of it has failed.

@@ -3,8 +3,8 @@
 ghost use Rattle.std.specs.Prelude.{◌≤◌};
 ghost use Rattle.pn_serve.specs.declared.server.limits.TheConstants.{MAX_SESSIONS};
 
-use pn_join::Name;
 use pn_arguments::Service;
+use pn_join::Name;
 use pn_serve::StreamPath;
 use pn_stay::{DescriptorUses, allowed_descriptors, count_descriptors};
 use std::process::ExitCode;

@@ -70,7 +70,7 @@ pub(crate) fn answer_on<R: AllocGlobal + Threads + Wait + Clock + Eprint + Files
     read: Result<(), ServeFault>,
 ) -> ExitCode {
     if let Err(ServeFault::Start) = &read {
-        server.leave(rt);
+        server.leave();
         remove_sockets(rt, sockets);
         return fail_serving(rt, ServeFault::Start, true);
     }

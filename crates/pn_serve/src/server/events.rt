@@ -14,14 +14,14 @@ ghost use Rattle.pn_serve.specs.declared.server.mailboxes.AtFault.{AtFault};
 ghost use Rattle.pn_serve.specs.declared.server.mailboxes.AtFault.TheVariants.{GoOn};
 
 use crate::ServeFault;
-use crate::control::mailboxes::ControlMailboxes;
+use crate::control::mailboxes::{ControlMailboxes, StopAsked};
 use crate::server::mailboxes::{StreamMailbox, StreamMailboxes};
 use crate::server::rounds::{RoundInput, take_round};
 use pn_live::LiveRegion;
 use std::alloc::Global;
 use std::sync::{Arc, Wait};
 use std::thread::Threads;
-use std::time::Clock;
+use std::time::{Clock, Duration};
 
 /// Runs rounds, and does commands between them where there are mailboxes for some, until all streams have ended, or a stop
 /// is asked for, or to the first fault. Where memory ran out and that is waited for, a round is tried again after a second.
@@ -121,23 +121,39 @@ fn note_log<R: Wait>(rt: &R, live: &LiveRegion, controls: &Option<Arc<ControlMai
     }
 }
 
-/// Does what control sessions ask for, until one asks the server to stop. Answers within how many seconds it is to end.
+/// Does what control sessions ask for, until one asks the server to stop.
 pub fn take_commands<R: Wait>(
     rt: &R,
     alloc: Global,
     live: &mut LiveRegion,
     controls: &ControlMailboxes,
-) -> u64
+) -> StopAsked
     ensures runs { RunsCommands GoOn live.old live.new }
     ensures same { tablets_in live.new ≡ tablets_in live.old }
 {
     controls.note_log(rt, live);
     for _ in rt.forever() {
         controls.obey_all(rt, alloc, live, &[]);
-        if let Some(seconds) = controls.stop_asked(rt) {
-            return seconds;
+        if let Some(asked) = controls.show_stop(rt) {
+            return asked;
         }
         controls.wakeup.wait(rt);
     }
     unreachable!()
+}
+
+/// Waits for what control sessions ask for, for `most` at most, and does it, after a stop was asked for.
+pub fn take_commands_for<R: Wait + Clock>(
+    rt: &R,
+    alloc: Global,
+    live: &mut LiveRegion,
+    controls: &ControlMailboxes,
+    _asked: &StopAsked,
+    most: Duration,
+)
+    ensures runs { RunsCommands GoOn live.old live.new }
+    ensures same { tablets_in live.new ≡ tablets_in live.old }
+{
+    controls.wakeup.wait_at_most(rt, most);
+    controls.obey_all(rt, alloc, live, &[]);
 }

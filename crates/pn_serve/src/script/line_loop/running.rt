@@ -1,11 +1,11 @@
 //! A line loop whose input and output do not wait: what they have not at hand will not come.
 
-ghost use Rattle.std.specs.Prelude.{◌≡◌, ◌≢◌, ◌⊎◌, ◌↔◌, ◌+◌, ◌<◌, ◌≤◌, ℕ, nat_le, List, [], Option, None, Some, Err, IfOk, IfErr, IfSome, OnErr, IsTrue};
+ghost use Rattle.std.specs.Prelude.{◌≡◌, ◌≢◌, ◌⊎◌, ◌↔◌, ◌+◌, ◌<◌, ◌≤◌, ℕ, List, [], Option, None, Some, Err, IfOk, IfErr, IfSome, OnErr, IsFalse, IsTrue};
 ghost use Rattle.std.specs.Io.KnownBytes.{Appends};
 ghost use Rattle.pn_line.specs.Prelude.{AppendsPrefix};
 ghost use Rattle.pn_serve.specs.Lines.Bounds.{ForeseesRun, Foresees, HandsOnRun, IsFreshAt, IsNoFarther, IsOutAs, IsSettled, looks_after, looks_left, reads_left};
 ghost use Rattle.pn_serve.specs.Lines.Faults.{EndsByAt, EndsByRun, IsAtLimit};
-ghost use Rattle.pn_serve.specs.Lines.States.{Start, waits_in};
+ghost use Rattle.pn_serve.specs.Lines.States.{Start, new_loop, waits_in};
 ghost use Rattle.pn_serve.specs.Lines.Stepping.{by, RunsTo, Stands};
 ghost use Rattle.pn_serve.specs.Lines.Taking.{IsSent};
 ghost use Rattle.pn_serve.specs.Lines.Waiting.{HandsOn};
@@ -119,9 +119,26 @@ impl LineLoop {
 
     /// Whether as many lines were answered as may be.
     pub(crate) fn is_full(&self) -> bool
-        ensures { result ≡ nat_le MAX_LINES self.now.state.counts.lines }
+        ensures full { IsTrue result → MAX_LINES ≤ self.now.state.counts.lines }
+        ensures few { IsFalse result → self.now.state.counts.lines < MAX_LINES }
     {
         self.counts().lines >= MAX_LINES
+    }
+
+    /// Begins anew between two lines, once what waits is written.
+    pub(crate) fn begin_run<W: Sink>(&mut self, output: &mut W) -> Result<(), RunFault>
+        requires made { self.old.state.left ≡ [] }
+        ensures ok { IfOk result (λ _. (self.new ≡ new_loop) × Appends (W.contents output.old) (W.contents output.new) (waits_in self.old)) }
+        ensures err { OnErr result (AppendsPrefix (W.contents output.old) (W.contents output.new) (waits_in self.old)) }
+        ensures fault { IfErr result (λ fault. (fault ≡ RunFault.Write) × W.may_fail) }
+    {
+        match self.close(output) {
+            Ok(_) => {
+                self.begin_anew();
+                Ok(())
+            }
+            Err(fault) => Err(fault),
+        }
     }
 
     /// Ends between two lines, once what waits is written.
