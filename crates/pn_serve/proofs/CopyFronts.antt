@@ -1,8 +1,7 @@
 -- A line of a copy's text that is at fault is so whatever follows the text.
-use Rattle.std.proofs.Common.{◌≡◌, ℕ, Bool, true, false, List, [], ◌++◌, inl, inr, Result, Ok, Err, refl, ap, ◌∙◌, subst, take, drop, append_assoc}
+use Rattle.std.proofs.Common.{◌≡◌, ℕ, Bool, true, List, [], ◌++◌, inl, inr, Result, Ok, Err, refl, ap, ◌∙◌, subst, take, drop, append_assoc}
 use Rattle.std.proofs.lemmas.List.{take-append-drop}
 use Rattle.pn_json.specs.Answers.{IsUnless}
-use Rattle.pn_line.specs.Text.{text_of}
 use Rattle.pn_tablet.specs.Copies.{TabletCopyValue}
 use Rattle.pn_tablet.specs.CopyBeginnings.{IsCut, Reaches}
 use Rattle.pn_tablet.specs.CopyFaults.{HasBadLine, HasFall, LeavesRange}

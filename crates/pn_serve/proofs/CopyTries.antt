@@ -1,5 +1,5 @@
 -- How much of a text is read after a faulty line.
-use Rattle.std.proofs.Common.{Bool, Option, Some, ◌≡◌, ℕ, ◌+◌, ◌-◌, ◌*◌, ◌/◌, ◌^◌, ◌<◌, ◌≤◌, true, false, List, [], ◌∷◌, ◌++◌, length, min, max, take, drop, refl, sym, ap, ◌∙◌, subst, ⊎_elim, append-nil, arith, length-append}
+use Rattle.std.proofs.Common.{Bool, Option, Some, ◌≡◌, ℕ, ◌+◌, ◌-◌, ◌*◌, ◌/◌, ◌^◌, ◌<◌, ◌≤◌, true, false, List, [], ◌∷◌, ◌++◌, length, min, max, take, drop, sym, ap, ◌∙◌, subst, ⊎_elim, append-nil, arith, length-append}
 use Rattle.std.proofs.lemmas.Bool.{cases_lt}
 use Rattle.std.proofs.lemmas.List.{take-append-drop, take-append-le}
 use Rattle.std.proofs.Math.Seq.{take-append-add, take-append_seam}

@@ -1,6 +1,6 @@
 //! The texts of copies, cut out of a text in which they stand one after another.
 
-ghost use Rattle.std.specs.Prelude.{◌≡◌, ◌+◌, ◌<◌, ◌≤◌, ℕ, List, [], ◌++◌, vec_len, false, true, Ok, Some, IfOk, IfErr, MatchOption};
+ghost use Rattle.std.specs.Prelude.{◌≡◌, ◌+◌, ◌<◌, ◌≤◌, ℕ, List, [], ◌++◌, vec_len, false, true, Ok, Some, IfOk, IfErr};
 ghost use Rattle.pn_line.specs.LineEnd.{ReadsTo};
 ghost use Rattle.pn_line.specs.Prelude.{so_far};
 ghost use Rattle.pn_serve.specs.Copies.Cutting.{begins_end, line_number};

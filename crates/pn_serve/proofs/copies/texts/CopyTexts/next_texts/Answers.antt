@@ -1,5 +1,5 @@
 -- One text more was cut out, or none is left.
-use Rattle.std.proofs.Common.{◌+◌, ◌∙◌, ap, length, arith, sym}
+use Rattle.std.proofs.Common.{◌+◌, ◌∙◌, ap, length, arith}
 use Rattle.std.proofs.lemmas.List.{length_push}
 use Rattle.pn_serve.specs.Copies.Cutting.{TextLeft}
 use Rattle.pn_serve.proofs.CopyCuts.{faulty-push, to_fault}
