@@ -6,7 +6,9 @@ ghost use Rattle.pn_serve.specs.declared.server.writers.WriterEnd.TheVariants.{E
 use crate::seldom::Seldom;
 use crate::socket_file::FileIdentity;
 use crate::streams::fifo_poll::{AtHand, FifoPoll, look_at, open_fifo};
-use crate::streams::input::{FILE_READ_SIZE, StreamInput, StreamSource, drop_some, open_source};
+use crate::streams::input::{
+    FILE_READ_SIZE, StreamInput, StreamSource, drop_read, drop_some, open_source,
+};
 use crate::streams::notes::{OpenStream, StreamNotes};
 use pn_line::Source;
 use pn_serve::WriterEnd;
@@ -55,6 +57,7 @@ where
     pub(crate) fn next_writer(&mut self, notes: &StreamNotes<R>) -> (StreamSource<R>, OpenStream) {
         for _ in notes.rt.forever() {
             let source = match self.last.take() {
+                Some(source) if self.is_faulty => drop_read(source),
                 Some(source) => source,
                 None => self.open(notes),
             };

@@ -65,6 +65,17 @@ pub(crate) fn open_source<I: Read + Drop>(
     Ok(CountingSource::new(reader, share(counters)?))
 }
 
+/// Drops the bytes that were read and are not taken.
+pub(crate) fn drop_read<R>(source: StreamSource<R>) -> StreamSource<R>
+where
+    R: Files<File = File> + Net + Wait + Clock + Drop,
+{
+    let (mut reader, counters) = source.into_parts();
+    let count = reader.buffer().len();
+    reader.consume(count);
+    CountingSource::new(reader, counters)
+}
+
 /// Drops some of the bytes that are at hand. Whether there were any.
 pub(crate) fn drop_some<R>(source: StreamSource<R>) -> (StreamSource<R>, bool)
 where
