@@ -21,11 +21,11 @@ use Rattle.pn_serve.specs.Control.Ends.{AnsweredAll, AnsweredSome, ControlEnds, 
 use Rattle.pn_serve.specs.Control.Lines.{ControlState, at_rest, is_closed, AnswersControl, EndsControl}
 use Rattle.pn_serve.specs.Lines.Bounds.{CanEndBy, Foresees, ForeseesAt}
 use Rattle.pn_serve.specs.Lines.Ends.{Ended, EndsBy}
-use Rattle.pn_serve.specs.Lines.Faults.{EndsByAt, EndsByRun, IsAtLimit}
+use Rattle.pn_serve.specs.Lines.Faults.{EndsByAt, IsAtLimit}
 use Rattle.pn_serve.specs.Lines.Replies.{texts_of}
 use Rattle.pn_serve.specs.Lines.Served.{AllAnswer}
 use Rattle.pn_serve.specs.Lines.States.{LineLoopValue, Start, new_loop, start_at, waits_in}
-use Rattle.pn_serve.specs.Lines.Stepping.{Handling, HasEnded, IsReading, Stands, StandsAt, by}
+use Rattle.pn_serve.specs.Lines.Stepping.{Handling, IsReading, Stands, StandsAt, by}
 use Rattle.pn_serve.specs.Lines.Stopped.{Broken, Cut, Exceeded}
 use Rattle.pn_serve.specs.Runs.Bounds.{lines_within}
 use Rattle.pn_serve.specs.Script.Parts.{parts_of}
@@ -153,6 +153,7 @@ module _ (start : Start ControlState) (script : List ℕ) (since : Start Control
     }
 
     endless_on : length (lines_within before.read.rest) < MAX_LINES → Exceeded AnswersControl EndsControl since before.read.rest left written state → Endless start script left written state
+    unfolding broken_on
     endless_on few is = elim is.stopped [
       | inl many ↦ absurd (no_most (lines_within before.read.rest) few many.0)
       | inr long ↦ record {

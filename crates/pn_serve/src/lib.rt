@@ -26,12 +26,6 @@ pub use page_laws::{
     a_scan_line_shows_the_page_of_its_region, keys_rise_from_page_to_page_of_a_script,
     pages_of_a_script_are_together_its_rows,
 };
-pub use pn_protocol::{
-    Command, CommandFault, ConnectionStats, ControlCommand, LineCounts, LineKinds, LineStats,
-    NumberName, Part, Refusal, Reply, ShortReply, Stats, StreamFaultStats, StreamState,
-    StreamStats, TabletStats, a_control_line_is_one_command, a_line_is_one_command, command_of,
-    control_of, number_reply, refusal_reply, refuse,
-};
 pub use repeat_laws::{
     a_repeated_deliver_leaves_no_trace_of_a_refused_one, repeated_delivers_leave_the_same_region,
 };

@@ -23,9 +23,10 @@ use crate::skipped_input::SkippedInput;
 use crate::steps::take_steps;
 use pn_join::NoMemory;
 use pn_line::{LineBuffer, Sink};
+use pn_protocol::LineCounts;
 use pn_serve::{
-    Counts, LineCounts, LineHandler, LineLoop, LineState, RefusesSkipped, ReplyBuffer, RunFault,
-    SendOutcome, Step,
+    Counts, LineHandler, LineLoop, LineState, RefusesSkipped, ReplyBuffer, RunFault, SendOutcome,
+    Step,
 };
 use std::alloc::Global;
 use std::marker::Model;

@@ -4,10 +4,13 @@ use crate::reading::{Script, push_message, read_all, stream_of};
 use pn_join::{Name, NoMemory};
 use pn_line::InMemory;
 use pn_live::{LiveReader, LiveRegion};
+use pn_protocol::{
+    ConnectionStats, LineCounts, LineKinds, LineStats, Stats, StreamFaultStats, StreamState,
+    StreamStats, TabletStats,
+};
 use pn_serve::{
-    ConnectionStats, ControlMailboxes, ControlSession, LineCounts, LineKinds, LineLoop, LineStats,
-    Stats, StatsSource, Stream, StreamFaultStats, StreamState, StreamStats, TabletStats,
-    close_region, open_region, take_commands,
+    ControlMailboxes, ControlSession, LineLoop, StatsSource, Stream, close_region, open_region,
+    take_commands,
 };
 use std::alloc::{AllocError, Global};
 use std::sync::{Arc, Wait};
