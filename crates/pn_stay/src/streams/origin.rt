@@ -38,15 +38,17 @@ where
     ghost begins_after = { λ _ _. Unit {0} };
 
     fn next_writer(&mut self, last: u64) -> Option<NextWriter<StreamSource<R>>> {
-        let positions = &self.notes.positions;
         let (next, open) = match &mut self.writers {
             Writers::File(source) => {
                 let source = source.take()?;
-                (begin_after(positions, last, source), self.notes.open())
+                (
+                    begin_after(&self.notes.positions, last, source),
+                    self.notes.open(),
+                )
             }
             Writers::Fifo(writers) => {
                 let (source, open) = writers.next_writer(&self.notes);
-                (begin_after(positions, last, source), open)
+                (begin_after(&self.notes.positions, last, source), open)
             }
             Writers::Socket(writers) => writers.next_writer(&self.notes, last),
         };
