@@ -1,39 +1,33 @@
--- An input of which something is held: what is read of it, and what is taken of what is held.
-use Rattle.std.proofs.Common.{◌≡◌, ℕ, Bool, true, false, Option, None, Some, List, [], ◌++◌, OnSome, IfSome, refl, sym, ap, ◌∙◌, subst, append_assoc, append-nil}
-use Rattle.std.specs.Io.KnownBytes.{Consumes, IsAtEnd, Keeps, prepend_known}
-use Rattle.std.proofs.KnownBytes.{Keeps-refl, prepend_known-nil}
-use Rattle.std.proofs.lemmas.List.Elements.{Contains-append_left}
-use Rattle.pn_line.specs.Line.{LineBufferValue}
-use Rattle.pn_line.specs.Reads.{HasMore, HasShown, Takes}
-use Rattle.pn_line.specs.declared.piece.Piece.{Piece}
-use Rattle.pn_line.specs.declared.piece.Piece.TheVariants.{Part, Ended, NoMore}
+-- An input of which something is held.
+use Rattle.std.proofs.Common.{◌≡◌, ◌≢◌, ◌<◌, ℕ, Bool, true, Option, None, Some, List, [], ◌∷◌, ◌++◌, IfOk, IfSome, refl, sym, ap, ◌∙◌, subst, arith}
+use Rattle.std.specs.Prelude.{Result, Ok}
+use Rattle.std.specs.Io.KnownBytes.{Keeps, prepend_known}
+use Rattle.pn_line.specs.Line.{LineBufferValue, with_bytes}
+use Rattle.pn_line.specs.Reads.{Takes}
 
--- nothing was held, and this was read
-pub keeps_read : (held read : List ℕ) (was now : Option (List ℕ)) → held ≡ [] → Consumes was now read → Keeps (prepend_known held was) (prepend_known read now)
-keeps_read held read None now none came = tt
-keeps_read held read (Some xs) None none came = absurd came
-keeps_read held read (Some xs) (Some ys) none came = sym (ap (λ (h : List ℕ). h ++ xs) none ∙ came)
+cons_nil : (b : ℕ) (bs : List ℕ) → b ∷ bs ≡ [] → ⊥
+cons_nil b bs is = cc
 
--- nothing was held and nothing is, and nothing was read
-pub keeps_none : (held left : List ℕ) (was now : Option (List ℕ)) → held ≡ [] → left ≡ [] → Keeps was now → Keeps (prepend_known held was) (prepend_known left now)
-keeps_none held left None now none still kept = tt
-keeps_none held left (Some xs) None none still kept = absurd kept
-keeps_none held left (Some xs) (Some ys) none still kept = ap (λ (h : List ℕ). h ++ ys) (still ∙ sym none) ∙ ap (λ (y : List ℕ). held ++ y) kept
+-- some bytes and others are not none
+some_first : (held rest : List ℕ) → held ≢ [] → held ++ rest ≢ []
+some_first [] rest some = absurd (some refl)
+some_first (b ∷ held) rest some = cons_nil b (held ++ rest)
 
--- what is taken of what is held is taken of the input
-pub takes_held : (old new : LineBufferValue) (first held left after : List ℕ) (was now : Option (List ℕ)) → Keeps (prepend_known first was) (prepend_known held now) → Takes old new (Some held) (Some left) after
-    → Takes old new (prepend_known first was) (prepend_known left now) after
-takes_held old new first held left after was now kept takes = record { taken = takes.taken; unbroken = takes.unbroken; line = takes.line; source = all was now kept }
+-- something is left of an input of which something is held
+pub more_left : {E : Type 0} (result : Result Bool E) (first held : List ℕ) (was now : Option (List ℕ)) → IfOk result (λ more. more ≡ true → held ≢ []) → Keeps (prepend_known first was) (prepend_known held now)
+    → result ≡ Ok true → IfSome (prepend_known first was) (λ rest. rest ≢ [])
+more_left {E} result first held was now more kept is =
+    left was now kept (subst (λ (r : Result Bool E). IfOk r (λ more. more ≡ true → held ≢ [])) is more refl)
   where
-    all : (was now : Option (List ℕ)) → Keeps (prepend_known first was) (prepend_known held now) → Consumes (prepend_known first was) (prepend_known left now) (takes.taken ++ after)
-    all None now kept = tt
-    all (Some xs) None kept = absurd kept
-    all (Some xs) (Some ys) kept = sym kept ∙ ap (λ (h : List ℕ). h ++ ys) takes.source ∙ append_assoc (takes.taken ++ after) left ys
+    left : (was now : Option (List ℕ)) → Keeps (prepend_known first was) (prepend_known held now) → held ≢ [] → IfSome (prepend_known first was) (λ rest. rest ≢ [])
+    left None now kept some = tt
+    left (Some xs) None kept some = absurd kept
+    left (Some xs) (Some ys) kept some = λ none. some_first held ys some (kept ∙ none)
 
--- a newline that is held is one of the input
-pub more_held : (piece : Piece) (held left : List ℕ) (now : Option (List ℕ)) → OnSome (Some held) (HasMore piece (Some left)) → HasMore piece (prepend_known left now)
-more_held Part held left now more = tt
-more_held NoMore held left now more = tt
-more_held (Ended false) held left now more = tt
-more_held (Ended true) held left None more = tt
-more_held (Ended true) held left (Some ys) more = Contains-append_left left ys 10 more
+-- where all that is held was taken, the line has grown
+pub line_grows : (old new : LineBufferValue) (held left after : List ℕ) → held ≢ [] → Takes old new (Some held) (Some left) after → after ≡ [] → left ≡ [] → old.count < new.count
+line_grows old new held left after some takes nothing none = grows takes.taken takes.line (takes.source ∙ ap (λ (a : List ℕ). (takes.taken ++ a) ++ left) nothing ∙ ap (λ (l : List ℕ). (takes.taken ++ []) ++ l) none)
+  where
+    grows : (taken : List ℕ) → new ≡ with_bytes old taken → held ≡ (taken ++ []) ++ [] → old.count < new.count
+    grows [] line source = absurd (some source)
+    grows (b ∷ taken) line source = omega (arith, ap (λ (l : LineBufferValue). l.count) line)

@@ -79,7 +79,11 @@ impl<I: Input + Drop> Source for HeldInput<I> {
         if !self.has_input()? {
             return Ok(Piece::NoMore);
         }
-        self.held.take_some(line)
+        // Where what is held ends, the input may go on.
+        match self.held.take_some(line)? {
+            Piece::NoMore => Ok(Piece::Part),
+            piece => Ok(piece),
+        }
     }
 
     fn has_more(&mut self) -> io::Result<bool> {

@@ -124,9 +124,8 @@ where
     R: Threads + Wait + Clock + Copy + Send + Drop + 'static,
 {
     let thread = new_thread(setting, number, client)?;
-    let buffers = ControlBuffers::new(setting.alloc)?;
     let host = *rt;
-    thread::spawn(rt, move || answer_clients(&host, &thread, buffers, reader))?;
+    thread::spawn(rt, move || answer_clients(&host, &thread, reader))?;
     Ok(())
 }
 
@@ -144,7 +143,7 @@ fn new_thread(
     })
 }
 
-// What a control thread begins with, beside its buffers and its reader.
+// What a control thread begins with, beside its reader.
 #[derive(Drop)]
 struct ControlThread {
     setting: ControlSetting,
@@ -153,10 +152,14 @@ struct ControlThread {
 }
 
 // Answers one client after another, until the server is to stop and nobody is accepted any more.
-fn answer_clients<R>(rt: &R, thread: &ControlThread, buffers: ControlBuffers, reader: LiveReader)
+fn answer_clients<R>(rt: &R, thread: &ControlThread, reader: LiveReader)
 where
     R: Threads + Wait + Clock + Drop,
 {
+    let Some(buffers) = make_buffers(rt, thread) else {
+        thread.client.note_end(rt);
+        return;
+    };
     let mut parts = (buffers, reader);
     for _ in rt.forever() {
         match accept(&thread.setting.listener) {
@@ -172,6 +175,18 @@ where
             Err(_) => thread::sleep(rt, Duration::from_millis(RETRY)),
         }
     }
+}
+
+// Makes the buffers of a thread, once there is memory for them. None where it is to end before.
+fn make_buffers<R: Wait + Clock>(rt: &R, thread: &ControlThread) -> Option<ControlBuffers> {
+    for _ in rt.forever() {
+        match ControlBuffers::new(thread.setting.alloc) {
+            Ok(buffers) => return Some(buffers),
+            Err(_) if thread.client.is_stopping(rt) => return None,
+            Err(_) => thread::sleep(rt, Duration::from_millis(RETRY)),
+        }
+    }
+    unreachable!()
 }
 
 // Waits for a client. No read and no write of its socket waits longer than `PATIENCE`.
