@@ -1,5 +1,5 @@
 -- An input of which something is held.
-use Rattle.std.proofs.Common.{◌≡◌, ◌≢◌, ◌<◌, ℕ, Bool, true, Option, None, Some, List, [], ◌∷◌, ◌++◌, IfOk, IfSome, refl, sym, ap, ◌∙◌, subst, arith}
+use Rattle.std.proofs.Common.{◌≡◌, ◌≢◌, ◌<◌, ℕ, Bool, true, Option, None, Some, List, [], ◌∷◌, ◌++◌, IfOk, IfSome, refl, ap, ◌∙◌, subst, arith}
 use Rattle.std.specs.Prelude.{Result, Ok}
 use Rattle.std.specs.Io.KnownBytes.{Keeps, prepend_known}
 use Rattle.pn_line.specs.Line.{LineBufferValue, with_bytes}
