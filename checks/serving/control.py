@@ -7,12 +7,12 @@ three minutes. Exit status 0 where each holds.
 """
 from common.tried import checks_in, checks_parser, try_checks
 from faults import refused_controls
-from serving import control_caches, control_counts, control_lines, control_losses, control_scripts, control_sessions, control_stops, control_waits
+from serving import control_advances, control_caches, control_counts, control_lines, control_losses, control_scripts, control_sessions, control_stops, control_waits
 from serving.staying import raise_descriptors
 
 
 def main(words: list[str]) -> int:
-    modules = (control_scripts, control_lines, control_waits, control_counts, control_sessions, control_caches, control_losses, control_stops,
+    modules = (control_scripts, control_lines, control_waits, control_counts, control_advances, control_sessions, control_caches, control_losses, control_stops,
                refused_controls)
     checks = checks_in(*modules)
     parser = checks_parser(__doc__, checks)
