@@ -5,12 +5,12 @@
 All take some two minutes. It needs 20,000 descriptors. Exit status 0 where each holds.
 """
 from common.tried import checks_in, checks_parser, try_checks
-from serving import staying_clients, staying_descriptors, staying_limits, staying_moments, staying_rounds, staying_slow, staying_streams, staying_words
+from serving import staying_clients, staying_descriptors, staying_limits, staying_lines, staying_moments, staying_rounds, staying_slow, staying_streams, staying_words
 from serving.staying import raise_descriptors
 
 
 def main(words: list[str]) -> int:
-    checks = checks_in(staying_clients, staying_slow, staying_limits, staying_descriptors, staying_moments, staying_rounds, staying_streams,
+    checks = checks_in(staying_clients, staying_slow, staying_lines, staying_limits, staying_descriptors, staying_moments, staying_rounds, staying_streams,
                        staying_words)
     given = checks_parser(__doc__, checks).parse_args(words)
     raise_descriptors()
