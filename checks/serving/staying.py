@@ -130,20 +130,6 @@ class Staying:
         """Fails unless it rests with what it had before, and at most so many KB more."""
         same_rest(self.process.pid, before, when, more_kb)
 
-    def wait_for_descriptors(self, most: int) -> None:
-        until(f"it has at most {most} descriptors", lambda: self.descriptors() <= most)
-
-    def descriptors_at_rest(self) -> int:
-        """How many it has once there are no more and no fewer for a second."""
-        seen: list[int] = []
-
-        def is_at_rest() -> bool:
-            seen.append(self.descriptors())
-            return len(seen) > 100 and len(set(seen[-100:])) == 1
-
-        until("its descriptors stay", is_at_rest)
-        return seen[-1]
-
 
 class Beside:
     """Work in a process of its own, which asks whether it is over, until the block ends. It fails where the work does."""
