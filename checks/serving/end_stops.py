@@ -1,6 +1,7 @@
 """Stops that end at once, or after the last of their seconds: checks of `checks/run ends`."""
 import contextlib
 import json
+import math
 import socket
 import threading
 import time
@@ -111,7 +112,7 @@ class Asking(threading.Thread):
 
     def __init__(self, control: str) -> None:
         super().__init__()
-        self.session, self.replies, self.unanswered, self.fault = Session(control), 0, 0.0, ""
+        self.session, self.replies, self.unanswered, self.fault = Session(control), 0, math.inf, ""
 
     def run(self) -> None:
         with self.session, contextlib.suppress(OSError):
@@ -123,7 +124,7 @@ class Asking(threading.Thread):
                     break
                 if reply != b'{"marks":{"east":5}}\n':
                     self.fault = f"{reply!r}"
-                self.replies += 1
+                self.replies, self.unanswered = self.replies + 1, math.inf
 
 
 def check_busy_control_sessions(program: str, folder: str) -> None:
