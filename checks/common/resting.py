@@ -8,8 +8,8 @@ from common.served import same
 
 # For how long it is looked at, and how much of a processor it may take meanwhile.
 LOOKED, AT_REST = 2.0, 0.02
-# Within how many seconds it has to come to rest: where the machine is busy, what is to be done first takes longer.
-PATIENCE = 20.0
+# With how many seconds of a processor it has to come to rest, and within how many of a clock: a busy machine gives it few.
+SPENT, PATIENCE = 3.0, 60.0
 
 
 def processor_seconds(process: int) -> float:
@@ -25,10 +25,10 @@ def share(process: int, seconds: float = LOOKED) -> float:
     return (processor_seconds(process) - before) / (time.monotonic() - start)
 
 
-def rests(process: int, when: str, patience: float = PATIENCE) -> None:
+def rests(process: int, when: str) -> None:
     """Fails unless it comes to rest, and takes no processor for two seconds."""
-    last = time.monotonic() + patience
-    while (took := share(process)) > AT_REST and time.monotonic() < last:
+    spent, last = processor_seconds(process) + SPENT, time.monotonic() + PATIENCE
+    while (took := share(process)) > AT_REST and processor_seconds(process) < spent and time.monotonic() < last:
         pass
     same(f"whether {took:.3f} of a processor {when} are at most {AT_REST}", took <= AT_REST, True)
 

@@ -18,7 +18,7 @@ from serving.writers import Writer
 # The limits that are tried, the last of which is enough, and what a program is started with that has to have all of it.
 LIMITS, CONNECTIONS, CONTROLS = range(12, 140), 24, 16
 # For how many seconds one waits who may never be accepted.
-PATIENCE = 8.0
+PATIENCE = 20.0
 # What it says where the limit is too low for its words, or for the program to begin.
 REFUSED = re.compile(rb"pnuts: cannot start: .*\n|pnuts: (?:memory|cannot (?:listen|open \w+)(?:: .*)?: Too many open files)\n")
 # How many places there are, and how many clients come while no descriptor is left, for how many seconds.
@@ -36,8 +36,8 @@ def limit_fault(program: str, folder: str, most: int) -> str | None:
     os.mkfifo(f"{own}/west")
     line = [program, "serve", "--stay", "--sessions", "3", "--port", str(port := free_port()), "--connections", str(CONNECTIONS),
             "--control", f"{own}/control", f"east=listen:{own}/east", f"west={own}/west", f"north=listen:{own}/north"]
-    pipe = subprocess.PIPE
-    with subprocess.Popen(line, stdin=subprocess.DEVNULL, stdout=pipe, stderr=pipe, preexec_fn=limited(most)) as process, contextlib.ExitStack() as stay:
+    pipes = {"stdin": subprocess.DEVNULL, "stdout": subprocess.PIPE, "stderr": subprocess.PIPE}
+    with subprocess.Popen(line, **pipes, preexec_fn=limited(most)) as process, contextlib.ExitStack() as stay:
         stay.callback(process.kill)
         if not process.stdout.readline():
             said = process.stderr.read()

@@ -18,7 +18,7 @@ RESET = struct.pack("ii", 1, 0)
 # Keys that a client asks for: the greatest number of the longest ones.
 LETTERS, COUNT = 128, 100
 # How long one waits that may never be answered, and what clients may leave.
-PATIENCE, LEAK_KB = 10.0, 4_096
+PATIENCE, LEAK_KB = 20.0, 4_096
 # For how many seconds a client may be silent, how often others come meanwhile, and how much later than that it is ended at most.
 IDLE, COMING, LATER = 3, 0.04, 2.5
 
