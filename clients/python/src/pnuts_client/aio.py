@@ -72,7 +72,7 @@ class AsyncClient:
     async def ask(self, request: Request[Answer]) -> Answer:
         """The answer to one request. Any number of tasks may ask at once."""
         try:
-            async with asyncio.timeout(self._timeout):
+            async with asyncio.timeout(None if self._timeout is None else self._timeout + request.work):
                 return request.answer(await self._reply(request))
         except TimeoutError as fault:
             raise TimedOut("no reply in time") from fault

@@ -28,7 +28,7 @@ class Client:
     """A region, by an address or its text. Its calls may be made from any thread.
 
     At most `connections` are open, each a session of the region, opened when it is needed. A call waits for a free
-    one. `timeout` is the seconds that a call waits for each reply, None for ever. A connection that breaks is opened
+    one. `timeout` is the seconds that a call waits while nothing comes, None for ever. A connection that breaks is opened
     anew, and lines that read are asked again, up to `retries` times with a growing pause.
     """
 

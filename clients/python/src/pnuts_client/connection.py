@@ -24,7 +24,7 @@ class Connection:
     def replies(
         self, requests: Iterable[Request[Any]], timeout: float | None, window: int = DEFAULT_WINDOW
     ) -> Generator[tuple[Request[Any], Any], None, None]:
-        """Each request with its reply, in order; `timeout` is the seconds for each reply after the one before.
+        """Each request with its reply, in order; `timeout` is the seconds in which no byte goes out or comes.
 
         Where it ends while replies are still to come, the connection is closed, so that a late reply is never taken
         for that of another line.
@@ -41,26 +41,24 @@ class Connection:
                     unsent = _lines(pipeline, waiting, window)
                 if not len(pipeline):
                     break
-                replied = self._exchange(pipeline, unsent, deadline)
-                unsent = unsent[replied[0] :]
-                for request, _, reply in replied[1]:
+                sent, data = self._exchange(unsent, deadline)
+                unsent = unsent[sent:]
+                for request, _, reply in pipeline.receive(data) if data else []:
                     yield request, reply
-                if replied[1]:
-                    deadline = deadline_after(timeout)
+                if sent or data:
+                    deadline = deadline_after(None if timeout is None else timeout + pipeline.work)
         finally:
             if len(pipeline) or unsent:
                 self.close()
 
-    def _exchange(self, pipeline: Pipeline[None], unsent: memoryview, deadline: float | None) -> tuple[int, list[Any]]:
-        """One turn: how many bytes went out, and the replies that came; waits where neither did."""
+    def _exchange(self, unsent: memoryview, deadline: float | None) -> tuple[int, bytes | None]:
+        """One turn: how many bytes went out, and those that came; waits where neither did."""
         assert self._socket is not None
         sent = self._socket.send_some(unsent) if unsent else 0
         data = self._socket.receive_some()
-        if data is not None:
-            return sent, pipeline.receive(data)
-        if sent < len(unsent) or not sent:
+        if data is None and (sent < len(unsent) or not sent):
             self._socket.wait(sent < len(unsent), deadline)
-        return sent, []
+        return sent, data
 
     def renew(self) -> None:
         """Ends the session where the region did, so that the next line begins another one. Nothing is in flight."""
