@@ -16,7 +16,7 @@ MEMORY = b'{"error":"memory"}\n'
 # How much memory a region has besides what it has taken, and how often it is asked meanwhile.
 SPARE_KB, TIMES = 512, 40
 # What it is asked, and the first member of the reply.
-LINES = {b'{"do":"marks"}\n': "marks", b'{"do":"tablets"}\n': "tablets", b'{"do":"stats"}\n': "bytes", b'{"do":"notices","since":0}\n': "missed",
+LINES = {b'{"do":"marks"}\n': "marks", b'{"do":"tablets"}\n': "tablets", b'{"do":"stats"}\n': "bytes", b'{"do":"notices","since":9999999}\n': "missed",
          b'{"do":"read","key":"k001"}\n': "row", b'{"do":"advance"}\n': "marks", b'{"do":"get","keys":["k001","k099"]}\n': "rows"}
 SESSIONS = 16
 LIMITS = (resource.RLIMIT_DATA, resource.RLIMIT_AS)
