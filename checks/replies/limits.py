@@ -11,7 +11,7 @@ taken, and each one beyond it is refused by its member.
 import tempfile
 import time
 
-from common.tried import program_parser
+from common.tried import FAULTS, program_parser
 from serving import line_streams, line_ways
 from serving.staying import raise_descriptors
 
@@ -27,7 +27,10 @@ def main(words: list[str]) -> int:
             continue
         start = time.monotonic()
         with tempfile.TemporaryDirectory() as folder:
-            count, faults = way.faults(given.program, folder)
+            try:
+                count, faults = way.faults(given.program, folder)
+            except FAULTS as fault:
+                count, faults = 0, [str(fault)]
         failed += bool(faults)
         told = f"WRONG: {faults[0]}" if faults else f"{count:,} cases are as they should be"
         print(f"{name}: {told} ({time.monotonic() - start:.0f} s)", flush=True)

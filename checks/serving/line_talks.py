@@ -34,7 +34,7 @@ class Talk:
 
     def __init__(self, name: str, text: bytes, ends: Sequence[int], finish: Callable[[], None] | None) -> None:
         self.name, self.text, self.ends, self.finish = name, text, list(ends), finish
-        self.sent, self.came, self.is_over, self.is_cut = 0, b"", False, False
+        self.sent, self.came, self.is_over, self.is_broken = 0, b"", False, False
 
     def begin(self, out: int, back: int) -> "Talk":
         """It talks by these descriptors."""
@@ -47,13 +47,13 @@ class Talk:
         """Sends the next piece, or what was not taken of the last one. Whether there is more."""
         while self.ends and self.sent >= self.ends[0]:
             self.ends.pop(0)
-        if not self.ends or self.is_cut:
+        if not self.ends or self.is_broken:
             return False
         with contextlib.suppress(BlockingIOError):
             try:
                 self.sent += os.write(self.out, self.text[self.sent : self.ends[0]])
             except (BrokenPipeError, ConnectionResetError):
-                self.is_cut = True
+                self.is_broken = True
         if self.finish and self.sent == len(self.text):
             with contextlib.suppress(OSError):
                 self.finish()

@@ -37,7 +37,7 @@ class Server(NamedTuple):
 
 
 class Way(NamedTuple):
-    """A way in which lines come: who reads them, how many servers' cases and cases at once there are, and how a server is started.
+    """A way in which lines come: who reads them, how many cases one server has and how many of them at once, and how it is started.
 
     `each` is how many of the ways of cutting its input are tried for each line; none: all.
     """
