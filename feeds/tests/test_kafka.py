@@ -31,18 +31,6 @@ class Kafka(unittest.TestCase):
             running.wait_for(305)
             self.assertEqual(running.lines, wanted(305))
 
-    def test_a_topic_that_is_not_there_yet(self) -> None:
-        self.server.hide(self.topic)
-        with feed(*self.words) as running:
-            time.sleep(1)
-            self.server.hide(self.topic, 0)
-            self.server.fill(self.topic, 1, 2)
-            running.wait_for(2)
-            self.assertEqual(running.lines, wanted(2))
-            running.go()
-            told = [f"waiting for the broker: there is no topic {self.topic}", "the broker is back"]
-            self.assertEqual(running.ended(), (0, "".join(f"kafka: {line}\n" for line in told)))
-
     def test_a_topic_of_two_partitions(self) -> None:
         self.server.make(f"{self.topic}_two", 2)
         with feed(*self.words[:-1], f"{self.topic}_two") as running:
