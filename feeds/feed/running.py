@@ -38,7 +38,8 @@ class Source(Protocol):
         """The messages after this position, each once and in order.
 
         A batch is what is at hand. An empty one comes at least once a second while there is nothing, so that the feed
-        sees whether its region is there. Raises Unreachable where the broker is away, Lost, and BadWords.
+        sees whether its region is there. Raises Unreachable where the broker is away, without a text while it is not known why,
+        Lost, and BadWords.
         """
 
     def describe(self, identity: Any) -> str:
@@ -129,7 +130,7 @@ class _Feed:
                         self._see_broker()
                         self._hand_on(messages)
             except Unreachable as fault:
-                if not self._away:
+                if str(fault) and not self._away:
                     tell(self._name, f"waiting for the broker: {fault}")
                     self._away = True
                 self._output.pause(0.2)

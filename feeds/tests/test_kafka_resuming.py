@@ -3,11 +3,14 @@
 from __future__ import annotations
 
 import signal
+import tempfile
 import time
+from pathlib import Path
 
 from . import resuming
 from .kafka_server import FIND_COORDINATOR, GROUP_REFUSED, Server, server_of
 from .support import image, wait_until
+from .tls_relay import Relay
 
 # How many images come to a topic that keeps far fewer, and how many of them may wait.
 MANY, WAITING = 100_000, 20_000
@@ -120,6 +123,21 @@ class KafkaResuming(resuming.Resuming):
         with self.region() as region, self.feed(region, *more) as program:
             self.wait_for(region, program, 10)
             self.assertIn("east", program.said())
+
+    def test_tls(self) -> None:
+        self.fill(1, 1_000)
+        with tempfile.TemporaryDirectory() as folder:
+            relay = Relay(Path(folder), self.server.brokers)
+            self.addCleanup(relay.end)
+            self.words = ("kafka", "--brokers", relay.brokers, "--set", "security.protocol=ssl", self.topic)
+            with self.region() as region, self.feed(region) as program:
+                wait_until(lambda: "waiting for the broker: " in program.said())
+                self.assertIn("certificate verify failed", program.said())
+            with self.region() as region, self.feed(region, "--set", f"ssl.ca.location={relay.certificate}") as program:
+                self.wait_for(region, program, 1_000)
+                self.fill(1_001, 3)
+                self.wait_for(region, program, 1_003)
+                self.assertEqual(program.said(), "")
 
     def test_a_group_that_is_refused(self) -> None:
         self.server.refuse(FIND_COORDINATOR, GROUP_REFUSED, 20)
