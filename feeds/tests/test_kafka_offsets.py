@@ -2,7 +2,9 @@
 
 from __future__ import annotations
 
+import socket
 import unittest
+import unittest.mock
 from typing import Any
 
 from .kafka_server import Server, server_of
@@ -109,6 +111,26 @@ class KafkaOffsets(unittest.TestCase):
         count, said = self.lost(source, 10)
         self.assertEqual(count, 0)
         self.assertIn("is of another cluster than before", said)
+
+    def test_a_topic_that_is_too_short_for_a_while(self) -> None:
+        self.server.fill(self.topic, 1, 10)
+        source = self.source()
+        with self.assertRaisesRegex(kafka.Unreachable, "^$"):
+            next(source.batches(12))
+        self.server.fill(self.topic, 11, 5)
+        self.assertEqual(self.give(source, 12, 3)[-1], (14, image(15)))
+        for settling, fault in ((5.0, kafka.Unreachable), (0.0, kafka.Lost)):
+            with self.subTest(settling), unittest.mock.patch.object(kafka, "SETTLING", settling), self.assertRaises(fault):
+                next(source.batches(16))
+
+    def test_a_broker_that_says_nothing(self) -> None:
+        with socket.create_server(("127.0.0.1", 0)) as mute:
+            source = kafka.KafkaTopic(f"127.0.0.1:{mute.getsockname()[1]}", "east", 0, ())
+            self.addCleanup(source._consumer.close)
+            for silence, said in ((5.0, "^$"), (0.0, "Failed to get metadata")):
+                with self.subTest(silence), unittest.mock.patch.object(kafka, "SILENCE", silence):
+                    with self.assertRaisesRegex(kafka.Unreachable, said):
+                        next(source.batches(0))
 
     def test_which_stream_it_is(self) -> None:
         self.server.fill(self.topic, 1, 10)
