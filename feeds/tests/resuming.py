@@ -122,13 +122,13 @@ class Resuming(unittest.TestCase):
         chosen = random.Random(self.words[0])
         self.fill(1, 2_000)
         with self.region(slow=True) as region, ExitStack() as stay:
-            program = stay.enter_context(self.feed(region))
+            program = stay.enter_context(self.feed(region, "--socket"))
             for kill in range(1, KILLS + 1):
                 time.sleep(chosen.uniform(0.05, 1))
                 self.assertTrue(program.is_running(), program.said())
                 if chosen.random() < 0.5:
                     program.kill()
-                    program = stay.enter_context(self.feed(region))
+                    program = stay.enter_context(self.feed(region, "--socket"))
                 else:
                     region.stop()
                     region.start(region.has - min(region.has, chosen.choice((0, 0, 1, 100))))
