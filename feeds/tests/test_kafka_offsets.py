@@ -132,6 +132,17 @@ class KafkaOffsets(unittest.TestCase):
                     with self.assertRaisesRegex(kafka.Unreachable, said):
                         next(source.batches(0))
 
+    def test_a_second_partition(self) -> None:
+        self.server.fill(self.topic, 1, 10)
+        self.server.make(f"{self.topic}_two", 2)
+        source = self.source()
+        batches = source.batches(0)
+        next(batches)
+        source._topic = f"{self.topic}_two"
+        next(batches)
+        with unittest.mock.patch.object(kafka, "COUNTED", 0.0), self.assertRaisesRegex(kafka.BadWords, "has 2 partitions"):
+            next(batches)
+
     def test_which_stream_it_is(self) -> None:
         self.server.fill(self.topic, 1, 10)
         source, again, later = self.source(), self.source(), self.source(4)
