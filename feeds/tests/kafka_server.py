@@ -15,7 +15,7 @@ except ImportError as fault:
 # Numbers of librdkafka.
 PRODUCER, BROKER, FIND_COORDINATOR = 0, 1, 10
 UNKNOWN_TOPIC, GROUP_REFUSED = 3, 30
-PATIENCE = 30.0
+PATIENCE = 120.0
 # Many images come together, and packed ones are much smaller. Those that are not packed soon push out the first ones.
 FAST = {"log_level": 0, "linger.ms": 5, "queue.buffering.max.messages": 1_000_000}
 

@@ -50,7 +50,7 @@ class KafkaResuming(resuming.Resuming):
     def test_a_topic_that_is_not_there_yet(self) -> None:
         self.server.hide(self.topic)
         with self.region() as region, self.feed(region) as program:
-            wait_until(lambda: f"waiting for the broker: there is no topic {self.topic}\n" in program.said())
+            wait_until(lambda: f"waiting for the broker: there is no topic {self.topic}\n" in program.said(), resuming.PATIENCE)
             self.server.hide(self.topic, 0)
             self.fill(1, 3)
             self.wait_for(region, program, 3)
@@ -112,7 +112,7 @@ class KafkaResuming(resuming.Resuming):
 
     def test_a_first_offset_that_is_not_there_yet(self) -> None:
         with self.region() as region, self.feed(region, "--first", "500") as program:
-            wait_until(lambda: "has no offset 500 yet" in program.said())
+            wait_until(lambda: "has no offset 500 yet" in program.said(), resuming.PATIENCE)
             self.server.put(self.topic, [b"of before"] * 500)
             self.fill(1, 10)
             self.wait_for(region, program, 10)
@@ -131,7 +131,7 @@ class KafkaResuming(resuming.Resuming):
             self.addCleanup(relay.end)
             self.words = ("kafka", "--brokers", relay.brokers, "--set", "security.protocol=ssl", self.topic)
             with self.region() as region, self.feed(region) as program:
-                wait_until(lambda: "waiting for the broker: " in program.said())
+                wait_until(lambda: "waiting for the broker: " in program.said(), resuming.PATIENCE)
                 self.assertIn("certificate verify failed", program.said())
             with self.region() as region, self.feed(region, "--set", f"ssl.ca.location={relay.certificate}") as program:
                 self.wait_for(region, program, 1_000)
@@ -164,10 +164,10 @@ class KafkaResuming(resuming.Resuming):
         with self.region() as region, self.feed(region) as program:
             self.wait_for(region, program, 10)
             self.server.stop()
-            wait_until(lambda: "waiting for the broker" in program.said())
+            wait_until(lambda: "waiting for the broker" in program.said(), resuming.PATIENCE)
             region.stop()
             region.start(5)
-            wait_until(lambda: "the region is back, and has 5 messages" in program.said())
+            wait_until(lambda: "the region is back, and has 5 messages" in program.said(), resuming.PATIENCE)
             self.server.start()
             self.server.put(self.topic, [image(11)])
             self.wait_for(region, program, 11)
