@@ -138,8 +138,8 @@ checks-feeds:
 	@PNUTS="$(realpath $(PROGRAM))" feeds/test
 
 # Tests the feeds, gives 200,000 images through each, and runs both examples with real brokers, a database and proxies. Debian's
-# packages: redis-server python3-redis python3-hiredis rabbitmq-server python3-pika postgresql python3-psycopg2 haproxy openssl
-# iproute2 util-linux. What misses one of them says so, and is skipped.
+# packages: redis-server python3-redis python3-hiredis rabbitmq-server python3-pika python3-confluent-kafka postgresql
+# python3-psycopg2 haproxy openssl iproute2 util-linux. What misses one of them says so, and is skipped.
 checks-brokers: build
 	@checks/run brokers "$(PROGRAM)"
 
