@@ -22,9 +22,9 @@ class Connection:
         self._socket: Socket | None = None
 
     def replies(
-        self, requests: Iterable[Request[Any]], timeout: float | None, window: int = DEFAULT_WINDOW
+        self, requests: Iterable[Request[Any]], deadline: float | None, timeout: float | None, window: int
     ) -> Generator[tuple[Request[Any], Any], None, None]:
-        """Each request with its reply, in order; `timeout` is the seconds for each reply after the one before.
+        """Each request with its reply, in order; the first by a deadline, `timeout` is the seconds for each one after it.
 
         Where it ends while replies are still to come, the connection is closed, so that a late reply is never taken
         for that of another line.
@@ -33,7 +33,6 @@ class Connection:
         waiting = iter(requests)
         unsent = memoryview(b"")
         try:
-            deadline = deadline_after(timeout)
             if self._socket is None:
                 self._socket = Socket(self._address, deadline)
             while True:

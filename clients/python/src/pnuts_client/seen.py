@@ -1,0 +1,83 @@
+"""The versions of records that a client has shown, so that no region shows it an older one: no socket."""
+
+from __future__ import annotations
+
+import threading
+from collections.abc import Iterable, Sequence
+from typing import Any
+
+from . import requests
+from .queries import Query, meets
+from .records import Record, Version
+from .requests import Page, Request
+
+REMEMBERED = 10_000
+"""Of how many keys a client of several regions keeps the version that it saw, if nothing else is said."""
+
+Wanted = tuple[str, Version]
+"""A key, and the version that was seen of it."""
+
+
+class Seen:
+    """The versions of the keys that were seen last, at most `size` of them. Any thread may use it."""
+
+    def __init__(self, size: int) -> None:
+        self._size = size
+        # Each key with its version, and whether that was a deletion; the key that was seen last comes last.
+        self._versions: dict[str, tuple[Version, bool]] = {}
+        self._lock = threading.Lock()
+
+    def version(self, key: str) -> Version | None:
+        """The version that was seen of a key."""
+        known = self._versions.get(key)
+        return known and known[0]
+
+    def guarded(self, request: Request[Any]) -> Request[Any]:
+        """The request, where it reads a record at least in the version that was seen."""
+        known = None if request.key is None else self.version(request.key)
+        if request.key is None or known is None or (request.at_least is not None and request.at_least >= known):
+            return request
+        return requests.read(request.key, known)
+
+    def take(self, key: str, record: Record | None) -> Version | None:
+        """Notes the record that a region has of a key. Where a later version was seen, it gives that."""
+        with self._lock:
+            known = self._versions.get(key)
+            if record is None or (known is not None and record.version < known[0]):
+                return known and known[0]
+            self._versions.pop(key, None)
+            self._versions[key] = record.version, record.state == "deleted"
+            if len(self._versions) > self._size:
+                del self._versions[next(iter(self._versions))]
+            return None
+
+    def older(self, keys: Sequence[str], records: Sequence[Record | None]) -> list[Wanted]:
+        """The keys of which a later version was seen than these records have."""
+        found = [(key, self.take(key, record)) for key, record in zip(keys, records)]
+        return [(key, version) for key, version in found if version is not None]
+
+    def older_of(self, query: Query, page: Page) -> list[Wanted]:
+        """The keys of a page of which a later version was seen, and, where there are no conditions, those that it lacks."""
+        keys = [record.key for record in page.records]
+        found = self.older(keys, page.records)
+        if query.where:
+            return found
+        last = None if page.next is None else page.next.after
+        shown = set(keys)
+        with self._lock:
+            return found + [
+                (key, version)
+                for key, (version, is_deleted) in self._versions.items()
+                if not is_deleted and key not in shown and query.covers(key) and (last is None or key <= last)
+            ]
+
+
+def with_later(query: Query, records: Sequence[Record], later: Iterable[Record | None]) -> list[Record]:
+    """The records of a page with later ones in their places, as far as these are what the query asks for."""
+    shown = {record.key: record for record in records}
+    for record in later:
+        if record is not None:
+            shown.pop(record.key, None)
+            if meets(record, query.where):
+                shown[record.key] = record
+    return [shown[key] for key in sorted(shown)]
