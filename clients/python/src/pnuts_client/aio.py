@@ -173,6 +173,8 @@ class _Connection:
 
     async def _opened(self) -> asyncio.StreamWriter:
         async with self._opening:
+            if self._writer is not None and self._writer.is_closing():
+                self.break_off(ConnectionFailed("the connection broke"))
             if self._writer is None:
                 try:
                     reader, self._writer = await _streams(self._address)
