@@ -107,7 +107,7 @@ class Attempts:
 
     def failed(self, done: Try, fault: PnutsError, now: float) -> float:
         """Seconds before the next try. Raises the fault, with what other regions said, where there is none."""
-        fault.others = [(self._order.names[at], said) for at, said in self._said.items() if at != done.region]
+        fault.others = [(self._order.names[at], said) for at, said in sorted(self._said.items()) if at != done.region]
         several = len(self._order) > 1
         if not isinstance(fault, OF_ANOTHER if several else ConnectionFailed):
             raise fault

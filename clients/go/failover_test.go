@@ -1,0 +1,299 @@
+package pnuts
+
+import (
+	"bufio"
+	"encoding/json"
+	"errors"
+	"fmt"
+	"net"
+	"os"
+	"path/filepath"
+	"sync"
+	"testing"
+	"time"
+)
+
+// readVectors reads a file of vectors.
+func readVectors(t *testing.T, name string, value any) {
+	text, err := os.ReadFile(filepath.Join("..", "vectors", name+".json"))
+	must(t, err)
+	must(t, json.Unmarshal(text, value))
+}
+
+type choices struct {
+	Backoffs struct{ Cases [][2]int }
+	Orders   []struct {
+		About   string
+		Regions int
+		Steps   []struct {
+			At                    int
+			Try, Failed, Answered string
+			Region                *int
+			Tried                 []int
+		}
+	}
+	Attempts []struct {
+		About                     string
+		Regions, Retries, Timeout int
+		Steps                     []struct {
+			At, Region, Until int
+			Fault             any
+			Pause             *int
+		}
+	}
+}
+
+// moment is that of a vector.
+func moment(milliseconds int) time.Time {
+	return time.Unix(1_000_000, 0).Add(time.Duration(milliseconds) * time.Millisecond)
+}
+
+// faultTold is the fault that vectors tell of.
+func faultTold(told any) error {
+	switch told {
+	case "connection":
+		return &ConnectionFailed{net.ErrClosed}
+	case "timeout":
+		return &TimedOut{}
+	case "protocol":
+		return &ProtocolError{}
+	}
+	reply, _ := json.Marshal(told)
+	return faultOf(Command{}, reply)
+}
+
+// asTold is a fault as vectors tell of it.
+func asTold(fault error) any {
+	refusal, broken, late := Refusal(nil), (*ConnectionFailed)(nil), (*TimedOut)(nil)
+	switch {
+	case errors.As(fault, &refusal):
+		return refusal.Members()
+	case errors.As(fault, &broken):
+		return "connection"
+	case errors.As(fault, &late):
+		return "timeout"
+	}
+	return "protocol"
+}
+
+// asText is a value as JSON has it.
+func asText(t *testing.T, value any) string {
+	text, err := json.Marshal(value)
+	must(t, err)
+	return string(text)
+}
+
+func TestVectorsOfBackoffs(t *testing.T) {
+	var told choices
+	readVectors(t, "failover", &told)
+	for _, each := range told.Backoffs.Cases {
+		same(t, fmt.Sprint(each), backoff(each[0]).Milliseconds(), each[1])
+	}
+}
+
+func TestVectorsOfOrders(t *testing.T) {
+	var told choices
+	readVectors(t, "failover", &told)
+	for _, each := range told.Orders {
+		order, tries := newOrder(make([]string, each.Regions)), map[string]try{}
+		for _, step := range each.Steps {
+			tried := make([]bool, each.Regions)
+			for _, region := range step.Tried {
+				tried[region] = true
+			}
+			switch {
+			case step.Failed != "":
+				order.failed(tries[step.Failed], moment(step.At))
+			case step.Answered != "":
+				order.answered(tries[step.Answered])
+			default:
+				found, isAny := order.next(moment(step.At), tried)
+				same(t, each.About, isAny, step.Region != nil)
+				if isAny {
+					same(t, fmt.Sprint(each.About, step), found.region, *step.Region)
+				}
+				tries[step.Try] = found
+			}
+		}
+	}
+}
+
+func TestVectorsOfAttempts(t *testing.T) {
+	var told choices
+	readVectors(t, "failover", &told)
+	for _, each := range told.Attempts {
+		tries := newAttempts(newOrder(make([]string, each.Regions)), each.Retries, moment(each.Timeout))
+		for at := 0; at < len(each.Steps); at += 2 {
+			asked, ended := each.Steps[at], each.Steps[at+1]
+			done, until := tries.next(moment(asked.At))
+			same(t, each.About, done.region, asked.Region)
+			same(t, each.About, until, moment(asked.Until))
+			wait, err := tries.failed(done, faultTold(ended.Fault), moment(ended.At))
+			same(t, each.About, err != nil, ended.Pause == nil)
+			if err == nil {
+				same(t, each.About, wait.Milliseconds(), *ended.Pause)
+			} else {
+				same(t, each.About, asText(t, asTold(err)), asText(t, ended.Fault))
+			}
+		}
+	}
+}
+
+// A table is what a region of the vectors replies to lines. Where there is none, it ends each connection.
+type table []struct {
+	Line, Reply json.RawMessage
+	Text        []string
+}
+
+// A tabled region answers by a table that changes.
+type tabled struct {
+	t        *testing.T
+	listener net.Listener
+	mutex    sync.Mutex
+	table    table
+	sockets  []net.Conn
+}
+
+func startTabled(t *testing.T) *tabled {
+	made := &tabled{t: t, listener: listen(t)}
+	go func() {
+		for {
+			socket, err := made.listener.Accept()
+			if err != nil {
+				return
+			}
+			go made.serve(socket)
+		}
+	}()
+	t.Cleanup(func() { made.listener.Close(); made.become(nil) })
+	return made
+}
+
+func (r *tabled) become(table table) {
+	r.mutex.Lock()
+	defer r.mutex.Unlock()
+	r.table = table
+	for _, socket := range r.sockets {
+		if table == nil {
+			socket.Close()
+		}
+	}
+}
+
+func (r *tabled) serve(socket net.Conn) {
+	defer socket.Close()
+	r.mutex.Lock()
+	r.sockets = append(r.sockets, socket)
+	isOpen := r.table != nil
+	r.mutex.Unlock()
+	for lines := bufio.NewScanner(socket); isOpen && lines.Scan(); {
+		fmt.Fprint(socket, r.reply(lines.Bytes()))
+	}
+}
+
+func (r *tabled) reply(line []byte) string {
+	r.mutex.Lock()
+	defer r.mutex.Unlock()
+	for _, each := range r.table {
+		if asText(r.t, saidBy(r.t, each.Line)) == asText(r.t, saidBy(r.t, line)) {
+			reply := string(each.Reply) + "\n"
+			for _, text := range each.Text {
+				reply += text + "\n"
+			}
+			return reply
+		}
+	}
+	r.t.Errorf("nobody was to be asked: %s", line)
+	return `{"error":"unknown"}` + "\n"
+}
+
+// saidBy is what a line says, without what holds without it.
+func saidBy(t *testing.T, line []byte) any { return withoutDefaults(asWritten(t, line)) }
+
+type step struct {
+	Call               json.RawMessage
+	Regions            []table
+	Answer, Error, Key any
+	Others             []any
+}
+
+// check makes a call, and looks at what comes of it.
+func (s *step) check(t *testing.T, about string, client *Client) {
+	answer, err := answered(t, client, s.Call)
+	if s.Error == nil {
+		must(t, err)
+		same(t, about, asText(t, answer), asText(t, s.Answer))
+		return
+	}
+	same(t, about, asText(t, asTold(err)), asText(t, s.Error))
+	several, others := (*RegionsFailed)(nil), []any(nil)
+	if errors.As(err, &several) {
+		for _, other := range several.Others {
+			others = append(others, asTold(other.Fault))
+		}
+	}
+	same(t, about, asText(t, others), asText(t, s.Others))
+	behind := (*RecordBehind)(nil)
+	if s.Key != nil && errors.As(err, &behind) {
+		same(t, about, behind.Key, s.Key)
+	}
+}
+
+// answered is what the client answers to a call, as vectors have it.
+func answered(t *testing.T, client *Client, call json.RawMessage) (any, error) {
+	answer, err := asked(t, client, call)
+	switch answer := answer.(type) {
+	case *Record:
+		return asRow(answer), err
+	case []*Record:
+		return asReply(answer).(map[string]any)["rows"], err
+	case Page:
+		rows := asReply(answer.Records).(map[string]any)["rows"].([]any)
+		for answer.Next != nil && err == nil {
+			answer, err = client.Page(background, *answer.Next)
+			rows = append(rows, asReply(answer.Records).(map[string]any)["rows"].([]any)...)
+		}
+		return rows, err
+	}
+	return answer, err
+}
+
+func TestVectorsOfSeveralRegions(t *testing.T) {
+	var told struct {
+		Calls []struct {
+			About    string
+			Remember int
+			Steps    []step
+		}
+	}
+	readVectors(t, "regions", &told)
+	for _, each := range told.Calls {
+		regions, addresses := []*tabled{}, []string{}
+		for range each.Steps[0].Regions {
+			regions = append(regions, startTabled(t))
+			addresses = append(addresses, "tcp://"+regions[len(regions)-1].listener.Addr().String())
+		}
+		client, err := OpenAny(addresses, Options{Retries: -1, Remember: each.Remember})
+		must(t, err)
+		for _, step := range each.Steps {
+			for at, region := range regions {
+				region.become(step.Regions[at])
+			}
+			step.check(t, each.About, client)
+		}
+		client.Close()
+	}
+}
+
+func TestASilentRegionIsLeftAlone(t *testing.T) {
+	silent, other := fake(t, listen(t), []string{"1h"}), fake(t, listen(t), []string{none + "\n", none + "\n", none + "\n"})
+	client, err := OpenAny([]string{silent, other}, Options{Timeout: 2 * time.Second})
+	must(t, err)
+	t.Cleanup(client.Close)
+	begun := time.Now()
+	for reads := 0; reads < 3; reads++ {
+		_, err = client.Read(background, "k")
+		must(t, err)
+	}
+	same(t, "whether each waited", time.Since(begun) > 1900*time.Millisecond, false)
+}
