@@ -56,8 +56,11 @@ func (c *Client) Get(ctx context.Context, keys []string) ([]*Record, error) {
 		if err != nil {
 			return err
 		}
-		copy(records[at*maxKeys:], found.Rows)
 		later, err := c.readAll(ctx, c.seen.older(share, found.Rows))
+		if err != nil {
+			return err
+		}
+		copy(records[at*maxKeys:], found.Rows)
 		for _, record := range later {
 			for index, key := range share {
 				if record != nil && key == record.Key {
@@ -65,30 +68,30 @@ func (c *Client) Get(ctx context.Context, keys []string) ([]*Record, error) {
 				}
 			}
 		}
-		return err
+		return nil
 	})
 }
 
 // Page gives a page of what a query asks for, without deleted records. Of several regions it may have more rows than the limit.
 func (c *Client) Page(ctx context.Context, query Query) (Page, error) {
 	found, err := Ask(ctx, c, Command{"do": "scan", "query": query}, without(), reply.isPage)
-	page := Page{Records: found.Rows}
 	if err != nil {
-		return page, err
+		return Page{}, err
 	}
+	page := Page{Records: found.Rows}
 	if found.Next != nil {
 		next := query
 		next.After = found.Next.After
 		page.Next = &next
 	}
-	older := c.seen.olderOf(query, page)
-	if len(older) > 0 {
-		var later []*Record
-		if later, err = c.readAll(ctx, older); err == nil {
-			page.Records = withLater(query, page.Records, later)
+	if older := c.seen.olderOf(query, page); len(older) > 0 {
+		later, err := c.readAll(ctx, older)
+		if err != nil {
+			return Page{}, err
 		}
+		page.Records = withLater(query, page.Records, later)
 	}
-	return page, err
+	return page, nil
 }
 
 // Scan gives what a query asks for, page by page. While the region changes, each page is of its own moment.
