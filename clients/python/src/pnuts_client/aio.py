@@ -210,7 +210,8 @@ class _Connection:
         pipeline, self._pipeline = self._pipeline, Pipeline()
         for _, answer in pipeline.unanswered():
             if not answer.done():
-                answer.set_exception(fault)
+                # Each call has its own, as it is told what other regions said.
+                answer.set_exception(type(fault)(*fault.args))
         return writer
 
 

@@ -62,14 +62,10 @@ class Seen:
         found = self.older(keys, page.records)
         if query.where:
             return found
-        last = None if page.next is None else page.next.after
-        shown = set(keys)
+        shown, last = set(keys), None if page.next is None else page.next.after
         with self._lock:
-            return found + [
-                (key, version)
-                for key, (version, is_deleted) in self._versions.items()
-                if not is_deleted and key not in shown and query.covers(key) and (last is None or key <= last)
-            ]
+            lacking = [(key, it[0]) for key, it in self._versions.items() if not it[1] and key not in shown]
+        return found + [it for it in lacking if query.covers(it[0]) and (last is None or it[0] <= last)]
 
 
 def with_later(query: Query, records: Sequence[Record], later: Iterable[Record | None]) -> list[Record]:
