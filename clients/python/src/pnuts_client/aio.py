@@ -106,7 +106,7 @@ class AsyncClient:
         connection, seen = min(self._pools[region], key=len), self._seen
         received = connection.received
         try:
-            async with asyncio.timeout_at(deadline):
+            async with asyncio.timeout(None if deadline is None else deadline - time.monotonic()):
                 answer = request.answer(await connection.reply(request if seen is None else seen.guarded(request)))
         except TimeoutError as fault:
             if seen is not None and connection.received == received:

@@ -42,14 +42,16 @@ class Seen:
     def take(self, key: str, record: Record | None) -> Version | None:
         """Notes the record that a region has of a key. Where a later version was seen, it gives that."""
         with self._lock:
-            known = self._versions.get(key)
-            if record is None or (known is not None and record.version < known[0]):
-                return known and known[0]
-            self._versions.pop(key, None)
-            self._versions[key] = record.version, record.state == "deleted"
-            if len(self._versions) > self._size:
-                del self._versions[next(iter(self._versions))]
-            return None
+            known = self._versions.pop(key, None)
+            version = None if record is None else record.version
+            if record is not None and version is not None and (known is None or version >= known[0]):
+                self._versions[key] = version, record.state == "deleted"
+                if len(self._versions) > self._size:
+                    del self._versions[next(iter(self._versions))]
+                return None
+            if known is not None:
+                self._versions[key] = known
+            return known and known[0]
 
     def older(self, keys: Sequence[str], records: Sequence[Record | None]) -> list[Wanted]:
         """The keys of which a later version was seen than these records have."""
