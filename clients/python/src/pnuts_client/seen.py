@@ -29,7 +29,8 @@ class Seen:
 
     def version(self, key: str) -> Version | None:
         """The version that was seen of a key."""
-        known = self._versions.get(key)
+        with self._lock:
+            known = self._versions.get(key)
         return known and known[0]
 
     def guarded(self, request: Request[Any]) -> Request[Any]:
@@ -43,15 +44,14 @@ class Seen:
         """Notes the record that a region has of a key. Where a later version was seen, it gives that."""
         with self._lock:
             known = self._versions.pop(key, None)
-            version = None if record is None else record.version
-            if record is not None and version is not None and (known is None or version >= known[0]):
-                self._versions[key] = version, record.state == "deleted"
-                if len(self._versions) > self._size:
-                    del self._versions[next(iter(self._versions))]
-                return None
-            if known is not None:
-                self._versions[key] = known
-            return known and known[0]
+            shown = None if record is None else (record.version, record.state == "deleted")
+            is_older = known is not None and (shown is None or shown[0] < known[0])
+            kept = known if is_older else shown
+            if kept is not None:
+                self._versions[key] = kept
+            if len(self._versions) > self._size:
+                del self._versions[next(iter(self._versions))]
+            return known[0] if known is not None and is_older else None
 
     def older(self, keys: Sequence[str], records: Sequence[Record | None]) -> list[Wanted]:
         """The keys of which a later version was seen than these records have."""
