@@ -39,6 +39,7 @@ type choices struct {
 			At, Region, Until int
 			Fault             any
 			Pause             *int
+			Others            []any
 		}
 	}
 }
@@ -74,6 +75,17 @@ func asTold(fault error) any {
 		return "timeout"
 	}
 	return "protocol"
+}
+
+// othersTold are the faults of other regions as vectors tell of them.
+func othersTold(fault error) []any {
+	several, others := (*RegionsFailed)(nil), []any{}
+	if errors.As(fault, &several) {
+		for _, other := range several.Others {
+			others = append(others, asTold(other.Fault))
+		}
+	}
+	return others
 }
 
 // asText is a value as JSON has it.
@@ -134,6 +146,7 @@ func TestVectorsOfAttempts(t *testing.T) {
 				same(t, each.About, wait.Milliseconds(), *ended.Pause)
 			} else {
 				same(t, each.About, asText(t, asTold(err)), asText(t, ended.Fault))
+				same(t, each.About, asText(t, othersTold(err)), asText(t, ended.Others))
 			}
 		}
 	}
@@ -226,13 +239,7 @@ func (s *step) check(t *testing.T, about string, client *Client) {
 		return
 	}
 	same(t, about, asText(t, asTold(err)), asText(t, s.Error))
-	several, others := (*RegionsFailed)(nil), []any(nil)
-	if errors.As(err, &several) {
-		for _, other := range several.Others {
-			others = append(others, asTold(other.Fault))
-		}
-	}
-	same(t, about, asText(t, others), asText(t, s.Others))
+	same(t, about, asText(t, othersTold(err)), asText(t, append([]any{}, s.Others...)))
 	behind := (*RecordBehind)(nil)
 	if s.Key != nil && errors.As(err, &behind) {
 		same(t, about, behind.Key, s.Key)

@@ -30,6 +30,9 @@ function faultOf(told) {
 const asTold = (fault) =>
   fault instanceof Refused ? fault.reply : Object.keys(FAULTS).find((name) => fault instanceof FAULTS[name]) ?? fault;
 
+/** The faults of other regions as vectors tell of them. */
+const othersOf = (fault) => fault.others.map((other) => asTold(other.fault));
+
 const names = (count) => Array.from({ length: count }, () => "region");
 
 test("backoffs", () => {
@@ -62,7 +65,10 @@ test("attempts", () => {
       assert.deepEqual([done.region, done.until], [asked.region, asked.until], about);
       const failed = () => made.failed(done, faultOf(ended.fault), ended.at);
       if (ended.pause === null) {
-        assert.throws(failed, (fault) => (assert.deepEqual(asTold(fault), ended.fault), true));
+        assert.throws(failed, (fault) => {
+          assert.deepEqual([asTold(fault), othersOf(fault)], [ended.fault, ended.others]);
+          return true;
+        });
       } else {
         assert.equal(failed(), ended.pause, about);
       }
@@ -99,8 +105,7 @@ async function check(t, client, step) {
     return;
   }
   await assert.rejects(answer(t, client, step.call), (fault) => {
-    assert.deepEqual(asTold(fault), step.error);
-    assert.deepEqual(fault.others.map((other) => asTold(other.fault)), step.others ?? []);
+    assert.deepEqual([asTold(fault), othersOf(fault)], [step.error, step.others ?? []]);
     assert.equal(fault instanceof RecordBehind ? fault.key : undefined, step.key);
     return true;
   });

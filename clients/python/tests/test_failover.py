@@ -73,6 +73,7 @@ class Choices(unittest.TestCase):
                         with self.assertRaises(PnutsError) as raised:
                             attempts.failed(done, fault_of(ended["fault"]), ended["at"] / 1000)
                         self.assertEqual(as_told(raised.exception), ended["fault"])
+                        self.assertEqual([as_told(said) for _, said in raised.exception.others], ended["others"])
 
 
 def version_of(call: dict[str, Any]) -> Version | None:
