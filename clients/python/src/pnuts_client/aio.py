@@ -50,6 +50,8 @@ class AsyncClient:
         self._seen = Seen(remember) if len(where) > 1 else None
         self._timeout = timeout
         self._retries = retries
+        # How often it was closed.
+        self._closed = 0
 
     async def read(self, key: str, at_least: tuple[int, int] | None = None) -> Record | None:
         """As `Client.read`."""
@@ -88,7 +90,7 @@ class AsyncClient:
 
     async def ask(self, request: Request[Answer]) -> Answer:
         """The answer to one request. Any number of tasks may ask at once."""
-        begun = time.monotonic()
+        begun, closed = time.monotonic(), self._closed
         attempts = Attempts(self._order, self._retries, None if self._timeout is None else begun + self._timeout)
         while True:
             chosen, deadline = attempts.next(time.monotonic())
@@ -97,9 +99,10 @@ class AsyncClient:
                 attempts.answered(chosen)
                 return answer
             except PnutsError as fault:
-                if not request.reads:
+                if request.reads and closed == self._closed:
+                    await asyncio.sleep(attempts.failed(chosen, fault, time.monotonic()))
+                if not request.reads or closed != self._closed:
                     raise
-                await asyncio.sleep(attempts.failed(chosen, fault, time.monotonic()))
 
     async def _answer(self, region: int, request: Request[Answer], deadline: float | None) -> Answer:
         """The answer of a region. Of several, one that says nothing meanwhile loses the connection. What it shows is noted."""
@@ -126,6 +129,7 @@ class AsyncClient:
 
     async def close(self) -> None:
         """Ends all sessions. Calls that wait fail."""
+        self._closed += 1
         for connection in (each for pool in self._pools for each in pool):
             writer = connection.break_off(ConnectionFailed("the client was closed"))
             if writer is not None:
