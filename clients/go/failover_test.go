@@ -8,6 +8,7 @@ import (
 	"net"
 	"os"
 	"path/filepath"
+	"sort"
 	"sync"
 	"testing"
 	"time"
@@ -40,6 +41,72 @@ type choices struct {
 			Fault             any
 			Pause             *int
 			Others            []any
+		}
+	}
+	Seen []struct {
+		About string
+		Size  int
+		Steps []sightStep
+	}
+}
+
+// A sightStep asks for a key, or shows one or a page of them.
+type sightStep struct {
+	Asks, Shows         string
+	Version, For, Later *Version
+	Deleted             bool
+	Page                *Query
+	Rows                [][2]json.RawMessage
+	Next                *string
+	Older               []string
+}
+
+// check has what was seen take the step.
+func (s *sightStep) check(t *testing.T, about string, seen *seen) {
+	switch {
+	case s.Asks != "":
+		same(t, about, asText(t, seen.atLeast(s.Asks, s.Version)), asText(t, s.For))
+	case s.Shows != "":
+		found := seen.older([]string{s.Shows}, []*Record{recordOf(s.Shows, s.Version, s.Deleted)})
+		same(t, about, len(found) > 0, s.Later != nil)
+		if len(found) > 0 {
+			same(t, about, found[0].version, s.Later)
+		}
+	default:
+		page, keys := Page{}, []string{}
+		for _, row := range s.Rows {
+			var key string
+			version := new(Version)
+			must(t, json.Unmarshal(row[0], &key))
+			must(t, json.Unmarshal(row[1], version))
+			page.Records = append(page.Records, recordOf(key, version, false))
+		}
+		if s.Next != nil {
+			page.Next = &Query{After: *s.Next}
+		}
+		for _, each := range seen.olderOf(*s.Page, page) {
+			keys = append(keys, each.key)
+		}
+		sort.Strings(keys)
+		same(t, about, keys, s.Older)
+	}
+}
+
+// recordOf is a record of which nothing else is looked at, nil without a version.
+func recordOf(key string, version *Version, deleted bool) *Record {
+	if version == nil {
+		return nil
+	}
+	return &Record{Key: key, Version: *version, State: map[bool]string{false: "one", true: "deleted"}[deleted]}
+}
+
+func TestVectorsOfWhatWasSeen(t *testing.T) {
+	var told choices
+	readVectors(t, "failover", &told)
+	for _, each := range told.Seen {
+		seen := newSeen(each.Size)
+		for at, step := range each.Steps {
+			step.check(t, fmt.Sprint(each.About, ", step ", at), seen)
 		}
 	}
 }

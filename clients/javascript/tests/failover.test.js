@@ -6,11 +6,13 @@ import { join } from "node:path";
 import { test } from "node:test";
 import { ConnectionFailed, ProtocolError, RecordBehind, Refused, TimedOut } from "../src/index.js";
 import { Attempts, Order, backoff } from "../src/failover.js";
+import { compareKeys } from "../src/queries.js";
 import { answerOf } from "../src/replies.js";
+import { Seen } from "../src/seen.js";
 import { NONE, fake, folderOf, open, vectors } from "./support.js";
 import { tabled } from "./tables.js";
 
-const { backoffs, orders, attempts } = JSON.parse(vectors("failover"));
+const { backoffs, orders, attempts, seen } = JSON.parse(vectors("failover"));
 const { calls } = JSON.parse(vectors("regions"));
 const FAULTS = { connection: ConnectionFailed, timeout: TimedOut, protocol: ProtocolError };
 
@@ -71,6 +73,24 @@ test("attempts", () => {
         });
       } else {
         assert.equal(failed(), ended.pause, about);
+      }
+    }
+  }
+});
+
+test("what was seen", () => {
+  const recordOf = (key, version, deleted) => version && { key, version, state: deleted ? "deleted" : "one" };
+  for (const { about, size, steps } of seen) {
+    const made = new Seen(size);
+    for (const step of steps) {
+      if (step.asks !== undefined) {
+        assert.deepEqual(made.atLeast(step.asks, step.version), step.for, about);
+      } else if (step.shows !== undefined) {
+        assert.deepEqual(made.take(step.shows, recordOf(step.shows, step.version, step.deleted)) ?? null, step.later, about);
+      } else {
+        const page = { records: step.rows.map((row) => recordOf(...row)), next: step.next && { after: step.next } };
+        const older = made.olderOf(step.page, page).map(({ key }) => key);
+        assert.deepEqual(older.sort(compareKeys), step.older, about);
       }
     }
   }

@@ -8,13 +8,28 @@ import time
 import unittest
 from collections.abc import Callable
 from contextlib import ExitStack
+from dataclasses import replace
 from pathlib import Path
 from typing import Any
 
-from pnuts_client import AsyncClient, Client, ConnectionFailed, PnutsError, ProtocolError, RecordBehind, Refused, TimedOut, Version
+from pnuts_client import (
+    AsyncClient,
+    Client,
+    ConnectionFailed,
+    Page,
+    PnutsError,
+    ProtocolError,
+    Query,
+    Record,
+    RecordBehind,
+    Refused,
+    TimedOut,
+    Version,
+    requests,
+)
 from pnuts_client.errors import refusal_of
 from pnuts_client.failover import Attempts, Order, Try, backoff
-from pnuts_client.queries import Query
+from pnuts_client.seen import Seen
 
 from .support import fake, replies, vectors
 from .tables import Region
@@ -76,15 +91,45 @@ class Choices(unittest.TestCase):
                         self.assertEqual([as_told(said) for _, said in raised.exception.others], ended["others"])
 
 
+def record_of(key: str, version: list[int] | None, deleted: bool = False) -> Record | None:
+    """A record of which nothing else is looked at."""
+    content = {"deleted": True, "master": "w"} if deleted else {"fields": {}, "master": "w"}
+    row = {"contents": [content], "key": key, "state": "deleted" if deleted else "one", "version": version}
+    return None if version is None else Record(row)
+
+
+class WhatWasSeen(unittest.TestCase):
+    """Versions of records, without a server."""
+
+    def _check(self, seen: Seen, step: dict[str, Any]) -> None:
+        if "asks" in step:
+            request = seen.guarded(requests.read(step["asks"], version_of(step)))
+            self.assertEqual(request.at_least, step["for"] and tuple(step["for"]), step)
+        elif "shows" in step:
+            found = seen.take(step["shows"], record_of(step["shows"], step["version"], step.get("deleted", False)))
+            self.assertEqual(found, step["later"] and tuple(step["later"]), step)
+        else:
+            query, rows = query_of(step["page"]), [record_of(*row) for row in step["rows"]]
+            page = Page([row for row in rows if row], step["next"] and replace(query, after=step["next"]))
+            self.assertEqual(sorted(key for key, _ in seen.older_of(query, page)), step["older"], step)
+
+    def test_vectors(self) -> None:
+        for case in vectors("failover")["seen"]:
+            seen = Seen(case["size"])
+            for step in case["steps"]:
+                with self.subTest(case["about"]):
+                    self._check(seen, step)
+
+
 def version_of(call: dict[str, Any]) -> Version | None:
     """The version that a call asks for."""
-    return Version(*call["version"]) if "version" in call else None
+    return Version(*call["version"]) if call.get("version") else None
 
 
 def query_of(told: dict[str, Any]) -> Query:
     """The query of a call."""
     where = [tuple(condition) for condition in told.get("where", ())]
-    return Query(told.get("from"), told.get("to"), where, told.get("limit", 100))
+    return Query(told.get("from"), told.get("to"), where, told.get("limit", 100), told.get("after"))
 
 
 def asked(client: Client, call: dict[str, Any]) -> Any:
