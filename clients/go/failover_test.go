@@ -1,6 +1,7 @@
 package pnuts
 
 import (
+	"context"
 	"encoding/json"
 	"errors"
 	"fmt"
@@ -228,4 +229,16 @@ func TestASilentRegionIsLeftAlone(t *testing.T) {
 		must(t, err)
 	}
 	same(t, "whether each waited", time.Since(begun) > 1900*time.Millisecond, false)
+}
+
+func TestALineEndsWhereAllSayNothing(t *testing.T) {
+	addresses := []string{fake(t, listen(t), []string{"1h"}), fake(t, listen(t), []string{"1h"})}
+	client, err := OpenAny(addresses, Options{Timeout: 500 * time.Millisecond})
+	must(t, err)
+	t.Cleanup(client.Close)
+	begun, late, several := time.Now(), (*TimedOut)(nil), (*RegionsFailed)(nil)
+	_, err = client.Read(background, "k")
+	same(t, "whether it took long", time.Since(begun) > 5*time.Second, false)
+	same(t, "whether it timed out", errors.As(err, &late) && errors.Is(err, context.DeadlineExceeded), true)
+	same(t, "whether others are told", errors.As(err, &several) && several.Others[0].Address == addresses[0], true)
 }

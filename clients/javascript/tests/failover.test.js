@@ -153,6 +153,16 @@ test("a region that says nothing is given up after its share of the time, and th
   assert(performance.now() - begun < 1900);
 });
 
+test("a line ends where all regions say nothing", async (t) => {
+  const addresses = [await fake(t, [[]]), await fake(t, [[]])];
+  const begun = performance.now();
+  await assert.rejects(open(t, addresses, { timeout: 500 }).read("k"), (fault) => {
+    assert.deepEqual([fault.name, fault.others.map(({ address }) => address)], ["TimedOut", addresses.slice(0, 1)]);
+    return true;
+  });
+  assert(performance.now() - begun < 5000);
+});
+
 test("no region", () => {
   assert.throws(() => open({}, []), TypeError);
 });

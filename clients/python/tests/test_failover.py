@@ -214,6 +214,25 @@ class SilentRegion(unittest.TestCase):
         other.become([{"line": {"do": "read", "key": "k"}, "reply": {"row": None}}])
         self.addresses = [f"tcp://127.0.0.1:{stack.enter_context(fake(replies()))}", other.address]
 
+    def test_a_line_ends_where_all_say_nothing(self) -> None:
+        with fake(replies()) as silent:
+            addresses = [self.addresses[0], f"tcp://127.0.0.1:{silent}"]
+            begun = time.monotonic()
+            with Client(addresses, timeout=0.5) as client, self.assertRaises(TimedOut) as late:
+                client.read("k")
+            self.assertLess(time.monotonic() - begun, 5)
+            self.assertEqual([(where, type(said)) for where, said in late.exception.others], [(self.addresses[0], TimedOut)])
+
+    def test_a_slow_consumer_loses_no_time(self) -> None:
+        row = '{"row":null}\n'
+        with fake(replies(row, end=True)) as first, fake(replies(row)) as second:
+            addresses = [f"tcp://127.0.0.1:{first}", f"tcp://127.0.0.1:{second}"]
+            with Client(addresses, timeout=0.5) as client:
+                answers = client.ask_all([requests.read("k"), requests.read("l")])
+                self.assertIsNone(next(answers))
+                time.sleep(0.7)
+                self.assertEqual(list(answers), [None])
+
     def test_for_threads(self) -> None:
         with Client(self.addresses, timeout=4) as client:
             begun = time.monotonic()

@@ -107,10 +107,10 @@ class Client:
             try:
                 with closing(self._answers(chosen, left, deadline, window)) as answers:
                     for answer in answers:
-                        answered, last = answered + 1, time.monotonic()
-                        if answered == 1:
+                        if not answered:
                             attempts.answered(chosen)
                         yield answer
+                        answered, last = answered + 1, time.monotonic()
                 return
             except PnutsError as fault:
                 if answered:
