@@ -222,6 +222,7 @@ class SilentRegion(unittest.TestCase):
                 client.read("k")
             self.assertLess(time.monotonic() - begun, 5)
             self.assertEqual([(where, type(said)) for where, said in late.exception.others], [(self.addresses[0], TimedOut)])
+            self.assertEqual(str(late.exception), f"no reply in time ({self.addresses[0]}: no reply in time)")
 
     def test_a_slow_consumer_loses_no_time(self) -> None:
         row = '{"row":null}\n'

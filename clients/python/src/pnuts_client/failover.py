@@ -107,10 +107,9 @@ class Attempts:
 
     def failed(self, done: Try, fault: PnutsError, now: float) -> float:
         """Seconds before the next try. Raises the fault, with what other regions said, where there is none."""
-        fault.others = [(self._order.names[at], said) for at, said in sorted(self._said.items()) if at != done.region]
         several = len(self._order) > 1
         if not isinstance(fault, OF_ANOTHER if several else ConnectionFailed):
-            raise fault
+            raise self._ended(done, fault)
         self._order.failed(done, now)
         self._said[done.region] = fault
         wait = 0.0
@@ -119,5 +118,10 @@ class Attempts:
             self._rounds += 1
             wait = pause(self._rounds)
         if self._rounds > self._retries or (self._deadline is not None and now + wait >= self._deadline):
-            raise fault
+            raise self._ended(done, fault)
         return wait
+
+    def _ended(self, done: Try, fault: PnutsError) -> PnutsError:
+        """The fault, with what other regions said."""
+        fault.others = [(self._order.names[at], said) for at, said in sorted(self._said.items()) if at != done.region]
+        return fault
