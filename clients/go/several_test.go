@@ -21,19 +21,18 @@ const (
 	firstOfLast = "k100"
 )
 
-// A proxy gives connections on to a region, and cuts each one after some bytes of replies.
+// A proxy gives connections on to a region, and cuts each one after so many bytes of replies at most, if that is more than 0.
 type proxy struct {
-	listener net.Listener
-	target   string
-	most     int
-	cuts     atomic.Int64
-	mutex    sync.Mutex
-	isShut   bool
-	sockets  []net.Conn
+	listener   net.Listener
+	target     string
+	most, cuts atomic.Int64
+	mutex      sync.Mutex
+	isShut     bool
+	sockets    []net.Conn
 }
 
-func startProxy(t testing.TB, address string, most int) *proxy {
-	made := &proxy{listener: listen(t), target: address[len("tcp://"):], most: most}
+func startProxy(t testing.TB, address string) *proxy {
+	made := &proxy{listener: listen(t), target: address[len("tcp://"):]}
 	t.Cleanup(func() { made.listener.Close(); made.shut(true) })
 	go func() {
 		for {
@@ -75,9 +74,10 @@ func (p *proxy) pass(socket net.Conn) {
 	}
 	defer region.Close()
 	go func() { io.Copy(region, socket); region.Close() }()
-	if p.most == 0 {
+	most := p.most.Load()
+	if most == 0 {
 		io.Copy(socket, region)
-	} else if _, err = io.CopyN(socket, region, 1+rand.Int63n(int64(p.most))); err == nil {
+	} else if _, err = io.CopyN(socket, region, 1+rand.Int63n(most)); err == nil {
 		p.cuts.Add(1)
 	}
 }
@@ -93,7 +93,7 @@ func versioned(number int) (made []image, keys []string) {
 }
 
 // three are regions with control sockets: the first and the last have all, and the second has older versions. A proxy is before each.
-func three(t *testing.T, most int) (controls []*Client, proxies []*proxy, addresses []string) {
+func three(t *testing.T) (controls []*Client, proxies []*proxy, addresses []string) {
 	old, _ := versioned(0)
 	newer, keys := versioned(1)
 	folder := t.TempDir()
@@ -107,7 +107,7 @@ func three(t *testing.T, most int) (controls []*Client, proxies []*proxy, addres
 			record, err = control.Read(background, keys[manyKeys-1])
 			must(t, err)
 		}
-		proxies = append(proxies, startProxy(t, started.address, most))
+		proxies = append(proxies, startProxy(t, started.address))
 		controls, addresses = append(controls, control), append(addresses, proxies[at].address())
 	}
 	return controls, proxies, addresses
@@ -159,13 +159,17 @@ func (y *tally) run(t *testing.T, region reads, read func(key string) (*Record, 
 }
 
 func TestNoReadFails(t *testing.T) {
-	controls, proxies, addresses := three(t, mostBytes)
+	controls, proxies, addresses := three(t)
 	client, err := OpenAny(addresses, Options{Connections: 2, Timeout: time.Minute})
 	must(t, err)
 	t.Cleanup(client.Close)
 	read := func(key string) (*Record, error) { return client.Read(background, key) }
 	var counted tally
 	counted.run(t, client, read)
+	// All was seen: from now on the second region is of no use to it.
+	for _, proxy := range proxies {
+		proxy.most.Store(mostBytes)
+	}
 	isOver, reading := make(chan bool), sync.WaitGroup{}
 	for at := 0; at < 3; at++ {
 		reading.Add(1)
@@ -196,7 +200,7 @@ func TestNoReadFails(t *testing.T) {
 }
 
 func TestARegionThatIsBehind(t *testing.T) {
-	_, proxies, addresses := three(t, 0)
+	_, proxies, addresses := three(t)
 	client, err := OpenAny(addresses[:2], Options{Retries: -1})
 	must(t, err)
 	t.Cleanup(client.Close)
@@ -231,7 +235,7 @@ func TestRangesOfSeveralRegions(t *testing.T) {
 	high := serve(t, freePort(t), map[string][]image{"east": newer[90:]}, "--sessions=2")
 	waitFor(t, open(t, low.address, Options{}), keys[89])
 	waitFor(t, open(t, high.address, Options{}), keys[manyKeys-1])
-	gone := startProxy(t, low.address, 0)
+	gone := startProxy(t, low.address)
 	gone.shut(true)
 	var clients []*Client
 	for _, addresses := range [][]string{{gone.address(), low.address}, {high.address, gone.address()}} {

@@ -22,11 +22,12 @@ type tabled struct {
 	listener net.Listener
 	mutex    sync.Mutex
 	table    table
-	sockets  []net.Conn
+	// Those that it has not ended.
+	sockets map[net.Conn]bool
 }
 
 func startTabled(t *testing.T) *tabled {
-	made := &tabled{t: t, listener: listen(t)}
+	made := &tabled{t: t, listener: listen(t), sockets: map[net.Conn]bool{}}
 	go func() {
 		for {
 			socket, err := made.listener.Accept()
@@ -44,9 +45,10 @@ func (r *tabled) become(table table) {
 	r.mutex.Lock()
 	defer r.mutex.Unlock()
 	r.table = table
-	for _, socket := range r.sockets {
+	for socket := range r.sockets {
 		if table == nil {
 			socket.Close()
+			delete(r.sockets, socket)
 		}
 	}
 }
@@ -54,17 +56,23 @@ func (r *tabled) become(table table) {
 func (r *tabled) serve(socket net.Conn) {
 	defer socket.Close()
 	r.mutex.Lock()
-	r.sockets = append(r.sockets, socket)
 	isOpen := r.table != nil
+	if isOpen {
+		r.sockets[socket] = true
+	}
 	r.mutex.Unlock()
 	for lines := bufio.NewScanner(socket); isOpen && lines.Scan(); {
-		fmt.Fprint(socket, r.reply(lines.Bytes()))
+		fmt.Fprint(socket, r.reply(socket, lines.Bytes()))
 	}
 }
 
-func (r *tabled) reply(line []byte) string {
+func (r *tabled) reply(socket net.Conn, line []byte) string {
 	r.mutex.Lock()
 	defer r.mutex.Unlock()
+	if !r.sockets[socket] {
+		socket.Close()
+		return ""
+	}
 	for _, each := range r.table {
 		if asText(r.t, saidBy(r.t, each.Line)) == asText(r.t, saidBy(r.t, line)) {
 			reply := string(each.Reply) + "\n"

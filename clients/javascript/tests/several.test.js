@@ -14,11 +14,11 @@ const MOST = 60_000;
 const KEYS = Array.from({ length: 200 }, (_, at) => `k${String(at).padStart(3, "0")}`);
 const versioned = (number, keys = KEYS) => keys.map((key) => JSON.stringify({ ...image(key, { v: "x" }), version: [1, number] }));
 
-/** A proxy before a region, which cuts each connection after some bytes, and all of them while it is shut. */
-async function proxy(t, address, most = 0) {
+/** A proxy before a region. It cuts each connection after so many bytes of replies at most, and all of them while it is shut. */
+async function proxy(t, address) {
   const { port } = new URL(address);
   const sockets = new Set();
-  const made = { cuts: 0, isShut: false, shut: () => ((made.isShut = true), sockets.forEach((socket) => socket.destroy())) };
+  const made = { most: Infinity, cuts: 0, isShut: false, shut: () => ((made.isShut = true), sockets.forEach((socket) => socket.destroy())) };
   const server = net.createServer((socket) => {
     sockets.add(socket);
     socket.on("error", () => undefined);
@@ -26,7 +26,7 @@ async function proxy(t, address, most = 0) {
       socket.destroy();
       return;
     }
-    let left = most > 0 ? 1 + Math.floor(Math.random() * most) : Infinity;
+    let left = 1 + Math.random() * made.most;
     const behind = net.connect(port, "127.0.0.1");
     behind.on("error", () => socket.destroy());
     behind.on("close", () => socket.destroy());
@@ -34,7 +34,7 @@ async function proxy(t, address, most = 0) {
     socket.pipe(behind);
     behind.on("data", (data) => {
       left -= data.length;
-      socket.write(left > 0 ? data : data.subarray(0, data.length + left));
+      socket.write(left > 0 ? data : data.subarray(0, Math.max(data.length + Math.floor(left), 0)));
       if (left <= 0) {
         made.cuts += 1;
         socket.end();
@@ -52,7 +52,7 @@ async function proxy(t, address, most = 0) {
 }
 
 /** Three regions with control sockets: the first and the last have all, and the second has older versions. A proxy is before each. */
-async function three(t, most) {
+async function three(t) {
   const folder = folderOf(t);
   const start = async (stream, at) => {
     const path = join(folder, String(at));
@@ -62,7 +62,7 @@ async function three(t, most) {
     while (((await control.read(KEYS.at(-1)))?.version[1] ?? -1) < (at + 1) % 2) {
       await sleep(10);
     }
-    return Object.assign(await proxy(t, address, most), { control });
+    return Object.assign(await proxy(t, address), { control });
   };
   const both = [...versioned(0), ...versioned(1)];
   return Promise.all([both, versioned(0), both].map(start));
@@ -97,10 +97,12 @@ class Tally {
 }
 
 test("no read fails", ofTheProgram, async (t) => {
-  const regions = await three(t, MOST);
+  const regions = await three(t);
   const client = open(t, regions.map(({ address }) => address), { connections: 2, timeout: 60_000 });
   const tally = new Tally();
   await tally.run(client);
+  // All was seen: from now on the second region is of no use to it.
+  regions.forEach((each) => (each.most = MOST));
   let isOver = false;
   const readOn = async () => {
     while (!isOver) {

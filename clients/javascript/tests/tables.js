@@ -33,7 +33,7 @@ export async function tabled(t) {
       socket.destroy();
       return;
     }
-    createInterface({ input: socket }).on("line", (line) => region.table && socket.write(replyTo(line)));
+    createInterface({ input: socket }).on("line", (line) => socket.destroyed || socket.write(replyTo(line)));
   });
   region.become = (table) => {
     region.table = table;

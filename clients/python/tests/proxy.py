@@ -18,10 +18,10 @@ class Proxy(socketserver.ThreadingTCPServer):
     daemon_threads = True
     request_queue_size = 100
 
-    def __init__(self, port: int, most: int = 0) -> None:
+    def __init__(self, port: int) -> None:
         super().__init__(("127.0.0.1", 0), _Connection)
         self.port = port
-        self.most = most
+        self.most = 0
         # Whether it lets anybody through, and how many connections it has cut.
         self.is_open = True
         self.cuts = 0

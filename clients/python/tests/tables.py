@@ -27,6 +27,8 @@ class Region(socketserver.ThreadingTCPServer):
     def __init__(self) -> None:
         super().__init__(("127.0.0.1", 0), _Session)
         self.table: Table = None
+        # How often its connections were ended.
+        self.ends = 0
         self.unknown: list[Any] = []
         self._sockets: set[Any] = set()
         threading.Thread(target=self.serve_forever, args=(0.01,), daemon=True).start()
@@ -44,6 +46,7 @@ class Region(socketserver.ThreadingTCPServer):
 
     def end_all(self) -> None:
         """Ends all connections."""
+        self.ends += 1
         for each in list(self._sockets):
             self.shutdown_request(each)
 
@@ -66,9 +69,10 @@ class _Session(socketserver.StreamRequestHandler):
     server: Region
 
     def handle(self) -> None:
+        ends = self.server.ends
         while self.server.table is not None:
             line = self.rfile.readline()
-            if not line or self.server.table is None:
+            if not line or self.server.ends != ends:
                 return
             self.wfile.write(self._reply(json.loads(line)).encode())
 

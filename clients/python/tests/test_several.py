@@ -78,7 +78,7 @@ class SeveralRegions(unittest.TestCase):
             words = ["--stay", f"--control={folder}/{at}"]
             port = stack.enter_context(region({"east": stream}, sessions=2, bounds=BOUNDS, words=words))
             self.controls.append(stack.enter_context(Control(f"unix:{folder}/{at}")))
-            self.proxies.append(Proxy(port, MOST))
+            self.proxies.append(Proxy(port))
             stack.callback(self.proxies[-1].close)
         self.folder = Path(folder)
         for control, number in zip(self.controls, (1, 0, 1)):
@@ -91,7 +91,9 @@ class SeveralRegions(unittest.TestCase):
         self.controls[0].adopt(self.folder / "copy")
 
     def _trouble(self) -> None:
-        """What happens to the first region: it loses a tablet, has it again, is gone, and comes back."""
+        """What happens once all was seen: proxies cut, and the first region loses a tablet, has it again, is gone, and comes back."""
+        for proxy in self.proxies:
+            proxy.most = MOST
         self.controls[0].lose(1)
         time.sleep(0.7)
         self._recover()
@@ -142,8 +144,6 @@ class SeveralRegions(unittest.TestCase):
         self._check(readers)
 
     def test_a_region_that_is_behind(self) -> None:
-        for proxy in self.proxies:
-            proxy.most = 0
         with Client(self.addresses[:2], retries=0) as client:
             self.assertEqual(client.get(KEYS)[0], client.read(KEYS[0]))
             self.proxies[0].shut()
