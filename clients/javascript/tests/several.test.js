@@ -1,55 +1,17 @@
 // Several regions of the same streams: a tablet is lost, another region is behind, and proxies cut connections.
 
 import assert from "node:assert/strict";
-import { once } from "node:events";
-import net from "node:net";
 import { join } from "node:path";
 import { test } from "node:test";
 import { setTimeout as sleep } from "node:timers/promises";
 import { Control, RecordBehind, Regions } from "../src/index.js";
+import { proxy } from "./proxy.js";
 import { folderOf, image, ofTheProgram, open, region, waitFor } from "./support.js";
 
 /** How many bytes of replies a connection gets at most. */
 const MOST = 60_000;
 const KEYS = Array.from({ length: 200 }, (_, at) => `k${String(at).padStart(3, "0")}`);
 const versioned = (number, keys = KEYS) => keys.map((key) => JSON.stringify({ ...image(key, { v: "x" }), version: [1, number] }));
-
-/** A proxy before a region. It cuts each connection after so many bytes of replies at most, and all of them while it is shut. */
-async function proxy(t, address) {
-  const { port } = new URL(address);
-  const sockets = new Set();
-  const made = { most: Infinity, cuts: 0, isShut: false, shut: () => ((made.isShut = true), sockets.forEach((socket) => socket.destroy())) };
-  const server = net.createServer((socket) => {
-    sockets.add(socket);
-    socket.on("error", () => undefined);
-    if (made.isShut) {
-      socket.destroy();
-      return;
-    }
-    let left = 1 + Math.random() * made.most;
-    const behind = net.connect(port, "127.0.0.1");
-    behind.on("error", () => socket.destroy());
-    behind.on("close", () => socket.destroy());
-    socket.on("close", () => behind.destroy());
-    socket.pipe(behind);
-    behind.on("data", (data) => {
-      left -= data.length;
-      socket.write(left > 0 ? data : data.subarray(0, Math.max(data.length + Math.floor(left), 0)));
-      if (left <= 0) {
-        made.cuts += 1;
-        socket.end();
-        behind.destroy();
-      }
-    });
-  });
-  server.listen(0, "127.0.0.1");
-  await once(server, "listening");
-  t.after(() => {
-    made.shut();
-    server.close();
-  });
-  return Object.assign(made, { address: `tcp://127.0.0.1:${server.address().port}` });
-}
 
 /** Three regions with control sockets: the first and the last have all, and the second has older versions. A proxy is before each. */
 async function three(t) {
