@@ -82,7 +82,7 @@ def all_faults() -> Iterator[str]:
     commands = found(COMMAND, protocol)
     members = found(MEMBER, protocol + sources("pn_record")) - {"whole", "other"}
     controls, refusals = found(CONTROL, protocol), found(REFUSAL, protocol)
-    options = {f"--{it}" for it in found(OPTION, sources("pn_serve"))}
+    options = {f"--{it}" for it in found(OPTION, sources("pn_arguments"))}
     reasons = found(REASON, sources("pn_stay"))
     formats, readme = (TOP / "docs/formats.md").read_text(), (TOP / "README.md").read_text()
     if min(map(len, (commands, members, refusals, options, reasons))) < 5:

@@ -51,7 +51,7 @@ module _ (ms : Members) (order : InOrder (object ms)) where
   named_object names ns named rise also same = ap object (same_by_name names ms ns (rises (object ms) ms refl order) rise (are_named names ms named) also same)
 
   -- the number of a command, and the names of its members
-  number_parts : (name : List ℕ) (part : Part) (n : ℕ) → number_alone name part ms ≡ Ok n → (get_member name ms ≡ Some (number (unsigned n))) × (named_alone (codes "do" ∷ name ∷ []) ms ≡ Ok tt)
+  pub number_parts : (name : List ℕ) (part : Part) (n : ℕ) → number_alone name part ms ≡ Ok n → (get_member name ms ≡ Some (number (unsigned n))) × (named_alone (codes "do" ∷ name ∷ []) ms ≡ Ok tt)
   number_parts name part n is =
       let value = bind_ok (member_as whole_number (BadShape part) (get_member name ms)) _ n is in
       let named = bind_ok (named_alone (codes "do" ∷ name ∷ []) ms) _ n value.2 in

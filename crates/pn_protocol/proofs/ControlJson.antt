@@ -10,30 +10,31 @@ use Rattle.pn_json.specs.Members.{whole_number, member_as}
 use Rattle.pn_json.proofs.Inverses.{bind_ok, ok_or_ok, and_then_some, string_from_as_str, number_from_whole}
 use Rattle.pn_record.proofs.ReadInOrder.{InOrder}
 use Rattle.pn_protocol.specs.Command.ControlGrammar.{AreSeconds, waiting_command, stop_command, SaysControl, is_shared, is_control, IsControl}
-use Rattle.pn_protocol.specs.Command.Controls.{ControlValue, script, notices, advance, stats, stop, control_word_of, control_word_in, are_seconds, seconds_in, seconds_at, alone_as, waiting_in, stop_in, script_as, control_as, control_in}
+use Rattle.pn_protocol.specs.Command.Controls.{ControlValue, script, notices, advance, stats, stop, control_word_of, control_word_in, are_seconds, may_adopt, seconds_in, seconds_at, alone_as, adoption_in, waiting_in, stop_in, script_as, control_as, control_in}
 use Rattle.pn_protocol.specs.Command.Grammar.{Says}
-use Rattle.pn_protocol.specs.Command.Json.{copy_command}
+use Rattle.pn_protocol.specs.Command.Json.{adopt_command, copy_command}
 use Rattle.pn_protocol.specs.Command.Limits.{may_be_asked, is_command}
 use Rattle.pn_protocol.specs.Command.Meaning.{CommandValue, adopt, copy, deliver, lose, marks, read, relayout, scan, tablets}
 use Rattle.pn_protocol.specs.Command.Meaning as meaning
 use Rattle.pn_protocol.specs.Command.Objects.{allowed_word, allowed_in, command_in}
 use Rattle.pn_protocol.specs.Command.RangeChecks.{fits}
-use Rattle.pn_protocol.specs.Command.ShapeChecks.{named_alone}
+use Rattle.pn_protocol.specs.Command.ShapeChecks.{named_alone, number_alone}
 use Rattle.pn_protocol.specs.Command.Words.{word_in}
 use Rattle.pn_protocol.specs.declared.command.control.ControlWord.{ControlWord}
-use Rattle.pn_protocol.specs.declared.command.control.ControlWord.TheVariants.{Advance, Notices, Stats, Stop}
+use Rattle.pn_protocol.specs.declared.command.control.ControlWord.TheVariants.{Adopt, Advance, Notices, Stats, Stop}
 use Rattle.pn_protocol.specs.declared.command.control.TheConstants.{STOP_SECONDS}
 use Rattle.pn_protocol.specs.declared.command.parse.AllowedCommands.TheVariants.{Controls}
 use Rattle.pn_protocol.specs.declared.refusal.Part.{Part}
-use Rattle.pn_protocol.specs.declared.refusal.Part.TheVariants.{Whole, Do, Seconds, Since, Wait}
+use Rattle.pn_protocol.specs.declared.refusal.Part.TheVariants.{Whole, Do, Lines, Seconds, Since, Wait}
 use Rattle.pn_protocol.specs.declared.refusal.Refusal.{Refusal}
 use Rattle.pn_protocol.specs.declared.refusal.Refusal.TheVariants.{BadShape, ReadOnly}
-use Rattle.pn_protocol.proofs.CommandJson.{named_object, command_found, command_again}
+use Rattle.pn_protocol.proofs.CommandJson.{named_object, number_parts, command_found, command_again}
 use Rattle.pn_protocol.proofs.CommandLimits.{fits_true}
 use Rattle.pn_protocol.proofs.CommandParts.{number_at, object_of}
 
 -- the text of a word
 abbrev text_of : ControlWord → List ℕ
+text_of Adopt = codes "adopt"
 text_of Advance = codes "advance"
 text_of Notices = codes "notices"
 text_of Stats = codes "stats"
@@ -45,8 +46,8 @@ this_or_next false text one word next is found further = further found
 
 text_from_word : (text : List ℕ) (word : ControlWord) → control_word_of text ≡ Some word → text ≡ text_of word
 text_from_word text word found =
-    this_or_next _ text Advance word _ refl found (λ found. this_or_next _ text Notices word _ refl found (λ found. this_or_next _ text Stats word _ refl found (λ found.
-    this_or_next _ text Stop word _ refl found (λ none. absurd (cc)))))
+    this_or_next _ text Adopt word _ refl found (λ found. this_or_next _ text Advance word _ refl found (λ found. this_or_next _ text Notices word _ refl found (λ found.
+    this_or_next _ text Stats word _ refl found (λ found. this_or_next _ text Stop word _ refl found (λ none. absurd (cc))))))
 
 word_at : (o : Option Data) (word : ControlWord) → control_word_in o ≡ Some word → o ≡ Some (string (text_of word))
 word_at o word is =
@@ -89,6 +90,17 @@ module _ (ms : Members) (order : InOrder (object ms)) where
       let same : said ≡ command = cc in
       let whole = named_object ms order (codes "do" ∷ []) (member (codes "do") (string (text_of word)) no_members) named.1 tt refl (says, tt) in
       subst (λ c. IsControl (object ms) c) same (record { value = subst (λ d. SaysControl d said) (sym whole) value; limits = limits })
+
+  adoption_found : (command : ControlValue) → get_member (codes "do") ms ≡ Some (string (codes "adopt")) → adoption_in ms ≡ Ok command → IsControl (object ms) command
+  unfolding adoption_in
+  adoption_found command says is =
+      let lines = bind_ok (number_alone (codes "lines") Lines ms) _ command is in
+      let parts = number_parts ms order (codes "lines") Lines lines.0 lines.1 in
+      let fit = bind_ok (fits Lines (may_adopt lines.0)) _ command lines.2 in
+      let same : script (adopt lines.0) ≡ command = cc in
+      let whole = named_object ms order (codes "do" ∷ codes "lines" ∷ []) (member (codes "do") (string (codes "adopt")) (member (codes "lines") (number (unsigned lines.0)) no_members)) parts.1 tt refl
+      (says, (parts.0, tt)) in
+      subst (λ c. IsControl (object ms) c) same (record { value = whole; limits = fits_true Lines (may_adopt lines.0) fit.1 })
 
   waiting_members : (since : ℕ) (o : Option Data) → get_member (codes "wait") ms ≡ o → get_member (codes "do") ms ≡ Some (string (codes "notices")) → get_member (codes "since") ms ≡ Some (number (unsigned since))
       → named_alone (codes "do" ∷ codes "since" ∷ codes "wait" ∷ []) ms ≡ Ok tt → object ms ≡ waiting_command since o
@@ -149,21 +161,30 @@ not_this word is = cc
 -- with another word it is a command that control sessions have as scripts have it
 shared_found : (d : Data) (command : CommandValue) → control_word_in (get (codes "do") d) ≡ None → allowed_in Controls d ≡ Ok command → Says d command → is_shared command ≡ true
 unfolding allowed_in
+shared_found d (adopt lines) other is says = absurd (not_this Adopt (sym (ap (λ e. control_word_in (get (codes "do") e)) says) ∙ other))
 shared_found d (deliver deliveries) other is says = absurd (never (deliver deliveries) (sym (ap (allowed_in Controls) says) ∙ is))
 shared_found d (meaning.notices since) other is says = absurd (not_this Notices (sym (ap (λ e. control_word_in (get (codes "do") e)) says) ∙ other))
 shared_found d (relayout bounds) other is says = absurd (never (relayout bounds) (sym (ap (allowed_in Controls) says) ∙ is))
 shared_found d command other is says = refl
+
+false_true : {A : Type 0} → ◌≡◌ {A = Bool} false true → A
+false_true is = absurd (cc)
+
+shared_kept : (command : CommandValue) → is_shared command ≡ true → is_command command ≡ true → is_control (script command) ≡ true
+shared_kept (adopt lines) shared keeps = false_true shared
+shared_kept command shared keeps = and_from (is_shared command) (is_command command) shared keeps
 
 script_found : (d : Data) (command : ControlValue) → InOrder d → control_word_in (get (codes "do") d) ≡ None → script_as d ≡ Ok command → IsControl d command
 script_found d command order other is =
     let read = bind_ok (allowed_in Controls d) _ command is in
     let same : script read.0 ≡ command = cc in
     let found = command_found d read.0 order (all_allowed d read.0 read.1) in
-    let kept = and_from (is_shared read.0) (is_command read.0) (shared_found d read.0 other read.1 found.value) found.limits in
+    let kept = shared_kept read.0 (shared_found d read.0 other read.1 found.value) found.limits in
     subst (λ c. IsControl d c) same (record { value = found.value; limits = kept })
 
 word_found : (ms : Members) → InOrder (object ms) → (word : Option ControlWord) (command : ControlValue) → control_word_in (get_member (codes "do") ms) ≡ word → control_as word (object ms) ms ≡ Ok command
     → IsControl (object ms) command
+word_found ms order (Some Adopt) command says is = adoption_found ms order command (word_at _ Adopt says) is
 word_found ms order (Some Advance) command says is = alone_found ms order Advance advance command refl refl (word_at _ Advance says) is
 word_found ms order (Some Notices) command says is = waiting_found ms order command (word_at _ Notices says) is
 word_found ms order (Some Stats) command says is = alone_found ms order Stats stats command refl refl (word_at _ Stats says) is
@@ -188,12 +209,9 @@ unfolding control_in allowed_in
 copied_alike None tablet = refl
 copied_alike (Some need) tablet = refl
 
-false_true : {A : Type 0} → ◌≡◌ {A = Bool} false true → A
-false_true is = absurd (cc)
-
 read_alike : (d : Data) (command : CommandValue) → Says d command → is_shared command ≡ true → IsReadAlike d
 unfolding control_in allowed_in
-read_alike d (adopt lines) says shared = subst IsReadAlike (sym says) refl
+read_alike d (adopt lines) says shared = false_true shared
 read_alike d (copy need tablet) (said, about, says) shared = subst IsReadAlike (sym says) (copied_alike said tablet)
 read_alike d (deliver deliveries) says shared = false_true shared
 read_alike d (meaning.get keys) says shared = subst IsReadAlike (sym says) refl
@@ -208,6 +226,10 @@ read_alike d tablets says shared = subst IsReadAlike (sym says) refl
 script_again : (d : Data) (command : CommandValue) → Says d command → is_shared command ≡ true → is_command command ≡ true → control_in d ≡ Ok (script command)
 script_again d command says shared keeps =
     read_alike d command says shared ∙ ap (λ read. read >>= λ said. Ok (script said)) (command_again d command (record { value = says; limits = keeps }))
+
+adoption_again : (lines : ℕ) → may_adopt lines ≡ true → control_in (adopt_command lines) ≡ Ok (script (adopt lines))
+unfolding control_in adoption_in
+adoption_again lines keeps = rw keeps refl
 
 waiting_again : (since : ℕ) (said : Option Data) (wait : ℕ) → seconds_at 0 Wait said ≡ Ok wait → may_be_asked since ≡ true → are_seconds wait ≡ true → control_in (waiting_command since said) ≡ Ok (notices since wait)
 unfolding control_in waiting_in
@@ -225,6 +247,7 @@ stop_again (Some d) seconds is kept = rw (is, kept) refl
 
 says_again : (d : Data) (command : ControlValue) → SaysControl d command → is_control command ≡ true → control_in d ≡ Ok command
 unfolding control_in alone_as
+says_again d (script (adopt lines)) says keeps = ap control_in says ∙ adoption_again lines keeps
 says_again d (script command) says keeps =
     let parts = and_parts (is_shared command) (is_command command) keeps in
     script_again d command says parts.0 parts.1

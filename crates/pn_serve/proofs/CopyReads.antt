@@ -14,6 +14,8 @@ use Rattle.pn_tablet.specs.declared.fault.CopyTextFault.TheVariants as text_faul
 use Rattle.pn_tablet.specs.CopyReading.{copy_at}
 use Rattle.pn_serve.specs.Copies.Cutting.{AreCuts, CopyCutValue, IsCut, TextLeft}
 use Rattle.pn_serve.specs.Copies.Reading.{AreAdded, AreRead, CopiesReaderValue, HasRead, StopsAt, StopsReading, StopsText, copy_in_cut, read_in, told_in}
+use Rattle.pn_serve.specs.Copies.Faulty.{AreCutsToFault}
+use Rattle.pn_serve.proofs.CopyCuts.{are_whole, none_faulty, read_alike}
 use Rattle.pn_serve.proofs.CopyTexts.{cuts-append}
 use Rattle.pn_serve.specs.declared.copies.fault.CopiesFault.{CopiesFault}
 use Rattle.pn_serve.specs.declared.copies.fault.CopiesFault.TheVariants.{Line, Memory, NoCopy, Read, TooMany, TooManyStreams, TwoCopies}
@@ -91,18 +93,19 @@ new_read left text reader is next none = record {
 -- what next_texts says
 abbrev pub CutsOut : {S : Type 0} → (S → Option (List ℕ)) → S → ℕ → List CopyCutValue → S → ℕ → Type 0
 CutsOut left source next some later after =
-    (bytes : List ℕ) → left source ≡ Some bytes → (rest : List ℕ) × (left later ≡ Some rest) × AreCuts (record { next = next; bytes = bytes }) some (record { next = after; bytes = rest })
+    (bytes : List ℕ) → left source ≡ Some bytes → (rest : List ℕ) × (left later ≡ Some rest) × AreCutsToFault (record { next = next; bytes = bytes }) some (record { next = after; bytes = rest })
 
 pub read_more : {S : Type 0} (left : S → Option (List ℕ)) (text : List ℕ) (old new : CopiesReaderValue S) (some : List CopyCutValue) (reads : List (Result TabletCopyValue CopiesFault))
     → CutsOut left old.source old.next some new.source new.next → AreRead some reads → AreAdded reads old.copies new.copies → HasRead left text old → HasRead left text new
 read_more left text old new some reads cuts are added has =
     let (rest, left_is, more) = cuts has.rest has.left_is in
+    let read : AreRead some (map Ok added.added) = subst (AreRead some) added.reads_are are in
     record {
       cuts = has.cuts ++ some;
       rest = rest;
-      are_cuts = cuts-append _ has.cuts _ some _ has.are_cuts more;
+      are_cuts = cuts-append _ has.cuts _ some _ has.are_cuts (none_faulty _ some _ added.added more read);
       left_is = left_is;
-      copies_are = copies_on has.cuts some old.copies added.added has.copies_are (are_all some added.added (subst (AreRead some) added.reads_are are))
+      copies_are = copies_on has.cuts some old.copies added.added has.copies_are (are_all some added.added read)
           ∙ ap (λ (l : List TabletCopyValue). map Ok l) (sym added.copies_are);
     }
 
@@ -157,7 +160,9 @@ stops_text : {S : Type 0} (left : S → Option (List ℕ)) (text : List ℕ) (ol
     → fault ≢ Memory → CutsOut left old.source old.next some later after → AreRead some reads → StopsAt reads old.copies fault → HasRead left text old → StopsText text fault
 stops_text left text old later after some reads fault other cuts are at has =
     let (rest, left_is, more) = cuts has.rest has.left_is in
-    let found = split some at.before at.read at.later _ _ more (subst (AreRead some) at.reads_are are) in
+    let whole = are_whole _ some _ more in
+    let read : AreRead whole.cuts (map Ok at.before ++ at.read ∷ at.later) = read_alike whole.cuts some _ whole.same (subst (AreRead some) at.reads_are are) in
+    let found = split whole.cuts at.before at.read at.later _ _ whole.are_cuts read in
     record {
       cuts = has.cuts ++ found.cuts;
       copies = old.copies ++ at.before;

@@ -4,7 +4,9 @@ use Rattle.std.proofs.lemmas.List.Elements.{All-nil, All-cons, All-append}
 use Rattle.std.proofs.lemmas.List.{length_push}
 use Rattle.pn_line.specs.Text.{text_of}
 use Rattle.pn_line.proofs.TextLaws.{text_of-nil, text_of-push}
+use Rattle.pn_tablet.specs.CopyReading.{copy_at}
 use Rattle.pn_serve.specs.Copies.Cutting.{AreCuts, CopyCutValue, IsCut, IsLineThat, TextLeft, line_number}
+use Rattle.pn_serve.specs.Copies.Faulty.{IsCutAtFault, has_faulty_line}
 use Rattle.pn_serve.specs.Copies.Lines.{AddsLine, AddsNone, AddsPart}
 
 -- these whole lines were read onto the text, and the rest is left
@@ -113,6 +115,25 @@ cut-long next bytes text new count left leaves first later so_far adds first_is 
           cut_off = refl;
           bytes_are = so_far.bytes_are ∙ ap (λ r. text ++ r) none.bytes_are ∙ ap (λ t. t ++ (none.long ++ (none.after ++ none.rest))) (sym none.text_is);
         }));
+      },
+    )
+
+-- a text was cut at a fault, and the rest is left
+pub cut-faulty : (next : ℕ) (bytes text new : List ℕ) (count : ℕ) (left leaves : Option (List ℕ)) (cut : CopyCutValue) → Gathered bytes text count left
+    → ((rest : List ℕ) → left ≡ Some rest → AddsLine false text new rest leaves) → cut.first ≡ next → cut.text ≡ new → has_faulty_line (copy_at new) ≡ true
+    → (rest : List ℕ) × (leaves ≡ Some rest) × IsCutAtFault (record { next = next; bytes = bytes }) cut
+cut-faulty next bytes text new count left leaves cut so_far adds first_is text_is faulty =
+    let all = gathered-line bytes text new count left leaves so_far adds in (
+      all.rest,
+      all.leaves_is,
+      record {
+        before = all.before;
+        rest = all.rest;
+        inner = all.inner;
+        first_is = first_is;
+        text_is = text_is ∙ all.text_is;
+        bytes_are = all.bytes_are ∙ ap (λ t. t ++ all.rest) (sym text_is);
+        faulty = subst (λ (t : List ℕ). has_faulty_line (copy_at t) ≡ true) (sym text_is) faulty;
       },
     )
 

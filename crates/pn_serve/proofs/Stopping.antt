@@ -50,6 +50,12 @@ no_part read = record {
 lines_begun : {script : List ℕ} {left : Option (List ℕ)} {lines : List (List ℕ)} {part : List ℕ} (read : PartRead script left lines part) → lines_of script ≡ lines ++ lines_of (part ++ read.rest)
 lines_begun {lines = lines} {part = part} read = ap lines_of read.text_is ∙ lines_of-text lines (part ++ read.rest) read.unbroken
 
+-- the lines before one of a billion bytes are those that may be answered
+pub bytes_within : (script : List ℕ) (left : Option (List ℕ)) (lines : List (List ℕ)) (part : List ℕ) → PartRead script left lines part → All IsShort lines → length part ≡ 1000000000 → length lines < 1000000 → lines_within script ≡ lines
+bytes_within script left lines part read short long few =
+    let (first, more, all, longer) = begun_line part read.rest read.part_unbroken long in
+    within-endless script lines first more (lines_begun read ∙ ap (λ (l : List (List ℕ)). lines ++ l) all) short few longer
+
 module _ {V : Type 0} (makes ends : V → List ℕ → V → Reply → Type 0) (start : Start V) (script : List ℕ) (left before after : Option (List ℕ)) (machine : V) (run : Waiting) (lines : List (List ℕ)) (part : List ℕ)
     (is : AllAnswered makes start lines before machine run) (read : PartRead script left lines part) where
   -- the writer failed as what waits was written

@@ -5,4 +5,5 @@ pub mod Commands
 pub mod Ends
 pub mod Lines
 pub mod Steps
+pub mod Stops
 pub mod TabletCounts

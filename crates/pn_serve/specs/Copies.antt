@@ -1,6 +1,7 @@
 -- Texts of copies, and live regions that start from them.
 pub mod Coding
 pub mod Cutting
+pub mod Faulty
 pub mod Lines
 pub mod Reading
 use Rattle.std.specs.Prelude.{◌≡◌, List, map, Err}

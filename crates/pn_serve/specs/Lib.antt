@@ -7,4 +7,3 @@ pub mod Script
 pub mod Server
 pub mod Session
 pub mod Settings
-pub mod Arguments

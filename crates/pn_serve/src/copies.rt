@@ -7,6 +7,7 @@ ghost use Rattle.pn_serve.specs.Copies.{StartsOrdered, StopsOpen};
 ghost use Rattle.pn_serve.specs.Server.Sessions.{AllRead};
 
 mod fault;
+mod fronts;
 mod reading;
 mod texts;
 

@@ -1,7 +1,6 @@
-//! Runs scripts and sessions over regions, and parses the program's arguments.
+//! Runs scripts and sessions over regions.
 #![tactic(auto)]
 
-mod arguments;
 mod control;
 mod copies;
 mod laws;
@@ -14,13 +13,10 @@ mod sessions;
 mod settings;
 mod start_laws;
 mod stream_laws;
+mod version;
 
-pub use arguments::faults::{PlanFault, Refused, Why};
-pub use arguments::options::{MAX_SESSIONS, VERSION, numbers_are_as_written};
-pub use arguments::plan;
-pub use arguments::plans::{Address, Plan, Service, StreamPath};
 pub use control::laws::commands_are_events;
-pub use control::mailboxes::{ControlMailboxes, MAX_CONTROLS};
+pub use control::mailboxes::{ControlMailboxes, ControlsClosed, MAX_CONTROLS, StopAsked};
 pub use control::session::{ControlSession, StatsSource};
 pub use copies::{CopiesFault, CopiesReader, open_copies};
 pub use laws::regions_converge;
@@ -30,12 +26,6 @@ pub use page_laws::{
     a_scan_line_shows_the_page_of_its_region, keys_rise_from_page_to_page_of_a_script,
     pages_of_a_script_are_together_its_rows,
 };
-pub use pn_protocol::{
-    Command, CommandFault, ConnectionStats, ControlCommand, LineCounts, LineKinds, LineStats,
-    NumberName, Part, Refusal, Reply, ShortReply, Stats, StreamFaultStats, StreamState,
-    StreamStats, TabletStats, a_control_line_is_one_command, a_line_is_one_command, command_of,
-    control_of, number_reply, refusal_reply, refuse,
-};
 pub use repeat_laws::{
     a_repeated_deliver_leaves_no_trace_of_a_refused_one, repeated_delivers_leave_the_same_region,
 };
@@ -43,9 +33,10 @@ pub use script::line_loop::{LineLoop, LineState, Step, TURN_UNITS};
 pub use script::replies::{BLOCK, REPLY_CAPACITY, ReplyBuffer, SendOutcome};
 pub use script::{Counts, MAX_LINES, RunFault, run, run_to_exit};
 pub use server::{
-    Acceptor, ComesBack, Counter, FaultLog, OpenedRegion, Origin, ServeFault, SessionThread,
-    Stream, StreamFailure, Watchers, WriterEnd, close_region, join_sessions, open_region,
-    read_streams, serve, serve_from, take_commands,
+    Acceptor, ComesBack, Counter, FaultLog, MAX_SESSIONS, NextWriter, OpenedRegion, Origin,
+    ServeFault, SessionThread, Stream, StreamFailure, StreamPath, Watchers, WriterEnd,
+    close_region, join_sessions, open_region, read_streams, serve, serve_from, take_commands,
+    take_commands_for,
 };
 pub use sessions::counting_reader::CountingReader;
 pub use sessions::going::Going;
@@ -55,3 +46,4 @@ pub use start_laws::a_start_from_copies_leaves_what_was_taken;
 pub use stream_laws::{
     streams_beside_commands_leave_what_was_taken, streams_that_resume_leave_what_was_published,
 };
+pub use version::VERSION;

@@ -1,7 +1,9 @@
 pub mod Buffers
 pub mod Coming
 pub mod Crossing
+pub mod Endings
 pub mod Faults
+pub mod Held
 pub mod Inputs
 pub mod Outputs
 pub mod Pieces

@@ -1,5 +1,5 @@
 -- How much a step and a turn of a connection do at most.
-use Rattle.std.specs.Prelude.{◌≡◌, ◌≤◌, ◌+◌, ℕ, List, length, Option}
+use Rattle.std.specs.Prelude.{◌≡◌, ◌<◌, ◌≤◌, ◌+◌, ◌*◌, ℕ, List, length, Option}
 use Rattle.pn_serve.specs.declared.script.line_loop.steps.Step.{Step}
 use Rattle.pn_serve.specs.declared.script.line_loop.steps.TheConstants.{TURN_UNITS}
 use Rattle.pn_serve.specs.Lines.Bounds.{records_by, records_in}
@@ -10,6 +10,7 @@ use Rattle.pn_stay.specs.Inputs.{ReadsOnce, TakesAtMost, most_taken}
 use Rattle.pn_stay.specs.Outputs.{AnswersAtMost, LooksFew, lines_by, most_looked, most_written}
 use Rattle.pn_stay.specs.Turns.{AnswersFew, LooksWithin}
 use Rattle.pn_stay.specs.declared.connection_state.TurnOutcome.{TurnOutcome}
+use Rattle.pn_stay.specs.declared.steps.TheConstants.{UNIT_BYTES}
 
 -- a step answers a line at most, makes no more of a reply than its units count, and looks at no record
 pub record AnswersOne (step : Step) (old new : LineLoopValue) : Type 0 where
@@ -41,3 +42,7 @@ pub record TurnsWithin (left leaves before after : Option (List ℕ)) (old new :
   pub written : AppendsAtMost most_written before after
   pub answers : AnswersFew TURN_UNITS old new outcome
   pub looked : LooksWithin most_looked old new outcome
+
+-- the input that is held takes fewer units to be read again than a turn has
+abbrev pub LeavesUnits : ConnectionValue → Type 0
+LeavesUnits kept = length kept.held < UNIT_BYTES * TURN_UNITS

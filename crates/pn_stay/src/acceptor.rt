@@ -3,7 +3,7 @@
 ghost use Rattle.std.specs.Prelude.{◌≡◌};
 ghost use Rattle.pn_live.specs.Prelude.{tablets_of};
 
-use crate::connection_limit::ConnectionLimit;
+use crate::connection_limit::{ConnectionLimit, Place};
 use crate::counters::{Counters, CountingSource};
 use crate::listener::Listener;
 use crate::messages::Messages;
@@ -11,7 +11,7 @@ use crate::reasons::describe_error;
 use crate::seldom::Seldom;
 use crate::shared::share;
 use crate::socket::{Socket, TrackedSocket};
-use crate::socket_mailbox::{SocketMailbox, have_ended};
+use crate::socket_mailbox::{Refusal, SocketMailbox, have_ended};
 use pn_live::LiveReader;
 use pn_serve::{Acceptor, Counter, FaultLog, session};
 use std::alloc::{AllocError, Global};
@@ -172,9 +172,7 @@ pub(crate) fn accept_all<R: Wait + Clock>(
             if limit.is_reached(rt) {
                 notes.tell_limit(rt);
             }
-            limit.acquire(rt);
-            if let Err(error) = accept_into(rt, listener, mailbox) {
-                limit.release(rt);
+            if let Some(error) = accept_into(rt, listener, limit, mailbox) {
                 if mailbox.is_stopping(rt) {
                     return;
                 }
@@ -185,8 +183,39 @@ pub(crate) fn accept_all<R: Wait + Clock>(
     }
 }
 
-fn accept_into<R: Wait>(rt: &R, listener: &Listener, mailbox: &SocketMailbox) -> io::Result<()> {
-    mailbox.put(rt, accept_nonblocking(listener)?)
+// Accepts a socket for a mailbox, once the limit has a place for it. Where that fails the place is free again.
+fn accept_into<R: Wait>(
+    rt: &R,
+    listener: &Listener,
+    limit: &ConnectionLimit,
+    mailbox: &SocketMailbox,
+) -> Option<io::Error> {
+    match accept_at(rt, listener, mailbox, limit.acquire(rt)) {
+        Ok(()) => None,
+        Err(refusal) => {
+            let Refusal { error, place } = refusal;
+            match place {
+                Some(place) => limit.release(rt, place),
+                None => {}
+            }
+            Some(error)
+        }
+    }
+}
+
+fn accept_at<R: Wait>(
+    rt: &R,
+    listener: &Listener,
+    mailbox: &SocketMailbox,
+    place: Place,
+) -> Result<(), Refusal> {
+    match accept_nonblocking(listener) {
+        Ok(socket) => mailbox.put(rt, socket, place),
+        Err(error) => Err(Refusal {
+            error,
+            place: Some(place),
+        }),
+    }
 }
 
 fn accept_nonblocking(listener: &Listener) -> io::Result<Socket> {

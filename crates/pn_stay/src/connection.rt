@@ -24,8 +24,8 @@ pub(crate) struct Connection {
     pub(crate) is_ready: bool,
     /// Whether its socket is kept until its client has taken the replies: it had as many lines as may be.
     pub(crate) lingers: bool,
-    // Whether its input ends after what has come of it.
-    is_ending: bool,
+    /// Whether its input ends after what has come of it.
+    pub(crate) is_ending: bool,
     // Whether the end of its input was reported, or a fault.
     is_closed: bool,
 }
@@ -51,7 +51,9 @@ impl Connection {
     }
 
     /// Its client's input ends after what has come of it.
-    pub(crate) fn end_input(&mut self) {
+    pub(crate) fn end_input(&mut self)
+        ensures { self.new.is_ending ≡ true }
+    {
         self.is_ending = true;
     }
 

@@ -11,6 +11,10 @@ pub(crate) struct ConnectionLimit {
     released: Condvar,
 }
 
+/// A place among the connections that may be open. It is no value that may be dropped: its limit gets it back, or a mailbox
+/// gets it with a socket, and releases it once that connection has ended.
+pub(crate) struct Place(());
+
 impl ConnectionLimit {
     /// A limit of `most` connections.
     pub(crate) fn new(most: usize) -> ConnectionLimit {
@@ -25,18 +29,32 @@ impl ConnectionLimit {
         *self.free.lock(rt) == 0
     }
 
-    /// Counts a connection, once one more may be opened.
-    pub(crate) fn acquire<R: Wait>(&self, rt: &R) {
+    /// The place of a connection, once one more may be opened.
+    pub(crate) fn acquire<R: Wait>(&self, rt: &R) -> Place {
         let guard = self.free.lock(rt);
         let mut free = self.released.wait_while(rt, guard, |free| *free == 0);
         take_one(&mut *free);
+        Place(())
     }
 
-    /// A connection that was counted has ended.
-    pub(crate) fn release<R: Wait>(&self, rt: &R) {
+    /// The place of no connection is free again.
+    pub(crate) fn release<R: Wait>(&self, rt: &R, place: Place) {
+        place.hand_over();
+        self.release_ended(rt);
+    }
+
+    /// A connection whose place was handed over has ended.
+    pub(crate) fn release_ended<R: Wait>(&self, rt: &R) {
         let mut free = self.free.lock(rt);
         give_back(&mut *free);
         self.released.notify_one();
+    }
+}
+
+impl Place {
+    /// Whoever has its connection releases it from now on.
+    pub(crate) fn hand_over(self) {
+        let Place(()) = self;
     }
 }
 

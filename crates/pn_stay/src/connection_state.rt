@@ -7,7 +7,7 @@ ghost use Rattle.pn_serve.specs.Lines.Made.{AppendsAtMost, MakesAtMost};
 ghost use Rattle.pn_serve.specs.Lines.Stepping.{by};
 ghost use Rattle.pn_serve.specs.Session.Knowing.{KnowsNoLess};
 ghost use Rattle.pn_serve.specs.declared.script.replies.TheConstants.{REPLY_CAPACITY};
-ghost use Rattle.pn_stay.specs.Bounds.{StaysWithin, TurnsWithin};
+ghost use Rattle.pn_stay.specs.Bounds.{LeavesUnits, StaysWithin, TurnsWithin};
 ghost use Rattle.pn_stay.specs.Connections.{new_connection};
 ghost use Rattle.pn_stay.specs.Faults.{EndsAsFailed, EndsOnlyIf, MayEndBy};
 ghost use Rattle.pn_stay.specs.Outputs.{most_made, most_written};
@@ -23,9 +23,10 @@ use crate::skipped_input::SkippedInput;
 use crate::steps::take_steps;
 use pn_join::NoMemory;
 use pn_line::{LineBuffer, Sink};
+use pn_protocol::LineCounts;
 use pn_serve::{
-    Counts, LineCounts, LineHandler, LineLoop, LineState, RefusesSkipped, ReplyBuffer, RunFault,
-    SendOutcome, Step,
+    Counts, LineHandler, LineLoop, LineState, RefusesSkipped, ReplyBuffer, RunFault, SendOutcome,
+    Step,
 };
 use std::alloc::Global;
 use std::marker::Model;
@@ -155,6 +156,7 @@ impl ConnectionState {
             (at (R.remaining input.new) (W.contents output.new) machine.new self.new) result }
         ensures pauses { PausesWell self.new result }
         ensures bounds { TurnsWithin (R.remaining input.old) (R.remaining input.new) (W.contents output.old) (W.contents output.new) self.old self.new result }
+        ensures leaves { LeavesUnits self.new }
         ensures read_fault { EndsTurnBy RunFault.Read self.new result → MayEndBy RunFault.Read (R.has_failed input.new) self.old.state }
         ensures write_fault { EndsTurnBy RunFault.Write self.new result → MayEndBy RunFault.Write (W.has_failed output.new) self.old.state }
         ensures knows { KnowsNoLess (M.reader machine.old) (M.reader machine.new) }
@@ -165,7 +167,16 @@ impl ConnectionState {
         let after = buffers.lines.counts();
         add_lines(&mut buffers.answered, before, after);
         buffers.lines.recall_cut(&*machine);
-        self.store(buffers, step)
+        let outcome = self.store(buffers, step);
+        self.recall_held();
+        outcome
+    }
+
+    // It holds no more input than fits into the buffer of a thread.
+    fn recall_held(&self)
+        ensures { LeavesUnits self.now }
+    {
+        let _ = &self.held;
     }
 }
 

@@ -4,9 +4,8 @@ use crate::counters::{Counters, StreamCounters};
 use crate::socket::Socket;
 use crate::streams::status::StreamStatus;
 use pn_join::NoMemory;
-use pn_serve::{
-    ConnectionStats, LineCounts, LineStats, Stats, StatsSource, StreamStats, TabletStats, VERSION,
-};
+use pn_protocol::{ConnectionStats, LineCounts, LineStats, Stats, StreamStats, TabletStats};
+use pn_serve::{StatsSource, VERSION};
 use std::alloc::{AllocError, Global};
 use std::sync::Wait;
 use std::time::{Clock, Instant};

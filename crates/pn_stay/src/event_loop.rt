@@ -2,8 +2,10 @@
 
 ghost use Rattle.std.specs.Prelude.{◌≡◌, ◌≢◌, ◌+◌, ◌↔◌, ℕ, None, OnErr, OnOk, IsTrue, vec_len};
 ghost use Rattle.pn_serve.specs.Session.Knowing.{KnowsNoLess};
-ghost use Rattle.pn_stay.specs.Loops.{idle_at, quarter_later, EndsQuarter, IsIdleFor};
+ghost use Rattle.pn_stay.specs.Loops.{ending_at, idle_at, quarter_later, EndsQuarter, IsIdleFor};
 ghost use Rattle.slab.specs.Slab.{slab_len, Updates};
+
+mod ending;
 
 use crate::connection::Connection;
 use crate::connection_state::{Pause, ThreadBuffers};
@@ -76,7 +78,8 @@ impl EventLoop {
         })
     }
 
-    /// Answers connections until the mailbox is closed and the last has ended. An error is one of the system's wait.
+    /// Answers connections until the mailbox is closed and the last has ended, or it is to answer nothing more. An error is one of the
+    /// system's wait.
     #[tactic(auto, using(pn_serve::proofs::Knowing::knows_on))]
     pub(crate) fn run<R: Wait + Clock, M: RefusesSkipped>(
         &mut self,
@@ -95,7 +98,7 @@ impl EventLoop {
             }
             self.take_turns(rt, mailbox, machine);
             self.lingering.close_ended(rt);
-            if self.is_over(rt, mailbox) {
+            if mailbox.is_cut(rt) || self.is_over(rt, mailbox) {
                 return Ok(());
             }
         }
@@ -189,19 +192,6 @@ impl EventLoop {
         self.lingering.close(rt);
     }
 
-    // Once the thread is to end, the input of each client ends after what has come of it.
-    fn end_inputs<R: Wait>(&mut self, rt: &R, mailbox: &SocketMailbox) {
-        if !mailbox.is_stopping(rt) {
-            return;
-        }
-        'inputs: for key in 0..self.connections.capacity() {
-            if let Some(connection) = self.connections.get_mut(key) {
-                connection.end_input();
-            }
-            make_ready(&mut self.connections, &mut self.ready, key);
-        }
-    }
-
     // Four times a second ends the connections whose clients are idle for too long.
     fn end_idle<R: Wait>(&mut self, rt: &R, mailbox: &SocketMailbox) {
         let Some(idle) = self.idle else { return };
@@ -230,7 +220,7 @@ impl EventLoop {
         }
     }
 
-    // Gives each connection that is ready one turn.
+    // Gives each connection that is ready one turn, while the thread is to answer.
     fn take_turns<R: Wait, M: RefusesSkipped>(
         &mut self,
         rt: &R,
@@ -243,6 +233,9 @@ impl EventLoop {
         let spare = mem::replace(&mut self.spare, Vec::new(self.alloc));
         let mut ready = mem::replace(&mut self.ready, spare);
         for key in ready.iter() {
+            if mailbox.is_cut(rt) {
+                continue;
+            }
             match self.give_turn(*key, machine) {
                 Some(Pause::Turn) => make_ready(&mut self.connections, &mut self.ready, *key),
                 Some(Pause::Input | Pause::Output) => {}
@@ -289,7 +282,8 @@ fn age(connections: &mut Slab<Connection>, ready: &mut Vec<usize>, key: usize, i
 
 // Puts a connection among those that are ready, where there is memory for its key.
 fn make_ready(connections: &mut Slab<Connection>, ready: &mut Vec<usize>, key: usize)
-    ensures { (other : ℕ) → idle_at connections.new other ≡ idle_at connections.old other }
+    ensures idle { (other : ℕ) → idle_at connections.new other ≡ idle_at connections.old other }
+    ensures ending { (other : ℕ) → ending_at connections.new other ≡ ending_at connections.old other }
 {
     if let Some(connection) = connections.get_mut(key) {
         if !connection.is_ready {

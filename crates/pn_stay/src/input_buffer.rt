@@ -13,8 +13,9 @@ use std::io;
 use std::io::ErrorKind;
 use std::marker::Model;
 
-/// How many bytes fit into it: a line that is not too long.
-pub const INPUT_CAPACITY: usize = MAX_LINE_BYTES;
+/// How many bytes fit into it. A connection keeps no more of its input as bytes, so that reading them again takes fewer units
+/// than a turn has, and the turn takes more input.
+pub const INPUT_CAPACITY: usize = MAX_LINE_BYTES - 1;
 
 /// How many bytes one read brings at most.
 pub const READ_SIZE: usize = 16_384;

@@ -1,6 +1,7 @@
 //! Counters of the lines of clients by their kinds.
 
-use pn_serve::{Counter, LineCounts, LineKinds};
+use pn_protocol::{LineCounts, LineKinds};
+use pn_serve::Counter;
 
 /// How many lines of a kind were answered, and how many of these answers are refusals.
 #[derive(Drop)]

@@ -2,13 +2,14 @@
 
 ghost use Rattle.std.specs.Prelude.{◌≡◌, ◌+◌, ◌≤◌, false, map, vec_len, vec_capacity, All, IfOk, OnOk};
 ghost use Rattle.pn_live.specs.Prelude.{tablets_in, tablets_of, IsNewLive};
-ghost use Rattle.pn_serve.specs.declared.arguments.options.TheConstants.{MAX_SESSIONS};
+ghost use Rattle.pn_serve.specs.declared.server.limits.TheConstants.{MAX_SESSIONS};
 ghost use Rattle.pn_live.specs.declared.region.opening.TheConstants.{MAX_READERS};
 ghost use Rattle.pn_serve.specs.Server.Events.{ReadsBesides};
 ghost use Rattle.pn_serve.specs.Server.Reading.{ReadsStreams};
 ghost use Rattle.pn_serve.specs.Server.Sessions.{AllRead};
 
 mod accepting;
+mod control_buffers;
 mod control_client;
 mod control_threads;
 pub(crate) mod starting;
@@ -25,8 +26,9 @@ use crate::server::threads::start_answering;
 use pn_line::Source;
 use pn_live::{LiveReader, LiveRegion};
 use pn_serve::{
-    Acceptor, Counter, MAX_CONTROLS, OpenedRegion, Origin, ServeFault, SessionThread, Settings,
-    Stream, Watchers, close_region, join_sessions, open_region, read_streams, take_commands,
+    Acceptor, ControlsClosed, Counter, MAX_CONTROLS, OpenedRegion, Origin, ServeFault,
+    SessionThread, Settings, Stream, Watchers, close_region, join_sessions, open_region,
+    read_streams, take_commands,
 };
 use pn_tablet::Layout;
 use std::alloc::{AllocError, Global};
@@ -128,10 +130,10 @@ impl StayingServer {
         let mut server = self;
         match &server.watchers.controls {
             Some(controls) => {
-                let seconds = take_commands(rt, alloc, &mut server.live, controls);
-                controls.close(rt);
-                server.stopping.run(rt, seconds);
-                server.leave(rt);
+                let live = &mut server.live;
+                let asked = take_commands(rt, alloc, live, controls);
+                let closed = server.stopping.run(rt, alloc, live, controls, asked);
+                server.end(rt, closed);
                 true
             }
             None => {
@@ -141,19 +143,25 @@ impl StayingServer {
         }
     }
 
-    /// Closes the region, and leaves its memory and the threads to the end of the program.
-    pub fn leave<R: Wait>(self, rt: &R) {
+    /// Answers nothing any more, closes the region, and leaves its memory and the threads to the end of the program.
+    pub fn leave<R: Wait + Clock>(self, rt: &R) {
         let StayingServer {
             live,
             workers: _,
             running: _,
             readers,
             watchers: _,
-            stopping: _,
+            stopping,
         } = self;
+        stopping.cut(rt);
         if let Ok(region) = close_region(rt, live, readers) {
             mem::forget(region);
         }
+    }
+
+    // Ends a server that was stopped: no command is taken any more.
+    fn end<R: Wait + Clock>(self, rt: &R, _closed: ControlsClosed) {
+        self.leave(rt);
     }
 
     // Waits for the threads, which end where the system's wait for sockets fails, and closes the region.

@@ -5,7 +5,8 @@ ghost use Rattle.std.specs.Io.{ReadsAtMost, WritesAtMost};
 ghost use Rattle.std.specs.IoError.{error_kind};
 ghost use Rattle.pn_stay.specs.Failures.{NotesFailure};
 
-use libc::net::{POLLHUP, poll};
+use crate::interrupts::is_interrupted;
+use libc::net::{POLLHUP, SHUT_RD, SHUT_RDWR, poll, shutdown};
 use libc::types::pollfd;
 use mio::unix::SourceFd;
 use mio::{Interest, Registry, Token};
@@ -75,7 +76,8 @@ impl Socket {
         poll(&mut looks, 0) > 0 && looks[0].revents & POLLHUP != 0
     }
 
-    fn number(&self) -> RawFd {
+    /// The number of its descriptor.
+    pub(crate) fn number(&self) -> RawFd {
         match self {
             Socket::Tcp(stream) => stream.as_raw_fd(),
             Socket::Unix(stream) => stream.as_raw_fd(),
@@ -91,8 +93,20 @@ impl Socket {
         )
     }
 
-    /// Reads what is at hand.
+    /// Reads what is at hand. Where a signal interrupts it, it is asked again, and its time begins anew.
     pub(crate) fn read_some(&self, buf: &mut [u8]) -> io::Result<usize>
+        ensures { ReadsAtMost result buf.new }
+    {
+        for _ in 0..u64::MAX {
+            let count = self.read_once(buf);
+            if !is_interrupted(&count) {
+                return count;
+            }
+        }
+        self.read_once(buf)
+    }
+
+    fn read_once(&self, buf: &mut [u8]) -> io::Result<usize>
         ensures { ReadsAtMost result buf.new }
     {
         match self {
@@ -101,7 +115,20 @@ impl Socket {
         }
     }
 
+    // As `read_some` reads.
     fn write_some(&self, buf: &[u8]) -> io::Result<usize>
+        ensures { WritesAtMost result buf.now }
+    {
+        for _ in 0..u64::MAX {
+            let count = self.write_once(buf);
+            if !is_interrupted(&count) {
+                return count;
+            }
+        }
+        self.write_once(buf)
+    }
+
+    fn write_once(&self, buf: &[u8]) -> io::Result<usize>
         ensures { WritesAtMost result buf.now }
     {
         match self {
@@ -109,6 +136,16 @@ impl Socket {
             Socket::Unix(stream) => (&*stream).write(buf),
         }
     }
+}
+
+/// As `end_input`, for a socket that is open by its number.
+pub(crate) fn end_input_of(socket: RawFd) {
+    let _ = shutdown(socket, SHUT_RD);
+}
+
+/// Ends the input and the output of a socket that is open by its number.
+pub(crate) fn end_both_of(socket: RawFd) {
+    let _ = shutdown(socket, SHUT_RDWR);
 }
 
 /// A socket that is read or written, whether anything went over it, and whether a call of it has failed.

@@ -1,6 +1,7 @@
 //! Streams: where their writers come from, and the messages and counts of how they go.
 
 pub(crate) mod fifo;
+pub(crate) mod fifo_poll;
 pub(crate) mod files;
 pub(crate) mod input;
 pub(crate) mod listener;

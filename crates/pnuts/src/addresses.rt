@@ -1,13 +1,17 @@
 //! Where the program listens.
 
-use crate::failures::{fail, fail_at, is_explained};
-use pn_serve::{Address, Service};
-use pn_stay::{Listener, OWNER_ALONE, remove_sockets};
+use crate::failures::{fail, fail_to_listen, is_explained};
+use pn_arguments::{Address, Service};
+use pn_stay::{ListenFault, Listener, OWNER_ALONE, SocketFile};
 use std::fs::File;
+use std::io;
 use std::net::{Net, SocketAddr, TcpListener, TcpStream};
 use std::process::ExitCode;
 use std::rt::Files;
-use std::{fs, io};
+use std::sync::{Arc, Wait};
+
+/// How many sockets at paths it listens on at most, beside those of streams.
+const SOCKETS: usize = 2;
 
 /// What is listened on.
 #[derive(Drop)]
@@ -17,73 +21,103 @@ pub(crate) struct Listeners {
     pub(crate) control: Option<Listener>,
 }
 
-/// Listens for control sessions, then for clients, and prints where clients are. Else it prints why not.
-pub(crate) fn listen<R>(rt: &R, service: &Service) -> Result<Listeners, ExitCode>
+/// Listens for control sessions, then for clients, and prints where clients are. Else it prints why not. The files of its
+/// sockets are added.
+pub(crate) fn listen<R>(
+    rt: &R,
+    service: &Service,
+    files: &mut Vec<Arc<SocketFile>>,
+) -> Result<Listeners, ExitCode>
 where
     R: AllocGlobal
         + Files<File = File>
         + Net<Listener = TcpListener, Stream = TcpStream>
+        + Wait
         + Print
         + Eprint,
 {
-    let control = listen_for_control(rt, service)?;
-    let clients = match bind(rt, service) {
-        Ok(clients) => clients,
-        Err(error) => {
-            remove_control(rt, service);
-            return Err(refuse_address(rt, service, &error));
-        }
-    };
+    if files.reserve(SOCKETS).is_err() {
+        return Err(fail(rt, "memory"));
+    }
+    let control = listen_for_control(rt, service, files)?;
+    let clients = listen_for_clients(rt, service, files)?;
     if print_address(rt, &service.address).is_err() {
-        remove_places(rt, service, &[]);
         return Err(fail(rt, "write"));
     }
     Ok(Listeners { clients, control })
 }
 
 // Listens for control sessions, where there may be some.
-fn listen_for_control(
-    rt: &(impl AllocGlobal + Files<File = File> + Net + Eprint),
+fn listen_for_control<R>(
+    rt: &R,
     service: &Service,
-) -> Result<Option<Listener>, ExitCode> {
+    files: &mut Vec<Arc<SocketFile>>,
+) -> Result<Option<Listener>, ExitCode>
+where
+    R: AllocGlobal + Files<File = File> + Net + Wait + Eprint,
+{
     let Some(path) = &service.control else {
         return Ok(None);
     };
-    match Listener::bind_path(rt, rt.alloc(), path.as_str(), OWNER_ALONE) {
+    match bind_path(rt, path.as_str(), OWNER_ALONE, files) {
         Ok(listener) => Ok(Some(listener)),
-        Err(error) => Err(fail_at(rt, "cannot listen", path.as_str(), &error, true)),
+        Err(fault) => Err(fail_to_listen(rt, path.as_str(), &fault, true)),
     }
 }
 
-fn bind<R>(rt: &R, service: &Service) -> io::Result<Listener>
-where
-    R: AllocGlobal + Files<File = File> + Net<Listener = TcpListener, Stream = TcpStream>,
-{
-    match &service.address {
-        Address::Port(host, port) => Listener::bind_port(rt, *host, *port),
-        Address::Path(path) => Listener::bind_path(
-            rt,
-            rt.alloc(),
-            path.as_str(),
-            service.socket_mode,
-        ),
-    }
-}
-
-fn refuse_address(
-    rt: &(impl AllocGlobal + Eprint),
+fn listen_for_clients<R>(
+    rt: &R,
     service: &Service,
-    error: &io::Error,
-) -> ExitCode {
+    files: &mut Vec<Arc<SocketFile>>,
+) -> Result<Listener, ExitCode>
+where
+    R: AllocGlobal
+        + Files<File = File>
+        + Net<Listener = TcpListener, Stream = TcpStream>
+        + Wait
+        + Eprint,
+{
     let is_explained = is_explained(service);
-    let text = match &service.address {
-        Address::Port(host, port) => {
-            format!(in rt.alloc(); "{}", SocketAddr::from((*host, *port)))
-        }
-        Address::Path(path) => String::from_str(rt.alloc(), path.as_str()),
-    };
-    match text {
-        Ok(text) => fail_at(rt, "cannot listen", text.as_str(), error, is_explained),
+    match &service.address {
+        Address::Port(host, port) => match Listener::bind_port(rt, *host, *port) {
+            Ok(listener) => Ok(listener),
+            Err(error) => Err(refuse_port(
+                rt,
+                SocketAddr::from((*host, *port)),
+                error,
+                is_explained,
+            )),
+        },
+        Address::Path(path) => match bind_path(rt, path.as_str(), service.socket_mode, files) {
+            Ok(listener) => Ok(listener),
+            Err(fault) => Err(fail_to_listen(rt, path.as_str(), &fault, is_explained)),
+        },
+    }
+}
+
+// Listens at a path, and adds the file of the socket.
+fn bind_path<R>(
+    rt: &R,
+    path: &str,
+    permissions: u32,
+    files: &mut Vec<Arc<SocketFile>>,
+) -> Result<Listener, ListenFault>
+where
+    R: AllocGlobal + Files<File = File> + Net + Wait,
+{
+    let (listener, file) = Listener::bind_path(rt, rt.alloc(), path, permissions)?;
+    files.push(file)?;
+    Ok(listener)
+}
+
+fn refuse_port(
+    rt: &(impl AllocGlobal + Eprint),
+    address: SocketAddr,
+    error: io::Error,
+    is_explained: bool,
+) -> ExitCode {
+    match format!(in rt.alloc(); "{address}") {
+        Ok(text) => fail_to_listen(rt, text.as_str(), &ListenFault::Path(error), is_explained),
         Err(_) => fail(rt, "cannot listen"),
     }
 }
@@ -94,24 +128,5 @@ fn print_address(rt: &impl Print, address: &Address) -> io::Result<()> {
             println!(rt; "listening on {}", SocketAddr::from((*host, *port)))
         }
         Address::Path(path) => println!(rt; "listening on {path}"),
-    }
-}
-
-/// Removes the files of the Unix sockets that it listens on, once the program ends by itself.
-pub(crate) fn remove_places(rt: &impl Files, service: &Service, sockets: &[String]) {
-    remove_socket(rt, &service.address);
-    remove_control(rt, service);
-    remove_sockets(rt, sockets);
-}
-
-fn remove_control(rt: &impl Files, service: &Service) {
-    if let Some(path) = &service.control {
-        let _ = fs::remove_file(rt, path.as_str());
-    }
-}
-
-fn remove_socket(rt: &impl Files, address: &Address) {
-    if let Address::Path(path) = address {
-        let _ = fs::remove_file(rt, path.as_str());
     }
 }

@@ -2,14 +2,15 @@
 
 ghost use Rattle.std.specs.Prelude.{◌≤◌, vec_len, IfOk, IfSome};
 ghost use Rattle.pn_live.specs.Prelude.{tablets_in};
-ghost use Rattle.pn_serve.specs.declared.arguments.options.TheConstants.{MAX_SESSIONS};
+ghost use Rattle.pn_serve.specs.declared.server.limits.TheConstants.{MAX_SESSIONS};
 ghost use Rattle.pn_serve.specs.Server.Sessions.{AllRead};
 
 use crate::failures::{fail, fail_at};
+use pn_arguments::Service;
 use pn_join::{Marks, Name};
 use pn_serve::{
-    CopiesFault, CopiesReader, MAX_CONTROLS, OpenedRegion, Service, Settings, StreamPath,
-    close_region, open_copies,
+    CopiesFault, CopiesReader, MAX_CONTROLS, OpenedRegion, Settings, StreamPath, close_region,
+    open_copies,
 };
 use pn_tablet::{MAX_BOUNDS, TabletCopy};
 use std::fs::File;

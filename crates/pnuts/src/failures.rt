@@ -1,8 +1,9 @@
 //! What is printed on standard error where the program fails.
 
+use pn_arguments::Service;
 use pn_join::Name;
-use pn_serve::{FaultLog, ServeFault, Service, StreamFailure, WriterEnd};
-use pn_stay::{StreamOpenFault, describe_error, format_failure};
+use pn_serve::{FaultLog, ServeFault, StreamFailure, WriterEnd};
+use pn_stay::{ListenFault, StreamOpenFault, describe_error, format_failure, format_lock};
 use std::alloc::Global;
 use std::io;
 use std::process::ExitCode;
@@ -49,6 +50,23 @@ pub(crate) fn fail_at(
     match format!(in rt.alloc(); "{why}: {path}") {
         Ok(text) if is_explained => fail_with(rt, text.as_str(), error, true),
         _ => fail(rt, why),
+    }
+}
+
+/// Prints why nobody listens at a place. A lock is named by its own path.
+pub(crate) fn fail_to_listen(
+    rt: &(impl AllocGlobal + Eprint),
+    place: &str,
+    fault: &ListenFault,
+    is_explained: bool,
+) -> ExitCode {
+    let why = "cannot listen";
+    match fault {
+        ListenFault::Path(error) => fail_at(rt, why, place, error, is_explained),
+        ListenFault::Lock(error) => match format_lock(rt.alloc(), place) {
+            Ok(lock) => fail_at(rt, why, lock.as_str(), error, is_explained),
+            Err(_) => fail(rt, why),
+        },
     }
 }
 

@@ -1,17 +1,18 @@
 //! What a server reads, and where it listens.
 
-use crate::addresses::{Listeners, remove_places};
+use crate::addresses::{Listeners, listen};
 use crate::failures::{fail_serving, is_explained, refuse_streams};
+use pn_arguments::Service;
 use pn_join::Name;
-use pn_serve::{FaultLog, ServeFault, Service, Stream, StreamPath};
+use pn_serve::{FaultLog, ServeFault, Stream, StreamPath};
 use pn_stay::{
-    Counters, FileSource, MemoryMeter, Messages, SocketAcceptor, StreamCounters, StreamOpenFault,
-    StreamOrigin, StreamSetting, open_files, open_origins, remove_sockets, share,
+    Counters, FileSource, MemoryMeter, Messages, SocketAcceptor, SocketFile, StreamCounters,
+    StreamOpenFault, StreamOrigin, StreamSetting, open_files, open_origins, remove_sockets, share,
 };
 use pn_stream::StreamReader;
 use std::alloc::{AllocError, Global};
 use std::fs::File;
-use std::net::Net;
+use std::net::{Net, TcpListener, TcpStream};
 use std::process::ExitCode;
 use std::rt::Files;
 use std::sync::{Arc, Wait};
@@ -26,7 +27,7 @@ pub(crate) enum Streams<R: Drop> {
     Staying(Vec<Stream<StreamOrigin<R>>>, u32),
 }
 
-/// The counters of a server, where faults and messages of its streams go, and the paths of its sockets.
+/// The counters of a server, where faults and messages of its streams go, and the files of its sockets.
 #[derive(Drop)]
 pub(crate) struct Notes {
     pub(crate) counters: Arc<Counters>,
@@ -34,7 +35,7 @@ pub(crate) struct Notes {
     pub(crate) faults: Option<Arc<FaultLog>>,
     /// Where messages about the streams of a server that stays go.
     pub(crate) messages: Option<Arc<Messages>>,
-    pub(crate) sockets: Vec<String>,
+    pub(crate) sockets: Vec<Arc<SocketFile>>,
 }
 
 /// Opens the streams that the words ask for, or prints why not.
@@ -139,14 +140,21 @@ fn new_fault_log(
     Ok(Some(Arc::new(alloc, log)?))
 }
 
-/// What accepts clients at the listening sockets. Where there are none, the files of the other sockets are removed.
-pub(crate) fn open_acceptor(
-    rt: &(impl Files + Eprint),
+/// Listens, and answers what accepts clients. Else it prints why not, and removes the files of all sockets.
+pub(crate) fn open_acceptor<R>(
+    rt: &R,
     service: &Service,
-    notes: &Notes,
-    listened: Result<Listeners, ExitCode>,
-) -> Result<SocketAcceptor, ExitCode> {
-    let listeners = match listened {
+    notes: &mut Notes,
+) -> Result<SocketAcceptor, ExitCode>
+where
+    R: AllocGlobal
+        + Files<File = File>
+        + Net<Listener = TcpListener, Stream = TcpStream>
+        + Wait
+        + Print
+        + Eprint,
+{
+    let listeners = match listen(rt, service, &mut notes.sockets) {
         Ok(listeners) => listeners,
         Err(status) => {
             remove_sockets(rt, &notes.sockets);
@@ -178,12 +186,12 @@ fn new_acceptor(
     })
 }
 
-/// Prints that the program cannot start, and ends what it listened on.
+/// Prints that the program cannot start, and removes the files of its sockets.
 pub(crate) fn refuse_start(
-    rt: &(impl Files + Eprint),
+    rt: &(impl Files + Wait + Eprint),
     service: &Service,
-    sockets: &[String],
+    sockets: &[Arc<SocketFile>],
 ) -> ExitCode {
-    remove_places(rt, service, sockets);
+    remove_sockets(rt, sockets);
     fail_serving(rt, ServeFault::Start, is_explained(service))
 }

@@ -3,28 +3,29 @@
 
 ghost use Rattle.std.specs.Prelude.{◌≤◌, vec_len, IfOk, IfSome};
 ghost use Rattle.pn_live.specs.Prelude.{tablets_in};
-ghost use Rattle.pn_serve.specs.declared.arguments.options.TheConstants.{MAX_SESSIONS};
+ghost use Rattle.pn_serve.specs.declared.server.limits.TheConstants.{MAX_SESSIONS};
 ghost use Rattle.pn_serve.specs.Server.Sessions.{AllRead};
 
 mod addresses;
 mod copies;
+mod descriptors;
 mod failures;
 mod inputs;
 mod sessions;
 mod staying;
 
-use crate::addresses::listen;
 use crate::copies::{close_copies, start_from_copies};
+use crate::descriptors::check_descriptors;
 use crate::failures::fail;
 use crate::inputs::{Notes, Streams, open_acceptor, open_streams, refuse_start};
 use crate::sessions::serve_streams;
 use crate::staying::{answer_on, fail_to_stay, start_server};
+use pn_arguments::{Plan, PlanFault, Service, plan};
 use pn_join::Name;
-use pn_serve::{
-    OpenedRegion, Plan, PlanFault, RunFault, Service, Settings, StreamPath, plan, run_to_exit,
-};
+use pn_serve::{OpenedRegion, RunFault, Settings, StreamPath, run_to_exit};
 use pn_stay::{
-    Counters, MessagePrinter, Messages, Shortages, SocketAcceptor, message_prefix, tell_progress,
+    Counters, MessagePrinter, Messages, Shortages, SocketAcceptor, SocketFile, message_prefix,
+    remove_sockets, tell_progress,
 };
 use std::alloc::AllocError;
 use std::env::Env;
@@ -72,7 +73,9 @@ fn main(rt: HostRuntime) -> ExitCode {
     }
     let (streams, connections) = match streams {
         Streams::Files(readers) => {
-            return serve_streams(&rt, settings, opened, &service, &acceptor, readers);
+            let status = serve_streams(&rt, settings, opened, &service, &acceptor, readers);
+            remove_sockets(&rt, &sockets);
+            return status;
         }
         Streams::Staying(streams, connections) => (streams, connections as usize),
     };
@@ -82,7 +85,7 @@ fn main(rt: HostRuntime) -> ExitCode {
             let read = server.read_streams(&rt, rt.alloc(), streams);
             answer_on(&rt, &service, &sockets, server, read)
         }
-        Err(error) => fail_to_stay(&rt, &service, &sockets, &error),
+        Err(error) => fail_to_stay(&rt, &sockets, &error),
     }
 }
 
@@ -156,6 +159,7 @@ where
         service,
         streams,
     } = plan_serving(rt)?;
+    check_descriptors(rt, &service, &streams)?;
     let opened = start_from_copies(rt, &settings, &service, &streams)?;
     match open_endpoints(rt, &service, streams) {
         Ok(endpoints) => Ok(ServeSetup {
@@ -168,14 +172,14 @@ where
     }
 }
 
-// What a server reads, what accepts its clients, what prints messages about its streams, its counters, and the paths of its sockets.
+// What a server reads, what accepts its clients, what prints messages about its streams, its counters, and the files of its sockets.
 #[derive(Drop)]
 struct Endpoints<R: Drop> {
     streams: Streams<R>,
     acceptor: SocketAcceptor,
     printer: Option<MessagePrinter>,
     counters: Arc<Counters>,
-    sockets: Vec<String>,
+    sockets: Vec<Arc<SocketFile>>,
 }
 
 // Opens the streams, and listens. The error is the status with which the program ends.
@@ -196,7 +200,8 @@ where
         + Drop,
 {
     let (streams, notes) = open_streams(rt, service, streams)?;
-    let acceptor = open_acceptor(rt, service, &notes, listen(rt, service))?;
+    let mut notes = notes;
+    let acceptor = open_acceptor(rt, service, &mut notes)?;
     let Notes {
         counters,
         messages,

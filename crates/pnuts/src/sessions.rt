@@ -2,12 +2,12 @@
 
 ghost use Rattle.std.specs.Prelude.{◌≤◌, IfSome};
 ghost use Rattle.pn_live.specs.Prelude.{tablets_in};
-ghost use Rattle.pn_serve.specs.declared.arguments.options.TheConstants.{MAX_SESSIONS};
+ghost use Rattle.pn_serve.specs.declared.server.limits.TheConstants.{MAX_SESSIONS};
 ghost use Rattle.pn_serve.specs.Server.Sessions.{AllRead};
 
-use crate::addresses::remove_places;
 use crate::failures::fail_noted;
-use pn_serve::{OpenedRegion, Service, Settings, serve, serve_from};
+use pn_arguments::Service;
+use pn_serve::{OpenedRegion, Settings, serve, serve_from};
 use pn_stay::{FileSource, SocketAcceptor, message_prefix};
 use pn_stream::StreamReader;
 use std::fs::File;
@@ -18,7 +18,7 @@ use std::sync::Wait;
 use std::thread::Threads;
 use std::time::Clock;
 
-/// Serves streams to the end of its sessions, from the region that is open or else from a new one, and ends what it listened on.
+/// Serves streams to the end of its sessions, from the region that is open or else from a new one.
 pub(crate) fn serve_streams<R>(
     rt: &R,
     settings: Settings,
@@ -64,7 +64,6 @@ where
         ),
     };
     let _ = eprint!(rt; "{}", message_prefix(service.is_progress_told));
-    remove_places(rt, service, &[]);
     match served {
         Ok(()) => ExitCode::SUCCESS,
         Err(fault) => fail_noted(rt, fault, &acceptor.faults),

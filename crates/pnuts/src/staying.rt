@@ -2,19 +2,21 @@
 
 ghost use Rattle.std.specs.Prelude.{◌≤◌, vec_len, IfSome};
 ghost use Rattle.pn_live.specs.Prelude.{tablets_in};
-ghost use Rattle.pn_serve.specs.declared.arguments.options.TheConstants.{MAX_SESSIONS};
+ghost use Rattle.pn_serve.specs.declared.server.limits.TheConstants.{MAX_SESSIONS};
 ghost use Rattle.pn_serve.specs.Server.Sessions.{AllRead};
 
-use crate::addresses::remove_places;
 use crate::failures::{fail, fail_serving, fail_with};
-use pn_serve::{OpenedRegion, ServeFault, Service, Settings};
-use pn_stay::{ServerSizes, SocketAcceptor, StayingServer, message_prefix};
+use pn_arguments::Service;
+use pn_serve::{OpenedRegion, ServeFault, Settings};
+use pn_stay::{
+    ServerSizes, SocketAcceptor, SocketFile, StayingServer, message_prefix, remove_sockets,
+};
 use std::io;
 use std::io::ErrorKind;
 use std::net::Net;
 use std::process::ExitCode;
 use std::rt::Files;
-use std::sync::Wait;
+use std::sync::{Arc, Wait};
 use std::thread::Threads;
 use std::time::Clock;
 
@@ -45,14 +47,13 @@ where
     StayingServer::start_from(rt, rt.alloc(), acceptor, opened, sizes)
 }
 
-/// Prints why it does not stay, and ends what it listened on.
+/// Prints why it does not stay, and removes the files of its sockets.
 pub(crate) fn fail_to_stay(
-    rt: &(impl AllocGlobal + Files + Eprint),
-    service: &Service,
-    sockets: &[String],
+    rt: &(impl AllocGlobal + Files + Wait + Eprint),
+    sockets: &[Arc<SocketFile>],
     error: &io::Error,
 ) -> ExitCode {
-    remove_places(rt, service, sockets);
+    remove_sockets(rt, sockets);
     match error.kind() {
         ErrorKind::OutOfMemory | ErrorKind::WouldBlock => fail_serving(rt, ServeFault::Start, true),
         _ => fail_with(rt, "cannot start", error, true),
@@ -64,20 +65,20 @@ pub(crate) fn fail_to_stay(
 pub(crate) fn answer_on<R: AllocGlobal + Threads + Wait + Clock + Eprint + Files>(
     rt: &R,
     service: &Service,
-    sockets: &[String],
+    sockets: &[Arc<SocketFile>],
     server: StayingServer,
     read: Result<(), ServeFault>,
 ) -> ExitCode {
     if let Err(ServeFault::Start) = &read {
         server.leave(rt);
-        remove_places(rt, service, sockets);
+        remove_sockets(rt, sockets);
         return fail_serving(rt, ServeFault::Start, true);
     }
     if let Err(fault) = read {
         let _ = fail_serving(rt, fault, true);
     }
     let is_stopped = server.wait(rt, rt.alloc());
-    remove_places(rt, service, sockets);
+    remove_sockets(rt, sockets);
     if !is_stopped {
         return fail(rt, "cannot serve");
     }

@@ -9,7 +9,7 @@ use pn_line::InMemory;
 use pn_live::LiveRegion;
 use pn_region::Region;
 use pn_serve::{
-    Counter, OpenedRegion, Origin, Settings, Stream, Watchers, WriterEnd, close_region,
+    Counter, NextWriter, OpenedRegion, Origin, Settings, Stream, Watchers, WriterEnd, close_region,
     open_region, read_streams,
 };
 use pn_stream::StreamReader;
@@ -73,12 +73,18 @@ impl<R: Wait + Clock + Copy> Script<R> {
 impl<R: Wait + Clock + Copy> Origin<InMemory<'static>> for Script<R> {
     ghost may_go_on = { Unit {0} };
 
-    fn next_writer(&mut self, last: u64) -> Option<InMemory<'static>> {
+    ghost begins_after = { λ _ _. Unit {0} };
+
+    fn next_writer(&mut self, last: u64) -> Option<NextWriter<InMemory<'static>>> {
         self.note(format!(in self.alloc; "from {last}"));
         if self.writers.is_empty() {
             thread::sleep(&self.rt, Duration::from_millis(self.delay));
         }
-        self.writers.pop()
+        let source = self.writers.pop()?;
+        Some(NextWriter {
+            source,
+            after: last,
+        })
     }
 
     fn hand_on(&mut self, last: u64) {

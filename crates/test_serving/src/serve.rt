@@ -2,8 +2,8 @@
 //!
 //! `plan` and `says` read words; `run`, `blocks`, `writes` and `sessions` meet slow and failing readers and writers; `session` and
 //! `serve` answer sessions, `kinds` counts lines of one, `skip` refuses lines that were not kept, and `control` answers a control
-//! session; `start` opens a region from copies; `read` reads streams, and `writers` one whose writers come one after another. A bar is
-//! a newline.
+//! session; `start` opens a region from copies, and `endless` names the fault of a text of copies without end; `read` reads streams,
+//! and `writers` one whose writers come one after another. A bar is a newline.
 
 mod control;
 mod copies;
@@ -18,7 +18,7 @@ mod talk;
 mod writers;
 
 use control::answer_control;
-use copies::start;
+use copies::{start, start_endless};
 use kinds::count_kinds;
 use loopback::serve_stream;
 use plans::{plan_reply, says};
@@ -60,6 +60,7 @@ where
         "skip" => skip_lines(rt, alloc, rest),
         "serve" => serve_stream(rt, alloc, rest),
         "start" => start(rt, alloc, rest),
+        "endless" => start_endless(rt, alloc, rest),
         "read" => few_rounds(rt, alloc),
         "writers" => read_writers(rt, alloc, rest),
         _ => write_three_bytes(alloc),

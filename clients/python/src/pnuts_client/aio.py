@@ -91,11 +91,12 @@ class AsyncClient:
     async def ask(self, request: Request[Answer]) -> Answer:
         """The answer to one request. Any number of tasks may ask at once."""
         begun, closed = time.monotonic(), self._closed
-        attempts = Attempts(self._order, self._retries, None if self._timeout is None else begun + self._timeout)
+        deadline = None if self._timeout is None else begun + self._timeout + request.work
+        attempts = Attempts(self._order, self._retries, deadline)
         while True:
-            chosen, deadline = attempts.next(time.monotonic())
+            chosen, until = attempts.next(time.monotonic())
             try:
-                answer = await self._answer(chosen.region, request, deadline)
+                answer = await self._answer(chosen.region, request, until)
                 attempts.answered(chosen)
                 return answer
             except PnutsError as fault:

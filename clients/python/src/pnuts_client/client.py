@@ -21,7 +21,7 @@ from .queries import Condition, Query
 from .records import Record, Version
 from .requests import Request
 from .seen import REMEMBERED, Seen, with_later
-from .sockets import deadline_after, seconds_left
+from .sockets import seconds_left
 
 Answer = TypeVar("Answer")
 
@@ -30,9 +30,10 @@ class Client:
     """A region, by an address or its text, or several of the same streams. Its calls may be made from any thread.
 
     At most `connections` are open to each, opened when they are needed, each a session of the region. A call waits for
-    a free one. `timeout` is the seconds that a call waits for each reply, None for ever. A connection that breaks is
+    a free one. `timeout` is the seconds that a call waits while nothing comes, None for ever. A connection that breaks is
     opened anew, and lines that read are asked again, up to `retries` times with a growing pause. Of several regions the
-    first that can answer does, and none shows an older version than was seen of the last `remember` keys.
+    first that can answer does, within `timeout` for each reply, and none shows an older version than was seen of the last
+    `remember` keys.
     """
 
     def __init__(
@@ -134,7 +135,7 @@ class Client:
         self.close()
 
     def _attempts(self, begun: float, tried: Try | None = None) -> Attempts:
-        """The tries of a line. Of one region alone each has the whole time for itself."""
+        """The tries of a line. Those of one region alone have no deadline: each has the whole time."""
         deadline = None if self._seen is None or self._timeout is None else begun + self._timeout
         return Attempts(self._order, self._retries, deadline, tried)
 
@@ -147,11 +148,9 @@ class Client:
         with self._pools[chosen.region].connection(deadline) as connection:
             if seen is not None or not all(request.reads for request in asked):
                 connection.renew()
-            if seen is None:
-                deadline = deadline_after(share)
-            else:
+            if seen is not None:
                 lines = map(seen.guarded, asked)
-            with closing(connection.replies(lines, deadline, share, window)) as replies:
+            with closing(connection.replies(lines, share, window, deadline)) as replies:
                 for request, reply in replies:
                     answer: Answer = request.answer(reply)
                     if seen is not None and isinstance(answer, Record):

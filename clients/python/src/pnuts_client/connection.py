@@ -22,9 +22,11 @@ class Connection:
         self._socket: Socket | None = None
 
     def replies(
-        self, requests: Iterable[Request[Any]], deadline: float | None, timeout: float | None, window: int
+        self, requests: Iterable[Request[Any]], timeout: float | None, window: int, deadline: float | None = None
     ) -> Generator[tuple[Request[Any], Any], None, None]:
-        """Each request with its reply, in order; the first by a deadline, `timeout` is the seconds for each one after it.
+        """Each request with its reply, in order; `timeout` is the seconds in which no byte goes out or comes.
+
+        With a deadline, it is the first reply's, and `timeout` is the seconds for each reply after the one before.
 
         Where it ends while replies are still to come, the connection is closed, so that a late reply is never taken
         for that of another line.
@@ -32,7 +34,9 @@ class Connection:
         pipeline: Pipeline[None] = Pipeline()
         waiting = iter(requests)
         unsent = memoryview(b"")
+        is_each = deadline is not None
         try:
+            deadline = deadline or deadline_after(timeout)
             if self._socket is None:
                 self._socket = Socket(self._address, deadline)
             while True:
@@ -40,26 +44,25 @@ class Connection:
                     unsent = _lines(pipeline, waiting, window)
                 if not len(pipeline):
                     break
-                replied = self._exchange(pipeline, unsent, deadline)
-                unsent = unsent[replied[0] :]
-                for request, _, reply in replied[1]:
+                sent, data = self._exchange(unsent, deadline)
+                unsent = unsent[sent:]
+                replied = pipeline.receive(data) if data else []
+                for request, _, reply in replied:
                     yield request, reply
-                if replied[1]:
-                    deadline = deadline_after(timeout)
+                if replied or (not is_each and (sent or data)):
+                    deadline = deadline_after(None if timeout is None else timeout + pipeline.work)
         finally:
             if len(pipeline) or unsent:
                 self.close()
 
-    def _exchange(self, pipeline: Pipeline[None], unsent: memoryview, deadline: float | None) -> tuple[int, list[Any]]:
-        """One turn: how many bytes went out, and the replies that came; waits where neither did."""
+    def _exchange(self, unsent: memoryview, deadline: float | None) -> tuple[int, bytes | None]:
+        """One turn: how many bytes went out, and those that came; waits where neither did."""
         assert self._socket is not None
         sent = self._socket.send_some(unsent) if unsent else 0
         data = self._socket.receive_some()
-        if data is not None:
-            return sent, pipeline.receive(data)
-        if sent < len(unsent) or not sent:
+        if data is None and (sent < len(unsent) or not sent):
             self._socket.wait(sent < len(unsent), deadline)
-        return sent, []
+        return sent, data
 
     def renew(self) -> None:
         """Ends the session where the region did, so that the next line begins another one. Nothing is in flight."""

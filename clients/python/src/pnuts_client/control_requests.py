@@ -9,6 +9,8 @@ from . import requests
 from .records import Version
 from .requests import Request
 
+ADOPTED_A_SECOND = 4_000_000
+"""How many bytes of a copy a region adopts in a second at least."""
 LAST_NUMBER = 10**18
 """The greatest number of a change. What changed after it is never known, so a reply tells the last number alone."""
 Marks = dict[str, int]
@@ -150,7 +152,7 @@ def lose(tablet: int) -> Request[int]:
 def adopt(text: bytes) -> Request[int]:
     """Adopts the text of a copy. The number of its tablet."""
     lines = requests.ask({"do": "adopt", "lines": text.count(b"\n")}, lambda reply: int(reply["adopted"]))
-    return lines._replace(line=lines.line + text, reads=False)
+    return lines._replace(line=lines.line + text, reads=False, work=len(text) / ADOPTED_A_SECOND)
 
 
 def stop(seconds: int = 10) -> Request[int]:

@@ -38,6 +38,11 @@ class Pipeline(Generic[Ticket]):
     def __len__(self) -> int:
         return len(self._sent)
 
+    @property
+    def work(self) -> float:
+        """How many seconds longer the next reply is waited for."""
+        return self._sent[0][0].work if self._sent else 0.0
+
     def send(self, request: Request[Any], ticket: Ticket) -> bytes:
         """Notes a line that is sent now, and gives its bytes."""
         self._sent.append((request, ticket))

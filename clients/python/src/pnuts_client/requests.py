@@ -22,13 +22,15 @@ class Request(NamedTuple, Generic[Answer]):
     """A line with its newline, and how its reply is read.
 
     `has_lines`: lines of text follow a reply that says how many. `reads`: asking twice changes nothing, so a line
-    whose connection broke before its reply is asked anew. `key` and `at_least`: what a line reads of one record.
+    whose connection broke before its reply is asked anew. `work`: how many seconds longer its reply is waited for.
+    `key` and `at_least`: what a line reads of one record.
     """
 
     line: bytes
     meaning: Callable[[Any], Answer]
     has_lines: bool = False
     reads: bool = True
+    work: float = 0.0
     key: str | None = None
     at_least: tuple[int, int] | None = None
 

@@ -1,6 +1,6 @@
 //! Rounds of a live region.
 
-ghost use Rattle.std.specs.Prelude.{◌≡◌, ◌≤◌, ◌++◌, [], length, map, vec_capacity, Ok, IfOk, IfErr, OnOk};
+ghost use Rattle.std.specs.Prelude.{◌≡◌, ◌≤◌, ◌++◌, [], length, map, vec_capacity, Ok, IfOk, IfErr, OnErr, OnOk};
 ghost use Rattle.std.specs.List.{flat_map};
 ghost use Rattle.pn_tablet.specs.Prelude.{changes, Refuses};
 ghost use Rattle.pn_apply.specs.Prelude.{AreJoinsIn, HavePositions, all_stepped, all_changes};
@@ -27,8 +27,8 @@ impl LiveRegion {
     /// Takes deliveries as a region's round does: workers make the next states, this thread publishes them, each tablet
     /// once, in the order of the tablets. Answers the front. It waits for readers of states before last.
     ///
-    /// Faults, marks and log are those of a region's round. `Gap` and `TooManyStreams` change nothing. After
-    /// `Memory` each tablet's join is published or not.
+    /// Faults, marks and log are those of a region's round. A fault publishes nothing; after `Memory` the log alone has
+    /// changed.
     pub fn round<R: Threads + Wait + Sync, G: Gate + Sync>(
         &mut self,
         rt: &R,
@@ -47,6 +47,7 @@ impl LiveRegion {
         ensures err { IfErr result (λ fault. LeavesLive fault self.old deliveries.items self.new) }
         ensures left { IfErr result (λ fault. Leaves fault (core self.old) deliveries.items (core self.new)) }
         ensures broken { IfErr result (λ fault. self.new.log ≡ refused_log self.old.log fault) }
+        ensures kept { IfErr result (λ fault. self.new ≡ record self.old { log = refused_log self.old.log fault }) }
         ensures fits { IfOk result (λ done. AreNotesOf (tablets_in self.old) done.1) }
         ensures same { tablets_in self.new ≡ tablets_in self.old }
     {
@@ -82,6 +83,7 @@ impl LiveRegion {
         ensures refused { IfErr result (λ fault. Refuses is_memory fault (round (core self.old) deliveries.items)) }
         ensures err { IfErr result (λ fault. LeavesLive fault self.old deliveries.items self.new) }
         ensures left { IfErr result (λ fault. Leaves fault (core self.old) deliveries.items (core self.new)) }
+        ensures kept { OnErr result (self.new ≡ self.old) }
         ensures fits { IfOk result (λ taken. AreNotesOf (tablets_in self.old) taken.2) }
         ensures log { self.new.log ≡ self.old.log }
         ensures same { tablets_in self.new ≡ tablets_in self.old }

@@ -2,11 +2,11 @@
 use Rattle.std.specs.Prelude.{◌≡◌, ◌⊎◌, ℕ, List, Bool, true, false, ◌&&◌, Option, Some, None, codes, IsTrue}
 use Rattle.serde_json.specs.Data.{Data, null, number, unsigned, no_members, member}
 use Rattle.pn_record.specs.Reading.{IsLine}
-use Rattle.pn_protocol.specs.Command.Controls.{ControlValue, script, notices, advance, stats, stop, are_seconds}
+use Rattle.pn_protocol.specs.Command.Controls.{ControlValue, script, notices, advance, stats, stop, are_seconds, may_adopt}
 use Rattle.pn_protocol.specs.Command.Grammar.{Says}
 use Rattle.pn_protocol.specs.Command.Json.{command_data, notices_command}
 use Rattle.pn_protocol.specs.Command.Limits.{may_be_asked, is_command}
-use Rattle.pn_protocol.specs.Command.Meaning.{CommandValue, deliver, relayout}
+use Rattle.pn_protocol.specs.Command.Meaning.{CommandValue, adopt, deliver, relayout}
 use Rattle.pn_protocol.specs.Command.Meaning as meaning
 use Rattle.pn_protocol.specs.declared.command.control.TheConstants.{STOP_SECONDS}
 
@@ -36,13 +36,15 @@ SaysControl d (stop seconds) = (said : Option Data) × AreSeconds STOP_SECONDS s
 
 -- control sessions have this command as scripts have it
 abbrev pub is_shared : CommandValue → Bool
+is_shared (adopt lines) = false
 is_shared (deliver deliveries) = false
 is_shared (meaning.notices since) = false
 is_shared (relayout bounds) = false
 is_shared command = true
 
--- the parts of a command keep their limits
+-- the parts of a command keep their limits; an adoption has its own
 abbrev pub is_control : ControlValue → Bool
+is_control (script (adopt lines)) = may_adopt lines
 is_control (script command) = is_shared command && is_command command
 is_control (notices since wait) = may_be_asked since && are_seconds wait
 is_control (stop seconds) = are_seconds seconds

@@ -1,5 +1,5 @@
 -- What control sessions ask for, and the lines that say it.
-use Rattle.std.specs.Prelude.{ℕ, Bool, nat_le, List, [], ◌∷◌, codes, if◌then◌else◌, Option, Some, None, option_and_then, Result, Ok}
+use Rattle.std.specs.Prelude.{ℕ, Bool, ◌&&◌, nat_le, List, [], ◌∷◌, codes, if◌then◌else◌, Option, Some, None, option_and_then, Result, Ok}
 use Rattle.std.specs.Option.{ok_or}
 use Rattle.std.specs.Str.{bytes_eq}
 use Rattle.serde_json.specs.Data.{Data, null, Members}
@@ -9,19 +9,19 @@ use Rattle.pn_json.specs.Members.{whole_number, member_as}
 use Rattle.pn_record.specs.Reading.{value_at}
 use Rattle.pn_protocol.specs.Command.Limits.{may_be_asked}
 use Rattle.pn_protocol.specs.Command.Lines.{refusal_of}
-use Rattle.pn_protocol.specs.Command.Meaning.{CommandValue, command_value}
+use Rattle.pn_protocol.specs.Command.Meaning.{CommandValue, adopt, command_value}
 use Rattle.pn_protocol.specs.Command.Objects.{allowed_in}
 use Rattle.pn_protocol.specs.Command.RangeChecks.{fits}
-use Rattle.pn_protocol.specs.Command.ShapeChecks.{named_alone}
+use Rattle.pn_protocol.specs.Command.ShapeChecks.{named_alone, number_alone}
 use Rattle.pn_protocol.specs.declared.command.control.ControlCommand.{ControlCommand}
 use Rattle.pn_protocol.specs.declared.command.control.ControlCommand.TheVariants.{Script, Notices, Advance, Stats, Stop}
 use Rattle.pn_protocol.specs.declared.command.control.ControlWord.{ControlWord}
 use Rattle.pn_protocol.specs.declared.command.control.ControlWord.TheVariants as word
 use Rattle.pn_protocol.specs.declared.command.control.TheConstants.{STOP_SECONDS}
 use Rattle.pn_protocol.specs.declared.command.parse.AllowedCommands.TheVariants.{Controls}
-use Rattle.pn_protocol.specs.declared.command.ranges.TheConstants.{MAX_SECONDS}
+use Rattle.pn_protocol.specs.declared.command.ranges.TheConstants.{MAX_ADOPTED, MAX_SECONDS}
 use Rattle.pn_protocol.specs.declared.refusal.Part.{Part}
-use Rattle.pn_protocol.specs.declared.refusal.Part.TheVariants.{Seconds, Since, Wait, Whole}
+use Rattle.pn_protocol.specs.declared.refusal.Part.TheVariants.{Lines, Seconds, Since, Wait, Whole}
 use Rattle.pn_protocol.specs.declared.refusal.Refusal.{Refusal}
 use Rattle.pn_protocol.specs.declared.refusal.Refusal.TheVariants.{BadShape}
 
@@ -45,14 +45,19 @@ control_value (Stop seconds) = stop seconds
 -- the word that a text is, if control sessions alone have it or read it in another way
 abbrev pub control_word_of : List ℕ → Option ControlWord
 control_word_of text =
-    if bytes_eq text (codes "advance") then Some word.Advance else
+    if bytes_eq text (codes "adopt") then Some word.Adopt else
+    (if bytes_eq text (codes "advance") then Some word.Advance else
     (if bytes_eq text (codes "notices") then Some word.Notices else
     (if bytes_eq text (codes "stats") then Some word.Stats else
-    (if bytes_eq text (codes "stop") then Some word.Stop else None)))
+    (if bytes_eq text (codes "stop") then Some word.Stop else None))))
 
 -- the word that a member is
 abbrev pub control_word_in : Option Data → Option ControlWord
 control_word_in d = option_and_then control_word_of (option_and_then as_str d)
+
+-- an adoption announces at least one line, and not too many
+abbrev pub may_adopt : ℕ → Bool
+may_adopt lines = nat_le 1 lines && nat_le lines MAX_ADOPTED
 
 -- this number of seconds may be asked for
 abbrev pub are_seconds : ℕ → Bool
@@ -73,6 +78,13 @@ unfoldable pub alone_as : ControlValue → Members → Result ControlValue Refus
 alone_as command members = do
   named ← named_alone (codes "do" ∷ []) members
   Ok command
+
+-- the number of lines that an adoption announces
+unfoldable pub adoption_in : Members → Result ControlValue Refusal
+adoption_in members = do
+  lines ← number_alone (codes "lines") Lines members
+  fit ← fits Lines (may_adopt lines)
+  Ok (script (adopt lines))
 
 -- notices, and for how long they are waited for
 unfoldable pub waiting_in : Members → Result ControlValue Refusal
@@ -100,6 +112,7 @@ script_as d = do
 
 -- the command of a word, or else one of scripts
 abbrev pub control_as : Option ControlWord → Data → Members → Result ControlValue Refusal
+control_as (Some word.Adopt) d members = adoption_in members
 control_as (Some word.Advance) d members = alone_as advance members
 control_as (Some word.Notices) d members = waiting_in members
 control_as (Some word.Stats) d members = alone_as stats members

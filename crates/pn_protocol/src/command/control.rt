@@ -5,13 +5,13 @@ ghost use Rattle.serde_json.specs.View.{view, members_view};
 ghost use Rattle.pn_json.specs.Prelude.{Shows, ShowsUnless, seen};
 ghost use Rattle.pn_record.specs.Prelude.{max_line_bytes};
 ghost use Rattle.pn_protocol.specs.Command.ControlGrammar.{IsControlLine};
-ghost use Rattle.pn_protocol.specs.Command.Controls.{ControlValue, alone_as, control_at, control_in, control_value, control_word_in, control_word_of as word_named, seconds_at, seconds_in, stop_in, waiting_in};
+ghost use Rattle.pn_protocol.specs.Command.Controls.{ControlValue, adoption_in, alone_as, control_at, control_in, control_value, control_word_in, control_word_of as word_named, seconds_at, seconds_in, stop_in, waiting_in};
 ghost use Rattle.pn_protocol.specs.Command.Lines.{is_too_long};
 ghost use Rattle.pn_protocol.specs.Command.Objects.{TakesMemory};
 
-use crate::command::members::{check_members, find_member};
+use crate::command::members::{check_members, find_member, parse_number};
 use crate::command::parse::{AllowedCommands, parse_value};
-use crate::command::ranges::{check_seconds, check_since};
+use crate::command::ranges::{check_adopted, check_seconds, check_since};
 use crate::{Command, Part, Refusal};
 use pn_json::whole_number_of;
 use pn_record::read_value;
@@ -39,6 +39,7 @@ pub enum ControlCommand {
 /// The word of a command that only control sessions have, or that they read in another way.
 #[derive(Clone, Copy)]
 pub(crate) enum ControlWord {
+    Adopt,
     Advance,
     Notices,
     Stats,
@@ -50,6 +51,7 @@ impl ControlWord {
         ensures { result ≡ word_named text.now }
     {
         match text {
+            "adopt" => Some(ControlWord::Adopt),
             "advance" => Some(ControlWord::Advance),
             "notices" => Some(ControlWord::Notices),
             "stats" => Some(ControlWord::Stats),
@@ -94,6 +96,7 @@ fn parse_control(alloc: Global, value: Value) -> Result<ControlCommand, Refusal>
 {
     let members = value.as_object().ok_or(Refusal::BadShape(Part::Whole))?;
     match control_word(find_member(members, "do")) {
+        Some(ControlWord::Adopt) => parse_adoption(members),
         Some(ControlWord::Advance) => parse_alone(members, ControlCommand::Advance),
         Some(ControlWord::Notices) => parse_waiting(members),
         Some(ControlWord::Stats) => parse_alone(members, ControlCommand::Stats),
@@ -122,6 +125,17 @@ fn parse_alone(
 {
     check_members(members, &["do"])?;
     Ok(command)
+}
+
+// An adoption, which may have more lines than one of a script.
+#[tactic(auto, unfolding(crate::specs::Command::Controls::adoption_in))]
+fn parse_adoption(members: &Map<String, Value>) -> Result<ControlCommand, Refusal>
+    ensures exact { Shows control_value result (adoption_in (members_view members.now.entries)) }
+    ensures memory { IsErrOf result Refusal.Memory → ⊥ }
+{
+    let lines = parse_number(members, "lines", Part::Lines)?;
+    check_adopted(lines)?;
+    Ok(ControlCommand::Script(Command::Adopt { lines }))
 }
 
 #[tactic(auto, unfolding(crate::specs::Command::Controls::waiting_in))]

@@ -68,6 +68,15 @@ fn kind_of(word: Result<CommandWord, Refusal>) -> LineKind
         Ok(CommandWord::Get) => LineKind::Get,
         Ok(CommandWord::Read) => LineKind::Read,
         Ok(CommandWord::Scan) => LineKind::Scan,
-        _ => LineKind::Other,
+        Ok(
+            CommandWord::Adopt
+            | CommandWord::Deliver
+            | CommandWord::Lose
+            | CommandWord::Marks
+            | CommandWord::Notices
+            | CommandWord::Relayout
+            | CommandWord::Tablets,
+        )
+        | Err(_) => LineKind::Other,
     }
 }

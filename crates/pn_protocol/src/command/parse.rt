@@ -129,7 +129,13 @@ fn check_lookup(word: CommandWord) -> Result<(), Refusal>
 {
     match word {
         CommandWord::Copy | CommandWord::Get | CommandWord::Read | CommandWord::Scan => Ok(()),
-        _ => Err(Refusal::ReadOnly),
+        CommandWord::Adopt
+        | CommandWord::Deliver
+        | CommandWord::Lose
+        | CommandWord::Marks
+        | CommandWord::Notices
+        | CommandWord::Relayout
+        | CommandWord::Tablets => Err(Refusal::ReadOnly),
     }
 }
 
@@ -139,7 +145,15 @@ fn check_control(word: CommandWord) -> Result<(), Refusal>
 {
     match word {
         CommandWord::Deliver | CommandWord::Relayout => Err(Refusal::ReadOnly),
-        _ => Ok(()),
+        CommandWord::Adopt
+        | CommandWord::Copy
+        | CommandWord::Get
+        | CommandWord::Lose
+        | CommandWord::Marks
+        | CommandWord::Notices
+        | CommandWord::Read
+        | CommandWord::Scan
+        | CommandWord::Tablets => Ok(()),
     }
 }
 

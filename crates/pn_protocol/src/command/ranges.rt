@@ -3,7 +3,7 @@
 ghost use Rattle.std.specs.Prelude.{◌≡◌, IsErrOf};
 ghost use Rattle.pn_json.specs.Prelude.{texts};
 ghost use Rattle.pn_record.specs.Prelude.{is_key};
-ghost use Rattle.pn_protocol.specs.Command.Controls.{are_seconds};
+ghost use Rattle.pn_protocol.specs.Command.Controls.{are_seconds, may_adopt};
 ghost use Rattle.pn_protocol.specs.Command.Limits.{may_announce, may_be_asked};
 ghost use Rattle.pn_protocol.specs.Command.RangeChecks.{fits, each_fits, image_fits, batch_fits, batches_fit, bounds_fit, fitting_version, key_fits, keys_fit};
 ghost use Rattle.pn_protocol.specs.declared.refusal.Part.TheVariants as part;
@@ -18,6 +18,9 @@ use pn_tablet::MAX_BOUNDS;
 
 /// The most lines that a command announces.
 const MAX_ANNOUNCED: u64 = 1_000_000;
+
+/// The most lines that a command of a control session announces.
+const MAX_ADOPTED: u64 = 1_000_000_000;
 
 /// The most batches of a command.
 const MAX_BATCHES: usize = 64;
@@ -122,6 +125,17 @@ pub(crate) fn check_lines(lines: u64) -> Result<(), Refusal>
     ensures memory { IsErrOf result Refusal.Memory → ⊥ }
 {
     if lines < 1 || lines > MAX_ANNOUNCED {
+        return Err(Refusal::OutOfRange(Part::Lines));
+    }
+    Ok(())
+}
+
+/// Checks a number of lines that a command of a control session announces.
+pub(crate) fn check_adopted(lines: u64) -> Result<(), Refusal>
+    ensures exact { result ≡ fits part.Lines (may_adopt lines) }
+    ensures memory { IsErrOf result Refusal.Memory → ⊥ }
+{
+    if lines < 1 || lines > MAX_ADOPTED {
         return Err(Refusal::OutOfRange(Part::Lines));
     }
     Ok(())

@@ -1,6 +1,7 @@
 -- By which fault a line loop ends.
-use Rattle.std.specs.Prelude.{◌≡◌, ◌≢◌, ◌⊎◌, ◌≤◌, ℕ, List, [], Option, Err, IfSome}
+use Rattle.std.specs.Prelude.{◌≡◌, ◌≢◌, ◌⊎◌, ◌≤◌, ℕ, List, [], Option, None, Some, Result, Err, IfSome}
 use Rattle.pn_line.specs.declared.line_buffer.TheConstants.{ENDLESS}
+use Rattle.pn_serve.specs.declared.script.Counts.{Counts}
 use Rattle.pn_serve.specs.declared.script.RunFault.{RunFault}
 use Rattle.pn_serve.specs.declared.script.RunFault.TheVariants.{Read, Write, TooManyTurns, Memory}
 use Rattle.pn_serve.specs.declared.script.TheConstants.{MAX_LINES}
@@ -22,6 +23,15 @@ EndsByStep fault run (Next units) = EndsByAt fault run.state.stage
 EndsByStep fault run NoInput = EndsByAt fault run.state.stage
 EndsByStep fault run NoRoom = EndsByAt fault run.state.stage
 EndsByStep fault run (Ends ended) = ended ≡ Err fault
+
+-- a run that goes on is to end by this fault, or it has ended by it
+abbrev pub EndsByRun : RunFault → LineLoopValue → Option (Result Counts RunFault) → Type 0
+EndsByRun fault run None = EndsByAt fault run.state.stage
+EndsByRun fault run (Some ended) = ended ≡ Err fault
+
+-- the line is as long as one may be, or as many lines were answered as may be
+abbrev pub IsAtLimit : LineLoopValue → Type 0
+IsAtLimit run = (run.line.count ≡ ENDLESS) ⊎ (MAX_LINES ≤ run.state.counts.lines)
 
 -- by this fault no more is read: the source failed, the line is as long as one may be, or there is more after the last line that may be answered
 abbrev pub StopsBy : RunFault → Type 0 → Option (List ℕ) → LineLoopValue → Type 0

@@ -12,13 +12,14 @@ ghost use Rattle.pn_serve.specs.declared.server.mailboxes.AtFault.{AtFault};
 use crate::control::answers::{GivenAnswer, Question, give_answer};
 use crate::control::commands::{WriterAnswer, WriterCommand};
 use crate::control::log_watch::LogWatch;
-use crate::control::stop::StopRequest;
+use crate::control::stop::{StopRequest, has_come};
+use crate::server::mailboxes::{StreamMailbox, show_marks};
 use crate::server::wakeup::Wakeup;
 use pn_live::LiveRegion;
 use std::alloc::{AllocError, Global};
 use std::mem;
 use std::sync::{Arc, Condvar, Mutex, Wait};
-use std::time::Clock;
+use std::time::{Clock, Instant};
 
 /// The most control sessions at once.
 pub const MAX_CONTROLS: usize = 16;
@@ -30,7 +31,17 @@ pub struct ControlMailboxes {
     pub(crate) wakeup: Arc<Wakeup>,
     log: LogWatch,
     stop: StopRequest,
+    // When it was made, if the clock said so.
+    began: Option<Instant>,
 }
+
+/// Shows that a stop was asked for, and that commands are still taken.
+#[derive(Drop)]
+pub struct StopAsked(());
+
+/// Shows that no command is taken any more.
+#[derive(Drop)]
+pub struct ControlsClosed(());
 
 /// Where a control session leaves its command, and where the writer leaves the answer.
 #[derive(Drop)]
@@ -55,7 +66,11 @@ enum HeldCommand {
 
 impl ControlMailboxes {
     /// Empty mailboxes of this many sessions.
-    pub fn new(alloc: Global, sessions: usize) -> Result<ControlMailboxes, AllocError> {
+    pub fn new<R: Clock>(
+        rt: &R,
+        alloc: Global,
+        sessions: usize,
+    ) -> Result<ControlMailboxes, AllocError> {
         let mut mailboxes = Vec::with_capacity(alloc, sessions)?;
         for _ in 0..sessions {
             mailboxes.push(ControlMailbox::new())?;
@@ -65,6 +80,7 @@ impl ControlMailboxes {
             wakeup: Arc::new(alloc, Wakeup::new())?,
             log: LogWatch::new(),
             stop: StopRequest::new(),
+            began: Instant::now(rt).ok(),
         })
     }
 
@@ -91,20 +107,52 @@ impl ControlMailboxes {
         self.log.wait_past(rt, number, seconds)
     }
 
-    /// Asks the server to end within `seconds`.
-    pub fn stop<R: Wait>(&self, rt: &R, seconds: u64) {
-        self.stop.ask(rt, seconds);
+    /// Asks the server to stop within `seconds` from now.
+    pub fn stop<R: Wait + Clock>(&self, rt: &R, seconds: u64) {
+        let time = self.now(rt).saturating_add(seconds.saturating_mul(1_000));
+        self.stop.ask(rt, time);
         self.log.close(rt);
         self.wakeup.notify(rt);
     }
 
-    /// Within how many seconds the server is to end, once a session has asked for that.
-    pub fn stop_asked<R: Wait>(&self, rt: &R) -> Option<u64> {
+    /// By when the server is to have stopped, in milliseconds since it began, once a session has asked for that.
+    pub(crate) fn stop_asked<R: Wait>(&self, rt: &R) -> Option<u64> {
         self.stop.asked(rt)
     }
 
-    /// Does one command of each session that asks, and notes the log.
-    pub(crate) fn obey_all<R: Wait>(&self, rt: &R, alloc: Global, live: &mut LiveRegion)
+    /// Shows that a stop was asked for, once a session has done so.
+    pub(crate) fn show_stop<R: Wait>(&self, rt: &R) -> Option<StopAsked> {
+        match self.stop.asked(rt) {
+            Some(_) => Some(StopAsked(())),
+            None => None,
+        }
+    }
+
+    /// Whether the server was to have stopped by now.
+    pub fn is_stop_over<R: Wait + Clock>(&self, rt: &R) -> bool {
+        has_come(self.stop.asked(rt), self.now(rt))
+    }
+
+    // How many milliseconds have passed since it was made. Where the clock fails no time is left.
+    fn now<R: Clock>(&self, rt: &R) -> u64 {
+        let Some(began) = self.began else {
+            return u64::MAX;
+        };
+        match began.elapsed(rt) {
+            Ok(passed) => u64::try_from(passed.as_millis()).unwrap_or(u64::MAX),
+            Err(_) => u64::MAX,
+        }
+    }
+
+    /// Does one command of each session that asks, and notes the log. The marks of these streams are shown before a session is
+    /// answered, so that a writer that comes after the reply begins after them.
+    pub(crate) fn obey_all<R: Wait>(
+        &self,
+        rt: &R,
+        alloc: Global,
+        live: &mut LiveRegion,
+        streams: &[StreamMailbox],
+    )
         ensures told { (at_fault : AtFault) (names : List (List ℕ)) (waiting : Option RoundInputValue) → ToldAll at_fault names waiting live.old live.new }
         ensures same { tablets_in live.new ≡ tablets_in live.old }
     {
@@ -112,7 +160,9 @@ impl ControlMailboxes {
             let Some(command) = mailbox.take(rt) else {
                 continue;
             };
-            mailbox.answer(rt, give_answer(rt, alloc, live, command));
+            let answer = give_answer(rt, alloc, live, command);
+            show_marks(streams, live.marks());
+            mailbox.answer(rt, answer);
             self.note_log(rt, live);
         }
     }
@@ -123,10 +173,11 @@ impl ControlMailboxes {
     }
 
     /// From now on no command is taken.
-    pub fn close<R: Wait>(&self, rt: &R) {
+    pub fn close<R: Wait>(&self, rt: &R, _asked: StopAsked) -> ControlsClosed {
         for mailbox in self.mailboxes.iter() {
             mailbox.close(rt);
         }
+        ControlsClosed(())
     }
 }
 

@@ -16,7 +16,8 @@ use std::thread;
 use std::thread::Threads;
 
 /// Reads the copies of a text by 1 to 16 workers, which share the lines of few copies. Beside the copies it takes the memory
-/// of one copy's text a worker, and of what its lines say.
+/// of one copy's text a worker, and of what its lines say. A faulty line is found by the time that 64 times
+/// the bytes up to its end were read, or a mebibyte.
 ///
 /// The first faulty line of 64 copies decides; then that there are more.
 #[derive(Drop)]
@@ -72,7 +73,7 @@ impl<S: Source + Drop> CopiesReader<S> {
             → (self.new.copies ≡ self.old.copies) × (S.left self.new.source ≡ Some []) }
         ensures fault { IfErr result (λ fault. (text : List ℕ) → HasRead S.left text self.old → StopsReading S.may_fail text fault) }
     {
-        let some = self.texts.next_texts(self.workers)?;
+        let some = self.texts.next_texts(rt, self.workers)?;
         if some.is_empty() {
             return Ok(false);
         }

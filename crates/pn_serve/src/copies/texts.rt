@@ -1,15 +1,18 @@
 //! The texts of copies, cut out of a text in which they stand one after another.
 
-ghost use Rattle.std.specs.Prelude.{◌≡◌, ◌+◌, ◌<◌, ◌≤◌, ℕ, List, [], ◌++◌, vec_len, false, true, Ok, Some, IfOk, IfErr, MatchOption};
+ghost use Rattle.std.specs.Prelude.{◌≡◌, ◌+◌, ◌<◌, ◌≤◌, ℕ, List, [], ◌++◌, vec_len, false, true, Ok, Some, IfOk, IfErr};
 ghost use Rattle.pn_line.specs.LineEnd.{ReadsTo};
 ghost use Rattle.pn_line.specs.Prelude.{so_far};
-ghost use Rattle.pn_serve.specs.Copies.Cutting.{AreCuts, IsCut, begins_end, line_number};
+ghost use Rattle.pn_serve.specs.Copies.Cutting.{begins_end, line_number};
+ghost use Rattle.pn_serve.specs.Copies.Faulty.{AreCutsToFault, CutsNext, IsCutSoon};
 ghost use Rattle.pn_serve.specs.Copies.Lines.{Adds, IsNoTextFault};
 
 use crate::CopiesFault;
+use crate::copies::fronts::FrontReader;
 use pn_line::{BoundedEnd, LineBuffer, Source, read_bounded_line};
 use std::alloc::{AllocError, Global};
 use std::marker::Model;
+use std::thread::Threads;
 
 /// What the last line of a copy begins with.
 const END_WORD: &[u8] = b"{\"end\":";
@@ -32,6 +35,16 @@ impl Model for CopyCut {
     ghost Value = { CopyCutValue };
 
     ghost view = { λ cut. record { text = cut.text.items; first = cut.first; lines = cut.lines; is_too_long = cut.is_too_long } };
+}
+
+/// The next text of a copy.
+#[derive(Drop)]
+pub(crate) enum NextText {
+    Whole(CopyCut),
+    /// Its first lines, of which one is at fault.
+    Faulty(CopyCut),
+    /// None is left.
+    Nothing,
 }
 
 /// What is left of a text of copies.
@@ -66,40 +79,55 @@ impl<S: Source + Drop> CopyTexts<S> {
         })
     }
 
-    /// The texts of the next copies, at most this number. Fewer come only at the end.
-    pub(crate) fn next_texts(&mut self, most: usize) -> Result<Vec<CopyCut>, CopiesFault>
+    /// The texts of the next copies, at most this number. Fewer come only at the end, or where the last one is at fault: then
+    /// no more is to be read.
+    pub(crate) fn next_texts<R: Threads>(
+        &mut self,
+        rt: &R,
+        most: usize,
+    ) -> Result<Vec<CopyCut>, CopiesFault>
         ensures cuts { IfOk result (λ texts. (bytes : List ℕ) → S.left self.old.source ≡ Some bytes
             → (rest : List ℕ) × (S.left self.new.source ≡ Some rest)
-            × AreCuts (record { next = self.old.next; bytes = bytes }) texts.items (record { next = self.new.next; bytes = rest })) }
+            × AreCutsToFault (record { next = self.old.next; bytes = bytes }) texts.items (record { next = self.new.next; bytes = rest })) }
         ensures none { IfOk result (λ texts. (bytes : List ℕ) → S.left self.old.source ≡ Some bytes → texts.items ≡ [] → 1 ≤ most → bytes ≡ []) }
         ensures fault { IfErr result (IsNoTextFault S.may_fail) }
     {
         let mut texts = Vec::with_capacity(self.alloc, most)?;
         for _ in 0..most {
-            match self.next_text()? {
-                Some(text) => texts.push(text)?,
-                None => return Ok(texts),
+            match self.next_text(rt, most)? {
+                NextText::Whole(text) => texts.push(text)?,
+                NextText::Faulty(text) => {
+                    texts.push(text)?;
+                    return Ok(texts);
+                }
+                NextText::Nothing => return Ok(texts),
             }
         }
         Ok(texts)
     }
 
-    // The text of the next copy: up to and with the first line that begins as an end does. At the end it is what is left.
-    fn next_text(&mut self) -> Result<Option<CopyCut>, CopiesFault>
+    // The text of the next copy: up to and with the first line that begins as an end does. At the end it is what is left. It is
+    // cut before where these workers find a line at fault.
+    fn next_text<R: Threads>(&mut self, rt: &R, workers: usize) -> Result<NextText, CopiesFault>
         ensures cut { IfOk result (λ found. (bytes : List ℕ) → S.left self.old.source ≡ Some bytes
             → (rest : List ℕ) × (S.left self.new.source ≡ Some rest)
-            × MatchOption found ((bytes ≡ []) × (rest ≡ []) × (self.new.next ≡ self.old.next))
-            (λ text. IsCut (record { next = self.old.next; bytes = bytes }) text (record { next = self.new.next; bytes = rest }))) }
+            × CutsNext (record { next = self.old.next; bytes = bytes }) found (record { next = self.new.next; bytes = rest })) }
+        ensures soon { IfOk result (λ found. (bytes : List ℕ) → S.left self.old.source ≡ Some bytes → IsCutSoon found) }
         ensures fault { IfErr result (IsNoTextFault S.may_fail) }
     {
         let mut text = Vec::new(self.alloc);
+        let mut front = FrontReader::new();
         for lines in 0..u64::MAX {
             match self.add_line(&mut text)? {
-                AddedLine::Line => {}
-                AddedLine::End => return Ok(Some(self.cut_out(text, lines + 1, false))),
-                AddedLine::Last if text.is_empty() => return Ok(None),
-                AddedLine::Last => return Ok(Some(self.cut_out(text, lines, false))),
-                AddedLine::TooLong => return Ok(Some(self.cut_out(text, lines, true))),
+                AddedLine::Line => {
+                    if front.finds_fault(rt, self.alloc, &text, workers)? {
+                        return Ok(NextText::Faulty(self.cut_out(text, lines + 1, false)));
+                    }
+                }
+                AddedLine::End => return Ok(NextText::Whole(self.cut_out(text, lines + 1, false))),
+                AddedLine::Last if text.is_empty() => return Ok(NextText::Nothing),
+                AddedLine::Last => return Ok(NextText::Whole(self.cut_out(text, lines, false))),
+                AddedLine::TooLong => return Ok(NextText::Whole(self.cut_out(text, lines, true))),
             }
         }
         unreachable!()

@@ -6,7 +6,7 @@ ghost use Rattle.std.specs.Io.KnownBytes.{IsAtEnd};
 ghost use Rattle.pn_line.specs.Prelude.{so_far};
 ghost use Rattle.pn_line.specs.declared.line_buffer.TheConstants.{ENDLESS};
 ghost use Rattle.pn_serve.specs.Lines.Bounds.{CountsStages, CountsUnits, Foresees, ForeseesStep, HandsOnAtMost, HandsOnStep, IsWaitingAt, IsOutAs, IsSettled, LooksAtMost, ReadsOn, WorksOn, records_by, records_in};
-ghost use Rattle.pn_serve.specs.Lines.Faults.{EndsByAt, EndsByStep};
+ghost use Rattle.pn_serve.specs.Lines.Faults.{EndsByAt, EndsByStep, IsAtLimit};
 ghost use Rattle.pn_serve.specs.Lines.Made.{MakesAtMost, made_by, made_in};
 ghost use Rattle.pn_serve.specs.Lines.States.{Start, new_loop, waits_in};
 ghost use Rattle.pn_serve.specs.Lines.Stepping.{by, with_rest, Stands, StepsTo};
@@ -75,6 +75,16 @@ impl LineLoop {
         })
     }
 
+    /// From now on it is as a loop that has answered no line. What was read of a line and what waits are dropped.
+    pub fn begin_anew(&mut self)
+        ensures { self.new ≡ new_loop }
+    {
+        self.line.start();
+        self.replies.clear();
+        self.state = LineState::new();
+        self.is_scarce = false;
+    }
+
     /// One step, of at most about `units` units: takes a piece of the input, answers a line, goes on with a look, makes a block of
     /// a reply's text, or writes.
     pub fn step<M: LineHandler, S: Source, W: Sink>(
@@ -109,6 +119,7 @@ impl LineLoop {
         ensures read_fault { EndsByStep RunFault.Read self.new result → EndsByAt RunFault.Read self.old.state.stage ⊎ S.may_fail }
         ensures write_fault { EndsByStep RunFault.Write self.new result → EndsByAt RunFault.Write self.old.state.stage ⊎ W.has_failed output.new }
         ensures write_stage { (units : ℕ) → result ≡ Step.Next units → EndsByAt RunFault.Write self.new.state.stage → EndsByAt RunFault.Write self.old.state.stage }
+        ensures limit_fault { EndsByStep RunFault.TooManyTurns self.new result → EndsByAt RunFault.TooManyTurns self.old.state.stage ⊎ ((self.old.state.stage ≡ Stage.Reading) × IsAtLimit self.old) }
         ensures knows { KnowsNoLess (M.reader machine.old) (M.reader machine.new) }
     {
         if self.state.has_text() {

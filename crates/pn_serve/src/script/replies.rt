@@ -60,6 +60,15 @@ impl ReplyBuffer {
         })
     }
 
+    /// From now on nothing waits. What waited is dropped.
+    pub(crate) fn clear(&mut self)
+        ensures { self.new ≡ [] }
+    {
+        self.bytes.clear();
+        self.start = 0;
+        self.offset = 0;
+    }
+
     /// How many bytes wait.
     pub fn len(&self) -> usize
         ensures count { result ≡ length self.now }

@@ -14,14 +14,14 @@ ghost use Rattle.pn_serve.specs.declared.server.mailboxes.AtFault.{AtFault};
 ghost use Rattle.pn_serve.specs.declared.server.mailboxes.AtFault.TheVariants.{GoOn};
 
 use crate::ServeFault;
-use crate::control::mailboxes::ControlMailboxes;
-use crate::server::mailboxes::StreamMailboxes;
+use crate::control::mailboxes::{ControlMailboxes, StopAsked};
+use crate::server::mailboxes::{StreamMailbox, StreamMailboxes};
 use crate::server::rounds::{RoundInput, take_round};
 use pn_live::LiveRegion;
 use std::alloc::Global;
 use std::sync::{Arc, Wait};
 use std::thread::Threads;
-use std::time::Clock;
+use std::time::{Clock, Duration};
 
 /// Runs rounds, and does commands between them where there are mailboxes for some, until all streams have ended, or a stop
 /// is asked for, or to the first fault. Where memory ran out and that is waited for, a round is tried again after a second.
@@ -48,7 +48,7 @@ pub(crate) fn run_rounds<R: Threads + Wait + Clock + Sync>(
             return Ok(());
         }
         await_work(rt, mailboxes, is_short);
-        obey_all(rt, alloc, live, controls);
+        obey_all(rt, alloc, live, controls, &mailboxes.streams);
         if waiting.is_none() && !mailboxes.has_report(rt) {
             continue;
         }
@@ -87,12 +87,13 @@ fn is_stop_asked<R: Wait>(rt: &R, controls: &Option<Arc<ControlMailboxes>>) -> b
     }
 }
 
-// Does the commands that control sessions have left.
+// Does the commands that control sessions have left, and shows these streams' mailboxes how far each takes the marks.
 fn obey_all<R: Wait>(
     rt: &R,
     alloc: Global,
     live: &mut LiveRegion,
     controls: &Option<Arc<ControlMailboxes>>,
+    streams: &[StreamMailbox],
 )
     ensures alone { controls.now ≡ None → live.new ≡ live.old }
     ensures rise { Reaches live.new.marks live.old.marks }
@@ -101,7 +102,7 @@ fn obey_all<R: Wait>(
 {
     recall_region(live);
     match controls {
-        Some(controls) => controls.obey_all(rt, alloc, live),
+        Some(controls) => controls.obey_all(rt, alloc, live, streams),
         None => {}
     }
 }
@@ -120,23 +121,39 @@ fn note_log<R: Wait>(rt: &R, live: &LiveRegion, controls: &Option<Arc<ControlMai
     }
 }
 
-/// Does what control sessions ask for, until one asks the server to stop. Answers within how many seconds it is to end.
+/// Does what control sessions ask for, until one asks the server to stop.
 pub fn take_commands<R: Wait>(
     rt: &R,
     alloc: Global,
     live: &mut LiveRegion,
     controls: &ControlMailboxes,
-) -> u64
+) -> StopAsked
     ensures runs { RunsCommands GoOn live.old live.new }
     ensures same { tablets_in live.new ≡ tablets_in live.old }
 {
     controls.note_log(rt, live);
     for _ in rt.forever() {
-        controls.obey_all(rt, alloc, live);
-        if let Some(seconds) = controls.stop_asked(rt) {
-            return seconds;
+        controls.obey_all(rt, alloc, live, &[]);
+        if let Some(asked) = controls.show_stop(rt) {
+            return asked;
         }
         controls.wakeup.wait(rt);
     }
     unreachable!()
+}
+
+/// Waits for what control sessions ask for, for `most` at most, and does it, after a stop was asked for.
+pub fn take_commands_for<R: Wait + Clock>(
+    rt: &R,
+    alloc: Global,
+    live: &mut LiveRegion,
+    controls: &ControlMailboxes,
+    _asked: &StopAsked,
+    most: Duration,
+)
+    ensures runs { RunsCommands GoOn live.old live.new }
+    ensures same { tablets_in live.new ≡ tablets_in live.old }
+{
+    controls.wakeup.wait_at_most(rt, most);
+    controls.obey_all(rt, alloc, live, &[]);
 }

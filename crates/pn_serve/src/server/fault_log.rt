@@ -1,6 +1,6 @@
 //! The faults of streams that have one writer each.
 
-use crate::server::writers::{Origin, WriterEnd};
+use crate::server::writers::{NextWriter, Origin, WriterEnd};
 use pn_join::StreamName;
 use pn_line::Source;
 use std::alloc::{AllocError, Global};
@@ -52,7 +52,9 @@ pub(crate) struct OneWriter<R: Wait + Copy> {
 impl<R: Wait + Copy, S: Source + Drop> Origin<S> for OneWriter<R> {
     ghost may_go_on = { ⊥ };
 
-    fn next_writer(&mut self, _last: u64) -> Option<S> {
+    ghost begins_after = { λ _ _. ⊥ };
+
+    fn next_writer(&mut self, _last: u64) -> Option<NextWriter<S>> {
         None
     }
 

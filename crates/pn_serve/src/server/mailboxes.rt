@@ -150,9 +150,7 @@ impl StreamMailboxes {
 
     /// Shows how far the streams were taken.
     pub(crate) fn show(&self, marks: &Marks) {
-        for stream in self.streams.iter() {
-            stream.show(marks);
-        }
+        show_marks(&self.streams, marks);
     }
 
     /// Closes the mailboxes. Each thread ends after its current wait for messages.
@@ -160,6 +158,13 @@ impl StreamMailboxes {
         for stream in self.streams.iter() {
             stream.mailbox.close(rt);
         }
+    }
+}
+
+/// Shows how far these streams were taken.
+pub(crate) fn show_marks(streams: &[StreamMailbox], marks: &Marks) {
+    for stream in streams.iter() {
+        stream.show(marks);
     }
 }
 

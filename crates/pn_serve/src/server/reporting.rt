@@ -127,8 +127,8 @@ fn end_of<S: Source + Drop>(
     }
 }
 
-// What comes after a writer's input: that of the next one, which begins from what was handed on, with no part of the last one's
-// line. None where the stream has ended.
+// What comes after a writer's input: that of the next one, which begins after what was handed on or later, with no part of the
+// last one's line. None where the stream has ended.
 fn what_comes_next<S: Source + Drop, O: Origin<S>>(
     alloc: Global,
     input: WriterInput<S>,
@@ -136,9 +136,10 @@ fn what_comes_next<S: Source + Drop, O: Origin<S>>(
     origin: &mut O,
 ) -> Option<WriterInput<S>>
     ensures goes_on { IsSome result → O.may_go_on }
-    ensures anew { IfSome result (λ next. IsReaderFrom input.reader.name (min input.last LAST_POSITION) next.reader) }
+    ensures anew { IfSome result (λ next. IsReaderFrom input.reader.name (min next.last LAST_POSITION) next.reader) }
+    ensures begins { IfSome result (λ next. O.begins_after next.reader.source next.last) }
     ensures before { IfSome result (λ next. next.before ≡ None) }
-    ensures last { IfSome result (λ next. next.last ≡ min input.last LAST_POSITION) }
+    ensures last { IfSome result (λ next. input.last ≤ next.last) }
 {
     let WriterInput {
         reader,
@@ -151,7 +152,8 @@ fn what_comes_next<S: Source + Drop, O: Origin<S>>(
     next_input(alloc, name, last, workers, origin)
 }
 
-/// The input of the next writer of a stream, all of which was handed on up to `last`. None where the stream has ended.
+/// The input of the next writer of a stream, all of which was handed on up to `last`. It begins after the position that the
+/// origin says. None where the stream has ended.
 pub(crate) fn next_input<S: Source + Drop, O: Origin<S>>(
     alloc: Global,
     name: StreamName,
@@ -160,12 +162,13 @@ pub(crate) fn next_input<S: Source + Drop, O: Origin<S>>(
     origin: &mut O,
 ) -> Option<WriterInput<S>>
     ensures goes_on { IsSome result → O.may_go_on }
-    ensures anew { IfSome result (λ next. IsReaderFrom name (min last LAST_POSITION) next.reader) }
+    ensures anew { IfSome result (λ next. IsReaderFrom name (min next.last LAST_POSITION) next.reader) }
+    ensures begins { IfSome result (λ next. O.begins_after next.reader.source next.last) }
     ensures before { IfSome result (λ next. next.before ≡ None) }
-    ensures last { IfSome result (λ next. next.last ≡ min last LAST_POSITION) }
+    ensures last { IfSome result (λ next. last ≤ next.last) }
 {
     match origin.next_writer(last) {
-        Some(source) => Some(WriterInput::begin(alloc, name, last, source, workers)),
+        Some(next) => Some(WriterInput::begin(alloc, name, next, workers)),
         None => None,
     }
 }

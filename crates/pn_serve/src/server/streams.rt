@@ -149,7 +149,7 @@ where
     Ok(())
 }
 
-// Reports a stream from its first writer on, of which all up to this position was taken before.
+// Reports a stream from its first writer on. All up to this position was taken before.
 fn report_writers<R: Threads + Wait + Clock, S: Source + Drop, O: Origin<S> + Drop>(
     rt: &R,
     alloc: Global,

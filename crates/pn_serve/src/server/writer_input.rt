@@ -5,15 +5,15 @@ ghost use Rattle.pn_join.specs.declared.marks.TheConstants.{LAST_POSITION};
 ghost use Rattle.pn_serve.specs.Server.Writers.{Gives, IsReaderFrom, line_after};
 
 use crate::server::messages::{MAX_MESSAGES, RoundMessages};
-use crate::server::writers::WriterEnd;
+use crate::server::writers::{NextWriter, WriterEnd};
 use pn_join::{LAST_POSITION, StreamName};
 use pn_line::Source;
 use pn_stream::{ReaderMemory, ResumeFault, StreamReader};
 use std::alloc::Global;
 use std::thread::Threads;
 
-/// A writer's input, the position before its first message once that is known, the last position of the stream that was
-/// handed on, and how many threads read its lines where there are many.
+/// A writer's input, the position before its first message once that is known, the last position of the stream that the region
+/// had when the writer began or that was handed on, and how many threads read its lines where there are many.
 #[derive(Drop)]
 pub(crate) struct WriterInput<S: Source + Drop> {
     pub(crate) reader: StreamReader<S>,
@@ -51,24 +51,24 @@ impl<S: Source + Drop> WriterInput<S> {
         }
     }
 
-    /// The input of a writer of the stream, of which all messages up to `last` were handed on. Its first message may have
-    /// any position up to one past that.
+    /// The input of a writer of the stream, which begins after its position: its first message may have any position up to one
+    /// past that.
     pub(crate) fn begin(
         alloc: Global,
         name: StreamName,
-        last: u64,
-        source: S,
+        next: NextWriter<S>,
         workers: usize,
     ) -> WriterInput<S>
-        ensures reader { IsReaderFrom name (min last LAST_POSITION) result.reader }
+        ensures reader { IsReaderFrom name (min next.after LAST_POSITION) result.reader }
+        ensures source { result.reader.source ≡ next.source }
         ensures before { result.before ≡ None }
-        ensures last { result.last ≡ min last LAST_POSITION }
+        ensures last { result.last ≡ next.after }
     {
-        let last = last.min(LAST_POSITION);
+        let NextWriter { source, after } = next;
         WriterInput {
-            reader: StreamReader::new(alloc, name, last, source),
+            reader: StreamReader::new(alloc, name, after.min(LAST_POSITION), source),
             before: None,
-            last,
+            last: after,
             workers,
         }
     }

@@ -20,17 +20,30 @@ pub enum WriterEnd {
     },
 }
 
+/// A writer of a stream: what it is read from, and the position after which it begins. The region has all messages up to there,
+/// or they were handed to rounds.
+#[derive(Drop)]
+pub struct NextWriter<S: Drop> {
+    pub source: S,
+    pub after: u64,
+}
+
 /// Where the writers of a stream come from.
 pub trait Origin<S: Source + Drop> {
-    ghost use Rattle.std.specs.Prelude.{IsSome};
+    ghost use Rattle.std.specs.Prelude.{ℕ, ◌≤◌, IfSome, IsSome};
 
     // False for a stream that has no further writer.
     ghost may_go_on: { Type 0 };
 
+    // The writer that is read from this begins after this position.
+    ghost begins_after: { S → ℕ → Type 0 };
+
     /// Waits for the next writer of the stream, of which all messages up to `last` were handed to rounds. None where
     /// the stream has ended. It is called for the first writer, too.
-    fn next_writer(&mut self, last: u64) -> Option<S>
-        ensures { IsSome result → may_go_on };
+    fn next_writer(&mut self, last: u64) -> Option<NextWriter<S>>
+        ensures goes_on { IsSome result → may_go_on }
+        ensures begins { IfSome result (λ next. begins_after next.source next.after) }
+        ensures later { IfSome result (λ next. last ≤ next.after) };
 
     /// Notes that all messages up to `last` were handed to rounds.
     fn hand_on(&mut self, last: u64);

@@ -61,7 +61,14 @@ fn begin(alloc: Global, reader: &mut LiveReader, command: Command) -> Answer
         Command::Copy { need, tablet } => begin_copy(alloc, reader, &need, tablet),
         Command::Get(keys) => Answer::Going(Going::keys(alloc, keys)),
         Command::Scan(query) => Answer::Going(Going::page(alloc, reader, query)),
-        command => Answer::Done(look_up(alloc, reader, command)),
+        Command::Adopt { .. }
+        | Command::Deliver(_)
+        | Command::Lose { .. }
+        | Command::Marks
+        | Command::Notices { .. }
+        | Command::Read { .. }
+        | Command::Relayout(_)
+        | Command::Tablets => Answer::Done(look_up(alloc, reader, command)),
     }
 }
 
@@ -89,7 +96,13 @@ pub(crate) fn look_up(alloc: Global, reader: &mut LiveReader, command: Command) 
         Command::Get(keys) => get(alloc, reader, keys),
         Command::Read { key, version } => read(alloc, reader, key, version),
         Command::Scan(query) => scan(alloc, reader, &query),
-        _ => Reply::Refused(Refusal::ReadOnly),
+        Command::Adopt { .. }
+        | Command::Deliver(_)
+        | Command::Lose { .. }
+        | Command::Marks
+        | Command::Notices { .. }
+        | Command::Relayout(_)
+        | Command::Tablets => Reply::Refused(Refusal::ReadOnly),
     }
 }
 

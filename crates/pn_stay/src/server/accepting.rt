@@ -6,8 +6,6 @@ use crate::counters::Counters;
 use crate::listener::Listener;
 use crate::messages::Messages;
 use crate::socket_mailbox::SocketMailbox;
-use libc::types::rlimit;
-use libc::{EMFILE, RLIMIT_NOFILE, getrlimit};
 use std::alloc::Global;
 use std::sync::{Arc, Wait};
 use std::thread::Threads;
@@ -44,7 +42,6 @@ pub(super) fn begin_accepting(
         messages,
         ..
     } = acceptor;
-    check_descriptors(connections)?;
     let limit = Arc::new(alloc, ConnectionLimit::new(connections))?;
     Ok(Accepting {
         shared: Shared {
@@ -125,19 +122,6 @@ where
         let told = Arc::try_clone(mailboxes)?;
         let host = *rt;
         thread::spawn(rt, move || tell_quarters(&host, &told))?;
-    }
-    Ok(())
-}
-
-// As many connections may not be open as descriptors are refused.
-fn check_descriptors(connections: usize) -> io::Result<()> {
-    let mut limit = rlimit {
-        rlim_cur: 0,
-        rlim_max: 0,
-    };
-    let asked = getrlimit(RLIMIT_NOFILE, &mut limit);
-    if asked == 0 && limit.rlim_cur < connections as u64 {
-        return Err(io::Error::from_raw_os_error(EMFILE));
     }
     Ok(())
 }

@@ -1,10 +1,10 @@
 //! The client of a control thread, which a stop looks for to end its input.
 
-ghost use Rattle.std.specs.Prelude.{◌≡◌, Some, false, true, IsOk};
+ghost use Rattle.std.specs.Prelude.{◌≡◌, Some, None, true};
 
-use crate::socket::Socket;
-use std::io;
-use std::sync::{Arc, Mutex, Wait};
+use crate::socket::{end_both_of, end_input_of};
+use std::os::fd::RawFd;
+use std::sync::{Mutex, Wait};
 
 /// The client whom a control thread answers, and whether the thread has ended.
 #[derive(Drop)]
@@ -12,9 +12,12 @@ pub(super) struct ControlClient(Mutex<ClientState>);
 
 #[derive(Drop)]
 struct ClientState {
-    socket: Option<Arc<Socket>>,
+    // The number of its socket, which is open while it stands here.
+    socket: Option<RawFd>,
     // Whether the thread is to end once the lines that have come are answered.
     is_stopping: bool,
+    // Whether no client is answered any more.
+    is_cut: bool,
     has_ended: bool,
 }
 
@@ -24,23 +27,29 @@ impl ControlClient {
         ControlClient(Mutex::new(ClientState {
             socket: None,
             is_stopping: false,
+            is_cut: false,
             has_ended: false,
         }))
     }
 
-    /// A client has come. Where the thread is to end there is an error, and the client is not answered.
-    pub(super) fn begin<R: Wait>(&self, rt: &R, socket: Arc<Socket>) -> io::Result<()> {
-        self.0.lock(rt).begin(socket)
+    /// A client has come. Where the thread is to end, the lines that have come of it are answered, and no more.
+    pub(super) fn begin<R: Wait>(&self, rt: &R, socket: RawFd) {
+        self.0.lock(rt).begin(socket);
     }
 
-    /// The client was answered to its end.
+    /// The client was answered to its end. Its socket is closed only after that.
     pub(super) fn end<R: Wait>(&self, rt: &R) {
-        self.0.lock(rt).socket = None;
+        self.0.lock(rt).end();
     }
 
     /// The thread is to end once the lines that have come are answered.
     pub(super) fn stop<R: Wait>(&self, rt: &R) {
         self.0.lock(rt).stop();
+    }
+
+    /// From now on nothing is written to the client, nor to a later one.
+    pub(super) fn cut<R: Wait>(&self, rt: &R) {
+        self.0.lock(rt).cut();
     }
 
     /// Whether the thread is to end.
@@ -60,25 +69,41 @@ impl ControlClient {
 }
 
 impl ClientState {
-    fn begin(&mut self, socket: Arc<Socket>) -> io::Result<()>
-        ensures goes_on { self.old.is_stopping ≡ false → self.new.socket ≡ Some socket }
-        ensures stops { IsOk result → self.old.is_stopping ≡ false }
-        ensures begins { self.old.is_stopping ≡ false → IsOk result }
+    fn begin(&mut self, socket: RawFd)
+        ensures socket { self.new.socket ≡ Some socket }
         ensures same { self.new.is_stopping ≡ self.old.is_stopping }
     {
-        if self.is_stopping {
-            return Err(io::Error::from(io::ErrorKind::NotConnected));
-        }
         self.socket = Some(socket);
-        Ok(())
+        if self.is_stopping {
+            end_input_of(socket);
+        }
+        if self.is_cut {
+            end_both_of(socket);
+        }
+    }
+
+    fn end(&mut self)
+        ensures socket { self.new.socket ≡ None }
+        ensures same { self.new.is_stopping ≡ self.old.is_stopping }
+    {
+        self.socket = None;
     }
 
     fn stop(&mut self)
         ensures { self.new.is_stopping ≡ true }
     {
         self.is_stopping = true;
-        if let Some(socket) = &self.socket {
-            socket.end_input();
+        if let Some(socket) = self.socket {
+            end_input_of(socket);
+        }
+    }
+
+    fn cut(&mut self)
+        ensures { self.new.is_cut ≡ true }
+    {
+        self.is_cut = true;
+        if let Some(socket) = self.socket {
+            end_both_of(socket);
         }
     }
 }

@@ -3,19 +3,16 @@
 use crate::counters::Counters;
 use crate::current_stats::CurrentStats;
 use crate::listener::Listener;
+use crate::server::control_buffers::{ControlBuffers, HeldInput};
 use crate::server::control_client::ControlClient;
 use crate::socket::{Socket, TrackedSocket};
 use pn_live::LiveReader;
 use pn_serve::{ControlMailboxes, ControlSession, MAX_CONTROLS};
 use std::alloc::Global;
-use std::io::BufReader;
 use std::sync::{Arc, Wait};
 use std::thread::Threads;
 use std::time::{Clock, Duration, Instant};
 use std::{io, thread};
-
-/// How many bytes of a control session are read at a time.
-const CONTROL_READ_SIZE: usize = 65_536;
 
 /// For how many seconds a control client may write nothing, or take nothing, before its session ends.
 const PATIENCE: u64 = 300;
@@ -51,7 +48,7 @@ where
             clients: Vec::new(alloc),
         });
     };
-    let mailboxes = ControlMailboxes::new(alloc, MAX_CONTROLS)?;
+    let mailboxes = ControlMailboxes::new(rt, alloc, MAX_CONTROLS)?;
     let mailboxes = Arc::new(alloc, mailboxes)?;
     let counters = Arc::try_clone(counters)?;
     let setting = ControlSetting {
@@ -154,50 +151,65 @@ struct ControlThread {
     client: Arc<ControlClient>,
 }
 
-// Answers one client after another until the server is to stop.
+// Answers one client after another, until the server is to stop and nobody is accepted any more.
 fn answer_clients<R>(rt: &R, thread: &ControlThread, reader: LiveReader)
 where
     R: Threads + Wait + Clock + Drop,
 {
-    let mut reader = reader;
+    let Some(buffers) = make_buffers(rt, thread) else {
+        thread.client.note_end(rt);
+        return;
+    };
+    let mut parts = (buffers, reader);
     for _ in rt.forever() {
-        let accepted = thread.setting.listener.accept();
-        if thread.client.is_stopping(rt) {
-            thread.client.note_end(rt);
-            return;
-        }
-        match begin(rt, thread, accepted) {
+        match accept(&thread.setting.listener) {
             Ok(socket) => {
-                reader = answer(rt, thread, reader, &socket);
+                thread.client.begin(rt, socket.number());
+                parts = answer(rt, thread, parts, &socket);
                 thread.client.end(rt);
+            }
+            Err(_) if thread.client.is_stopping(rt) => {
+                thread.client.note_end(rt);
+                return;
             }
             Err(_) => thread::sleep(rt, Duration::from_millis(RETRY)),
         }
     }
 }
 
-// The socket of a client that is to be answered. No read and no write of it waits longer than `PATIENCE`.
-fn begin<R: Wait>(
-    rt: &R,
-    thread: &ControlThread,
-    accepted: io::Result<Socket>,
-) -> io::Result<Arc<Socket>> {
-    let socket = accepted?;
+// Makes the buffers of a thread, once there is memory for them. None where it is to end before.
+fn make_buffers<R: Wait + Clock>(rt: &R, thread: &ControlThread) -> Option<ControlBuffers> {
+    for _ in rt.forever() {
+        match ControlBuffers::new(thread.setting.alloc) {
+            Ok(buffers) => return Some(buffers),
+            Err(_) if thread.client.is_stopping(rt) => return None,
+            Err(_) => thread::sleep(rt, Duration::from_millis(RETRY)),
+        }
+    }
+    unreachable!()
+}
+
+// Waits for a client. No read and no write of its socket waits longer than `PATIENCE`.
+fn accept(listener: &Listener) -> io::Result<Socket> {
+    let socket = listener.accept()?;
     socket.set_timeout(Duration::from_secs(PATIENCE))?;
-    let socket = Arc::new(thread.setting.alloc, socket)?;
-    thread.client.begin(rt, Arc::try_clone(&socket)?)?;
     Ok(socket)
 }
 
-// Answers a client to its end. Out of memory it is not answered.
-fn answer<R>(rt: &R, thread: &ControlThread, reader: LiveReader, socket: &Socket) -> LiveReader
+// Answers a client to its end. It allocates nothing of its own, so that it answers also where memory is short.
+fn answer<R>(
+    rt: &R,
+    thread: &ControlThread,
+    parts: (ControlBuffers, LiveReader),
+    socket: &Socket,
+) -> (ControlBuffers, LiveReader)
 where
     R: Threads + Wait + Clock + Drop,
 {
+    let (buffers, reader) = parts;
     let setting = &thread.setting;
-    let alloc = setting.alloc;
     let Ok(mailboxes) = Arc::try_clone(&setting.mailboxes) else {
-        return reader;
+        return (buffers, reader);
     };
     let session = ControlSession {
         mailboxes,
@@ -210,11 +222,11 @@ where
         },
         workers: setting.workers,
     };
-    let input = TrackedSocket::new(socket);
-    let Ok(mut input) = BufReader::with_capacity(alloc, CONTROL_READ_SIZE, input) else {
-        return reader;
-    };
+    let ControlBuffers { lines, input } = buffers;
+    let mut lines = lines;
+    let mut input = HeldInput::new(input, TrackedSocket::new(socket));
     let mut output = TrackedSocket::new(socket);
-    let (reader, _) = session.answer(rt, alloc, reader, &mut input, &mut output);
-    reader
+    let (reader, _) = session.answer(rt, &mut lines, reader, &mut input, &mut output);
+    let input = input.into_buffer();
+    (ControlBuffers { lines, input }, reader)
 }

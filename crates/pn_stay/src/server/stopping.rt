@@ -1,21 +1,34 @@
 //! How a server that stays is stopped.
 
+ghost use Rattle.std.specs.Prelude.{◌≡◌};
+ghost use Rattle.pn_live.specs.Prelude.{tablets_in};
+
 use crate::counters::{Counters, StreamCounters};
 use crate::listener::Listener;
 use crate::server::control_client::ControlClient;
-use crate::socket_mailbox::{SocketMailbox, have_ended};
+use crate::socket_mailbox::{SocketMailbox, are_silent, have_ended};
+use pn_live::LiveRegion;
+use pn_serve::{ControlMailboxes, ControlsClosed, StopAsked, take_commands_for};
+use std::alloc::Global;
 use std::sync::{Arc, Wait};
 use std::thread;
 use std::time::{Clock, Duration, Instant};
 
-/// How many milliseconds a wait for the threads takes.
+/// How many milliseconds the writer waits for a command before it looks at the threads again.
 const STEP: u64 = 10;
 
-/// How many waits for the threads a second has.
-const STEPS: u64 = 100;
+/// For how many milliseconds at most a stop goes on until each writer of a stream was sent the position that was taken.
+const TELLING: u64 = 200;
 
-/// For how many waits at most a stop goes on until each writer of a stream was sent the position that was taken.
-const TELLING_STEPS: u64 = 20;
+/// For how many milliseconds control sessions may end also where no time is left.
+const CLOSING: u64 = 1_000;
+
+/// For how many milliseconds at most a thread that answers is waited for, once it is to answer nothing more. It is silent after the
+/// turn that it gives.
+const CUTTING: u64 = 10_000;
+
+/// How many milliseconds a wait for such threads takes.
+const CUT_STEP: u64 = 1;
 
 /// What a stop needs of a server: its listening sockets, the mailboxes and clients of its threads, and its counters.
 #[derive(Drop)]
@@ -28,35 +41,66 @@ pub(super) struct Stopping {
 }
 
 impl Stopping {
-    /// Accepts nobody from now on. Waits until the lines that have come are answered and each writer was sent the position
-    /// that was taken, but no longer than `seconds`.
-    pub(super) fn run<R: Wait + Clock>(&self, rt: &R, seconds: u64) {
-        let began = Instant::now(rt).ok();
-        self.tell_all(rt);
-        for step in 0..seconds.saturating_mul(STEPS) {
-            let is_told = step >= TELLING_STEPS || self.are_told(rt);
-            if is_told && self.have_ended(rt) || is_over(rt, &began, seconds) {
-                return;
-            }
-            thread::sleep(rt, Duration::from_millis(STEP));
-        }
+    /// Accepts no connection from now on. Waits until the lines that have come are answered and each writer was sent the position
+    /// that was taken, or the time is over, and ends control sessions then. What they ask for is done meanwhile.
+    pub(super) fn run<R: Wait + Clock>(
+        &self,
+        rt: &R,
+        alloc: Global,
+        live: &mut LiveRegion,
+        controls: &ControlMailboxes,
+        asked: StopAsked,
+    ) -> ControlsClosed
+        ensures { tablets_in live.new ≡ tablets_in live.old }
+    {
+        self.end_connections(rt);
+        self.await_connections(rt, alloc, live, controls, &asked);
+        self.end_controls(rt);
+        self.await_controls(rt, alloc, live, controls, &asked);
+        controls.close(rt, asked)
     }
 
     // The threads learn of the stop first. Otherwise the one that accepts would take the end of its socket for a fault.
-    fn tell_all<R: Wait>(&self, rt: &R) {
+    fn end_connections<R: Wait>(&self, rt: &R) {
         for mailbox in self.mailboxes.iter() {
             let _ = mailbox.tell_stop(rt);
         }
-        stop_clients(rt, &self.clients);
         self.listener.stop();
-        if let Some(control) = &self.control {
-            control.stop();
-        }
     }
 
-    // Whether all threads that answer clients have ended.
-    fn have_ended<R: Wait>(&self, rt: &R) -> bool {
-        have_ended(rt, &self.mailboxes) && have_clients_ended(rt, &self.clients)
+    // Does what control sessions ask for, until connections have ended and each writer was sent the position that was taken, or the
+    // time is over.
+    fn await_connections<R: Wait + Clock>(
+        &self,
+        rt: &R,
+        alloc: Global,
+        live: &mut LiveRegion,
+        controls: &ControlMailboxes,
+        asked: &StopAsked,
+    )
+        ensures { tablets_in live.new ≡ tablets_in live.old }
+    {
+        let began = Instant::now(rt).ok();
+        for _ in rt.forever() {
+            if controls.is_stop_over(rt) || self.have_connections_ended(rt, &began) {
+                return;
+            }
+            take_commands_for(
+                rt,
+                alloc,
+                live,
+                controls,
+                asked,
+                Duration::from_millis(STEP),
+            );
+        }
+        unreachable!()
+    }
+
+    // Whether all threads that answer connections have ended, and each writer was sent the position that was taken, or has had its
+    // time for that.
+    fn have_connections_ended<R: Wait + Clock>(&self, rt: &R, began: &Option<Instant>) -> bool {
+        have_ended(rt, &self.mailboxes) && (self.are_told(rt) || has_passed(rt, began, TELLING))
     }
 
     // Whether each writer was sent the position that was taken of its stream.
@@ -68,6 +112,61 @@ impl Stopping {
         }
         true
     }
+
+    // The threads learn of the stop first here, too: one whose `accept` fails then ends.
+    fn end_controls<R: Wait>(&self, rt: &R) {
+        for client in &self.clients {
+            client.stop(rt);
+        }
+        if let Some(control) = &self.control {
+            control.stop();
+        }
+    }
+
+    /// From now on nothing is answered.
+    pub(super) fn cut<R: Wait + Clock>(&self, rt: &R) {
+        for client in &self.clients {
+            client.cut(rt);
+        }
+        for mailbox in self.mailboxes.iter() {
+            let _ = mailbox.tell_cut(rt);
+        }
+        for _ in 0..CUTTING / CUT_STEP {
+            if are_silent(rt, &self.mailboxes) {
+                return;
+            }
+            thread::sleep(rt, Duration::from_millis(CUT_STEP));
+        }
+    }
+
+    // Does what control sessions ask for until they have ended, or the time is over, and a moment for them.
+    fn await_controls<R: Wait + Clock>(
+        &self,
+        rt: &R,
+        alloc: Global,
+        live: &mut LiveRegion,
+        controls: &ControlMailboxes,
+        asked: &StopAsked,
+    )
+        ensures { tablets_in live.new ≡ tablets_in live.old }
+    {
+        let began = Instant::now(rt).ok();
+        for _ in rt.forever() {
+            let is_over = controls.is_stop_over(rt) && has_passed(rt, &began, CLOSING);
+            if is_over || have_clients_ended(rt, &self.clients) {
+                return;
+            }
+            take_commands_for(
+                rt,
+                alloc,
+                live,
+                controls,
+                asked,
+                Duration::from_millis(STEP),
+            );
+        }
+        unreachable!()
+    }
 }
 
 // Whether the writer of a stream was not yet sent the position that was taken.
@@ -78,18 +177,12 @@ fn is_behind<R: Wait>(rt: &R, stream: &StreamCounters) -> bool {
     }
 }
 
-// Whether `seconds` have passed since `then`. Where the clock fails they have not, and the steps alone bound the wait.
-fn is_over<R: Clock>(rt: &R, then: &Option<Instant>, seconds: u64) -> bool {
-    let Some(then) = then else { return false };
+// Whether so many milliseconds have passed since `then`. Where the clock fails they have.
+fn has_passed<R: Clock>(rt: &R, then: &Option<Instant>, millis: u64) -> bool {
+    let Some(then) = then else { return true };
     match then.elapsed(rt) {
-        Ok(elapsed) => elapsed >= Duration::from_secs(seconds),
-        Err(_) => false,
-    }
-}
-
-fn stop_clients<R: Wait>(rt: &R, clients: &[Arc<ControlClient>]) {
-    for client in clients {
-        client.stop(rt);
+        Ok(elapsed) => elapsed >= Duration::from_millis(millis),
+        Err(_) => true,
     }
 }
 

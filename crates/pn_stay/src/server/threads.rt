@@ -196,6 +196,7 @@ fn run<R: Wait + Clock>(
 {
     let mut events = begun?;
     let ended = events.run(rt, mailbox, reader);
+    mailbox.note_silence(rt);
     events.close(rt, mailbox);
     ended
 }

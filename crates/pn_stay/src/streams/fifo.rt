@@ -1,59 +1,26 @@
 //! Streams from a FIFO: its descriptor is kept, and read on once another writer writes.
 
-ghost use Rattle.std.specs.Prelude.{◌≡◌, ◌↔◌, Some, IsFalse};
+ghost use Rattle.std.specs.Prelude.{◌≡◌, ◌↔◌, Some, true, IsFalse};
 ghost use Rattle.pn_serve.specs.declared.server.writers.WriterEnd.TheVariants.{End};
 
-use crate::counters::CountingSource;
 use crate::seldom::Seldom;
-use crate::streams::input::{FILE_READ_SIZE, StreamInput, StreamSource, open_source};
-use crate::streams::notes::StreamNotes;
-use mio::unix::SourceFd;
-use mio::{Events, Interest, Poll, Token};
+use crate::socket_file::FileIdentity;
+use crate::streams::fifo_poll::{AtHand, FifoPoll, look_at, open_fifo};
+use crate::streams::input::{
+    FILE_READ_SIZE, StreamInput, StreamSource, drop_read, drop_some, open_source,
+};
+use crate::streams::notes::{OpenStream, StreamNotes};
 use pn_line::Source;
 use pn_serve::WriterEnd;
-use std::alloc::Global;
 use std::fs::{File, Files};
-use std::io::BufRead;
 use std::net::Net;
-use std::os::fd::AsRawFd;
+use std::os::fd::{AsRawFd, RawFd};
 use std::sync::Wait;
 use std::time::{Clock, Duration};
-use std::{io, thread};
+use std::{fs, io, thread};
 
 /// How many milliseconds lie between two tries of what the system refused.
-const RETRY: u64 = 1_000;
-
-/// How many events one wait gives at most.
-const EVENTS: usize = 1;
-
-/// Reports when a FIFO was written, or its writers went.
-#[derive(Drop)]
-pub(crate) struct FifoPoll {
-    poll: Poll,
-    events: Events,
-}
-
-impl FifoPoll {
-    /// A poll of no FIFO.
-    pub(crate) fn new<R: Net>(rt: &R, alloc: Global) -> io::Result<FifoPoll> {
-        Ok(FifoPoll {
-            poll: Poll::new(rt)?,
-            events: Events::with_capacity(alloc, EVENTS)?,
-        })
-    }
-
-    fn add(&self, fifo: &File) -> io::Result<()> {
-        let number = fifo.as_raw_fd();
-        self.poll
-            .registry()
-            .register(&mut SourceFd(&number), Token(0), Interest::READABLE)
-    }
-
-    // Waits for a report since the last one.
-    fn wait(&mut self) -> io::Result<()> {
-        self.poll.poll(&mut self.events, None)
-    }
-}
+const RETRY: u64 = 500;
 
 /// The writers of a FIFO.
 #[derive(Drop)]
@@ -63,6 +30,9 @@ pub(crate) struct FifoWriters<R: Drop> {
     // What the last writer was read from, and whether it wrote what is at fault.
     last: Option<StreamSource<R>>,
     is_faulty: bool,
+    // The descriptor of the FIFO that is open, and which file it is.
+    opened: Option<(RawFd, FileIdentity)>,
+    has_begun: bool,
     refusals: Seldom,
 }
 
@@ -77,16 +47,26 @@ where
             poll,
             last: None,
             is_faulty: false,
+            opened: None,
+            has_begun: false,
             refusals: Seldom::new(),
         }
     }
 
-    /// Waits for the next writer.
-    pub(crate) fn next_writer(&mut self, notes: &StreamNotes<R>) -> StreamSource<R> {
-        match self.last.take() {
-            Some(source) => self.wait_for_next(notes, source),
-            None => self.open(notes),
+    /// Waits for the next writer that writes anything.
+    pub(crate) fn next_writer(&mut self, notes: &StreamNotes<R>) -> (StreamSource<R>, OpenStream) {
+        for _ in notes.rt.forever() {
+            let source = match self.last.take() {
+                Some(source) if self.is_faulty => drop_read(source),
+                Some(source) => source,
+                None => self.open(notes),
+            };
+            if let Some(source) = self.wait_for_next(notes, source) {
+                self.note_begin(notes);
+                return (source, notes.open());
+            }
         }
+        unreachable!()
     }
 
     /// Keeps what a writer was read from.
@@ -98,15 +78,29 @@ where
         self.last = Some(source);
     }
 
-    // Opens the FIFO once its first writer does. It is tried again where the system refuses it.
+    // Every writer but the first begins again.
+    fn note_begin(&mut self, notes: &StreamNotes<R>)
+        ensures { self.new.has_begun ≡ true }
+    {
+        if self.has_begun {
+            notes.begin_again();
+        }
+        self.has_begun = true;
+    }
+
+    // Opens the FIFO. It is tried again where the system refuses it.
     fn open(&mut self, notes: &StreamNotes<R>) -> StreamSource<R> {
+        let is_again = self.opened.is_some();
         for _ in notes.rt.forever() {
             match self.try_open(notes) {
-                Ok(source) => return source,
-                Err(error) => {
-                    if self.refusals.is_due(&notes.rt) {
-                        notes.tell_error("open", self.path.as_str(), &error);
+                Ok(source) => {
+                    if is_again {
+                        notes.tell_path("is opened again at", self.path.as_str());
                     }
+                    return source;
+                }
+                Err(error) => {
+                    self.tell_refusal(notes, "open", &error);
                     thread::sleep(&notes.rt, Duration::from_millis(RETRY));
                 }
             }
@@ -114,60 +108,98 @@ where
         unreachable!()
     }
 
-    fn try_open(&self, notes: &StreamNotes<R>) -> io::Result<StreamSource<R>> {
-        let file = File::open(&notes.rt, self.path.as_str())?;
-        self.poll.add(&file)?;
+    fn try_open(&mut self, notes: &StreamNotes<R>) -> io::Result<StreamSource<R>> {
+        let file = open_fifo(&notes.rt, self.path.as_str(), &self.poll)?;
+        let identity = FileIdentity::of(&file.metadata()?);
+        self.opened = Some((file.as_raw_fd(), identity));
         let input = StreamInput::File(file);
-        open_source(notes.alloc, input, FILE_READ_SIZE, &notes.counters)
+        open_source(notes.teller.alloc, input, FILE_READ_SIZE, &notes.counters)
     }
 
-    // Waits until another writer has written. What is left of one that wrote a fault is dropped.
+    // Waits until another writer has written. What is left of one that wrote a fault is dropped. None: the path leads to another
+    // FIFO, and the one that is open has no writer.
     fn wait_for_next(
         &mut self,
         notes: &StreamNotes<R>,
         source: StreamSource<R>,
-    ) -> StreamSource<R> {
-        let mut source = if self.is_faulty {
-            drop_rest(source)
-        } else {
-            source
-        };
+    ) -> Option<StreamSource<R>> {
+        let mut source = source;
         for _ in notes.rt.forever() {
-            if self.wait(notes) && source.has_more().unwrap_or(false) {
-                notes.begin_again();
-                return source;
+            match self.look() {
+                AtHand::Bytes if self.is_faulty => {
+                    let (rest, is_dropped) = drop_some(source);
+                    source = rest;
+                    if !is_dropped {
+                        self.wait(notes);
+                    }
+                }
+                AtHand::Bytes => {
+                    if source.has_more().unwrap_or(false) {
+                        return Some(source);
+                    }
+                    self.wait(notes);
+                }
+                AtHand::Writer => {
+                    if self.is_replaced(notes) {
+                        self.tell_left(notes);
+                    }
+                    self.wait(notes);
+                }
+                AtHand::Nobody => {
+                    self.is_faulty = false;
+                    if self.is_replaced(notes) {
+                        return None;
+                    }
+                    self.wait(notes);
+                }
             }
         }
         unreachable!()
     }
 
-    // Waits until something happened at the FIFO. False where the system refuses to wait.
-    fn wait(&mut self, notes: &StreamNotes<R>) -> bool {
-        match self.poll.wait() {
-            Ok(()) => true,
+    // What is at hand of the FIFO that is open.
+    fn look(&self) -> AtHand {
+        match self.opened {
+            Some((number, _)) => look_at(number),
+            None => AtHand::Nobody,
+        }
+    }
+
+    // Whether the path leads to another FIFO than the one that is open. Where it leads to none, that is told.
+    fn is_replaced(&mut self, notes: &StreamNotes<R>) -> bool {
+        let Some((_, identity)) = self.opened else {
+            return true;
+        };
+        match fs::metadata(&notes.rt, self.path.as_str()) {
+            Ok(found) => FileIdentity::of(&found) != identity,
             Err(error) => {
-                if self.refusals.is_due(&notes.rt) {
-                    notes.tell_error("wait for", self.path.as_str(), &error);
-                }
-                thread::sleep(&notes.rt, Duration::from_millis(RETRY));
+                self.tell_refusal(notes, "open", &error);
                 false
             }
         }
     }
-}
 
-// Drops what a writer has written, to its end.
-fn drop_rest<R: Clock + Drop>(source: StreamSource<R>) -> StreamSource<R> {
-    let (mut reader, counters) = source.into_parts();
-    for _ in 0..u64::MAX {
-        let count = match reader.fill_buf() {
-            Ok(bytes) => bytes.len(),
-            Err(_) => 0,
-        };
-        if count == 0 {
-            break;
+    // Waits until something happened at the FIFO, but not for long.
+    fn wait(&mut self, notes: &StreamNotes<R>) {
+        if let Err(error) = self.poll.wait() {
+            self.tell_refusal(notes, "wait for", &error);
+            thread::sleep(&notes.rt, Duration::from_millis(RETRY));
         }
-        reader.consume(count);
     }
-    CountingSource::new(reader, counters)
+
+    // Tells that a writer of the FIFO that was at the path is waited for.
+    fn tell_left(&mut self, notes: &StreamNotes<R>) {
+        if self.refusals.is_due(&notes.rt) {
+            notes.tell_path(
+                "waits for a writer of the FIFO that was at",
+                self.path.as_str(),
+            );
+        }
+    }
+
+    fn tell_refusal(&mut self, notes: &StreamNotes<R>, verb: &str, error: &io::Error) {
+        if self.refusals.is_due(&notes.rt) {
+            notes.tell_error(verb, self.path.as_str(), error);
+        }
+    }
 }

@@ -1,13 +1,17 @@
 //! What streams are read from.
 
+ghost use Rattle.std.specs.Io.{ReadsAtMost};
+
 use crate::counters::{CountingSource, InputCounters};
+use crate::interrupts::is_interrupted;
 use crate::shared::share;
 use crate::streams::writer::WriterSocket;
 use std::alloc::Global;
-use std::fs::File;
+use std::fs::{File, Files};
 use std::io;
-use std::io::{BufReader, Read};
-use std::sync::Arc;
+use std::io::{BufRead, BufReader, Read};
+use std::net::Net;
+use std::sync::{Arc, Wait};
 use std::time::Clock;
 
 /// How many bytes of a file are read at a time.
@@ -28,13 +32,26 @@ pub enum StreamInput<R> {
 /// A writer's input, of which is counted what is read.
 pub type StreamSource<R> = CountingSource<BufReader<StreamInput<R>>>;
 
-impl<R: Clock + Drop> Read for StreamInput<R> {
+impl<R: Files<File = File> + Net + Wait + Clock + Drop> Read for StreamInput<R> {
     fn read(&mut self, buf: &mut [u8]) -> io::Result<usize> {
         match self {
-            StreamInput::File(file) => file.read(buf),
+            StreamInput::File(file) => read_file(file, buf),
             StreamInput::Socket(socket) => socket.read(buf),
         }
     }
+}
+
+// Reads a file, again where a signal interrupts it.
+fn read_file(file: &File, buf: &mut [u8]) -> io::Result<usize>
+    ensures { ReadsAtMost result buf.new }
+{
+    for _ in 0..u64::MAX {
+        let count = (&*file).read(buf);
+        if !is_interrupted(&count) {
+            return count;
+        }
+    }
+    (&*file).read(buf)
 }
 
 /// Begins to read an input, `size` bytes at a time.
@@ -46,4 +63,29 @@ pub(crate) fn open_source<I: Read + Drop>(
 ) -> io::Result<CountingSource<BufReader<I>>> {
     let reader = BufReader::with_capacity(alloc, size, input)?;
     Ok(CountingSource::new(reader, share(counters)?))
+}
+
+/// Drops the bytes that were read and are not taken.
+pub(crate) fn drop_read<R>(source: StreamSource<R>) -> StreamSource<R>
+where
+    R: Files<File = File> + Net + Wait + Clock + Drop,
+{
+    let (mut reader, counters) = source.into_parts();
+    let count = reader.buffer().len();
+    reader.consume(count);
+    CountingSource::new(reader, counters)
+}
+
+/// Drops some of the bytes that are at hand. Whether there were any.
+pub(crate) fn drop_some<R>(source: StreamSource<R>) -> (StreamSource<R>, bool)
+where
+    R: Files<File = File> + Net + Wait + Clock + Drop,
+{
+    let (mut reader, counters) = source.into_parts();
+    let count = match reader.fill_buf() {
+        Ok(bytes) => bytes.len(),
+        Err(_) => 0,
+    };
+    reader.consume(count);
+    (CountingSource::new(reader, counters), count > 0)
 }

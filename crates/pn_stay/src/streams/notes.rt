@@ -6,20 +6,69 @@ use crate::reasons::{describe_error, describe_fault, format_failure};
 use crate::streams::status::StreamStatus;
 use crate::streams::writer::StreamPositions;
 use pn_join::Name;
-use pn_serve::{StreamFaultStats, StreamState, WriterEnd};
+use pn_protocol::{StreamFaultStats, StreamState};
+use pn_serve::WriterEnd;
 use pn_stream::ResumeFault;
 use std::alloc::{AllocError, Global};
 use std::io;
 use std::sync::{Arc, Wait};
 use std::time::Clock;
 
-/// The name of a stream, and where messages about it, its counts and its status go.
+/// That a stream is shown as open. Nobody can drop it: an end of the writer takes it.
+pub(crate) struct OpenStream(());
+
+/// The name of a stream, and where messages about it go.
 #[derive(Drop)]
-pub(crate) struct StreamNotes<R> {
-    pub(crate) rt: R,
+pub(crate) struct StreamTeller {
     pub(crate) alloc: Global,
     pub(crate) name: Name,
     pub(crate) messages: Arc<Messages>,
+}
+
+impl StreamTeller {
+    /// Another handle of the same messages.
+    pub(crate) fn try_clone(&self) -> Result<StreamTeller, AllocError> {
+        Ok(StreamTeller {
+            alloc: self.alloc,
+            name: self.name,
+            messages: Arc::try_clone(&self.messages)?,
+        })
+    }
+
+    // Leaves a message of how the stream is, as `stream east ended`.
+    fn tell<R: Wait>(&self, rt: &R, how: &str) {
+        let text = format!(in self.alloc; "stream {} {how}", self.name.as_str());
+        self.messages.leave(rt, text);
+    }
+
+    /// Leaves a message of what became of a path, as `stream east listens again at ./east`.
+    pub(crate) fn tell_path<R: Wait>(&self, rt: &R, how: &str, path: &str) {
+        let text = format!(in self.alloc; "stream {} {how} {path}", self.name.as_str());
+        self.messages.leave(rt, text);
+    }
+
+    /// Leaves a message of what the system refuses for now, as `cannot open east: ./east: Permission denied`.
+    pub(crate) fn tell_error<R: Wait>(&self, rt: &R, verb: &str, path: &str, error: &io::Error) {
+        let text = self.format_error(verb, path, error);
+        self.messages.leave(rt, text);
+    }
+
+    fn format_error(
+        &self,
+        verb: &str,
+        path: &str,
+        error: &io::Error,
+    ) -> Result<String, AllocError> {
+        let reason = describe_error(self.alloc, error)?;
+        format!(in self.alloc; "cannot {verb} {}: {path}: {reason}", self.name.as_str())
+    }
+}
+
+/// Where messages about a stream, its counts and its status go.
+#[derive(Drop)]
+pub(crate) struct StreamNotes<R> {
+    pub(crate) rt: R,
+    pub(crate) teller: StreamTeller,
     /// The counters of what is read, and the status of the stream, if somebody looks at them.
     pub(crate) counters: Option<Arc<InputCounters>>,
     pub(crate) status: Option<Arc<StreamStatus>>,
@@ -37,28 +86,56 @@ impl<R: Wait + Clock + Drop> StreamNotes<R> {
 }
 
 impl<R: Wait + Drop> StreamNotes<R> {
-    /// Notes whether a writer is read, if somebody looks at that.
-    pub(crate) fn set_state(&self, state: StreamState) {
+    // Notes whether a writer is there, if somebody looks at that.
+    fn set_state(&self, state: StreamState) {
         if let Some(status) = &self.status {
             status.set_state(&self.rt, state);
         }
     }
 
+    /// Notes that a writer has come.
+    pub(crate) fn open(&self) -> OpenStream {
+        self.set_state(StreamState::Open);
+        OpenStream(())
+    }
+
+    /// The stream is open until `reopen`, while its writer is read elsewhere.
+    pub(crate) fn keep_open(&self, open: OpenStream) {
+        let OpenStream(_) = open;
+    }
+
+    /// Takes up again that the stream is open, now that its writer is read no more.
+    pub(crate) fn reopen(&self) -> OpenStream {
+        OpenStream(())
+    }
+
+    /// Notes that a writer has gone of which nothing is told.
+    pub(crate) fn end(&self, open: OpenStream) {
+        let OpenStream(_) = open;
+        self.set_state(StreamState::Ended);
+    }
+
     /// Notes how a writer's input ended, and leaves a message.
-    pub(crate) fn tell_end(&self, end: &WriterEnd) {
+    pub(crate) fn tell_end(&self, open: OpenStream, end: &WriterEnd) {
         match end {
             WriterEnd::End => {
-                self.set_state(StreamState::Ended);
-                self.tell("ended");
+                self.end(open);
+                self.teller.tell(&self.rt, "ended");
             }
             WriterEnd::Fault {
                 fault,
                 position,
                 line,
             } => {
+                let OpenStream(_) = open;
                 self.note_fault(fault, *line);
-                let text = format_failure(self.alloc, &self.name, fault, *position, *line);
-                self.messages.leave(&self.rt, text);
+                let StreamTeller {
+                    alloc,
+                    name,
+                    messages,
+                } = &self.teller;
+                let text = format_failure(*alloc, name, fault, *position, *line);
+                messages.leave(&self.rt, text);
             }
         }
     }
@@ -66,34 +143,24 @@ impl<R: Wait + Drop> StreamNotes<R> {
     // Notes a fault, if somebody looks at that. Its reason is empty where there is no memory for it.
     fn note_fault(&self, fault: &ResumeFault, line: u64) {
         if let Some(status) = &self.status {
-            let reason = describe_fault(self.alloc, fault).unwrap_or(String::new(self.alloc));
+            let alloc = self.teller.alloc;
+            let reason = describe_fault(alloc, fault).unwrap_or(String::new(alloc));
             status.note_fault(&self.rt, StreamFaultStats { line, reason });
         }
     }
 
     /// Leaves a message that another writer has begun.
     pub(crate) fn begin_again(&self) {
-        self.tell("begins again");
+        self.teller.tell(&self.rt, "begins again");
     }
 
-    /// Leaves a message of what the system refuses for now, as `cannot open east: ./east: Permission denied`.
+    /// Leaves a message of what became of a path.
+    pub(crate) fn tell_path(&self, how: &str, path: &str) {
+        self.teller.tell_path(&self.rt, how, path);
+    }
+
+    /// Leaves a message of what the system refuses for now.
     pub(crate) fn tell_error(&self, verb: &str, path: &str, error: &io::Error) {
-        let text = self.format_error(verb, path, error);
-        self.messages.leave(&self.rt, text);
-    }
-
-    fn tell(&self, how: &str) {
-        let text = format!(in self.alloc; "stream {} {how}", self.name.as_str());
-        self.messages.leave(&self.rt, text);
-    }
-
-    fn format_error(
-        &self,
-        verb: &str,
-        path: &str,
-        error: &io::Error,
-    ) -> Result<String, AllocError> {
-        let reason = describe_error(self.alloc, error)?;
-        format!(in self.alloc; "cannot {verb} {}: {path}: {reason}", self.name.as_str())
+        self.teller.tell_error(&self.rt, verb, path, error);
     }
 }

@@ -5,11 +5,13 @@ ghost use Rattle.std.specs.Prelude.{◌≡◌, [], ◌∷◌, ◌++◌, map, IfO
 use crate::counters::StreamCounters;
 use crate::messages::Messages;
 use crate::shared::share;
-use crate::streams::fifo::{FifoPoll, FifoWriters};
+use crate::socket_file::{ListenFault, SocketFile, format_lock, remove_sockets};
+use crate::streams::fifo::FifoWriters;
+use crate::streams::fifo_poll::FifoPoll;
 use crate::streams::files::{StreamOpenFault, new_counters, read_size};
 use crate::streams::input::{FILE_READ_SIZE, StreamInput, open_source};
 use crate::streams::listener::StreamListener;
-use crate::streams::notes::StreamNotes;
+use crate::streams::notes::{StreamNotes, StreamTeller};
 use crate::streams::origin::{StreamOrigin, Writers};
 use crate::streams::sockets::SocketWriters;
 use crate::streams::status::StreamStatus;
@@ -30,8 +32,8 @@ pub struct OpenedStreams<R: Drop> {
     pub streams: Vec<Stream<StreamOrigin<R>>>,
     /// The counters of the streams that are counted.
     pub counters: Vec<StreamCounters>,
-    /// The paths of the sockets at which writers come.
-    pub sockets: Vec<String>,
+    /// The files of the sockets at which writers come.
+    pub sockets: Vec<Arc<SocketFile>>,
 }
 
 // The writers of a stream, and how many bytes its file has, where it ends.
@@ -68,13 +70,6 @@ where
         }
     }
     Ok(opened)
-}
-
-/// Removes the files of sockets.
-pub fn remove_sockets<R: Files>(rt: &R, paths: &[String]) {
-    for path in paths {
-        let _ = fs::remove_file(rt, path.as_str());
-    }
 }
 
 fn open_origin<R>(
@@ -124,7 +119,7 @@ fn add_counters<R: Drop>(
         let taken = Some(Arc::try_clone(&notes.positions.taken)?);
         let status = share(&notes.status)?;
         counters.push(StreamCounters {
-            name: notes.name,
+            name: notes.teller.name,
             input,
             taken,
             told,
@@ -158,9 +153,11 @@ fn new_notes<R: Copy>(
     let positions = StreamPositions::new(alloc)?;
     Ok(StreamNotes {
         rt: setting.rt,
-        alloc,
-        name,
-        messages,
+        teller: StreamTeller {
+            alloc,
+            name,
+            messages,
+        },
         counters,
         status,
         positions,
@@ -183,12 +180,12 @@ fn new_status(
     Ok(Some(Arc::new(alloc, status)?))
 }
 
-// The writers that come to a path, and how many bytes its file has, where it ends. A socket's path is added.
+// The writers that come to a path, and how many bytes its file has, where it ends. A socket's file is added.
 fn open_writers<R>(
     setting: &StreamSetting<R>,
     notes: &StreamNotes<R>,
     path: StreamPath,
-    sockets: &mut Vec<String>,
+    sockets: &mut Vec<Arc<SocketFile>>,
 ) -> OpenedWriters<R>
 where
     R: Files<File = File> + Net + Wait + Clock + Copy + Drop,
@@ -201,7 +198,7 @@ where
         StreamPath::File(path) => match is_fifo(&notes.rt, path.as_str()) {
             Ok(true) => open_fifo(notes, path),
             Ok(false) => open_file(notes, path),
-            Err(error) => Err(StreamOpenFault::of(notes.name, path, error)),
+            Err(error) => Err(StreamOpenFault::of(notes.teller.name, path, error)),
         },
     }
 }
@@ -210,18 +207,37 @@ fn listen<R>(
     notes: &StreamNotes<R>,
     path: String,
     permissions: u32,
-    sockets: &mut Vec<String>,
+    sockets: &mut Vec<Arc<SocketFile>>,
 ) -> Result<Writers<R>, StreamOpenFault>
 where
     R: Files<File = File> + Net + Wait + Clock + Copy + Drop,
 {
-    let shown = String::from_str(notes.alloc, path.as_str())?;
-    match StreamListener::bind(&notes.rt, notes.alloc, path.as_str(), permissions) {
+    let teller = notes.teller.try_clone()?;
+    let alloc = teller.alloc;
+    sockets.reserve(1)?;
+    match StreamListener::bind(&notes.rt, alloc, path.as_str(), permissions, teller) {
         Ok(listener) => {
-            sockets.push(path)?;
-            Ok(Writers::Socket(SocketWriters::new(listener, shown)))
+            sockets.push(listener.share_file()?)?;
+            let listener = Arc::new(alloc, listener)?;
+            Ok(Writers::Socket(SocketWriters::new(listener, path)))
         }
-        Err(error) => Err(StreamOpenFault::of(notes.name, path, error)),
+        Err(fault) => Err(refuse_socket(notes, path, fault)?),
+    }
+}
+
+// Why the socket of a stream is refused. A lock is named by its own path.
+fn refuse_socket<R>(
+    notes: &StreamNotes<R>,
+    path: String,
+    fault: ListenFault,
+) -> Result<StreamOpenFault, AllocError> {
+    let name = notes.teller.name;
+    match fault {
+        ListenFault::Path(error) => Ok(StreamOpenFault::of(name, path, error)),
+        ListenFault::Lock(error) => {
+            let lock = format_lock(notes.teller.alloc, path.as_str())?;
+            Ok(StreamOpenFault::of(name, lock, error))
+        }
     }
 }
 
@@ -233,9 +249,9 @@ fn open_fifo<R>(notes: &StreamNotes<R>, path: String) -> OpenedWriters<R>
 where
     R: Files<File = File> + Net + Wait + Clock + Copy + Drop,
 {
-    match FifoPoll::new(&notes.rt, notes.alloc) {
+    match FifoPoll::new(&notes.rt, notes.teller.alloc) {
         Ok(poll) => Ok((Writers::Fifo(FifoWriters::new(path, poll)), None)),
-        Err(error) => Err(StreamOpenFault::of(notes.name, path, error)),
+        Err(error) => Err(StreamOpenFault::of(notes.teller.name, path, error)),
     }
 }
 
@@ -247,11 +263,11 @@ where
         Ok(file) => {
             let size = read_size(&file);
             let input = StreamInput::File(file);
-            match open_source(notes.alloc, input, FILE_READ_SIZE, &notes.counters) {
+            match open_source(notes.teller.alloc, input, FILE_READ_SIZE, &notes.counters) {
                 Ok(source) => Ok((Writers::File(Some(source)), size)),
                 Err(_) => Err(StreamOpenFault::Memory),
             }
         }
-        Err(error) => Err(StreamOpenFault::of(notes.name, path, error)),
+        Err(error) => Err(StreamOpenFault::of(notes.teller.name, path, error)),
     }
 }

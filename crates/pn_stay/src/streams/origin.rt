@@ -1,10 +1,13 @@
 //! Where the writers of a stream come from.
 
+ghost use Rattle.std.specs.Prelude.{◌≡◌, ◌≤◌};
+
 use crate::streams::fifo::FifoWriters;
 use crate::streams::input::StreamSource;
 use crate::streams::notes::StreamNotes;
-use crate::streams::sockets::{SocketWriters, end_socket};
-use pn_serve::{Origin, StreamState, WriterEnd};
+use crate::streams::sockets::{SocketWriters, end_socket, position_after};
+use crate::streams::writer::StreamPositions;
+use pn_serve::{NextWriter, Origin, WriterEnd};
 use std::fs::{File, Files};
 use std::net::Net;
 use std::sync::Wait;
@@ -32,16 +35,25 @@ where
 {
     ghost may_go_on = { Unit {0} };
 
-    fn next_writer(&mut self, last: u64) -> Option<StreamSource<R>> {
-        let source = match &mut self.writers {
-            Writers::File(source) => source.take(),
-            Writers::Fifo(writers) => Some(writers.next_writer(&self.notes)),
-            Writers::Socket(writers) => Some(writers.next_writer(&self.notes, last)),
+    ghost begins_after = { λ _ _. Unit {0} };
+
+    fn next_writer(&mut self, last: u64) -> Option<NextWriter<StreamSource<R>>> {
+        let (next, open) = match &mut self.writers {
+            Writers::File(source) => {
+                let source = source.take()?;
+                (
+                    begin_after(&self.notes.positions, last, source),
+                    self.notes.open(),
+                )
+            }
+            Writers::Fifo(writers) => {
+                let (source, open) = writers.next_writer(&self.notes);
+                (begin_after(&self.notes.positions, last, source), open)
+            }
+            Writers::Socket(writers) => writers.next_writer(&self.notes, last),
         };
-        if source.is_some() {
-            self.notes.set_state(StreamState::Open);
-        }
-        source
+        self.notes.keep_open(open);
+        Some(next)
     }
 
     fn hand_on(&mut self, last: u64) {
@@ -49,7 +61,7 @@ where
     }
 
     fn end_writer(&mut self, source: StreamSource<R>, end: &WriterEnd, _last: u64) {
-        self.notes.tell_end(end);
+        self.notes.tell_end(self.notes.reopen(), end);
         match &mut self.writers {
             Writers::File(_) => {}
             Writers::Fifo(writers) => writers.end_writer(source, end),
@@ -59,6 +71,15 @@ where
 
     fn stop_writer(&mut self, source: StreamSource<R>) {
         end_socket(source, &WriterEnd::End);
-        self.notes.set_state(StreamState::Ended);
+        self.notes.end(self.notes.reopen());
     }
+}
+
+// The writer that is read from this, which begins now.
+fn begin_after<S: Drop>(positions: &StreamPositions, last: u64, source: S) -> NextWriter<S>
+    ensures source { result.source ≡ source }
+    ensures later { last ≤ result.after }
+{
+    let after = position_after(last, positions.taken.get());
+    NextWriter { source, after }
 }

@@ -1,15 +1,18 @@
 //! Streams from a socket: one writer after another.
 
-ghost use Rattle.std.specs.Prelude.{◌≡◌, true};
+ghost use Rattle.std.specs.Prelude.{◌≡◌, ◌≤◌, max, true, IfOk, IfSome};
 
 use crate::seldom::Seldom;
 use crate::streams::input::{SOCKET_READ_SIZE, StreamInput, StreamSource, open_source};
 use crate::streams::listener::StreamListener;
-use crate::streams::notes::StreamNotes;
+use crate::streams::notes::{OpenStream, StreamNotes};
 use crate::streams::writer::WriterSocket;
 use pn_line::Source;
-use pn_serve::{StreamState, WriterEnd};
-use std::sync::Wait;
+use pn_serve::{NextWriter, WriterEnd};
+use std::fs::{File, Files};
+use std::net::Net;
+use std::os::unix::net::UnixStream;
+use std::sync::{Arc, Wait};
 use std::time::{Clock, Duration};
 use std::{io, thread};
 
@@ -19,7 +22,7 @@ const RETRY: u64 = 100;
 /// The writers of a socket.
 #[derive(Drop)]
 pub(crate) struct SocketWriters {
-    listener: StreamListener,
+    listener: Arc<StreamListener>,
     path: String,
     has_begun: bool,
     refusals: Seldom,
@@ -27,7 +30,7 @@ pub(crate) struct SocketWriters {
 
 impl SocketWriters {
     /// The writers that come to the socket at a path.
-    pub(crate) fn new(listener: StreamListener, path: String) -> SocketWriters {
+    pub(crate) fn new(listener: Arc<StreamListener>, path: String) -> SocketWriters {
         SocketWriters {
             listener,
             path,
@@ -36,37 +39,70 @@ impl SocketWriters {
         }
     }
 
-    /// Waits for the next writer that writes anything. It is sent the position after which the stream goes on.
-    pub(crate) fn next_writer<R>(&mut self, notes: &StreamNotes<R>, last: u64) -> StreamSource<R>
+    /// Waits for the next writer that writes anything. It is sent the position after which it begins: the greater of `last`
+    /// and the region's mark.
+    pub(crate) fn next_writer<R>(
+        &mut self,
+        notes: &StreamNotes<R>,
+        last: u64,
+    ) -> (NextWriter<StreamSource<R>>, OpenStream)
     where
-        R: Wait + Clock + Copy + Drop,
+        R: Files<File = File> + Net + Wait + Clock + Copy + Drop,
+        ensures { last ≤ result.0.after }
     {
         for _ in notes.rt.forever() {
+            self.listener.look(&notes.rt);
             match self.accept(notes, last) {
-                Ok(source) => {
-                    let mut source = source;
-                    notes.set_state(StreamState::Open);
-                    if source.has_more().unwrap_or(false) {
+                Ok(Some(next)) => {
+                    let mut next = next;
+                    let open = notes.open();
+                    if next.source.has_more().unwrap_or(false) {
                         self.note_begin(notes);
-                        return source;
+                        return (next, open);
                     }
-                    notes.set_state(StreamState::Ended);
+                    notes.end(open);
                 }
+                Ok(None) => {}
                 Err(error) => self.note_refusal(notes, &error),
             }
         }
         unreachable!()
     }
 
-    fn accept<R>(&self, notes: &StreamNotes<R>, last: u64) -> io::Result<StreamSource<R>>
+    // Waits for a writer, but not for long.
+    fn accept<R>(
+        &self,
+        notes: &StreamNotes<R>,
+        last: u64,
+    ) -> io::Result<Option<NextWriter<StreamSource<R>>>>
     where
-        R: Wait + Clock + Copy + Drop,
+        R: Files<File = File> + Net + Wait + Clock + Copy + Drop,
+        ensures { IfOk result (λ next. IfSome next (λ next. last ≤ next.after)) }
     {
-        let stream = self.listener.accept()?;
+        match self.listener.accept(&notes.rt)? {
+            Some(stream) => Ok(Some(self.begin(notes, stream, last)?)),
+            None => Ok(None),
+        }
+    }
+
+    fn begin<R>(
+        &self,
+        notes: &StreamNotes<R>,
+        stream: UnixStream,
+        last: u64,
+    ) -> io::Result<NextWriter<StreamSource<R>>>
+    where
+        R: Files<File = File> + Net + Wait + Clock + Copy + Drop,
+        ensures { IfOk result (λ next. last ≤ next.after) }
+    {
         let positions = notes.positions.try_clone()?;
-        let socket = WriterSocket::begin(notes.rt, notes.alloc, stream, positions, last)?;
+        let after = position_after(last, positions.taken.get());
+        let listener = Arc::try_clone(&self.listener)?;
+        let alloc = notes.teller.alloc;
+        let socket = WriterSocket::begin(notes.rt, alloc, stream, positions, after, listener)?;
         let input = StreamInput::Socket(socket);
-        open_source(notes.alloc, input, SOCKET_READ_SIZE, &notes.counters)
+        let source = open_source(alloc, input, SOCKET_READ_SIZE, &notes.counters)?;
+        Ok(NextWriter { source, after })
     }
 
     // Every writer but the first begins again.
@@ -90,8 +126,18 @@ impl SocketWriters {
     }
 }
 
+/// The position after which a writer begins, where messages up to `last` were handed to rounds and up to `taken` were taken.
+pub(crate) fn position_after(last: u64, taken: u64) -> u64
+    ensures { result ≡ max last taken }
+{
+    last.max(taken)
+}
+
 /// Sends a writer how its input ended, and closes its socket.
-pub(crate) fn end_socket<R: Clock + Drop>(source: StreamSource<R>, end: &WriterEnd) {
+pub(crate) fn end_socket<R>(source: StreamSource<R>, end: &WriterEnd)
+where
+    R: Files<File = File> + Net + Wait + Clock + Drop,
+{
     let (reader, _) = source.into_parts();
     if let StreamInput::Socket(socket) = reader.into_inner() {
         let mut socket = socket;

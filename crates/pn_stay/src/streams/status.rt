@@ -2,7 +2,7 @@
 
 ghost use Rattle.std.specs.Prelude.{◌≡◌, None, Some, string_bytes, IfOk};
 
-use pn_serve::{StreamFaultStats, StreamState};
+use pn_protocol::{StreamFaultStats, StreamState};
 use std::alloc::{AllocError, Global};
 use std::sync::{Mutex, Wait};
 use std::time::{Clock, Instant};

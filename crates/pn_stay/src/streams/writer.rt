@@ -3,16 +3,19 @@
 ghost use Rattle.std.specs.Prelude.{◌≡◌, ◌≢◌, ◌*◌, ◌≤◌, ◌↔◌, ◌⊎◌, true, Ok, Err, IfOk, IsTrue, OnErr};
 ghost use Rattle.std.specs.Duration.{as_nanos};
 ghost use Rattle.std.specs.IoError.{error_kind};
-ghost use Rattle.pn_stay.specs.declared.streams.writer.TheConstants.{PAUSE};
 
+use crate::interrupts::is_interrupted;
 use crate::reasons::{format_after, format_refusal, format_taken};
+use crate::streams::listener::{LOOK, StreamListener};
 use pn_serve::Counter;
 use pn_stream::ResumeFault;
 use std::alloc::{AllocError, Global};
+use std::fs::{File, Files};
 use std::io;
 use std::io::{ErrorKind, Read, Write};
+use std::net::Net;
 use std::os::unix::net::UnixStream;
-use std::sync::Arc;
+use std::sync::{Arc, Wait};
 use std::time::{Clock, Duration, Instant};
 
 /// How many milliseconds lie at least between two lines that send a writer a position.
@@ -64,6 +67,9 @@ pub struct WriterSocket<R> {
     positions: StreamPositions,
     // When the writer was sent a position last.
     told_at: Option<Instant>,
+    // Where further writers come, and when that was looked at last.
+    listener: Arc<StreamListener>,
+    looked_at: Option<Instant>,
     // Whether a read ends after a tenth of a second.
     is_timed: bool,
     // Whether the writer takes lines: none follows one of which it took a part.
@@ -71,15 +77,17 @@ pub struct WriterSocket<R> {
 }
 
 impl<R: Clock + Drop> WriterSocket<R> {
-    /// Sends a writer the position after which the stream goes on.
+    /// Sends a writer the position after which the stream goes on. Further writers come to the listener.
     pub(crate) fn begin(
         rt: R,
         alloc: Global,
         stream: UnixStream,
         positions: StreamPositions,
         last: u64,
+        listener: Arc<StreamListener>,
     ) -> io::Result<WriterSocket<R>> {
         stream.set_write_timeout(Some(Duration::from_millis(PATIENCE)))?;
+        stream.set_read_timeout(Some(Duration::from_millis(LOOK)))?;
         positions.told.set(last);
         let mut socket = WriterSocket {
             rt,
@@ -87,6 +95,8 @@ impl<R: Clock + Drop> WriterSocket<R> {
             stream,
             positions,
             told_at: None,
+            listener,
+            looked_at: None,
             is_timed: false,
             is_told: true,
         };
@@ -116,7 +126,7 @@ impl<R: Clock + Drop> WriterSocket<R> {
         if !self.is_told {
             return false;
         }
-        match (&self.stream).write(line.as_bytes()) {
+        match self.write_some(line.as_bytes()) {
             Ok(count) => self.is_told = count == line.len(),
             Err(error) => {
                 self.is_told = passes(&error);
@@ -126,10 +136,21 @@ impl<R: Clock + Drop> WriterSocket<R> {
         self.is_told
     }
 
+    // Writes what the writer takes at once. Where a signal interrupts it, it is asked again.
+    fn write_some(&self, bytes: &[u8]) -> io::Result<usize> {
+        for _ in 0..u64::MAX {
+            let count = (&self.stream).write(bytes);
+            if !is_interrupted(&count) {
+                return count;
+            }
+        }
+        (&self.stream).write(bytes)
+    }
+
     // Sends the position that was taken, ten times a second at most.
     fn tell_in_time(&mut self) {
         if self.positions.taken.get() > self.positions.told.get()
-            && is_over(&self.rt, &self.told_at)
+            && is_over(&self.rt, &self.told_at, PAUSE)
         {
             self.tell_taken();
         }
@@ -141,46 +162,53 @@ impl<R: Clock + Drop> WriterSocket<R> {
         told < self.positions.handed.get() || told < self.positions.taken.get()
     }
 
-    // A read ends after a tenth of a second where there may be a position to send then.
+    // A read ends after a tenth of a second where there may be a position to send then, and else once it is time to look.
     fn set_timeout(&mut self) {
         let is_timed = self.is_told && self.is_behind();
         if is_timed == self.is_timed {
             return;
         }
-        let most = if is_timed {
-            Some(Duration::from_millis(PAUSE))
-        } else {
-            None
-        };
-        if self.stream.set_read_timeout(most).is_ok() {
+        let most = Duration::from_millis(if is_timed { PAUSE } else { LOOK });
+        if self.stream.set_read_timeout(Some(most)).is_ok() {
             self.is_timed = is_timed;
         }
     }
 }
 
-// Whether the pause since then is over.
-fn is_over<R: Clock>(rt: &R, then: &Option<Instant>) -> bool {
+impl<R: Files<File = File> + Net + Wait + Clock + Drop> WriterSocket<R> {
+    // Looks whether further writers find the socket.
+    fn look_in_time(&mut self) {
+        if is_over(&self.rt, &self.looked_at, LOOK) {
+            self.listener.look(&self.rt);
+            self.looked_at = Instant::now(&self.rt).ok();
+        }
+    }
+}
+
+// Whether a pause of so many milliseconds since then is over.
+fn is_over<R: Clock>(rt: &R, then: &Option<Instant>, pause: u64) -> bool {
     match then {
-        Some(then) => has_passed(then.elapsed(rt)),
+        Some(then) => has_passed(then.elapsed(rt), pause),
         None => true,
     }
 }
 
-// Whether the pause has passed. Where the clock fails, it has.
-fn has_passed(elapsed: io::Result<Duration>) -> bool
-    ensures told { IfOk elapsed (λ elapsed. IsTrue result ↔ (PAUSE * 1_000_000 ≤ as_nanos elapsed)) }
+// Whether a pause of so many milliseconds has passed. Where the clock fails, it has.
+fn has_passed(elapsed: io::Result<Duration>, pause: u64) -> bool
+    ensures told { IfOk elapsed (λ elapsed. IsTrue result ↔ (pause * 1_000_000 ≤ as_nanos elapsed)) }
     ensures unknown { OnErr elapsed (result ≡ true) }
 {
     match elapsed {
-        Ok(elapsed) => elapsed >= Duration::from_millis(PAUSE),
+        Ok(elapsed) => elapsed >= Duration::from_millis(pause),
         Err(_) => true,
     }
 }
 
-impl<R: Clock + Drop> Read for WriterSocket<R> {
+impl<R: Files<File = File> + Net + Wait + Clock + Drop> Read for WriterSocket<R> {
     fn read(&mut self, buf: &mut [u8]) -> io::Result<usize> {
         for _ in 0..u64::MAX {
             self.tell_in_time();
+            self.look_in_time();
             self.set_timeout();
             match (&self.stream).read(buf) {
                 Ok(count) => return Ok(count),

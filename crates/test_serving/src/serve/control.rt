@@ -4,10 +4,13 @@ use crate::reading::{Script, push_message, read_all, stream_of};
 use pn_join::{Name, NoMemory};
 use pn_line::InMemory;
 use pn_live::{LiveReader, LiveRegion};
+use pn_protocol::{
+    ConnectionStats, LineCounts, LineKinds, LineStats, Stats, StreamFaultStats, StreamState,
+    StreamStats, TabletStats,
+};
 use pn_serve::{
-    ConnectionStats, ControlMailboxes, ControlSession, LineCounts, LineKinds, LineStats, Stats,
-    StatsSource, Stream, StreamFaultStats, StreamState, StreamStats, TabletStats, close_region,
-    open_region, take_commands,
+    ControlMailboxes, ControlSession, LineLoop, StatsSource, Stream, close_region, open_region,
+    take_commands,
 };
 use std::alloc::{AllocError, Global};
 use std::sync::{Arc, Wait};
@@ -153,12 +156,12 @@ where
     R: Threads + Wait + Clock + Sync + Copy + Send + Drop + 'static,
 {
     let reader = reader?;
-    let session = new_session(alloc)?;
+    let session = new_session(rt, alloc)?;
     answer_beside(rt, alloc, live, (session, reader, lines))
 }
 
-fn new_session(alloc: Global) -> Option<ControlSession<SomeStats>> {
-    let mailboxes = ControlMailboxes::new(alloc, 1).ok()?;
+fn new_session<R: Clock>(rt: &R, alloc: Global) -> Option<ControlSession<SomeStats>> {
+    let mailboxes = ControlMailboxes::new(rt, alloc, 1).ok()?;
     let mailboxes = Arc::new(alloc, mailboxes).ok()?;
     Some(ControlSession {
         mailboxes,
@@ -182,8 +185,8 @@ where
     let mailboxes = Arc::try_clone(&session.mailboxes).ok()?;
     let host = *rt;
     let thread = thread::spawn(rt, move || answer(&host, alloc, &session, reader, lines)).ok()?;
-    let _ = take_commands(rt, alloc, live, &mailboxes);
-    mailboxes.close(rt);
+    let asked = take_commands(rt, alloc, live, &mailboxes);
+    let _closed = mailboxes.close(rt, asked);
     Some(thread.join(rt))
 }
 
@@ -197,7 +200,9 @@ fn answer<R: Threads + Wait + Clock>(
 ) -> Vec<u8> {
     let mut written = Vec::new(alloc);
     let mut input = InMemory::new(lines.as_bytes());
-    let _ = session.answer(rt, alloc, reader, &mut input, &mut written);
+    if let Ok(mut line_loop) = LineLoop::new(alloc) {
+        let _ = session.answer(rt, &mut line_loop, reader, &mut input, &mut written);
+    }
     session.mailboxes.stop(rt, 0);
     written
 }

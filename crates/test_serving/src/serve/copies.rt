@@ -6,7 +6,7 @@ ghost use Rattle.pn_live.specs.declared.region.opening.TheConstants.{MAX_READERS
 ghost use Rattle.pn_serve.specs.Server.Sessions.{AllRead};
 
 use pn_join::{Marks, Name, NoMemory};
-use pn_line::InMemory;
+use pn_line::{EndlessSource, InMemory};
 use pn_live::LiveRegion;
 use pn_serve::{CopiesFault, CopiesReader, OpenedRegion, close_region, open_copies};
 use pn_tablet::TabletCopy;
@@ -25,14 +25,38 @@ pub(crate) fn start<R: Threads + Wait + Sync>(
     alloc: Global,
     line: &str,
 ) -> Result<String, Fail> {
-    let (workers, bars) = line.split_once(' ').ok_or(NoMemory)?;
-    let workers = workers.parse::<usize>()?;
+    let (workers, text) = parse_case(alloc, line)?;
     if workers < 1 {
         return Err(Fail::new("no worker"));
     }
+    Ok(start_by(rt, alloc, workers, text.as_bytes())?)
+}
+
+/// The fault of a text that repeats these lines without end.
+pub(crate) fn start_endless<R: Threads + Sync>(
+    rt: &R,
+    alloc: Global,
+    line: &str,
+) -> Result<String, Fail> {
+    let (workers, text) = parse_case(alloc, line)?;
+    let text = text.as_bytes();
+    if workers < 1 || text.len() < 1 {
+        return Err(Fail::new("no worker, or no line"));
+    }
+    let mut reader = CopiesReader::new(alloc, EndlessSource::new(text), workers)?;
+    match reader.read_some(rt, alloc) {
+        Ok(is_read) => Ok(format!(in alloc; "read: {is_read}")?),
+        Err(fault) => Ok(format!(in alloc; "{fault}")?),
+    }
+}
+
+// A number of workers and a text.
+fn parse_case(alloc: Global, line: &str) -> Result<(usize, String), Fail> {
+    let (workers, bars) = line.split_once(' ').ok_or(NoMemory)?;
+    let workers = workers.parse::<usize>()?;
     let bars = spell_out(alloc, bars)?;
     let text = newlines(alloc, bars.as_str())?;
-    Ok(start_by(rt, alloc, workers, text.as_bytes())?)
+    Ok((workers, text))
 }
 
 fn start_by<R: Threads + Wait + Sync>(

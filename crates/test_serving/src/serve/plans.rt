@@ -1,7 +1,8 @@
 //! Words, and what they plan.
 
+use pn_arguments::{Address, Plan, PlanFault, Service, plan};
 use pn_join::Name;
-use pn_serve::{Address, Plan, PlanFault, Service, Settings, StreamPath, plan};
+use pn_serve::{Settings, StreamPath};
 use std::alloc::{AllocError, Global};
 use std::test::Fail;
 use test_kit::spell_out;

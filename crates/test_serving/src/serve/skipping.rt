@@ -7,9 +7,8 @@ use crate::regions::{end, open_one};
 use pn_join::NoMemory;
 use pn_line::InMemory;
 use pn_live::LiveReader;
-use pn_serve::{
-    CountingReader, LineCounts, LineHandler, LineLoop, RefusesSkipped, Step, TURN_UNITS,
-};
+use pn_protocol::LineCounts;
+use pn_serve::{CountingReader, LineHandler, LineLoop, RefusesSkipped, Step, TURN_UNITS};
 use std::alloc::{AllocError, Global};
 use std::sync::Wait;
 use std::test::Fail;

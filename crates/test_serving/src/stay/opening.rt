@@ -2,19 +2,19 @@
 
 use pn_join::Name;
 use pn_serve::{Stream, StreamPath};
-use pn_stay::{Messages, OWNER_ALONE, StreamOrigin, StreamSetting, open_origins};
+use pn_stay::{Messages, OWNER_ALONE, SocketFile, StreamOrigin, StreamSetting, open_origins};
 use std::alloc::Global;
 use std::fs::{File, Files};
 use std::net::Net;
 use std::sync::{Arc, Wait};
 use std::time::Clock;
 
-/// A stream, the messages about it, and the paths of its sockets.
+/// A stream, the messages about it, and the files of its sockets.
 #[derive(Drop)]
 pub(crate) struct Opened<R: Drop> {
     pub(crate) stream: Stream<StreamOrigin<R>>,
     pub(crate) messages: Arc<Messages>,
-    pub(crate) sockets: Vec<String>,
+    pub(crate) sockets: Vec<Arc<SocketFile>>,
 }
 
 /// Opens a stream at a path.
@@ -37,7 +37,7 @@ fn open_with<R>(
     alloc: Global,
     messages: &Arc<Messages>,
     path: StreamPath,
-) -> Option<(Stream<StreamOrigin<R>>, Vec<String>)>
+) -> Option<(Stream<StreamOrigin<R>>, Vec<Arc<SocketFile>>)>
 where
     R: Files<File = File> + Net + Wait + Clock + Copy + Drop,
 {
@@ -60,12 +60,12 @@ fn setting_of<R: Copy>(
     })
 }
 
-// The stream at a path, and the paths of its sockets.
+// The stream at a path, and the files of its sockets.
 fn open_in<R>(
     alloc: Global,
     setting: &StreamSetting<R>,
     path: StreamPath,
-) -> Option<(Stream<StreamOrigin<R>>, Vec<String>)>
+) -> Option<(Stream<StreamOrigin<R>>, Vec<Arc<SocketFile>>)>
 where
     R: Files<File = File> + Net + Wait + Clock + Copy + Drop,
 {

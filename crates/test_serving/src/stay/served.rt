@@ -18,7 +18,7 @@ use std::{fs, io, thread};
 /// The name of a socket's file.
 const PATH: &str = "socket-of-test";
 
-/// The file that is locked while somebody begins to listen there.
+/// The file that is locked while somebody listens there.
 const LOCK: &str = "socket-of-test.lock";
 
 /// The permissions of a socket that a group may use, too.
@@ -33,10 +33,10 @@ const PATIENCE: u32 = 10_000;
 // Listens at a port, or at the path, and says where.
 fn listen<R>(rt: &R, alloc: Global, at: &str) -> io::Result<(Listener, At)>
 where
-    R: Files<File = File> + Net<Listener = TcpListener, Stream = TcpStream>,
+    R: Files<File = File> + Net<Listener = TcpListener, Stream = TcpStream> + Wait,
 {
     if at == "path" {
-        let listener = Listener::bind_path(rt, alloc, PATH, OWNER_ALONE)?;
+        let (listener, _file) = Listener::bind_path(rt, alloc, PATH, OWNER_ALONE)?;
         return Ok((listener, At::Path(PATH)));
     }
     let listener = Listener::bind_port(rt, IpAddr::V4(Ipv4Addr::LOCALHOST), 0)?;
@@ -254,7 +254,7 @@ fn one_stream<R: Wait + Clock + Copy>(rt: &R, alloc: Global) -> Option<Vec<Strea
 }
 
 /// Listens at a path where nobody listens any more, and not where somebody does; and the permissions of its file.
-pub(crate) fn listen_twice<R: Files<File = File> + Net>(
+pub(crate) fn listen_twice<R: Files<File = File> + Net + Wait>(
     rt: &R,
     alloc: Global,
 ) -> Result<String, Fail> {
@@ -266,13 +266,16 @@ pub(crate) fn listen_twice<R: Files<File = File> + Net>(
 }
 
 // Whether somebody else can listen where somebody does, and the permissions of the file.
-fn listen_beside<R: Files<File = File> + Net>(rt: &R, alloc: Global) -> io::Result<(bool, u32)> {
+fn listen_beside<R: Files<File = File> + Net + Wait>(
+    rt: &R,
+    alloc: Global,
+) -> io::Result<(bool, u32)> {
     let _first = Listener::bind_path(rt, alloc, PATH, GROUP)?;
     let beside = can_listen(rt, alloc);
     Ok((beside, mode_of(rt)?))
 }
 
-fn can_listen<R: Files<File = File> + Net>(rt: &R, alloc: Global) -> bool {
+fn can_listen<R: Files<File = File> + Net + Wait>(rt: &R, alloc: Global) -> bool {
     Listener::bind_path(rt, alloc, PATH, OWNER_ALONE).is_ok()
 }
 

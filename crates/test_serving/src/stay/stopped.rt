@@ -101,9 +101,9 @@ fn remove_files<R: Files>(rt: &R, alloc: Global) -> io::Result<()> {
     Ok(())
 }
 
-fn listen<R: Files<File = File> + Net>(rt: &R, alloc: Global) -> io::Result<SocketAcceptor> {
-    let clients = Listener::bind_path(rt, alloc, CLIENTS, OWNER_ALONE)?;
-    let control = Listener::bind_path(rt, alloc, CONTROL, OWNER_ALONE)?;
+fn listen<R: Files<File = File> + Net + Wait>(rt: &R, alloc: Global) -> io::Result<SocketAcceptor> {
+    let (clients, _) = Listener::bind_path(rt, alloc, CLIENTS, OWNER_ALONE)?;
+    let (control, _) = Listener::bind_path(rt, alloc, CONTROL, OWNER_ALONE)?;
     Ok(new_acceptor(alloc, clients, Some(control), None)?)
 }
 

@@ -2,7 +2,7 @@
 
 use pn_join::LAST_POSITION;
 use pn_line::Source;
-use pn_serve::{Origin, Stream, WriterEnd};
+use pn_serve::{NextWriter, Origin, Stream, WriterEnd};
 use pn_stay::{StreamOrigin, StreamSource};
 use pn_stream::{NoWait, ResumeFault, StreamFault, StreamReader};
 use std::alloc::Global;
@@ -14,16 +14,29 @@ use std::time::Clock;
 /// How many messages a call reads at most.
 const MOST: usize = 10;
 
+/// The mark that a command makes.
+const RAISED_MARK: u64 = 7;
+
 /// How many calls read a writer at most.
 const CALLS: u32 = 100;
 
-/// Reads the next two writers of a stream to their ends.
+/// Reads the next two writers of a stream to their ends. Between them the stream's mark rises, as a command may raise it.
 pub(super) fn read_two<R>(alloc: Global, stream: &mut Stream<StreamOrigin<R>>) -> Option<u64>
 where
     R: Files<File = File> + Net + Wait + Clock + Copy + Drop,
 {
     let last = read_writer(alloc, stream, 0)?;
+    raise_mark(stream);
     read_writer(alloc, stream, last)
+}
+
+fn raise_mark<R>(stream: &Stream<StreamOrigin<R>>)
+where
+    R: Files<File = File> + Net + Wait + Clock + Copy + Drop,
+{
+    if let Some(taken) = &stream.taken {
+        taken.set(RAISED_MARK);
+    }
 }
 
 /// Reads the next writer of a stream to its end, and answers up to which position the stream was read.
@@ -35,11 +48,11 @@ pub(super) fn read_writer<R>(
 where
     R: Files<File = File> + Net + Wait + Clock + Copy + Drop,
 {
-    let last = last.min(LAST_POSITION);
-    let source = stream.origin.next_writer(last)?;
-    let mut reader = StreamReader::new(alloc, stream.name, last, source);
+    let NextWriter { source, after } = stream.origin.next_writer(last)?;
+    let after = after.min(LAST_POSITION);
+    let mut reader = StreamReader::new(alloc, stream.name, after, source);
     let end = read_to_end(alloc, stream, &mut reader);
-    let last = last.max(reader.position());
+    let last = after.max(reader.position());
     stream.origin.end_writer(reader.into_source(), &end, last);
     Some(last)
 }

@@ -6,7 +6,7 @@ ghost use Rattle.pn_line.specs.Prelude.{so_far};
 ghost use Rattle.pn_line.specs.Reads.{HasMore, Takes, newline_after};
 ghost use Rattle.pn_line.specs.declared.line_buffer.TheConstants.{ENDLESS};
 ghost use Rattle.pn_serve.specs.Lines.Bounds.{CountsUnits, Foresees, ForeseesStep, HandsOnAtMost, HandsOnStep, IsWaitingAt, IsOutAs, ReadsOn};
-ghost use Rattle.pn_serve.specs.Lines.Faults.{EndsByAt, EndsByStep, StopsBy};
+ghost use Rattle.pn_serve.specs.Lines.Faults.{EndsByAt, EndsByStep, IsAtLimit, StopsBy};
 ghost use Rattle.pn_serve.specs.Lines.Made.{MakesAtMost, made_by};
 ghost use Rattle.pn_serve.specs.Lines.States.{Start};
 ghost use Rattle.pn_serve.specs.Lines.Stepping.{by, with_rest, Stands, StepsTo};
@@ -53,6 +53,7 @@ impl LineLoop {
         ensures read_fault { EndsByStep RunFault.Read self.new result → S.may_fail }
         ensures write_fault { EndsByStep RunFault.Write self.new result → W.has_failed output.new }
         ensures write_stage { (units : ℕ) → result ≡ Step.Next units → EndsByAt RunFault.Write self.new.state.stage → ⊥ }
+        ensures limit_fault { EndsByStep RunFault.TooManyTurns self.new result → IsAtLimit self.old }
         ensures knows { KnowsNoLess (M.reader machine.old) (M.reader machine.new) }
     {
         if !self.may_read() {

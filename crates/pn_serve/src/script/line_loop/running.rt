@@ -1,16 +1,19 @@
 //! A line loop whose input and output do not wait: what they have not at hand will not come.
 
-ghost use Rattle.std.specs.Prelude.{◌≡◌, ◌≢◌, ◌↔◌, ◌+◌, ◌<◌, ◌≤◌, ℕ, List, [], Option, None, Some, Err, IfOk, IfErr, IfSome, OnErr, IsTrue};
+ghost use Rattle.std.specs.Prelude.{◌≡◌, ◌≢◌, ◌⊎◌, ◌↔◌, ◌+◌, ◌<◌, ◌≤◌, ℕ, List, [], Option, None, Some, Err, IfOk, IfErr, IfSome, OnErr, IsFalse, IsTrue};
 ghost use Rattle.std.specs.Io.KnownBytes.{Appends};
 ghost use Rattle.pn_line.specs.Prelude.{AppendsPrefix};
 ghost use Rattle.pn_serve.specs.Lines.Bounds.{ForeseesRun, Foresees, HandsOnRun, IsFreshAt, IsNoFarther, IsOutAs, IsSettled, looks_after, looks_left, reads_left};
-ghost use Rattle.pn_serve.specs.Lines.States.{Start, waits_in};
+ghost use Rattle.pn_serve.specs.Lines.Faults.{EndsByAt, EndsByRun, IsAtLimit};
+ghost use Rattle.pn_serve.specs.Lines.States.{Start, new_loop, waits_in};
 ghost use Rattle.pn_serve.specs.Lines.Stepping.{by, RunsTo, Stands};
 ghost use Rattle.pn_serve.specs.Lines.Taking.{IsSent};
 ghost use Rattle.pn_serve.specs.Lines.Waiting.{HandsOn};
 ghost use Rattle.pn_serve.specs.Session.Knowing.{IsSteady, KnowsNoLess};
+ghost use Rattle.pn_serve.specs.declared.script.TheConstants.{MAX_LINES};
 
 use crate::machine::line_handler::LineHandler;
+use crate::script::MAX_LINES;
 use crate::script::line_loop::state::Stage;
 use crate::script::line_loop::{LineLoop, Step, TURN_UNITS};
 use crate::script::replies::SendOutcome;
@@ -40,6 +43,7 @@ impl LineLoop {
         ensures out { result ≡ None → IsOutAs self.old (W.is_handed_on output.old) → IsOutAs self.new (W.is_handed_on output.new) }
         ensures handed_on { HandsOnRun result (W.is_handed_on output.new) }
         ensures foresees { Foresees S.may_fail W.may_fail S.may_end self.old → ForeseesRun S.may_fail W.may_fail S.may_end self.new result }
+        ensures limit { EndsByRun RunFault.TooManyTurns self.new result → EndsByAt RunFault.TooManyTurns self.old.state.stage ⊎ ((self.old.state.stage ≡ Stage.Reading) × IsAtLimit self.old) }
         ensures knows { KnowsNoLess (M.reader machine.old) (M.reader machine.new) }
     {
         match self.step(machine, input, output, TURN_UNITS) {
@@ -67,6 +71,7 @@ impl LineLoop {
         ensures out { result ≡ None → IsOutAs self.old (W.is_handed_on output.old) → IsOutAs self.new (W.is_handed_on output.new) }
         ensures fault { IfSome result (λ ended. (ended ≡ Err RunFault.Write) × W.may_fail) }
         ensures foresees { result ≡ None → Foresees S.may_fail W.may_fail S.may_end self.old → Foresees S.may_fail W.may_fail S.may_end self.new }
+        ensures limit { result ≡ None → EndsByAt RunFault.TooManyTurns self.new.state.stage → EndsByAt RunFault.TooManyTurns self.old.state.stage }
         ensures knows { KnowsNoLess (M.reader machine.old) (M.reader machine.new) }
     {
         'looks: loop {
@@ -110,6 +115,30 @@ impl LineLoop {
         ensures { IsTrue result ↔ ((self.now.state.stage ≡ Stage.Reading) × (self.now.line.count ≡ 0)) }
     {
         self.state.is_reading() && self.line.is_empty()
+    }
+
+    /// Whether as many lines were answered as may be.
+    pub(crate) fn is_full(&self) -> bool
+        ensures full { IsTrue result → MAX_LINES ≤ self.now.state.counts.lines }
+        ensures few { IsFalse result → self.now.state.counts.lines < MAX_LINES }
+    {
+        self.counts().lines >= MAX_LINES
+    }
+
+    /// Begins anew between two lines, once what waits is written.
+    pub(crate) fn begin_run<W: Sink>(&mut self, output: &mut W) -> Result<(), RunFault>
+        requires made { self.old.state.left ≡ [] }
+        ensures ok { IfOk result (λ _. (self.new ≡ new_loop) × Appends (W.contents output.old) (W.contents output.new) (waits_in self.old)) }
+        ensures err { OnErr result (AppendsPrefix (W.contents output.old) (W.contents output.new) (waits_in self.old)) }
+        ensures fault { IfErr result (λ fault. (fault ≡ RunFault.Write) × W.may_fail) }
+    {
+        match self.close(output) {
+            Ok(_) => {
+                self.begin_anew();
+                Ok(())
+            }
+            Err(fault) => Err(fault),
+        }
     }
 
     /// Ends between two lines, once what waits is written.

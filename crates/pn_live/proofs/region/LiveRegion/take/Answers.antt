@@ -74,6 +74,7 @@ returns g c =
       refused = tt;
       err = tt;
       left = tt;
+      kept = tt;
       fits = subst (λ (ns : List TabletNoteValue). AreNotesOf (tablets_in was) ns) (sym front) taken.fits;
       log = ap (λ (l : LiveRegionValue). l.log) (c.self.view_is ∙ said.same);
       same = taken.same;

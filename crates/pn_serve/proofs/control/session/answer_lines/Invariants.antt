@@ -1,23 +1,19 @@
--- The loop stands, and has less to do after each step.
-use Rattle.std.proofs.Common.{◌+◌, ◌≤◌}
-use Rattle.pn_scan.specs.Paging.{Stays}
-use Rattle.pn_serve.specs.Control.Lines.{AnswersControl, EndsControl}
-use Rattle.pn_serve.specs.Lines.Bounds.{Foresees, IsOutAs, IsSettled, looks_left, reads_left}
-use Rattle.pn_serve.specs.Lines.States.{new_loop, start_at}
-use Rattle.pn_serve.specs.Lines.Stepping.{Stands, by}
+-- The session is underway, and as many lines as may be answered were not.
+use Rattle.std.proofs.Common.{◌≡◌, ◌<◌}
+use Rattle.pn_serve.specs.Lines.Bounds.{Foresees, IsOutAs, IsSettled}
+use Rattle.pn_serve.specs.Lines.States.{start_at}
 use Rattle.pn_serve.specs.Session.Knowing.{KnowsNoLess}
+use Rattle.pn_serve.specs.declared.script.TheConstants.{MAX_LINES}
+use Rattle.pn_serve.specs.declared.script.line_loop.state.Stage.TheVariants.{Reading}
+use Rattle.pn_serve.proofs.ControlEnds.{Underway}
 use Rattle.pn_serve.proofs.control.session.answer_lines.Given as goal
 
-abbrev pub invariant-reads : goal.invariant-reads
-invariant-reads g l = record {
-  stands : Stands (by Stays AnswersControl EndsControl (λ _ _ _ _. ⊥) (λ _ _ _ _. ⊥))
-      (start_at l.initial.handler (g.S.Source.left l.initial.input) (g.W.Sink.contents l.initial.output)) (g.S.Source.left l.input) (g.W.Sink.contents l.output) l.handler l.lines;
+abbrev pub invariant-loop : goal.invariant-loop
+invariant-loop g l = record {
+  underway : Underway (start_at l.fn.handler (g.S.Source.left l.fn.input) (g.W.Sink.contents l.fn.output)) (g.S.Source.left l.input) (g.W.Sink.contents l.output) l.handler l.lines;
+  few : l.lines.state.stage ≡ Reading → l.lines.state.counts.lines < MAX_LINES;
   settled : IsSettled l.lines;
-  looks : g.S.Source.looks l.input + looks_left l.lines ≤ g.S.Source.looks l.initial.input + looks_left new_loop;
   out : IsOutAs l.lines (g.W.Sink.is_handed_on l.output);
   foresees : Foresees g.S.Source.may_fail g.W.Sink.may_fail g.S.Source.may_end l.lines;
-  knows : KnowsNoLess l.initial.handler.reader l.handler.reader;
+  knows : KnowsNoLess l.fn.handler.reader l.handler.reader;
 }
-
-abbrev pub decreases-reads : goal.decreases-reads
-decreases-reads g l = reads_left l.lines

@@ -13,7 +13,7 @@ loop-preserved g c = record {
   same = c.obey_all.ensures.same ∙ c.loop.invariant.same;
 }
 
-pub returns-in-Some-stop_asked-clause-runs : goal.returns-in-Some-stop_asked-clause-runs
-returns-in-Some-stop_asked-clause-runs g c =
+pub returns-in-Some-show_stop-clause-runs : goal.returns-in-Some-show_stop-clause-runs
+returns-in-Some-show_stop-clause-runs g c =
     ran_on GoOn [] c.args.live.now [] None c.obey_all.new.live
     (more_told GoOn [] c.args.live.now [] None c.loop.live c.obey_all.new.live c.loop.invariant.so_far (c.obey_all.ensures.told GoOn [] None))

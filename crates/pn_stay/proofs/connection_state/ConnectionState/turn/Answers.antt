@@ -22,27 +22,27 @@ returns-clause-turns g c = λ start steady continues.
     let written = g.W.Sink.contents c.send_and_step-step.new.output in
     let loaded = subst (λ (k : ConnectionValue). Continues H start (at (g.R.Input.remaining c.args.input.now) (g.W.Sink.contents c.args.output.now) c.args.machine.now k)) (sym c.load.ensures) continues in
     let stepped = c.send_and_step-step.ensures.steps start steady loaded in
-    Turns-stored H start left written c.send_and_step-step.new.machine kept c.store.new.self c.send_and_step-step.result c.store.result stepped.0 c.store.ensures.stores stepped.1 stepped.2
+    Turns-stored H start left written c.send_and_step-step.new.machine kept c.store-outcome.new.self c.send_and_step-step.result c.store-outcome.result stepped.0 c.store-outcome.ensures.stores stepped.1 stepped.2
     (λ stands. c.recall_cut.ensures start (prepend_known stepped.0 left) written written steady stands (AppendsPrefix-none written (waits_in (loop_of kept))))
 
 pub returns-clause-pauses : goal.returns-clause-pauses
-returns-clause-pauses g c = c.store.ensures.pauses c.send_and_step-step.ensures.stops
+returns-clause-pauses g c = c.store-outcome.ensures.pauses c.send_and_step-step.ensures.stops
 
 pub returns-clause-bounds : goal.returns-clause-bounds
 returns-clause-bounds g c =
     let stepped = c.send_and_step-step.ensures.bounds in record {
       few = stepped.few;
       written = c.send_and_step-step.ensures.written;
-      answers = answers_stored TURN_UNITS c.args.self.now (in_buffers c.load.new.buffers) (in_buffers c.send_and_step-step.new.buffers) c.store.new.self c.load.ensures stepped.answers c.send_and_step-step.result c.store.result c.store.ensures.stores;
-      looked = looked_stored most_looked c.args.self.now (in_buffers c.load.new.buffers) (in_buffers c.send_and_step-step.new.buffers) c.store.new.self c.load.ensures stepped.looked c.send_and_step-step.result c.store.result c.store.ensures.stores;
+      answers = answers_stored TURN_UNITS c.args.self.now (in_buffers c.load.new.buffers) (in_buffers c.send_and_step-step.new.buffers) c.store-outcome.new.self c.load.ensures stepped.answers c.send_and_step-step.result c.store-outcome.result c.store-outcome.ensures.stores;
+      looked = looked_stored most_looked c.args.self.now (in_buffers c.load.new.buffers) (in_buffers c.send_and_step-step.new.buffers) c.store-outcome.new.self c.load.ensures stepped.looked c.send_and_step-step.result c.store-outcome.result c.store-outcome.ensures.stores;
     }
 
 pub returns-clause-read_fault : goal.returns-clause-read_fault
 returns-clause-read_fault g c = λ ends.
-    let stepped = fault_stored Read (in_buffers c.send_and_step-step.new.buffers) c.store.new.self c.send_and_step-step.result c.store.result c.store.ensures.stores ends in
+    let stepped = fault_stored Read (in_buffers c.send_and_step-step.new.buffers) c.store-outcome.new.self c.send_and_step-step.result c.store-outcome.result c.store-outcome.ensures.stores ends in
     before_or _ _ _ (λ was. subst (λ (k : ConnectionValue). EndsByAt Read k.state.stage) c.load.ensures was) (c.send_and_step-step.ensures.faults.read stepped)
 
 pub returns-clause-write_fault : goal.returns-clause-write_fault
 returns-clause-write_fault g c = λ ends.
-    let stepped = fault_stored Write (in_buffers c.send_and_step-step.new.buffers) c.store.new.self c.send_and_step-step.result c.store.result c.store.ensures.stores ends in
+    let stepped = fault_stored Write (in_buffers c.send_and_step-step.new.buffers) c.store-outcome.new.self c.send_and_step-step.result c.store-outcome.result c.store-outcome.ensures.stores ends in
     before_or _ _ _ (λ was. subst (λ (k : ConnectionValue). EndsByAt Write k.state.stage) c.load.ensures was) (c.send_and_step-step.ensures.faults.write stepped)

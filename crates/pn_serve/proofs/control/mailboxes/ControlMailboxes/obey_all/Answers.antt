@@ -9,7 +9,7 @@ loop-mailbox-init g c = record { told = λ at_fault names waiting. none_told at_
 
 pub loop-mailbox-preserved : goal.loop-mailbox-preserved
 loop-mailbox-preserved g c = record {
-  told = λ at_fault names waiting. one_told at_fault names waiting c.args.live.now c.loop-mailbox.live c.give_answer.new.live c.in-Some.command (answer_of c.give_answer.result.answer)
-      (c.loop-mailbox.invariant.told at_fault names waiting) c.give_answer.ensures.obeys;
-  same = c.give_answer.ensures.same ∙ c.loop-mailbox.invariant.same;
+  told = λ at_fault names waiting. one_told at_fault names waiting c.args.live.now c.loop-mailbox.live c.give_answer-answer.new.live c.in-Some.command (answer_of c.give_answer-answer.result.answer)
+      (c.loop-mailbox.invariant.told at_fault names waiting) c.give_answer-answer.ensures.obeys;
+  same = c.give_answer-answer.ensures.same ∙ c.loop-mailbox.invariant.same;
 }

@@ -3,15 +3,8 @@ use Rattle.std.proofs.Common.{subst}
 use Rattle.pn_serve.specs.Control.Ends.{ControlEnds}
 use Rattle.pn_serve.specs.Control.Lines.{ControlState}
 use Rattle.pn_serve.specs.Lines.States.{start_at}
-use Rattle.pn_serve.proofs.ControlEnds.{client_unread, client_knows}
-use Rattle.pn_serve.proofs.Knowing.{knows_itself}
+use Rattle.pn_serve.proofs.ControlEnds.{client_knows}
 use Rattle.pn_serve.proofs.control.session.ControlSession.answer.Goals as goal
-
-pub returns-in_default-clause-ends : goal.returns-in_default-clause-ends
-returns-in_default-clause-ends g c = client_unread _ _ _
-
-pub returns-in_default-clause-knows : goal.returns-in_default-clause-knows
-returns-in_default-clause-knows g c = knows_itself _
 
 pub returns-clause-ends : goal.returns-clause-ends
 returns-clause-ends g c = record {

@@ -1,10 +1,11 @@
 -- A step, and what goes on with it, lead where the loop stands, or has ended.
 use Rattle.std.proofs.Common.{◌+◌, [], Some, refl, arith}
 use Rattle.std.specs.Prelude.{Err}
-use Rattle.pn_serve.specs.declared.script.RunFault.TheVariants.{Write}
+use Rattle.pn_serve.specs.declared.script.RunFault.TheVariants.{Write, TooManyTurns}
 use Rattle.pn_serve.specs.Lines.Bounds.{looks_left}
 use Rattle.pn_serve.specs.Lines.Stepping.{by}
 use Rattle.pn_serve.proofs.Bounded.{end_foresees, end_out}
+use Rattle.pn_serve.proofs.Faults.{no_limit, run_limit}
 use Rattle.pn_serve.proofs.Knowing.{knows_on}
 use Rattle.pn_serve.proofs.Measured.{end_nearer, reads_more}
 use Rattle.pn_serve.proofs.Running.{RunsTo-whole, Stands-here, Stands-whole, at_end_of, foresees_run, hands_run, looks_run}
@@ -41,6 +42,10 @@ returns-in-Next-clause-handed_on g c =
 pub returns-in-Next-clause-foresees : goal.returns-in-Next-clause-foresees
 returns-in-Next-clause-foresees g c =
     λ was. foresees_run g.S.Source.may_fail g.W.Sink.may_fail g.S.Source.may_end c.step.new.self c.settle.new.self c.settle.result c.settle.ensures.foresees c.settle.ensures.fault (c.in-Next.ensures.foresees was)
+
+pub returns-in-Next-clause-limit : goal.returns-in-Next-clause-limit
+returns-in-Next-clause-limit g c =
+    λ ends. c.in-Next.ensures.limit_fault (run_limit g.W.Sink.may_fail c.step.new.self c.settle.new.self c.settle.result c.settle.ensures.limit c.settle.ensures.fault ends)
 
 pub returns-in-Next-clause-knows : goal.returns-in-Next-clause-knows
 returns-in-Next-clause-knows g c =
@@ -88,6 +93,10 @@ returns-in-NoInput-clause-foresees g c =
     foresees_run g.S.Source.may_fail g.W.Sink.may_fail g.S.Source.may_end c.end_input.new.self c.settle-in-NoInput.new.self c.settle-in-NoInput.result c.settle-in-NoInput.ensures.foresees c.settle-in-NoInput.ensures.fault
     (end_foresees g.S.Source.may_fail g.W.Sink.may_fail g.S.Source.may_end c.step.new.self c.end_input.new.self (c.in-NoInput.ensures.foresees was) c.in-NoInput.ensures.waiting.0 (c.in-NoInput.ensures.end refl) c.end_input.ensures.some c.end_input.ensures.none)
 
+pub returns-in-NoInput-clause-limit : goal.returns-in-NoInput-clause-limit
+returns-in-NoInput-clause-limit g c =
+    λ ends. absurd (c.end_input.ensures.faults TooManyTurns (run_limit g.W.Sink.may_fail c.end_input.new.self c.settle-in-NoInput.new.self c.settle-in-NoInput.result c.settle-in-NoInput.ensures.limit c.settle-in-NoInput.ensures.fault ends))
+
 pub returns-in-NoInput-clause-knows : goal.returns-in-NoInput-clause-knows
 returns-in-NoInput-clause-knows g c =
     let M = g.M.LineHandler in
@@ -112,6 +121,9 @@ pub returns-in-NoRoom-clause-foresees : goal.returns-in-NoRoom-clause-foresees
 returns-in-NoRoom-clause-foresees g c =
     λ was. c.in-NoRoom.ensures.room refl
 
+pub returns-in-NoRoom-clause-limit : goal.returns-in-NoRoom-clause-limit
+returns-in-NoRoom-clause-limit g c = λ ends. absurd (no_limit ends)
+
 pub returns-in-Ends-clause-runs : goal.returns-in-Ends-clause-runs
 returns-in-Ends-clause-runs g c =
     let M = g.M.LineHandler in
@@ -130,3 +142,6 @@ returns-in-Ends-clause-looks g c =
 pub returns-in-Ends-clause-foresees : goal.returns-in-Ends-clause-foresees
 returns-in-Ends-clause-foresees g c =
     λ was. c.in-Ends.ensures.foresees was
+
+pub returns-in-Ends-clause-limit : goal.returns-in-Ends-clause-limit
+returns-in-Ends-clause-limit g c = λ ends. c.in-Ends.ensures.limit_fault ends

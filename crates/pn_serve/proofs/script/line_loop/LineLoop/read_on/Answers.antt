@@ -7,7 +7,7 @@ use Rattle.pn_line.specs.declared.piece.Piece.TheVariants.{Part, Ended, NoMore}
 use Rattle.pn_line.specs.Line.{LineBufferValue, so_far}
 use Rattle.pn_line.specs.Reads.{HasMore, HasShown, Takes as ReadTakes, newline_after}
 use Rattle.pn_serve.specs.declared.script.RunFault.{RunFault}
-use Rattle.pn_serve.specs.declared.script.RunFault.TheVariants.{Read, Write}
+use Rattle.pn_serve.specs.declared.script.RunFault.TheVariants.{Read, Write, TooManyTurns}
 use Rattle.pn_serve.specs.declared.script.TheConstants.{MAX_LINES}
 use Rattle.pn_serve.specs.declared.script.line_loop.state.Stage.TheVariants.{Reading, Ending}
 use Rattle.pn_serve.specs.declared.script.line_loop.steps.Step.{Step}
@@ -20,7 +20,7 @@ use Rattle.pn_serve.specs.Lines.States.{LineLoopValue, LineStateValue}
 use Rattle.pn_serve.specs.Lines.Stepping.{StepsTo, by, with_rest}
 use Rattle.pn_serve.specs.Lines.Taking.{Takes, TakesLine}
 use Rattle.pn_serve.proofs.Bounded.{counts_nothing, is_not_last, out_of, piece_foresees, sends_counted, shown_rest, stops_foresees, takes_foresees, takes_grows, takes_lines, takes_looked, takes_out, waits_counted, waits_foresees, waits_for_input}
-use Rattle.pn_serve.proofs.Faults.{ends_by_found, reads_on, sends_failed, sends_next_on, sends_no_read, takes_on, waits_failed, waits_no_next, waits_no_read}
+use Rattle.pn_serve.proofs.Faults.{at_limit, ends_by_found, limit_other, reads_on, sends_failed, sends_next_on, sends_no_read, sends_none, takes_on, waits_failed, waits_no_next, waits_no_read, waits_none}
 use Rattle.pn_serve.proofs.Knowing.{knows_itself}
 use Rattle.pn_serve.proofs.Made.{makes_none, makes_unwritten}
 use Rattle.pn_serve.proofs.Measured.{answer_nearer, fault_nearer, out_nearer, part_nearer, waits_nearer}
@@ -53,6 +53,9 @@ returns-then-not-may_read-clause-looked g c = c.put_out.ensures.same.looked
 
 pub returns-then-not-may_read-clause-read_fault : goal.returns-then-not-may_read-clause-read_fault
 returns-then-not-may_read-clause-read_fault g c = λ ends. absurd (sends_no_read c.args.self.now c.put_out.new.self _ _ c.requires.reading c.put_out.result c.put_out.ensures.sends ends)
+
+pub returns-then-not-may_read-clause-limit_fault : goal.returns-then-not-may_read-clause-limit_fault
+returns-then-not-may_read-clause-limit_fault g c = λ ends. absurd (sends_none c.args.self.now c.put_out.new.self _ _ c.requires.reading TooManyTurns limit_other c.put_out.result c.put_out.ensures.sends ends)
 
 pub returns-then-not-may_read-clause-write_fault : goal.returns-then-not-may_read-clause-write_fault
 returns-then-not-may_read-clause-write_fault g c = λ ends. sends_failed c.args.self.now c.put_out.new.self _ _ c.requires.reading (g.W.Sink.has_failed c.put_out.new.output) c.put_out.result c.put_out.ensures.failed c.put_out.ensures.sends ends
@@ -106,6 +109,9 @@ returns-in-Ok-Part-clause-looked g c = ap (λ (r : LineLoopValue). r.state.looke
 
 pub returns-in-Ok-Part-clause-read_fault : goal.returns-in-Ok-Part-clause-read_fault
 returns-in-Ok-Part-clause-read_fault g c = λ ends. absurd (reads_on Read c.read_piece.new.self.state.stage (ap (λ (r : LineLoopValue). r.state.stage) c.read_piece.ensures.line ∙ c.requires.reading) ends)
+
+pub returns-in-Ok-Part-clause-limit_fault : goal.returns-in-Ok-Part-clause-limit_fault
+returns-in-Ok-Part-clause-limit_fault g c = λ ends. absurd (reads_on TooManyTurns c.read_piece.new.self.state.stage (ap (λ (r : LineLoopValue). r.state.stage) c.read_piece.ensures.line ∙ c.requires.reading) ends)
 
 pub returns-in-Ok-Part-clause-write_fault : goal.returns-in-Ok-Part-clause-write_fault
 returns-in-Ok-Part-clause-write_fault g c = λ ends. absurd (reads_on Write c.read_piece.new.self.state.stage (ap (λ (r : LineLoopValue). r.state.stage) c.read_piece.ensures.line ∙ c.requires.reading) ends)
@@ -172,6 +178,9 @@ returns-in-Ok-Ended-clause-looked g c = takes_looked true _ c.answer.new.self (t
 pub returns-in-Ok-Ended-clause-read_fault : goal.returns-in-Ok-Ended-clause-read_fault
 returns-in-Ok-Ended-clause-read_fault g c = λ ends. absurd (takes_on true _ c.answer.new.self Read c.answer.ensures.takes ends)
 
+pub returns-in-Ok-Ended-clause-limit_fault : goal.returns-in-Ok-Ended-clause-limit_fault
+returns-in-Ok-Ended-clause-limit_fault g c = λ ends. absurd (takes_on true _ c.answer.new.self TooManyTurns c.answer.ensures.takes ends)
+
 pub returns-in-Ok-Ended-clause-write_fault : goal.returns-in-Ok-Ended-clause-write_fault
 returns-in-Ok-Ended-clause-write_fault g c = λ ends. absurd (takes_on true _ c.answer.new.self Write c.answer.ensures.takes ends)
 
@@ -236,6 +245,10 @@ pub returns-in-Ok-NoMore-clause-read_fault : goal.returns-in-Ok-NoMore-clause-re
 returns-in-Ok-NoMore-clause-read_fault g c =
     λ ends. absurd (waits_no_read c.read_piece.new.self c.wait_for_input.new.self _ _ (read_none g c) c.wait_for_input.result c.wait_for_input.ensures.waits ends)
 
+pub returns-in-Ok-NoMore-clause-limit_fault : goal.returns-in-Ok-NoMore-clause-limit_fault
+returns-in-Ok-NoMore-clause-limit_fault g c =
+    λ ends. absurd (waits_none c.read_piece.new.self c.wait_for_input.new.self _ _ (read_none g c) TooManyTurns limit_other c.wait_for_input.result c.wait_for_input.ensures.waits ends)
+
 pub returns-in-Ok-NoMore-clause-write_fault : goal.returns-in-Ok-NoMore-clause-write_fault
 returns-in-Ok-NoMore-clause-write_fault g c =
     λ ends. waits_failed c.read_piece.new.self c.wait_for_input.new.self _ _ (read_none g c) (g.W.Sink.has_failed c.wait_for_input.new.output) c.wait_for_input.result c.wait_for_input.ensures.failed c.wait_for_input.ensures.waits ends
@@ -274,6 +287,10 @@ returns-in-Err-clause-waits g c = λ more out. let no : true ≡ false = sym c.i
 
 pub returns-in-Err-clause-read_fault : goal.returns-in-Err-clause-read_fault
 returns-in-Err-clause-read_fault g c = λ ends. stops_by g c Read (ends_by_found Read c.in-Err.fault c.end_reading.new.self c.end_reading.result c.end_reading.ensures.step (ap (λ (r : LineLoopValue). r.state.stage) (stops g c)) ends)
+
+pub returns-in-Err-clause-limit_fault : goal.returns-in-Err-clause-limit_fault
+returns-in-Err-clause-limit_fault g c =
+    λ ends. at_limit g.S.Source.may_fail (g.S.Source.left c.args.input.now) c.args.self.now (stops_by g c TooManyTurns (ends_by_found TooManyTurns c.in-Err.fault c.end_reading.new.self c.end_reading.result c.end_reading.ensures.step (ap (λ (r : LineLoopValue). r.state.stage) (stops g c)) ends))
 
 pub returns-in-Err-clause-write_fault : goal.returns-in-Err-clause-write_fault
 returns-in-Err-clause-write_fault g c = λ ends. absurd (stops_by g c Write (ends_by_found Write c.in-Err.fault c.end_reading.new.self c.end_reading.result c.end_reading.ensures.step (ap (λ (r : LineLoopValue). r.state.stage) (stops g c)) ends))

@@ -2,15 +2,18 @@
 use Rattle.std.proofs.Common.{◌≡◌, true, sym, ap, ◌∙◌, subst, arith}
 use Rattle.std.specs.Prelude.{Result, Err}
 use Rattle.pn_serve.specs.declared.script.RunFault.{RunFault}
+use Rattle.pn_serve.specs.declared.script.RunFault.TheVariants.{TooManyTurns}
 use Rattle.pn_serve.specs.declared.script.Counts.{Counts}
 use Rattle.pn_serve.specs.declared.script.line_loop.state.Stage.{Stage}
 use Rattle.pn_serve.specs.declared.script.line_loop.state.Stage.TheVariants.{Reading, Looking}
 use Rattle.pn_serve.specs.Lines.Bounds.{Foresees, ForeseesAt, IsFreshAt, IsNoFarther, IsOutAs, IsSettled, reads_at, reads_left, looks_left, looks_left_at, stage_left}
+use Rattle.pn_serve.specs.Lines.Faults.{EndsByAt}
 use Rattle.pn_serve.specs.Lines.Going.{AnswersLast, AnswersWith}
 use Rattle.pn_serve.specs.Lines.States.{LineLoopValue, LineStateValue, with_looked}
 use Rattle.pn_serve.specs.Lines.Stepping.{HasEnded, Stands, StandsAt, by}
 use Rattle.pn_serve.specs.Lines.Taking.{Takes, TakesLine}
 use Rattle.pn_serve.proofs.Bounded.{kept_foresees, takes_foresees, takes_out}
+use Rattle.pn_serve.proofs.Faults.{takes_on}
 use Rattle.pn_serve.proofs.Knowing.{knows_itself, knows_on}
 use Rattle.pn_serve.proofs.Measured.{kept_no_farther, look_no_farther}
 use Rattle.pn_serve.proofs.Running.{not_looking, put_back}
@@ -89,12 +92,21 @@ returns-in_default-clause-foresees g c =
     subst (λ (r : LineLoopValue). Foresees g.S.Source.may_fail g.W.Sink.may_fail g.S.Source.may_end r) (sym back)
     (kept_foresees c.looks.self whole (g.W.Sink.contents c.looks.output) (g.W.Sink.contents c.write_out.new.output) g.S.Source.may_fail g.W.Sink.may_fail g.S.Source.may_end sent.kept (c.looks.invariant.foresees was))
 
+pub returns-in_default-clause-limit : goal.returns-in_default-clause-limit
+returns-in_default-clause-limit g c =
+    let whole = c.write_out.new.self in
+    let back : (let r : LineLoopValue = record { line = c.self.inside.line; replies = c.self.inside.replies; state = c.set_stage.new.self } in r) ≡ whole =
+    ap (λ (s : LineStateValue). let r : LineLoopValue = record { line = c.self.inside.line; replies = c.self.inside.replies; state = s } in r)
+    (put_back c.self.inside.state c.take_stage.new.self c.set_stage.new.self c.take_stage.result c.take_stage.ensures.reads c.take_stage.ensures.stage c.set_stage.ensures) ∙ c.self.view_is in
+    λ none ends. c.looks.invariant.limit (subst (λ (s : Stage). EndsByAt TooManyTurns s) c.in-Ok.ensures.ok.kept.stage (subst (λ (r : LineLoopValue). EndsByAt TooManyTurns r.state.stage) back ends))
+
 pub looks-init : goal.looks-init
 looks-init g c = record {
   runs = λ start left steady stands. stands;
   farther = λ fresh. (record { reads = omega arith; looks = omega arith }, fresh);
   out = λ out. out;
   foresees = λ was. was;
+  limit = λ ends. ends;
   knows = knows_itself _;
 }
 
@@ -129,6 +141,7 @@ looks-preserved g c =
           let at = subst (λ (s : Stage). ForeseesAt s g.S.Source.may_fail g.W.Sink.may_fail g.S.Source.may_end whole) looking
           (kept_foresees c.looks.self whole (g.W.Sink.contents c.looks.output) (g.W.Sink.contents c.write_out.new.output) g.S.Source.may_fail g.W.Sink.may_fail g.S.Source.may_end sent.kept (c.looks.invariant.foresees was)) in
           takes_foresees true mid new g.S.Source.may_fail g.W.Sink.may_fail g.S.Source.may_end takes at.0 at.1 at.2;
+      limit = λ ends. absurd (takes_on true mid new TooManyTurns takes ends);
       knows = knows_on (M.reader c.args.machine.now) (M.reader c.looks.machine) (M.reader c.look_on.new.machine) c.looks.invariant.knows c.look_on.ensures.knows;
     }
 

@@ -1,9 +1,11 @@
 -- What stood stands, no more is left to be read, and less of the look.
 use Rattle.std.proofs.Common.{List, ℕ, Option}
 use Rattle.pn_serve.specs.Lines.Bounds.{Foresees, IsFreshAt, IsNoFarther, IsOutAs, stage_left}
+use Rattle.pn_serve.specs.Lines.Faults.{EndsByAt}
 use Rattle.pn_serve.specs.Lines.States.{Start}
 use Rattle.pn_serve.specs.Lines.Stepping.{Stands, by}
 use Rattle.pn_serve.specs.Session.Knowing.{IsSteady, KnowsNoLess}
+use Rattle.pn_serve.specs.declared.script.RunFault.TheVariants.{TooManyTurns}
 use Rattle.pn_serve.proofs.script.line_loop.LineLoop.settle.Given as goal
 
 abbrev pub invariant-looks : goal.invariant-looks
@@ -15,6 +17,7 @@ invariant-looks g l =
       farther : IsFreshAt l.initial.self.state.stage l.initial.self → IsNoFarther l.initial.self l.self × IsFreshAt l.self.state.stage l.self;
       out : IsOutAs l.initial.self (g.W.Sink.is_handed_on l.initial.output) → IsOutAs l.self (g.W.Sink.is_handed_on l.output);
       foresees : Foresees g.S.Source.may_fail g.W.Sink.may_fail g.S.Source.may_end l.initial.self → Foresees g.S.Source.may_fail g.W.Sink.may_fail g.S.Source.may_end l.self;
+      limit : EndsByAt TooManyTurns l.self.state.stage → EndsByAt TooManyTurns l.initial.self.state.stage;
       knows : KnowsNoLess (M.reader l.initial.machine) (M.reader l.machine);
     }
 

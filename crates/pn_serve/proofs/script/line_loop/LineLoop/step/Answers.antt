@@ -2,19 +2,19 @@
 use Rattle.std.proofs.Common.{◌≡◌, ◌≢◌, ◌⊎◌, ◌+◌, ◌*◌, ◌<◌, ◌≤◌, ℕ, length, true, [], inl, inr, refl, sym, ap, ◌∙◌, subst, arith}
 use Rattle.pn_line.specs.Line.{LineBufferValue}
 use Rattle.pn_serve.specs.declared.script.replies.TheConstants.{REPLY_CAPACITY}
-use Rattle.pn_serve.specs.declared.script.RunFault.TheVariants.{Read, Write}
+use Rattle.pn_serve.specs.declared.script.RunFault.TheVariants.{Read, Write, TooManyTurns}
 use Rattle.pn_serve.specs.declared.script.line_loop.state.Stage.{Stage}
 use Rattle.pn_serve.specs.declared.script.line_loop.state.Stage.TheVariants.{Reading, Looking, Ending}
 use Rattle.pn_serve.specs.Lines.Bounds.{CountsStages, CountsUnits, Foresees, ForeseesAt, HandsOnAtMost, IsLookingAt, IsOutAs, KeepsLine, ReadsOn}
 use Rattle.pn_serve.specs.declared.sessions.going.Going.{Going}
-use Rattle.pn_serve.specs.Lines.Faults.{EndsByAt}
+use Rattle.pn_serve.specs.Lines.Faults.{EndsByAt, IsAtLimit}
 use Rattle.pn_serve.specs.Lines.Going.{AnswersLast, AnswersWith}
 use Rattle.pn_serve.specs.Lines.Made.{MakesAtMost, made_by, made_in}
 use Rattle.pn_serve.specs.Lines.States.{LineLoopValue, LineStateValue, with_looked}
 use Rattle.pn_serve.specs.Lines.Stepping.{Stands, StandsAt, by, with_rest}
 use Rattle.pn_serve.specs.Lines.Taking.{EndsTo, Takes, TakesLine}
 use Rattle.pn_serve.proofs.Bounded.{counts_nothing, ends_counted, ends_foresees, ends_waiting, ends_no_input, sends_foresees, takes_foresees, takes_grows, takes_line, takes_lines, takes_out}
-use Rattle.pn_serve.proofs.Faults.{ends_no_turn, ends_read, ends_write, sends_next, sends_read, sends_write, takes_on}
+use Rattle.pn_serve.proofs.Faults.{ends_by, ends_no_turn, ends_read, ends_write, limit_other, sends_by, sends_next, sends_read, sends_write, takes_on}
 use Rattle.pn_serve.proofs.Knowing.{knows_itself}
 use Rattle.pn_serve.proofs.Looked.{same_look}
 use Rattle.pn_serve.proofs.Made.{makes_none, makes_unwritten}
@@ -59,6 +59,9 @@ returns-then-has_text-clause-counts g c = λ going is made. absurd (some_text g 
 
 pub returns-then-has_text-clause-read_fault : goal.returns-then-has_text-clause-read_fault
 returns-then-has_text-clause-read_fault g c = λ ends. inl (sends_read c.args.self.now c.write_on.new.self _ _ c.write_on.result c.write_on.ensures.sends ends)
+
+pub returns-then-has_text-clause-limit_fault : goal.returns-then-has_text-clause-limit_fault
+returns-then-has_text-clause-limit_fault g c = λ ends. inl (sends_by c.args.self.now c.write_on.new.self _ _ TooManyTurns limit_other c.write_on.result c.write_on.ensures.sends ends)
 
 pub returns-then-has_text-clause-write_fault : goal.returns-then-has_text-clause-write_fault
 returns-then-has_text-clause-write_fault g c = λ ends. sends_write c.args.self.now c.write_on.new.self _ _ (g.W.Sink.has_failed c.write_on.new.output) c.write_on.result c.write_on.ensures.failed c.write_on.ensures.sends ends
@@ -119,6 +122,11 @@ returns-in-Reading-clause-counts g c =
 
 pub returns-in-Reading-clause-read_fault : goal.returns-in-Reading-clause-read_fault
 returns-in-Reading-clause-read_fault g c = λ ends. inr (c.read_on.ensures.read_fault ends)
+
+pub returns-in-Reading-clause-limit_fault : goal.returns-in-Reading-clause-limit_fault
+returns-in-Reading-clause-limit_fault g c =
+    let reading = sym (ap (λ (r : LineLoopValue). r.state.stage) c.self.view_is) ∙ sym c.take_stage.ensures.stage ∙ c.in-Reading.is in
+    λ ends. inr (reading, subst IsAtLimit (as_was g c) (c.read_on.ensures.limit_fault ends))
 
 pub returns-in-Reading-clause-write_fault : goal.returns-in-Reading-clause-write_fault
 returns-in-Reading-clause-write_fault g c = λ ends. inr (c.read_on.ensures.write_fault ends)
@@ -201,6 +209,9 @@ returns-in-Looking-clause-counts g c =
 
 pub returns-in-Looking-clause-read_fault : goal.returns-in-Looking-clause-read_fault
 returns-in-Looking-clause-read_fault g c = λ ends. absurd (takes_on true _ c.look_on.new.self Read c.look_on.ensures.takes ends)
+
+pub returns-in-Looking-clause-limit_fault : goal.returns-in-Looking-clause-limit_fault
+returns-in-Looking-clause-limit_fault g c = λ ends. absurd (takes_on true _ c.look_on.new.self TooManyTurns c.look_on.ensures.takes ends)
 
 pub returns-in-Looking-clause-write_fault : goal.returns-in-Looking-clause-write_fault
 returns-in-Looking-clause-write_fault g c = λ ends. absurd (takes_on true _ c.look_on.new.self Write c.look_on.ensures.takes ends)
@@ -287,6 +298,10 @@ returns-in-Ending-clause-counts g c = λ going is made. absurd (subst IsLookingA
 pub returns-in-Ending-clause-read_fault : goal.returns-in-Ending-clause-read_fault
 returns-in-Ending-clause-read_fault g c =
     λ found. inl (subst (λ (s : Stage). EndsByAt Read s) (sym (ending g c)) (ends_read (in_stage c.args.self.now Reading) c.end_once_out.new.self _ _ c.in-Ending.ended c.end_once_out.result (ends g c) found))
+
+pub returns-in-Ending-clause-limit_fault : goal.returns-in-Ending-clause-limit_fault
+returns-in-Ending-clause-limit_fault g c =
+    λ found. inl (subst (λ (s : Stage). EndsByAt TooManyTurns s) (sym (ending g c)) (ends_by (in_stage c.args.self.now Reading) c.end_once_out.new.self _ _ c.in-Ending.ended TooManyTurns limit_other c.end_once_out.result (ends g c) found))
 
 pub returns-in-Ending-clause-write_fault : goal.returns-in-Ending-clause-write_fault
 returns-in-Ending-clause-write_fault g c =

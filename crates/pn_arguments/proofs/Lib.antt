@@ -1,0 +1,2 @@
+pub mod PlannedArguments
+pub mod SocketPermissions

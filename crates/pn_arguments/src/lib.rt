@@ -1,0 +1,16 @@
+//! Parses the arguments of the program.
+#![tactic(auto)]
+
+mod bounds;
+mod faults;
+mod options;
+mod permissions;
+mod planning;
+mod plans;
+mod refusing;
+mod streams;
+
+pub use faults::{PlanFault, Refused, Why};
+pub use options::numbers_are_as_written;
+pub use planning::plan;
+pub use plans::{Address, Plan, Service};

@@ -1,0 +1,218 @@
+-- A text that is cut at a fault stands for the whole text of its copy, which has the same fault.
+use Rattle.std.proofs.Common.{◌≡◌, ◌≢◌, ℕ, ◌+◌, ◌-◌, ◌<◌, ◌≤◌, Bool, true, false, List, [], ◌∷◌, ◌++◌, All, length, map, Err, refl, sym, ap, ap₂, ◌∙◌, subst, inl, inr, ⊎_elim, append_assoc, append-nil, arith}
+use Rattle.std.specs.Prelude.{Result, Ok}
+use Rattle.std.proofs.lemmas.Bool.{cases_lt}
+use Rattle.std.proofs.lemmas.List.Elements.{All-append, All-cons, All-head, All-nil, All-tail}
+use Rattle.pn_line.specs.Line.{max_line_bytes}
+use Rattle.pn_line.specs.Reads.{IsUnbroken}
+use Rattle.pn_line.specs.Text.{text_of}
+use Rattle.pn_line.proofs.TextLaws.{text_of-push}
+use Rattle.pn_json.specs.Answers.{IsUnless}
+use Rattle.pn_tablet.specs.Copies.{TabletCopyValue}
+use Rattle.pn_tablet.specs.CopyReading.{copy_at, pieces_of}
+use Rattle.pn_tablet.specs.declared.fault.CopyTextFault.{CopyTextFault}
+use Rattle.pn_tablet.specs.declared.fault.CopyTextFault.TheVariants as text_fault
+use Rattle.pn_tablet.proofs.CopyTextFacts.{joined, joined-pieces_of, unbroken-pieces_of}
+use Rattle.pn_serve.specs.Copies.Cutting.{AreCuts, CopyCutValue, IsCut, IsLineThat, TextLeft, begins_end, line_number}
+use Rattle.pn_serve.specs.Copies.Faulty.{AreCutsToFault, IsCutAtFault, is_of_line}
+use Rattle.pn_serve.specs.Copies.Reading.{AreRead, copy_in_cut, read_in, told_in}
+use Rattle.pn_serve.specs.declared.copies.fault.CopiesFault.{CopiesFault}
+use Rattle.pn_serve.specs.declared.copies.fault.CopiesFault.TheVariants.{Line, Memory}
+use Rattle.pn_serve.proofs.CopyFronts.{fault_of, fault_stays}
+
+-- the whole text of the next copy, which begins with this front
+record WholeText (left : TextLeft) (front : List ℕ) : Type 0 where
+  cut : CopyCutValue
+  later : TextLeft
+  is_cut : IsCut left cut later
+  more : List ℕ
+  text_is : cut.text ≡ front ++ more
+
+-- a line more, and the rest
+with_line : (before : List (List ℕ)) (line rest : List ℕ) → text_of before ++ (line ++ 10 ∷ rest) ≡ text_of (before ++ line ∷ []) ++ rest
+with_line before line rest =
+    ap (λ (l : List ℕ). text_of before ++ l) (sym (append_assoc line (10 ∷ []) rest)) ∙ sym (append_assoc (text_of before) (line ++ 10 ∷ []) rest)
+    ∙ ap (λ (l : List ℕ). l ++ rest) (sym (text_of-push before line))
+
+module _ (next : ℕ) (bytes : List ℕ) where
+  abbrev from : TextLeft
+  from = record { next = next; bytes = bytes }
+
+  -- up to this last part
+  to_part : (before : List (List ℕ)) (part : List ℕ) → All (IsLineThat false) before → IsUnbroken part → length part ≤ max_line_bytes → bytes ≡ text_of before ++ part → WholeText from (text_of before)
+  to_part before part inner unbroken short is = record {
+    cut = record { text = text_of before ++ part; first = next; lines = length before; is_too_long = false };
+    later = record { next = line_number (next + length before); bytes = [] };
+    is_cut = record {
+      first_is = refl;
+      next_is = refl;
+      way = inr (inl (record {
+        before = before;
+        part = part;
+        inner = inner;
+        part_unbroken = unbroken;
+        part_short = short;
+        text_is = refl;
+        lines_are = refl;
+        whole = refl;
+        bytes_are = is;
+        rest_is = refl;
+      }));
+    };
+    more = part;
+    text_is = refl;
+  }
+
+  -- up to this line, which is too long
+  to_long : (before : List (List ℕ)) (long after : List ℕ) → All (IsLineThat false) before → IsUnbroken long → max_line_bytes < length long → bytes ≡ text_of before ++ (long ++ after) → WholeText from (text_of before)
+  to_long before long after inner unbroken is_long is = record {
+    cut = record { text = text_of before; first = next; lines = length before; is_too_long = true };
+    later = record { next = line_number (next + length before); bytes = [] };
+    is_cut = record {
+      first_is = refl;
+      next_is = refl;
+      way = inr (inr (record {
+        before = before;
+        long = long;
+        after = after;
+        inner = inner;
+        unbroken = unbroken;
+        is_long = is_long;
+        text_is = refl;
+        lines_are = refl;
+        cut_off = refl;
+        bytes_are = is ∙ ap (λ (l : List ℕ). text_of before ++ (long ++ l)) (sym (append-nil after));
+      }));
+    };
+    more = [];
+    text_is = sym (append-nil (text_of before));
+  }
+
+  -- up to this line, which begins as an end does
+  to_end : (before : List (List ℕ)) (line rest : List ℕ) → All (IsLineThat false) before → IsLineThat true line → bytes ≡ text_of before ++ (line ++ 10 ∷ rest) → WholeText from (text_of before)
+  to_end before line rest inner ends is = record {
+    cut = record { text = text_of (before ++ line ∷ []); first = next; lines = length before + 1; is_too_long = false };
+    later = record { next = line_number (next + (length before + 1)); bytes = rest };
+    is_cut = record {
+      first_is = refl;
+      next_is = refl;
+      way = inl (record {
+        before = before;
+        last = line;
+        inner = inner;
+        ends = ends;
+        text_is = refl;
+        lines_are = refl;
+        whole = refl;
+        bytes_are = is ∙ with_line before line rest;
+      });
+    };
+    more = line ++ 10 ∷ [];
+    text_is = text_of-push before line;
+  }
+
+  -- on from these pieces
+  walk : (pieces before : List (List ℕ)) → All (IsLineThat false) before → All IsUnbroken pieces → bytes ≡ text_of before ++ joined pieces → WholeText from (text_of before)
+  walk [] before inner unbroken is = to_part before [] inner (All-nil (λ b. b ≢ 10)) (omega arith) is
+  walk (part ∷ []) before inner unbroken is =
+      let here : IsUnbroken part = All-head IsUnbroken part [] unbroken in
+      ⊎_elim
+      (λ (long : max_line_bytes < length part). to_long before part [] inner here long (is ∙ ap (λ (l : List ℕ). text_of before ++ l) (sym (append-nil part))))
+      (λ (short : length part ≤ max_line_bytes). to_part before part inner here short is)
+      (cases_lt max_line_bytes (length part))
+  walk (line ∷ piece ∷ pieces) before inner unbroken is =
+      let here : IsUnbroken line = All-head IsUnbroken line (piece ∷ pieces) unbroken in
+      let rest = joined (piece ∷ pieces) in
+      ⊎_elim
+      (λ (long : max_line_bytes < length line). to_long before line (10 ∷ rest) inner here long is)
+      (λ (short : length line ≤ max_line_bytes).
+      (elim (begins_end line) as (λ (ends : Bool). begins_end line ≡ ends → WholeText from (text_of before)) [
+        | true ↦ λ ends. to_end before line rest inner (record { unbroken = here; short = short; begins = ends }) is
+        | false ↦ λ no.
+            let one : IsLineThat false line = record { unbroken = here; short = short; begins = no } in
+            let inside : All (IsLineThat false) (before ++ line ∷ []) = All-append (IsLineThat false) before (line ∷ []) inner (All-cons (IsLineThat false) line [] one (All-nil (IsLineThat false))) in
+            let found = walk (piece ∷ pieces) (before ++ line ∷ []) inside (All-tail IsUnbroken line (piece ∷ pieces) unbroken) (is ∙ with_line before line rest) in
+            record { cut = found.cut; later = found.later; is_cut = found.is_cut; more = line ++ 10 ∷ found.more; text_is = found.text_is ∙ sym (with_line before line found.more) }
+      ]) refl)
+      (cases_lt max_line_bytes (length line))
+
+-- the fault of a line is told alike of two texts that begin at one line
+told_alike : (one other : CopyCutValue) (fault : CopyTextFault) → is_of_line fault ≡ true → one.first ≡ other.first
+    → ◌≡◌ {A = Result TabletCopyValue CopiesFault} (Err (told_in one fault)) (Err (told_in other fault))
+told_alike one other (text_fault.BadLine n) of_line same = ap (λ first. Err (Line (line_number (first + (n - 1))) (text_fault.BadLine n))) same
+told_alike one other (text_fault.OutsideRange n) of_line same = ap (λ first. Err (Line (line_number (first + (n - 1))) (text_fault.OutsideRange n))) same
+told_alike one other (text_fault.NotRising n) of_line same = ap (λ first. Err (Line (line_number (first + (n - 1))) (text_fault.NotRising n))) same
+told_alike one other text_fault.Truncated of_line same = absurd (cc)
+told_alike one other text_fault.BadEnd of_line same = absurd (cc)
+told_alike one other text_fault.Memory of_line same = absurd (cc)
+
+whole_text : (left : TextLeft) (cut : CopyCutValue) → IsCutAtFault left cut → (whole : CopyCutValue) × (later : TextLeft) × IsCut left whole later × (copy_in_cut whole ≡ copy_in_cut cut)
+whole_text left cut at =
+    let bytes_are : left.bytes ≡ text_of at.before ++ joined (pieces_of at.rest) =
+    at.bytes_are ∙ ap (λ (t : List ℕ). t ++ at.rest) at.text_is ∙ ap (λ (l : List ℕ). text_of at.before ++ l) (sym (joined-pieces_of at.rest)) in
+    let found = walk left.next left.bytes (pieces_of at.rest) at.before at.inner (unbroken-pieces_of at.rest) bytes_are in
+    let (fault, is, of_line) = fault_of (copy_at cut.text) at.faulty in
+    let text : found.cut.text ≡ cut.text ++ found.more = found.text_is ∙ ap (λ (t : List ℕ). t ++ found.more) (sym at.text_is) in
+    let same : copy_at found.cut.text ≡ Err fault = ap copy_at text ∙ fault_stays cut.text found.more fault of_line is in (
+      found.cut,
+      found.later,
+      found.is_cut,
+      ap (read_in found.cut) same ∙ told_alike found.cut cut fault of_line (found.is_cut.first_is ∙ sym at.first_is) ∙ sym (ap (read_in cut) is),
+    )
+
+-- whole texts of the same copies and faults
+pub record AreWhole (left : TextLeft) (texts : List CopyCutValue) : Type 0 where
+  pub cuts : List CopyCutValue
+  pub last : TextLeft
+  pub are_cuts : AreCuts left cuts last
+  pub same : map copy_in_cut cuts ≡ map copy_in_cut texts
+
+pub are_whole : (left : TextLeft) (texts : List CopyCutValue) (later : TextLeft) → AreCutsToFault left texts later → AreWhole left texts
+are_whole left [] later are = record { cuts = []; last = later; are_cuts = are; same = refl }
+are_whole left (cut ∷ texts) later (inl whole) =
+    let rest = are_whole whole.0 texts later whole.2 in
+    record {
+      cuts = cut ∷ rest.cuts;
+      last = rest.last;
+      are_cuts = (whole.0, whole.1, rest.are_cuts);
+      same = ap (λ (l : List (Result TabletCopyValue CopiesFault)). copy_in_cut cut ∷ l) rest.same;
+    }
+are_whole left (cut ∷ texts) later (inr faulty) =
+    let (whole, last, is, same) = whole_text left cut faulty.1 in
+    record {
+      cuts = whole ∷ [];
+      last = last;
+      are_cuts = (last, is, refl);
+      same = ap₂ (λ (r : Result TabletCopyValue CopiesFault) (rs : List CopyCutValue). r ∷ map copy_in_cut rs) same (sym faulty.0);
+    }
+
+-- what was read of texts was read of others with the same copies and faults
+pub read_alike : (cuts texts : List CopyCutValue) (reads : List (Result TabletCopyValue CopiesFault)) → map copy_in_cut cuts ≡ map copy_in_cut texts → AreRead texts reads → AreRead cuts reads
+read_alike [] [] reads same are = are
+read_alike [] (text ∷ texts) reads same are = absurd (cc)
+read_alike (cut ∷ cuts) [] reads same are = absurd (cc)
+read_alike (cut ∷ cuts) (text ∷ texts) [] same are = absurd are
+read_alike (cut ∷ cuts) (text ∷ texts) (read ∷ reads) same are =
+    let first : copy_in_cut cut ≡ copy_in_cut text = cc in
+    let later : map copy_in_cut cuts ≡ map copy_in_cut texts = cc in
+    (subst (λ (right : Result TabletCopyValue CopiesFault). IsUnless Memory read right) (sym first) are.0, read_alike cuts texts reads later are.1)
+
+-- where all were read, none was cut at a fault
+pub none_faulty : (left : TextLeft) (texts : List CopyCutValue) (later : TextLeft) (added : List TabletCopyValue) → AreCutsToFault left texts later → AreRead texts (map Ok added) → AreCuts left texts later
+none_faulty left [] later added are reads = are
+none_faulty left (cut ∷ texts) later [] are reads = absurd reads
+none_faulty left (cut ∷ texts) later (copy ∷ added) (inl whole) reads = (whole.0, whole.1, none_faulty whole.0 texts later added whole.2 reads.1)
+none_faulty left (cut ∷ texts) later (copy ∷ added) (inr faulty) reads =
+    let (fault, is, of_line) = fault_of (copy_at cut.text) faulty.1.faulty in
+    let no : ◌≡◌ {A = Result TabletCopyValue CopiesFault} (Err (told_in cut fault)) (Ok copy) = sym (ap (read_in cut) is) ∙ reads.0 in
+    absurd (cc)
+
+pub to_fault : (left : TextLeft) (cuts : List CopyCutValue) (later : TextLeft) → AreCuts left cuts later → AreCutsToFault left cuts later
+to_fault left [] later are = are
+to_fault left (cut ∷ cuts) later are = inl (are.0, are.1, to_fault are.0 cuts later are.2)
+
+-- the last text was cut at a fault
+pub faulty-push : (left : TextLeft) (cuts : List CopyCutValue) (between : TextLeft) (cut : CopyCutValue) (later : TextLeft) → AreCuts left cuts between → IsCutAtFault between cut
+    → AreCutsToFault left (cuts ++ cut ∷ []) later
+faulty-push left [] between cut later are is = inr (refl, subst (λ (from : TextLeft). IsCutAtFault from cut) (sym are) is)
+faulty-push left (first ∷ cuts) between cut later are is = inl (are.0, are.1, faulty-push are.0 cuts between cut later are.2 is)

@@ -1,7 +1,0 @@
--- A stream of the rest has the name exactly if one of all has.
-use Rattle.std.proofs.Common.{◌≡◌, drop, map}
-use Rattle.pn_serve.specs.Arguments.Streams.{has_name as name_among, stream_value}
-use Rattle.pn_serve.proofs.arguments.streams.has_name.Given as goal
-
-abbrev pub invariant-loop-stream : goal.invariant-loop-stream
-invariant-loop-stream l = name_among (map stream_value l.streams) l.name ≡ name_among (map stream_value (drop l.stream-index l.streams)) l.name

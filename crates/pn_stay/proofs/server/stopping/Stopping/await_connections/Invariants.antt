@@ -1,0 +1,7 @@
+-- The region has the tablets that it had.
+use Rattle.std.proofs.Common.{◌≡◌}
+use Rattle.pn_live.specs.LiveRegions.{tablets_in}
+use Rattle.pn_stay.proofs.server.stopping.Stopping.await_connections.Given as goal
+
+abbrev pub invariant-loop : goal.invariant-loop
+invariant-loop g l = record { same : tablets_in l.live ≡ tablets_in l.fn.live }
