@@ -9,69 +9,85 @@ import (
 	"errors"
 	"fmt"
 	"math"
-	"net"
-	"sync"
 	"sync/atomic"
 	"time"
 )
 
 // Options of a client. A zero is what is said here.
 type Options struct {
-	// How many connections are open at most, each a session of the region: 1.
+	// How many connections are open to each region at most, each a session of it: 1.
 	Connections int
-	// How long a call waits for its reply, beside what its context says: 10 seconds.
+	// How long a line waits for its reply, beside what its context says: 10 seconds.
 	Timeout time.Duration
-	// How often a call is tried again where the connection breaks: 3. Less than 0: never.
+	// How often a line is asked again where the connection breaks, or where no region can answer it: 3. Less than 0: never.
 	Retries int
+	// Of how many keys a client of several regions keeps the version that it saw: 10,000. Less than 0: of none.
+	Remember int
 	// The configuration of tls:// addresses: the machine's own certificates.
 	TLS *tls.Config
 }
 
-// A Client reads from a region. Its calls may be made from any goroutine; their lines are in flight together.
+// A Client reads from a region, or from several of the same streams. Its calls may be made from any goroutine; their lines are in flight
+// together.
 type Client struct {
-	address address
-	options Options
-	mutex   sync.Mutex
-	// None once it is closed.
-	connections []*connection
-	running     sync.WaitGroup
-	sessions    atomic.Int64
+	options  Options
+	pools    []*pool
+	order    *order
+	seen     *seen
+	isClosed atomic.Bool
 }
 
 // Open makes a client of the region at tcp://HOST:PORT, tls://HOST:PORT or unix:PATH. Connections are opened when they are
 // needed, and anew where they broke.
 func Open(address string, options Options) (*Client, error) {
-	where, err := addressOf(address, options.TLS)
-	if err != nil {
-		return nil, err
+	return OpenAny([]string{address}, options)
+}
+
+// OpenAny makes a client of regions of the same streams. The first that can answer does, and none shows an older version of a record
+// than was seen of the last keys.
+func OpenAny(addresses []string, options Options) (*Client, error) {
+	if len(addresses) == 0 {
+		return nil, errors.New("pnuts: there is no region")
 	}
 	if options.Timeout == 0 {
 		options.Timeout = 10 * time.Second
 	}
 	if options.Retries == 0 {
 		options.Retries = 3
+	} else if options.Retries < 0 {
+		options.Retries = 0
 	}
-	none := newConnection()
-	none.cancel()
-	client := &Client{address: where, options: options, connections: []*connection{none}}
-	for len(client.connections) < options.Connections {
-		client.connections = append(client.connections, none)
+	if options.Remember == 0 {
+		options.Remember = 10_000
+	}
+	client := &Client{options: options, order: newOrder(addresses)}
+	for _, text := range addresses {
+		where, err := addressOf(text, options.TLS)
+		if err != nil {
+			return nil, err
+		}
+		client.pools = append(client.pools, newPool(where, options))
+	}
+	if len(addresses) > 1 {
+		client.seen = newSeen(options.Remember)
 	}
 	return client, nil
 }
 
 // Sessions is how many it has begun. A session of another number may be of a region that began anew.
-func (c *Client) Sessions() int64 { return c.sessions.Load() }
+func (c *Client) Sessions() (count int64) {
+	for _, pool := range c.pools {
+		count += pool.sessions.Load()
+	}
+	return count
+}
 
 // Close ends all sessions. Calls that wait fail.
 func (c *Client) Close() {
-	c.mutex.Lock()
-	for _, open := range c.connections {
-		open.end(&ConnectionFailed{net.ErrClosed})
+	c.isClosed.Store(true)
+	for _, pool := range c.pools {
+		pool.close()
 	}
-	c.connections = nil
-	c.mutex.Unlock()
-	c.running.Wait()
 }
 
 // A Command is what is asked of a region, by the members that its line has.
@@ -80,14 +96,15 @@ type Command map[string]any
 // Ask gives the answer to any command that only reads, as one of the control socket: what its reply has, read into an answer
 // that says what holds without it. A reply to something else is refused.
 func Ask[A any](ctx context.Context, c *Client, command Command, answer A, isReply func(A) bool) (told A, err error) {
-	got, err := c.ask(ctx, command)
-	if err != nil {
-		return told, err
-	}
-	if json.Unmarshal(got.reply, &answer) != nil || !isReply(answer) {
-		return told, faultOf(command, got.reply)
-	}
-	return answer, nil
+	err = c.ask(ctx, command, func(got received) error {
+		found := answer
+		if json.Unmarshal(got.reply, &found) != nil || !isReply(found) {
+			return faultOf(command, got.reply)
+		}
+		told = found
+		return nil
+	})
+	return told, err
 }
 
 // lineOf is the line of a command. A text that is no UTF-8 would be written as another one.
@@ -99,60 +116,39 @@ func lineOf(command Command) ([]byte, error) {
 	return append(line, '\n'), err
 }
 
-// ask gives what is received for a command, by as many tries as it takes: it only reads, so where the connection broke it is asked again.
-func (c *Client) ask(caller context.Context, command Command) (received, error) {
+// ask has what is received for a command taken, by as many tries as it takes: it only reads, so where the connection broke, and where a
+// region cannot answer, it is asked again.
+func (c *Client) ask(caller context.Context, command Command, take func(received) error) error {
 	line, err := lineOf(command)
 	if err != nil {
-		return received{}, err
+		return err
 	}
 	ctx, stop := context.WithTimeout(caller, c.options.Timeout)
 	defer stop()
-	for tries := 1; ; tries++ {
-		connection, err := c.connection()
-		if err != nil {
-			return received{}, err
+	deadline, _ := ctx.Deadline()
+	for tries := newAttempts(c.order, c.options.Retries, deadline); ; {
+		chosen, until := tries.next(time.Now())
+		got, err := c.pools[chosen.region].ask(caller, until, &call{line, command["do"] == "copy", make(chan received, 1)})
+		if err == nil {
+			err = take(got)
 		}
-		before := connection.lines.Load()
-		got, err := connection.ask(ctx, &call{line, command["do"] == "copy", make(chan received, 1)})
-		if ctx.Err() != nil && caller.Err() == nil && connection.lines.Load() == before {
-			connection.end(&ConnectionFailed{errors.New("nothing came for as long as a call waits")})
+		if err == nil {
+			c.order.answered(chosen)
+			return nil
 		}
-		if broken := (*ConnectionFailed)(nil); errors.As(err, &broken) && tries <= c.options.Retries {
-			select {
-			case <-time.After(pause(tries)):
-				continue
-			case <-ctx.Done():
-				err = ctx.Err()
-			}
+		if c.isClosed.Load() {
+			return err
 		}
-		if errors.Is(err, context.DeadlineExceeded) {
-			err = &TimedOut{}
+		wait, ended := tries.failed(chosen, err, time.Now())
+		if ended != nil {
+			return ended
 		}
-		return got, err
-	}
-}
-
-// connection is the one with the fewest calls, opened where it has ended.
-func (c *Client) connection() (*connection, error) {
-	c.mutex.Lock()
-	defer c.mutex.Unlock()
-	if c.connections == nil {
-		return nil, &ConnectionFailed{net.ErrClosed}
-	}
-	least := 0
-	for at, open := range c.connections {
-		if open.calls.Load() < c.connections[least].calls.Load() {
-			least = at
+		select {
+		case <-time.After(wait):
+		case <-caller.Done():
+			return caller.Err()
 		}
 	}
-	if c.connections[least].ended.Err() != nil {
-		opened := newConnection()
-		c.connections[least] = opened
-		c.sessions.Add(1)
-		c.running.Add(1)
-		go func() { defer c.running.Done(); opened.run(c.address, c.options.Timeout) }()
-	}
-	return c.connections[least], nil
 }
 
 // pause is how long to wait before another try: 0.1 seconds, and twice as long each time, at most 1 second.

@@ -4,6 +4,7 @@ import (
 	"context"
 	"encoding/json"
 	"fmt"
+	"strings"
 )
 
 // ConnectionFailed says that the region could not be reached, or that the connection ended before the reply.
@@ -26,6 +27,29 @@ func (*TimedOut) Unwrap() error { return context.DeadlineExceeded }
 type ProtocolError struct{ Text string }
 
 func (e *ProtocolError) Error() string { return "pnuts: " + e.Text }
+
+// RegionsFailed says why none of several regions gave an answer: the error of the last one, which errors.As finds, and those of others.
+type RegionsFailed struct {
+	Last   error
+	Others []RegionFault
+}
+
+// A RegionFault is the error of a region, by its address.
+type RegionFault struct {
+	Address string
+	Fault   error
+}
+
+func (e *RegionsFailed) Error() string {
+	text := e.Last.Error()
+	for _, other := range e.Others {
+		text += "; " + other.Address + ": " + strings.TrimPrefix(other.Fault.Error(), "pnuts: ")
+	}
+	return text
+}
+
+// Unwrap gives the error of the last region.
+func (e *RegionsFailed) Unwrap() error { return e.Last }
 
 // A Refusal is any error that the region answered with.
 type Refusal interface {
@@ -58,10 +82,11 @@ type Recovering struct {
 	Tablet int64
 }
 
-// RecordBehind says that the record is not there in the version that was required. Has is its version, nil where it is absent.
+// RecordBehind says that the record of Key is not there in the version that was required. Has is its version, nil where it is absent.
 type RecordBehind struct {
 	Refused
 	Has *Version
+	Key string `json:"-"`
 }
 
 // CopyBehind says that the copy does not reach what was asked for: of Stream it has Has, and Wanted was wanted.
@@ -94,7 +119,8 @@ func faultOf(command Command, reply []byte) (found error) {
 	case "memory":
 		found = &OutOfMemory{base}
 	case "behind":
-		found = &RecordBehind{Refused: base}
+		key, _ := command["key"].(string)
+		found = &RecordBehind{Refused: base, Key: key}
 		if base.members["stream"] != nil {
 			found = &CopyBehind{Refused: base}
 		}

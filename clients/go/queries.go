@@ -1,5 +1,11 @@
 package pnuts
 
+import (
+	"encoding/json"
+	"fmt"
+	"strings"
+)
+
 // A Condition is what a field has to meet. A value is a string or an int64.
 type Condition []any
 
@@ -26,6 +32,59 @@ type Query struct {
 	After string      `json:"after,omitempty"`
 	Limit int         `json:"limit,omitempty"`
 	Where []Condition `json:"where,omitempty"`
+}
+
+// covers says whether a key is in the range.
+func (q Query) covers(key string) bool {
+	return key >= q.From && key > q.After && (q.To == "" || key < q.To)
+}
+
+// shows says whether a record of its range is what the query asks for: a content with fields meets all conditions.
+func (q Query) shows(record *Record) bool {
+	for _, content := range record.Contents {
+		if !content.Deleted && content.meets(q.Where) {
+			return true
+		}
+	}
+	return false
+}
+
+func (c Content) meets(where []Condition) bool {
+	for _, condition := range where {
+		if !condition.holds(c.Fields) {
+			return false
+		}
+	}
+	return true
+}
+
+// holds says whether fields meet a condition that a region has taken.
+func (c Condition) holds(fields Fields) bool {
+	found, isThere := fields[fmt.Sprint(c[1])]
+	if len(c) == 2 {
+		return isThere
+	}
+	sign := map[any]int{"lt": -1, "eq": 0, "gt": 1}
+	switch wanted := asField(c[2]).(type) {
+	case string:
+		text, isText := found.(string)
+		if c[0] == "prefix" {
+			return isText && strings.HasPrefix(text, wanted)
+		}
+		return isText && strings.Compare(text, wanted) == sign[c[0]]
+	case int64:
+		number, isNumber := found.(int64)
+		return isNumber && (number == wanted && sign[c[0]] == 0 || number < wanted && sign[c[0]] < 0 || number > wanted && sign[c[0]] > 0)
+	}
+	return false
+}
+
+// asField is a value as a reply has it: a string or an int64.
+func asField(value any) any {
+	var fields Fields
+	text, _ := json.Marshal(map[string]any{"": value})
+	_ = json.Unmarshal(text, &fields)
+	return fields[""]
 }
 
 // within is the part of the query from low on and below high, and whether a key can be there.

@@ -12,16 +12,34 @@ type Page struct {
 }
 
 // Read gives the record of a key, a deleted one too; nil where there is none.
-func (c *Client) Read(ctx context.Context, key string) (*Record, error) {
-	found, err := Ask(ctx, c, Command{"do": "read", "key": key}, without(), reply.hasRow)
-	return found.Row, err
-}
+func (c *Client) Read(ctx context.Context, key string) (*Record, error) { return c.read(ctx, key, nil) }
 
 // ReadAtLeast gives the record of a key in a version or a later one. It fails with RecordBehind where the region has not
 // taken that version yet.
 func (c *Client) ReadAtLeast(ctx context.Context, key string, version Version) (*Record, error) {
-	found, err := Ask(ctx, c, Command{"do": "read", "key": key, "version": version}, without(), reply.hasRow)
+	return c.read(ctx, key, &version)
+}
+
+// read gives the record of a key, in a version that is asked for, and in the one that was seen.
+func (c *Client) read(ctx context.Context, key string, version *Version) (*Record, error) {
+	command := Command{"do": "read", "key": key}
+	if version = c.seen.atLeast(key, version); version != nil {
+		command["version"] = *version
+	}
+	found, err := Ask(ctx, c, command, without(), reply.hasRow)
+	if err == nil {
+		c.seen.older([]string{key}, []*Record{found.Row})
+	}
 	return found.Row, err
+}
+
+// readAll gives the records of keys in the versions that were seen of them, or later ones.
+func (c *Client) readAll(ctx context.Context, wanted []sight) ([]*Record, error) {
+	records := make([]*Record, len(wanted))
+	return records, together(len(wanted), func(at int) (err error) {
+		records[at], err = c.read(ctx, wanted[at].key, &wanted[at].version)
+		return err
+	})
 }
 
 // Get gives the records of keys, in their order. More than 100 keys are asked for in several lines.
@@ -35,19 +53,45 @@ func (c *Client) Get(ctx context.Context, keys []string) ([]*Record, error) {
 		found, err := Ask(ctx, c, Command{"do": "get", "keys": share}, without(), func(found reply) bool {
 			return found.hasRows() && len(found.Rows) == len(share)
 		})
+		if err != nil {
+			return err
+		}
+		later, err := c.readAll(ctx, c.seen.older(share, found.Rows))
+		if err != nil {
+			return err
+		}
 		copy(records[at*maxKeys:], found.Rows)
-		return err
+		for _, record := range later {
+			for index, key := range share {
+				if record != nil && key == record.Key {
+					records[at*maxKeys+index] = record
+				}
+			}
+		}
+		return nil
 	})
 }
 
-// Page gives a page of what a query asks for, without deleted records.
+// Page gives a page of what a query asks for, without deleted records. Of several regions it may have more rows than the limit.
 func (c *Client) Page(ctx context.Context, query Query) (Page, error) {
 	found, err := Ask(ctx, c, Command{"do": "scan", "query": query}, without(), reply.isPage)
-	if found.Next == nil {
-		return Page{Records: found.Rows}, err
+	if err != nil {
+		return Page{}, err
 	}
-	query.After = found.Next.After
-	return Page{found.Rows, &query}, err
+	page := Page{Records: found.Rows}
+	if found.Next != nil {
+		next := query
+		next.After = found.Next.After
+		page.Next = &next
+	}
+	if older := c.seen.olderOf(query, page); len(older) > 0 {
+		later, err := c.readAll(ctx, older)
+		if err != nil {
+			return Page{}, err
+		}
+		page.Records = withLater(query, page.Records, later)
+	}
+	return page, nil
 }
 
 // Scan gives what a query asks for, page by page. While the region changes, each page is of its own moment.
@@ -58,15 +102,17 @@ func (c *Client) Scan(ctx context.Context, query Query) *Scanner {
 // Copy writes a copy of a tablet to a file, which is there whole or not at all. With positions of streams as need it fails
 // with CopyBehind where the tablet does not reach them.
 func (c *Client) Copy(ctx context.Context, tablet int, path string, need map[string]int64) error {
-	command := Command{"do": "copy", "tablet": tablet, "need": need}
-	got, err := c.ask(ctx, command)
-	if err == nil && got.text == nil {
-		err = faultOf(command, got.reply)
-	}
+	command, text := Command{"do": "copy", "tablet": tablet, "need": need}, []byte(nil)
+	err := c.ask(ctx, command, func(got received) error {
+		if text = got.text; text == nil {
+			return faultOf(command, got.reply)
+		}
+		return nil
+	})
 	if err != nil {
 		return err
 	}
-	return writeWhole(path, got.text)
+	return writeWhole(path, text)
 }
 
 // together does something with each number below a count at once, and gives an error of those that there are.

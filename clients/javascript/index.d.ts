@@ -59,12 +59,14 @@ export interface Page {
 }
 
 export interface Options {
-  /** How many connections are open at most, each a session of the region: by default 1. */
+  /** How many connections are open to each region at most, each a session of it: by default 1. */
   readonly connections?: number;
-  /** How many milliseconds a call waits for its reply: by default 10,000; Infinity for ever. */
+  /** How many milliseconds a line waits for its reply: by default 10,000; Infinity for ever. */
   readonly timeout?: number;
-  /** How often a call is tried again where the connection breaks: by default 3. */
+  /** How often a line is asked again where the connection breaks, or where no region can answer it: by default 3. */
   readonly retries?: number;
+  /** Of how many keys a client of several regions keeps the version that it saw: by default 10,000. */
+  readonly remember?: number;
   /** What `connect` of node:tls takes, for tls:// addresses: by default the machine's own certificates. */
   readonly tls?: object;
 }
@@ -77,15 +79,20 @@ interface Reads {
   scan(query?: Query): AsyncGenerator<Record, void, undefined>;
 }
 
-/** Reads from a region. Any number of calls may be made at once; their lines are in flight together. */
+/** Reads from a region, or from several. Any number of calls may be made at once; their lines are in flight together. */
 export class Client implements Reads {
-  /** A region at tcp://HOST:PORT, tls://HOST:PORT or unix:PATH. Connections are opened when they are needed, and anew where they broke. */
-  constructor(address: string, options?: Options);
+  /**
+   * A region at tcp://HOST:PORT, tls://HOST:PORT or unix:PATH, or several of the same streams. Connections are opened when they are
+   * needed, and anew where they broke. The first region that can answer does, and none shows an older version than was seen of the
+   * last keys.
+   */
+  constructor(address: string | readonly string[], options?: Options);
   /** The record of a key, a deleted one too. With `atLeast`: RecordBehind where the region has not taken that version yet. */
   read(key: string, options?: { readonly atLeast?: Version }): Promise<Record | null>;
   get(keys: readonly string[]): Promise<(Record | null)[]>;
   scan(query?: Query): AsyncGenerator<Record, void, undefined>;
   pages(query?: Query): AsyncGenerator<Record[], void, undefined>;
+  /** Of several regions it may have more rows than the limit. */
   page(query?: Query): Promise<Page>;
   /**
    * Writes a copy of a tablet to a file, which is there whole or not at all. With positions of streams as `need`: CopyBehind
@@ -150,6 +157,7 @@ export interface Stats {
 
 /** The control socket of a region, as unix:/run/pnuts/control. It reads records, too. */
 export class Control extends Client {
+  constructor(address: string, options?: Options);
   marks(): Promise<Marks>;
   stats(): Promise<Stats>;
   /** What changed after a number. Where that is nothing, it waits for it this many seconds, at most 60, less than the timeout. */
@@ -170,8 +178,10 @@ export class Regions implements Reads {
   scan(query?: Query): AsyncGenerator<Record, void, undefined>;
 }
 
-/** The base of all errors of this package. */
-export class PnutsError extends Error {}
+/** The base of all errors of this package. Of a client of several regions the error is the last one's, with what the others said. */
+export class PnutsError extends Error {
+  readonly others: readonly { readonly address: string; readonly fault: PnutsError }[];
+}
 /** The region could not be reached, or the connection ended before the reply. */
 export class ConnectionFailed extends PnutsError {}
 /** The reply did not come in time. Another try may get it. */
@@ -192,8 +202,9 @@ export class BadLine extends Refused {
 export class Recovering extends Refused {
   readonly tablet: number;
 }
-/** The record is not there in the version that was required. `has` is its version, null where it is absent. */
+/** The record of `key` is not there in the version that was required. `has` is its version, null where it is absent. */
 export class RecordBehind extends Refused {
+  readonly key?: string;
   readonly has: Version | null;
 }
 /** The copy does not reach what was asked for: of `stream` it has `has`, and `wanted` was wanted. */

@@ -1,43 +1,58 @@
-// A client of one region.
+// A client of one region, or of several of the same streams.
 
 import { randomUUID } from "node:crypto";
 import { rename, rm, writeFile } from "node:fs/promises";
 import { basename, dirname, join } from "node:path";
 import { setTimeout as sleep } from "node:timers/promises";
 import { addressOf } from "./addresses.js";
-import { Connection } from "./connection.js";
-import { ConnectionFailed, TimedOut } from "./errors.js";
+import { Attempts, Order } from "./failover.js";
 import { stringify } from "./json.js";
+import { Pool } from "./pool.js";
 import { answerOf, page, row, rowsOf, text } from "./replies.js";
+import { Seen, withLater } from "./seen.js";
 
 const MAX_KEYS = 100;
 
-/** Reads from a region. Any number of calls may be made at once; their lines are in flight together. */
+/** Reads from a region, or from several. Any number of calls may be made at once; their lines are in flight together. */
 export class Client {
-  #address;
-  #tls;
+  #pools;
+  #order;
+  /** What was seen; undefined of one region. */
+  #seen;
   #timeout;
   #retries;
-  #connections;
   #isClosed = false;
-  /** How many sessions it has begun. */
-  sessions = 0;
 
-  constructor(address, { connections = 1, timeout = 10_000, retries = 3, tls } = {}) {
-    this.#address = addressOf(address);
-    this.#tls = tls;
+  constructor(address, { connections = 1, timeout = 10_000, retries = 3, remember = 10_000, tls } = {}) {
+    const addresses = [address].flat();
+    if (addresses.length === 0) {
+      throw new TypeError("there is no region");
+    }
+    this.#pools = addresses.map((each) => new Pool(addressOf(each), tls, connections));
+    this.#order = new Order(addresses);
+    this.#seen = addresses.length > 1 ? new Seen(remember) : undefined;
     this.#timeout = timeout;
     this.#retries = retries;
-    this.#connections = new Array(Math.max(connections, 1)).fill(undefined);
+  }
+
+  /** How many sessions it has begun. */
+  get sessions() {
+    return this.#pools.reduce((count, pool) => count + pool.sessions, 0);
   }
 
   async read(key, { atLeast } = {}) {
-    return this.ask({ do: "read", key, version: atLeast }, row);
+    const version = this.#seen === undefined ? atLeast : this.#seen.atLeast(key, atLeast);
+    const record = await this.ask({ do: "read", key, version }, row);
+    this.#seen?.take(key, record);
+    return record;
   }
 
   async get(keys) {
     const batches = Array.from({ length: Math.ceil(keys.length / MAX_KEYS) }, (_, at) => keys.slice(at * MAX_KEYS, (at + 1) * MAX_KEYS));
-    return (await Promise.all(batches.map((batch) => this.ask({ do: "get", keys: batch }, rowsOf(batch.length))))).flat();
+    const found = (await Promise.all(batches.map((batch) => this.ask({ do: "get", keys: batch }, rowsOf(batch.length))))).flat();
+    const older = this.#seen?.older(keys, found) ?? [];
+    const later = new Map((await this.#readAll(older)).map((record) => [record?.key, record]));
+    return found.map((record, at) => later.get(keys[at]) ?? record);
   }
 
   async *scan(query = {}) {
@@ -55,7 +70,9 @@ export class Client {
   }
 
   async page(query = {}) {
-    return this.ask({ do: "scan", query }, page);
+    const found = await this.ask({ do: "scan", query }, page);
+    const older = this.#seen?.olderOf(query, found) ?? [];
+    return older.length > 0 ? { ...found, records: withLater(query, found.records, await this.#readAll(older)) } : found;
   }
 
   async copy(tablet, path, { need } = {}) {
@@ -64,50 +81,34 @@ export class Client {
 
   async close() {
     this.#isClosed = true;
-    this.#connections.forEach((connection) => connection?.end(new ConnectionFailed("the client was closed")));
+    this.#pools.forEach((pool) => pool.close());
   }
 
-  /** The answer to a command. All commands only read, so one whose connection broke is asked again. */
+  /** The answer to a command. All commands only read, so where a connection broke, or a region cannot answer, it is asked again. */
   async ask(command, meaning) {
     const line = `${stringify(command)}\n`;
-    return answerOf(line, await this.#reply(line, command.do === "copy"), meaning);
-  }
-
-  async #reply(line, hasLines) {
-    const last = performance.now() + this.#timeout;
-    for (let tries = 1; ; tries += 1) {
+    const attempts = new Attempts(this.#order, this.#retries, performance.now() + this.#timeout);
+    for (;;) {
+      const now = performance.now();
+      const chosen = attempts.next(now);
       try {
-        return await this.#connection().ask(line, hasLines, last - performance.now());
+        const reply = await this.#pools[chosen.region].ask(line, command.do === "copy", chosen.until - now);
+        const answer = answerOf(command, reply, meaning);
+        attempts.answered(chosen);
+        return answer;
       } catch (fault) {
-        if (!(fault instanceof ConnectionFailed) || tries > this.#retries || this.#isClosed) {
+        if (this.#isClosed) {
           throw fault;
         }
-      }
-      await sleep(pause(tries));
-      if (performance.now() > last) {
-        throw new TimedOut("no reply in time");
+        await sleep(attempts.failed(chosen, fault, performance.now()));
       }
     }
   }
 
-  /** The connection with the fewest lines in flight, where one that is not open has none. */
-  #connection() {
-    if (this.#isClosed) {
-      throw new ConnectionFailed("the client was closed");
-    }
-    const sizes = this.#connections.map((connection) => connection?.size ?? 0);
-    const least = sizes.indexOf(Math.min(...sizes));
-    if (this.#connections[least]?.fault !== undefined || this.#connections[least] === undefined) {
-      this.#connections[least] = new Connection(this.#address, this.#tls);
-      this.sessions += 1;
-    }
-    return this.#connections[least];
+  /** The records of keys in the versions that were seen of them, or later ones. */
+  #readAll(wanted) {
+    return Promise.all(wanted.map(({ key, version }) => this.read(key, { atLeast: version })));
   }
-}
-
-/** How many milliseconds to wait before another try: 100, and twice as many each time, at most 1,000. */
-export function pause(tries) {
-  return Math.min(50 * 2 ** tries, 1000);
 }
 
 /** Writes a file beside the path, and moves it there. */

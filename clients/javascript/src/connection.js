@@ -53,7 +53,9 @@ export class Connection {
   end(fault) {
     this.fault ??= fault;
     this.#socket.destroy();
-    this.#pipeline.abandon().forEach((call) => call.reject(this.fault));
+    const { constructor, message } = this.fault;
+    // Each call has its own, as it is told what other regions said.
+    this.#pipeline.abandon().forEach((call) => call.reject(new constructor(message, { cause: this.fault })));
   }
 
   /** Lines that are asked for together go out together. */

@@ -1,8 +1,9 @@
 // The control socket of a region: how it goes, and what changes in it.
 
 import { setTimeout as sleep } from "node:timers/promises";
-import { Client, pause } from "./client.js";
+import { Client } from "./client.js";
 import { ConnectionFailed } from "./errors.js";
+import { pause } from "./failover.js";
 
 const LONGEST_WAIT = 60;
 /** Greater than the number of any change. What came after it is never known, but for the last number. */

@@ -1,6 +1,8 @@
 // What a call fails with, as index.d.ts says of each: what the region refused, and what went wrong on the way to it.
 
 export class PnutsError extends Error {
+  others = [];
+
   get name() {
     return this.constructor.name;
   }
@@ -36,7 +38,12 @@ const refusalWith = (...members) =>
   };
 
 export class Recovering extends refusalWith("tablet") {}
-export class RecordBehind extends refusalWith("has") {}
+export class RecordBehind extends refusalWith("has") {
+  constructor(reply, key) {
+    super(reply);
+    this.key = key;
+  }
+}
 export class CopyBehind extends refusalWith("stream", "has", "wanted") {}
 export class NoEntry extends Refused {}
 export class OutOfMemory extends Refused {}

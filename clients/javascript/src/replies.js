@@ -2,6 +2,7 @@
 
 import { inspect } from "node:util";
 import { BadLine, CopyBehind, NoEntry, OutOfMemory, ProtocolError, RecordBehind, Recovering, Refused } from "./errors.js";
+import { stringify } from "./json.js";
 import { Record } from "./records.js";
 
 const KINDS = new Map([
@@ -16,14 +17,14 @@ const KINDS = new Map([
   ["memory", OutOfMemory],
 ]);
 
-/** What a reply to a line says; throws what it refuses. */
-export function answerOf(line, reply, meaning) {
+/** What a reply to a command says; throws what it refuses. */
+export function answerOf(command, reply, meaning) {
   if (typeof reply?.error === "string") {
-    throw refusalOf(reply);
+    throw refusalOf(reply, command.key);
   }
   const answer = reply ? meaning(reply) : undefined;
   if (answer === undefined) {
-    throw new ProtocolError(`no reply to ${line.slice(0, 80)}: ${inspect(reply).slice(0, 200)}`);
+    throw new ProtocolError(`no reply to ${stringify(command).slice(0, 80)}: ${inspect(reply).slice(0, 200)}`);
   }
   return answer;
 }
@@ -52,8 +53,8 @@ function recordOf(row) {
   return isRow ? new Record(row) : row === null ? null : undefined;
 }
 
-/** The error of a reply that has a member `error`. */
-function refusalOf(reply) {
+/** The error of a reply that has a member `error`, to a command that has a key. */
+function refusalOf(reply, key) {
   const kind = KINDS.get(reply.error) ?? Refused;
-  return kind === RecordBehind && "stream" in reply ? new CopyBehind(reply) : new kind(reply);
+  return kind === RecordBehind && "stream" in reply ? new CopyBehind(reply) : new kind(reply, key);
 }

@@ -1,8 +1,9 @@
 // What the types allow and refuse. It is not run.
 
-import { Client, Control, Notices, Page, Record, RecordBehind, Regions, Value, Version, compareVersions, eq, gt, has, prefix } from "pnuts-client";
+import { Client, Control, Notices, Page, PnutsError, Record, RecordBehind, Regions, Value, Version, compareVersions, eq, gt, has, prefix } from "pnuts-client";
 
 const client = new Client("unix:region", { connections: 2, timeout: Infinity, tls: { ca: "" } });
+const several = new Client(["tcp://a", "tcp://b"], { remember: 100 });
 
 export async function reads(): Promise<Value | undefined> {
   const record: Record | null = await client.read("k", { atLeast: [1, 0] });
@@ -15,7 +16,7 @@ export async function reads(): Promise<Value | undefined> {
     records.map((each) => each.contents[0].master);
   }
   await client.copy(0, "copy", { need: { east: 1 } });
-  const both = new Regions(["m"], [client, client]);
+  const both = new Regions(["m"], [client, several]);
   await both.of("k").close();
   // @ts-expect-error: a record may be absent
   record.key;
@@ -40,4 +41,8 @@ export async function changes(): Promise<Notices | undefined> {
 
 export function hasOf(fault: unknown): Version | null {
   return fault instanceof RecordBehind ? fault.has : null;
+}
+
+export function othersOf(fault: unknown): string[] {
+  return fault instanceof PnutsError ? fault.others.map(({ address, fault }) => `${address}: ${fault.message}`) : [];
 }

@@ -38,17 +38,19 @@ def free_port() -> int:
 
 
 @contextmanager
-def region(streams: Images, *, sessions: int = 1, port: int | None = None, bounds: Sequence[str] = ()) -> Iterator[int]:
+def region(
+    streams: Images, *, sessions: int = 1, port: int | None = None, bounds: Sequence[str] = (), words: Sequence[str] = ()
+) -> Iterator[int]:
     """A region that has taken the streams, and its port. It is killed at the end, whatever it does."""
     where = free_port() if port is None else port
     with tempfile.TemporaryDirectory() as folder:
-        words = [PROGRAM, "serve", f"--port={where}", f"--sessions={sessions}", f"--bounds={json.dumps(list(bounds))}"]
+        line = [PROGRAM, "serve", f"--port={where}", f"--sessions={sessions}", f"--bounds={json.dumps(list(bounds))}", *words]
         for name, images in streams.items():
             path = Path(folder) / name
             lines = [json.dumps({"at": at, "image": it}) + "\n" for at, it in enumerate(images, start=1)]
             path.write_text("".join(lines), encoding="utf-8")
-            words.append(f"{name}={path}")
-        program = subprocess.Popen(words, stdout=subprocess.PIPE, stderr=subprocess.DEVNULL, text=True)
+            line.append(f"{name}={path}")
+        program = subprocess.Popen(line, stdout=subprocess.PIPE, stderr=subprocess.DEVNULL, text=True)
         try:
             assert program.stdout is not None
             assert program.stdout.readline() == f"listening on 127.0.0.1:{where}\n"

@@ -74,3 +74,14 @@ class OfOthers(unittest.IsolatedAsyncioTestCase):
             async with AsyncClient(f"tcp://127.0.0.1:{port}") as client:
                 with self.assertRaises(ProtocolError):
                     await client.read("k")
+
+    async def test_calls_that_wait_fail_where_the_client_is_closed(self) -> None:
+        with fake(replies()) as silent, fake(replies()) as other:
+            for addresses in ([f"tcp://127.0.0.1:{silent}"], [f"tcp://127.0.0.1:{silent}", f"tcp://127.0.0.1:{other}"]):
+                client = AsyncClient(addresses)
+                asked = asyncio.create_task(client.read("k"))
+                await asyncio.sleep(0.1)
+                await client.close()
+                with self.assertRaises(ConnectionFailed):
+                    await asked
+                self.assertEqual(client.sessions, 1)

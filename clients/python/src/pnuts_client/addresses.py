@@ -3,6 +3,7 @@
 from __future__ import annotations
 
 import ssl
+from collections.abc import Sequence
 from dataclasses import dataclass, field
 from urllib.parse import urlsplit
 
@@ -18,6 +19,10 @@ class Tcp:
     tls: ssl.SSLContext | None = field(default=None, compare=False)
     server_name: str | None = None
 
+    def __str__(self) -> str:
+        host = f"[{self.host}]" if ":" in self.host else self.host
+        return f"{'tls' if self.tls else 'tcp'}://{host}:{self.port}"
+
 
 @dataclass(frozen=True, slots=True)
 class Unix:
@@ -25,8 +30,13 @@ class Unix:
 
     path: str
 
+    def __str__(self) -> str:
+        return f"unix:{self.path}"
+
 
 Address = Tcp | Unix
+Addresses = Address | str | Sequence[Address | str]
+"""A region, or several regions of the same streams, by addresses or their texts."""
 
 
 def address_of(text: str, tls: ssl.SSLContext | None = None) -> Address:
@@ -42,3 +52,11 @@ def address_of(text: str, tls: ssl.SSLContext | None = None) -> Address:
             return Tcp(parts.hostname, port)
         return Tcp(parts.hostname, port, tls or ssl.create_default_context())
     raise ValueError(f"no address of a region: {text!r}")
+
+
+def addresses_of(told: Addresses) -> list[Address]:
+    """The addresses of one region or of several, in their order."""
+    each = [told] if isinstance(told, (str, Tcp, Unix)) else list(told)
+    if not each:
+        raise ValueError("there is no region")
+    return [address_of(it) if isinstance(it, str) else it for it in each]

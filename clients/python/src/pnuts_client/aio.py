@@ -4,6 +4,7 @@ from __future__ import annotations
 
 import asyncio
 import os
+import time
 from collections.abc import AsyncIterator, Mapping, Sequence
 from contextlib import suppress
 from pathlib import Path
@@ -11,34 +12,46 @@ from types import TracebackType
 from typing import Any, TypeVar
 
 from . import requests
-from .addresses import Address, Unix, address_of
+from .addresses import Address, Addresses, Unix, addresses_of
 from .errors import ConnectionFailed, PnutsError, ProtocolError, TimedOut
+from .failover import Attempts, Order
 from .files import write_whole
-from .pauses import pause
 from .pipeline import Pipeline
 from .queries import Condition, Query
-from .records import Record
+from .records import Record, Version
 from .requests import Request
+from .seen import REMEMBERED, Seen, with_later
 
 Answer = TypeVar("Answer")
 PIECE = 256 * 1024
 
 
 class AsyncClient:
-    """A region, by an address or its text, for the tasks of one event loop.
+    """A region, by an address or its text, or several of the same streams, for the tasks of one event loop.
 
-    At most `connections` are open, each a session of the region, opened when it is needed; a line goes to the one
-    with the fewest in flight. `timeout` is the seconds that a call waits for its reply, None for ever. A connection
-    that breaks is opened anew, and lines that read are asked again, up to `retries` times with a growing pause.
+    At most `connections` are open to each, opened when they are needed, each a session of the region; a line goes to
+    the one with the fewest in flight. `timeout` is the seconds that a call waits for its reply, None for ever. A
+    connection that breaks is opened anew, and lines that read are asked again, up to `retries` times with a growing
+    pause. Of several regions the first that can answer does, as for `Client`.
     """
 
     def __init__(
-        self, address: Address | str, *, connections: int = 1, timeout: float | None = 10.0, retries: int = 3
+        self,
+        address: Addresses,
+        *,
+        connections: int = 1,
+        timeout: float | None = 10.0,
+        retries: int = 3,
+        remember: int = REMEMBERED,
     ) -> None:
-        where = address_of(address) if isinstance(address, str) else address
-        self._connections = [_Connection(where) for _ in range(connections)]
+        where = addresses_of(address)
+        self._pools = [[_Connection(each) for _ in range(connections)] for each in where]
+        self._order = Order([str(each) for each in where])
+        self._seen = Seen(remember) if len(where) > 1 else None
         self._timeout = timeout
         self._retries = retries
+        # How often it was closed.
+        self._closed = 0
 
     async def read(self, key: str, at_least: tuple[int, int] | None = None) -> Record | None:
         """As `Client.read`."""
@@ -47,7 +60,12 @@ class AsyncClient:
     async def get(self, keys: Sequence[str]) -> list[Record | None]:
         """As `Client.get`; the lines of more than 100 keys are in flight together."""
         batches = [self.ask(requests.get(batch)) for batch in requests.in_batches(keys)]
-        return [record for records in await asyncio.gather(*batches) for record in records]
+        found = [record for records in await asyncio.gather(*batches) for record in records]
+        older = self._seen.older(keys, found) if self._seen else []
+        if older:
+            later = dict(zip((key for key, _ in older), await self._read_all(older)))
+            found = [later.get(key, record) for key, record in zip(keys, found)]
+        return found
 
     async def scan(
         self, start: str | None = None, end: str | None = None, *, where: Sequence[Condition] = (), page: int = 100
@@ -61,7 +79,8 @@ class AsyncClient:
         """The pages of a query, to the last."""
         while query is not None:
             page = await self.ask(requests.scan(query))
-            yield page.records
+            older = self._seen.older_of(query, page) if self._seen else []
+            yield with_later(query, page.records, await self._read_all(older)) if older else page.records
             query = page.next
 
     async def copy(self, tablet: int, path: str | os.PathLike[str], need: Mapping[str, int] | None = None) -> None:
@@ -71,32 +90,48 @@ class AsyncClient:
 
     async def ask(self, request: Request[Answer]) -> Answer:
         """The answer to one request. Any number of tasks may ask at once."""
-        try:
-            async with asyncio.timeout(None if self._timeout is None else self._timeout + request.work):
-                return request.answer(await self._reply(request))
-        except TimeoutError as fault:
-            raise TimedOut("no reply in time") from fault
-
-    async def _reply(self, request: Request[Any]) -> Any:
-        tries = 0
+        begun, closed = time.monotonic(), self._closed
+        deadline = None if self._timeout is None else begun + self._timeout + request.work
+        attempts = Attempts(self._order, self._retries, deadline)
         while True:
-            connection = min(self._connections, key=len)
+            chosen, until = attempts.next(time.monotonic())
             try:
-                return await connection.reply(request)
-            except ConnectionFailed:
-                tries += 1
-                if tries > self._retries or not request.reads:
+                answer = await self._answer(chosen.region, request, until)
+                attempts.answered(chosen)
+                return answer
+            except PnutsError as fault:
+                if request.reads and closed == self._closed:
+                    await asyncio.sleep(attempts.failed(chosen, fault, time.monotonic()))
+                if not request.reads or closed != self._closed:
                     raise
-                await asyncio.sleep(pause(tries))
+
+    async def _answer(self, region: int, request: Request[Answer], deadline: float | None) -> Answer:
+        """The answer of a region. Of several, one that says nothing meanwhile loses the connection. What it shows is noted."""
+        connection, seen = min(self._pools[region], key=len), self._seen
+        received = connection.received
+        try:
+            async with asyncio.timeout(None if deadline is None else deadline - time.monotonic()):
+                answer = request.answer(await connection.reply(request if seen is None else seen.guarded(request)))
+        except TimeoutError as fault:
+            if seen is not None and connection.received == received:
+                connection.break_off(ConnectionFailed("nothing came for as long as a call waits"))
+            raise TimedOut("no reply in time") from fault
+        if seen is not None and isinstance(answer, Record):
+            seen.take(answer.key, answer)
+        return answer
+
+    async def _read_all(self, wanted: Sequence[tuple[str, Version]]) -> list[Record | None]:
+        return await asyncio.gather(*(self.ask(requests.read(key, version)) for key, version in wanted))
 
     @property
     def sessions(self) -> int:
         """How many sessions it has begun."""
-        return sum(connection.sessions for connection in self._connections)
+        return sum(connection.sessions for pool in self._pools for connection in pool)
 
     async def close(self) -> None:
         """Ends all sessions. Calls that wait fail."""
-        for connection in self._connections:
+        self._closed += 1
+        for connection in (each for pool in self._pools for each in pool):
             writer = connection.break_off(ConnectionFailed("the client was closed"))
             if writer is not None:
                 with suppress(OSError):
@@ -120,8 +155,9 @@ class _Connection:
         self._writer: asyncio.StreamWriter | None = None
         self._taking: asyncio.Task[None] | None = None
         self._opening = asyncio.Lock()
-        # How many it has begun.
+        # How many it has begun, and how often something came.
         self.sessions = 0
+        self.received = 0
 
     def __len__(self) -> int:
         return len(self._pipeline)
@@ -142,6 +178,8 @@ class _Connection:
 
     async def _opened(self) -> asyncio.StreamWriter:
         async with self._opening:
+            if self._writer is not None and self._writer.is_closing():
+                self.break_off(ConnectionFailed("the connection broke"))
             if self._writer is None:
                 try:
                     reader, self._writer = await _streams(self._address)
@@ -156,6 +194,7 @@ class _Connection:
         fault: PnutsError = ConnectionFailed("the region closed the connection")
         try:
             while data := await reader.read(PIECE):
+                self.received += 1
                 for _, answer, reply in pipeline.receive(data):
                     if not answer.done():
                         answer.set_result(reply)
@@ -176,7 +215,8 @@ class _Connection:
         pipeline, self._pipeline = self._pipeline, Pipeline()
         for _, answer in pipeline.unanswered():
             if not answer.done():
-                answer.set_exception(fault)
+                # Each call has its own, as it is told what other regions said.
+                answer.set_exception(type(fault)(*fault.args))
         return writer
 
 

@@ -5,43 +5,51 @@ from __future__ import annotations
 import os
 import queue
 import time
-from collections.abc import Iterable, Iterator, Mapping, Sequence
+from collections.abc import Generator, Iterable, Iterator, Mapping, Sequence
 from contextlib import closing, contextmanager
 from pathlib import Path
 from types import TracebackType
 from typing import TypeVar
 
 from . import requests
-from .addresses import Address, address_of
+from .addresses import Address, Addresses, addresses_of
 from .connection import DEFAULT_WINDOW, Connection
-from .errors import ConnectionFailed
+from .errors import PnutsError, TimedOut
+from .failover import Attempts, Order, Try
 from .files import write_whole
-from .pauses import pause
 from .queries import Condition, Query
-from .records import Record
+from .records import Record, Version
 from .requests import Request
+from .seen import REMEMBERED, Seen, with_later
+from .sockets import seconds_left
 
 Answer = TypeVar("Answer")
 
 
 class Client:
-    """A region, by an address or its text. Its calls may be made from any thread.
+    """A region, by an address or its text, or several of the same streams. Its calls may be made from any thread.
 
-    At most `connections` are open, each a session of the region, opened when it is needed. A call waits for a free
-    one. `timeout` is the seconds that a call waits while nothing comes, None for ever. A connection that breaks is opened
-    anew, and lines that read are asked again, up to `retries` times with a growing pause.
+    At most `connections` are open to each, opened when they are needed, each a session of the region. A call waits for
+    a free one. `timeout` is the seconds that a call waits while nothing comes, None for ever. A connection that breaks is
+    opened anew, and lines that read are asked again, up to `retries` times with a growing pause. Of several regions the
+    first that can answer does, within `timeout` for each reply, and none shows an older version than was seen of the last
+    `remember` keys.
     """
 
     def __init__(
-        self, address: Address | str, *, connections: int = 1, timeout: float | None = 10.0, retries: int = 3
+        self,
+        address: Addresses,
+        *,
+        connections: int = 1,
+        timeout: float | None = 10.0,
+        retries: int = 3,
+        remember: int = REMEMBERED,
     ) -> None:
-        self._address = address_of(address) if isinstance(address, str) else address
+        self._pools = [_Pool(each, connections) for each in addresses_of(address)]
+        self._order = Order([str(pool.address) for pool in self._pools])
+        self._seen = Seen(remember) if len(self._pools) > 1 else None
         self._timeout = timeout
         self._retries = retries
-        self._free: queue.LifoQueue[Connection] = queue.LifoQueue()
-        for _ in range(connections):
-            self._free.put(Connection(self._address))
-        self._connections = connections
 
     def read(self, key: str, at_least: tuple[int, int] | None = None) -> Record | None:
         """The record of a key, a deleted one too; None where there is none.
@@ -53,7 +61,12 @@ class Client:
     def get(self, keys: Sequence[str]) -> list[Record | None]:
         """The records of keys, in their order; more than 100 keys are asked for in several lines."""
         batches = [requests.get(batch) for batch in requests.in_batches(keys)]
-        return [record for records in self.ask_all(batches) for record in records]
+        found = [record for records in self.ask_all(batches) for record in records]
+        older = self._seen.older(keys, found) if self._seen else []
+        if older:
+            later = dict(zip((key for key, _ in older), self._read_all(older)))
+            found = [later.get(key, record) for key, record in zip(keys, found)]
+        return found
 
     def scan(
         self, start: str | None = None, end: str | None = None, *, where: Sequence[Condition] = (), page: int = 100
@@ -69,7 +82,8 @@ class Client:
         """The pages of a query, to the last."""
         while query is not None:
             page = self.ask(requests.scan(query))
-            yield page.records
+            older = self._seen.older_of(query, page) if self._seen else []
+            yield with_later(query, page.records, self._read_all(older)) if older else page.records
             query = page.next
 
     def copy(self, tablet: int, path: str | os.PathLike[str], need: Mapping[str, int] | None = None) -> None:
@@ -86,32 +100,31 @@ class Client:
 
     def ask_all(self, asked: Iterable[Request[Answer]], window: int = DEFAULT_WINDOW) -> Iterator[Answer]:
         """The answers to requests in their order, with up to `window` lines in flight. The first refusal ends it."""
-        with self._connection() as connection:
-            left = list(asked)
-            if not all(request.reads for request in left):
-                connection.renew()
-            tries = 0
-            while left:
-                answered = 0
-                try:
-                    with closing(connection.replies(left, self._timeout, window)) as replies:
-                        for request, reply in replies:
-                            answered += 1
-                            yield request.answer(reply)
-                    return
-                except ConnectionFailed:
+        left = list(asked)
+        attempts, last = self._attempts(time.monotonic()), 0.0
+        while left:
+            chosen, deadline = attempts.next(time.monotonic())
+            answered = 0
+            try:
+                with closing(self._answers(chosen, left, deadline, window)) as answers:
+                    for answer in answers:
+                        if not answered:
+                            attempts.answered(chosen)
+                        yield answer
+                        answered, last = answered + 1, time.monotonic()
+                return
+            except PnutsError as fault:
+                if answered:
                     left = left[answered:]
-                    tries = 0 if answered else tries + 1
-                    if tries > self._retries or not all(request.reads for request in left):
-                        raise
-                    time.sleep(pause(tries))
+                    attempts = self._attempts(last, chosen)
+                if not all(request.reads for request in left):
+                    raise
+                time.sleep(attempts.failed(chosen, fault, time.monotonic()))
 
     def close(self) -> None:
         """Ends all sessions, once their calls are over."""
-        for _ in range(self._connections):
-            self._free.get().close()
-        for _ in range(self._connections):
-            self._free.put(Connection(self._address))
+        for pool in self._pools:
+            pool.close()
 
     def __enter__(self) -> Client:
         return self
@@ -121,10 +134,60 @@ class Client:
     ) -> None:
         self.close()
 
+    def _attempts(self, begun: float, tried: Try | None = None) -> Attempts:
+        """The tries of a line. Those of one region alone have no deadline: each has the whole time."""
+        deadline = None if self._seen is None or self._timeout is None else begun + self._timeout
+        return Attempts(self._order, self._retries, deadline, tried)
+
+    def _answers(
+        self, chosen: Try, asked: Sequence[Request[Answer]], deadline: float | None, window: int
+    ) -> Generator[Answer, None, None]:
+        """The answers of a region, as far as it gives them. What it shows is noted."""
+        seen, lines = self._seen, iter(asked)
+        share = None if self._timeout is None else self._timeout / len(self._pools)
+        with self._pools[chosen.region].connection(deadline) as connection:
+            if seen is not None or not all(request.reads for request in asked):
+                connection.renew()
+            if seen is not None:
+                lines = map(seen.guarded, asked)
+            with closing(connection.replies(lines, share, window, deadline)) as replies:
+                for request, reply in replies:
+                    answer: Answer = request.answer(reply)
+                    if seen is not None and isinstance(answer, Record):
+                        seen.take(answer.key, answer)
+                    yield answer
+
+    def _read_all(self, wanted: Sequence[tuple[str, Version]]) -> Iterator[Record | None]:
+        return self.ask_all([requests.read(key, version) for key, version in wanted])
+
+
+class _Pool:
+    """The connections to one region."""
+
+    def __init__(self, address: Address, connections: int) -> None:
+        self.address = address
+        self._connections = connections
+        self._free: queue.LifoQueue[Connection] = queue.LifoQueue()
+        self._fill()
+
     @contextmanager
-    def _connection(self) -> Iterator[Connection]:
-        connection = self._free.get()
+    def connection(self, deadline: float | None) -> Iterator[Connection]:
+        """A free connection, waited for until the deadline."""
+        try:
+            connection = self._free.get(timeout=seconds_left(deadline))
+        except queue.Empty as fault:
+            raise TimedOut("no connection was free in time") from fault
         try:
             yield connection
         finally:
             self._free.put(connection)
+
+    def close(self) -> None:
+        """Ends all, once their calls are over."""
+        for _ in range(self._connections):
+            self._free.get().close()
+        self._fill()
+
+    def _fill(self) -> None:
+        for _ in range(self._connections):
+            self._free.put(Connection(self.address))

@@ -22,9 +22,11 @@ class Connection:
         self._socket: Socket | None = None
 
     def replies(
-        self, requests: Iterable[Request[Any]], timeout: float | None, window: int = DEFAULT_WINDOW
+        self, requests: Iterable[Request[Any]], timeout: float | None, window: int, deadline: float | None = None
     ) -> Generator[tuple[Request[Any], Any], None, None]:
         """Each request with its reply, in order; `timeout` is the seconds in which no byte goes out or comes.
+
+        With a deadline, it is the first reply's, and `timeout` is the seconds for each reply after the one before.
 
         Where it ends while replies are still to come, the connection is closed, so that a late reply is never taken
         for that of another line.
@@ -32,8 +34,9 @@ class Connection:
         pipeline: Pipeline[None] = Pipeline()
         waiting = iter(requests)
         unsent = memoryview(b"")
+        is_each = deadline is not None
         try:
-            deadline = deadline_after(timeout)
+            deadline = deadline or deadline_after(timeout)
             if self._socket is None:
                 self._socket = Socket(self._address, deadline)
             while True:
@@ -43,9 +46,10 @@ class Connection:
                     break
                 sent, data = self._exchange(unsent, deadline)
                 unsent = unsent[sent:]
-                for request, _, reply in pipeline.receive(data) if data else []:
+                replied = pipeline.receive(data) if data else []
+                for request, _, reply in replied:
                     yield request, reply
-                if sent or data:
+                if replied or (not is_each and (sent or data)):
                     deadline = deadline_after(None if timeout is None else timeout + pipeline.work)
         finally:
             if len(pipeline) or unsent:

@@ -55,6 +55,7 @@ class Control(Client):
 
     def __init__(self, address: Address | str, *, timeout: float | None = 10.0, retries: int = 3) -> None:
         super().__init__(address, connections=1, timeout=timeout, retries=retries)
+        self._address = address
 
     def marks(self) -> Marks:
         """How far streams were taken into all tablets."""

@@ -2,14 +2,20 @@
 
 from __future__ import annotations
 
-from collections.abc import Callable, Mapping
+from collections.abc import Callable, Mapping, Sequence
 from typing import Any
 
 from .records import Version
 
 
 class PnutsError(Exception):
-    """The base of all errors of this package."""
+    """The base of all errors of this package. Of a client of several regions, `others` has what the others said, by address."""
+
+    others: Sequence[tuple[str, PnutsError]] = ()
+
+    def __str__(self) -> str:
+        others = "; ".join(f"{address}: {fault}" for address, fault in self.others)
+        return f"{super().__str__()} ({others})" if others else super().__str__()
 
 
 class ConnectionFailed(PnutsError):
@@ -53,12 +59,13 @@ class Recovering(Refused):
 
 
 class RecordBehind(Refused):
-    """The record is not there in the version that was required. `has` is its version, None where it is absent."""
+    """The record of `key` is not there in the version that was required. `has` is its version, None where it is absent."""
 
-    def __init__(self, reply: Mapping[str, Any]) -> None:
+    def __init__(self, reply: Mapping[str, Any], key: str | None = None) -> None:
         has = reply["has"]
         self.has: Version | None = None if has is None else Version(*has)
-        super().__init__(reply, f"behind: the region has {self.has}")
+        self.key = key
+        super().__init__(reply, f"behind: the region has {self.has}" + ("" if key is None else f" of {key!r}"))
 
 
 class CopyBehind(Refused):
@@ -79,10 +86,6 @@ class OutOfMemory(Refused):
     """The region had no memory for the answer. Another try may get it."""
 
 
-def _behind(reply: Mapping[str, Any]) -> Refused:
-    return CopyBehind(reply) if "stream" in reply else RecordBehind(reply)
-
-
 _KINDS: dict[str, Callable[[Mapping[str, Any]], Refused]] = {
     "too-long": BadLine,
     "not-json": BadLine,
@@ -90,15 +93,17 @@ _KINDS: dict[str, Callable[[Mapping[str, Any]], Refused]] = {
     "out-of-range": BadLine,
     "read-only": BadLine,
     "recovering": Recovering,
-    "behind": _behind,
+    "behind": CopyBehind,
     "no-entry": NoEntry,
     "memory": OutOfMemory,
 }
 
 
-def refusal_of(reply: Mapping[str, Any]) -> Refused:
-    """The error that a reply with a member `error` is."""
+def refusal_of(reply: Mapping[str, Any], key: str | None = None) -> Refused:
+    """The error that a reply with a member `error` is, to a line that reads the key."""
     try:
+        if reply["error"] == "behind" and "stream" not in reply:
+            return RecordBehind(reply, key)
         return _KINDS.get(reply["error"], Refused)(reply)
     except (KeyError, TypeError) as fault:
         raise ProtocolError(f"no refusal of a region: {reply!r}") from fault

@@ -2,11 +2,12 @@
 
 from __future__ import annotations
 
-from collections.abc import Sequence
+from collections.abc import Mapping, Sequence
 from dataclasses import dataclass, replace
 from typing import Any
 
 from .errors import ProtocolError
+from .records import Record
 
 Value = str | int
 Condition = tuple[Value, ...]
@@ -53,6 +54,11 @@ class Query:
         where = [list(condition) for condition in self.where]
         return {"after": self.after, "from": self.start, "limit": self.limit, "to": self.end, "where": where}
 
+    def covers(self, key: str) -> bool:
+        """Whether the key is in the range. Texts are ordered as their bytes are."""
+        is_past = (self.start is None or key >= self.start) and (self.after is None or key > self.after)
+        return is_past and (self.end is None or key < self.end)
+
     def within(self, low: str | None, high: str | None) -> Query | None:
         """The part of the query from `low` on and below `high`. None where no key can be there."""
         start = _greater(self.start, low)
@@ -71,6 +77,23 @@ def query_of(member: Any) -> Query | None:
         raise ProtocolError(f"no query: {member!r}")
     where = [tuple(condition) for condition in member["where"]]
     return Query(member["from"], member["to"], where, member["limit"], member["after"])
+
+
+def meets(record: Record, where: Sequence[Condition]) -> bool:
+    """Whether a scan with these conditions shows the record: a content with fields meets all of them."""
+    fields = [content.fields for content in record.contents]
+    return any(each is not None and all(_holds(each, *condition) for condition in where) for each in fields)
+
+
+def _holds(fields: Mapping[str, Any], word: Value, field: Any, value: Value | None = None) -> bool:
+    found = fields.get(field)
+    if found is None or word == "has":
+        return found is not None
+    if not isinstance(found, str if isinstance(value, str) else int):
+        return False
+    if word == "prefix":
+        return str(found).startswith(str(value))
+    return bool({"eq": found == value, "lt": found < value, "gt": found > value}[str(word)])
 
 
 def _greater(one: str | None, other: str | None) -> str | None:

@@ -23,6 +23,7 @@ class Request(NamedTuple, Generic[Answer]):
 
     `has_lines`: lines of text follow a reply that says how many. `reads`: asking twice changes nothing, so a line
     whose connection broke before its reply is asked anew. `work`: how many seconds longer its reply is waited for.
+    `key` and `at_least`: what a line reads of one record.
     """
 
     line: bytes
@@ -30,12 +31,14 @@ class Request(NamedTuple, Generic[Answer]):
     has_lines: bool = False
     reads: bool = True
     work: float = 0.0
+    key: str | None = None
+    at_least: tuple[int, int] | None = None
 
     def answer(self, reply: Any) -> Answer:
         """What the reply says; raises what it refuses."""
         try:
             if "error" in reply:
-                raise refusal_of(reply)
+                raise refusal_of(reply, self.key)
             return self.meaning(reply)
         except (KeyError, TypeError, IndexError, AttributeError) as fault:
             raise ProtocolError(f"no reply to {self.line[:80]!r}: {reply!r}") from fault
@@ -52,7 +55,8 @@ class Page:
 def read(key: str, at_least: tuple[int, int] | None = None) -> Request[Record | None]:
     """One record, a deleted one too; None where there is none. `at_least` is the version that is required."""
     version = "" if at_least is None else f',"version":[{at_least[0]:d},{at_least[1]:d}]'
-    return Request(f'{{"do":"read","key":{_text(key)}{version}}}\n'.encode(), _row)
+    line = f'{{"do":"read","key":{_text(key)}{version}}}\n'.encode()
+    return Request(line, _row, key=key, at_least=at_least)
 
 
 def get(keys: Sequence[str]) -> Request[list[Record | None]]:
