@@ -47,7 +47,7 @@ class Order:
         return len(self._regions)
 
     def next(self, now: float, tried: Container[int]) -> Try | None:
-        """The first region that was not tried and is not left alone, else the one that is left alone for the shortest time.
+        """The first region that was not tried and is not left alone, else the one whose time ends first.
 
         Where it failed before, it is left alone by all others while this one finds out.
         """
