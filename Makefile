@@ -114,9 +114,10 @@ bench-beside: build
 	@bench/beside "$(PROGRAM)"
 	@bench/stay "$(PROGRAM)"
 
-# Brings the built program to each of its ends; talks to its sessions, and misbehaves, where it stays by the thousand; refuses each
-# of its allocations in turn, and all memory; lets each of its reads and writes fail; cuts and damages what it is given; and compares
-# its replies to random scripts with those of a plain, slow program, and what it reads with what serde_json reads.
+# Brings the built program to each of its ends; talks to its sessions, and misbehaves, where it stays by the thousand, after which it has
+# to rest; gives it each limit of a line in all ways; stops it by lines and signals; refuses each of its allocations in turn, and all
+# memory; lets each of its reads and writes fail; cuts and damages what it is given; and compares its replies to random scripts with
+# those of a plain, slow program, and what it reads with what serde_json reads.
 checks: $(PROGRAM) $(SCRIPTS) $(LIVE)
 	@checks/run all "$(PROGRAM)" "$(SCRIPTS)" "$(LIVE)" --soak $(SOAK)
 
@@ -137,8 +138,8 @@ checks-feeds:
 	@PNUTS="$(realpath $(PROGRAM))" feeds/test
 
 # Tests the feeds, gives 200,000 images through each, and runs both examples with real brokers, a database and proxies. Debian's
-# packages: redis-server python3-redis python3-hiredis rabbitmq-server python3-pika postgresql python3-psycopg2 haproxy openssl
-# iproute2 util-linux. What misses one of them says so, and is skipped.
+# packages: redis-server python3-redis python3-hiredis rabbitmq-server python3-pika python3-confluent-kafka postgresql
+# python3-psycopg2 haproxy openssl iproute2 util-linux. What misses one of them says so, and is skipped.
 checks-brokers: build
 	@checks/run brokers "$(PROGRAM)"
 

@@ -23,6 +23,7 @@ from collections import Counter
 from collections.abc import Callable, Iterator
 from typing import IO
 
+from common.resting import rests
 from common.served import Client, Json, Served, fifo, row_of, same
 from common.tried import program_parser
 
@@ -169,8 +170,8 @@ class Episode:
         self.met: Counter[str] = Counter()
         self.memory, self.replies, self.messages = 0, 0, 0
 
-    def talk(self, port: int, process: int) -> None:
-        """All clients at once, until the misbehaving ones have gone, or for a time."""
+    def talk(self, port: int, process: int, feeders: list[Feeder]) -> None:
+        """All clients at once, until the misbehaving ones have gone, or for a time. Once the streams are silent, too, the program rests."""
         rng, abusers = random.Random(self.seed), [Abuser(port, self.seed * SESSIONS + index) for index in range(self.abusers)]
         with Client(port) as client:
             honest, last = Honest(client), time.monotonic() + ALONE_SECONDS
@@ -179,6 +180,10 @@ class Episode:
             while any(abuser.is_alive() for abuser in abusers) or not abusers and time.monotonic() < last:
                 honest.ask(rng)
             self.memory, self.replies = greatest_memory(process), honest.replies
+            for feeder in feeders:
+                feeder.stopped.set()
+                feeder.join()
+            rests(process, "where the honest client is alone, and asks no more")
             client.end()
         for abuser in abusers:
             self.met["megabytes"] += abuser.sent >> 20
@@ -193,7 +198,7 @@ class Episode:
             for feeder in feeders:
                 feeder.start()
             try:
-                self.talk(served.port, served.process.pid)
+                self.talk(served.port, served.process.pid, feeders)
             finally:
                 for feeder in feeders:
                     feeder.stopped.set()

@@ -59,7 +59,8 @@ def check_caches(program: str, folder: str) -> None:
         thread.start()
     for at in range(1, STARTS + 1):
         layout = ["--copies", copies] if os.path.exists(copies) and rng.random() < 0.7 else ["--bounds", BOUNDS]
-        with Staying(program, folder, [("east", f"listen:{stream}")], *layout, "--control", control) as region, Session(control) as session:
+        told = [*layout, "--control", control]
+        with Staying(program, folder, [("east", f"listen:{stream}")], *told, is_looked_at=False) as region, Session(control) as session:
             written, loads, changes = writing.count, cache.loads, cache.changes
             until("something is written", lambda: writing.count > written)
             if rng.random() < 0.8:

@@ -13,6 +13,8 @@ from serving.controlled import CHUNK, TABLETS, Session, adoption, region_in, wri
 from serving.staying import Beside, until
 
 SESSIONS, LINES = 16, 400
+# What a thousand sessions may leave, of which some had whole copies adopted.
+LEFT_KB = 8_192
 WORDS = [{"do": "marks"}, {"do": "tablets"}, {"do": "stats"}, {"do": "advance"}, {"do": "read", "key": "k001"}, {"do": "get", "keys": ["k050", "k099"]},
          {"do": "scan", "query": {"limit": 2}}, {"do": "copy", "tablet": 1}]
 MARKS = b'{"do":"marks"}\n'
@@ -153,13 +155,13 @@ def check_sessions_that_are_cut(program: str, folder: str) -> None:
         copies, number = [session.copy(tablet) for tablet in range(TABLETS)], session.told(do="notices", since=10**18)["next"]
         wholes = [adoption(it) * 2 for it in copies] + [MARKS * 50, b'{"do":"stats"}\n' * 50, b'{"do":"copy","tablet":0}\n' * 20,
                                                         b'{"do":"notices","since":%d,"wait":60}\n' % number * 3]
-        before = region.descriptors_at_rest()
+        before = region.rest("before they come")
         threads = [threading.Thread(target=each, args=[lambda: cut_at(control, chance.choice(wholes), chance), 100]) for _ in range(10)]
         for thread in threads:
             thread.start()
         for thread in threads:
             thread.join()
-        region.wait_for_descriptors(before)
+        region.same_rest(before, "once they have gone", LEFT_KB)
         same("the copies are as before", [session.copy(tablet) for tablet in range(TABLETS)], copies)
 
 

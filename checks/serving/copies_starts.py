@@ -44,7 +44,7 @@ def region_fault(program: str, seed: int) -> str | None:
         for name, images in streams.items():
             first = rng.randrange(1, ends[name] + 2)
             named.append((name, written(folder, f"{name}.rest", messages_from(images, first))))
-        with Staying(program, folder, named, *words, "--copies", path, "--control", control) as region:
+        with Staying(program, folder, named, *words, "--copies", path, "--control", control, is_looked_at=seed % 10 == 0) as region:
             with Client(region.port) as client:
                 found = [copied(client, copy_line(tablet, streams)) for tablet in range(tablets)]
             with Session(control) as session:
@@ -117,7 +117,7 @@ def check_any_order(program: str, folder: str) -> None:
     texts = some_texts(program, folder, ["b", "c", "ca"])
     for text in exchanged(texts):
         path, control = written(folder, "copies", text), os.path.join(folder, "control")
-        with Staying(program, folder, [("east", "/dev/null")], "--copies", path, "--control", control, "--workers", "2"):
+        with Staying(program, folder, [("east", "/dev/null")], "--copies", path, "--control", control, "--workers", "2", is_looked_at=False):
             with Session(control) as session:
                 same("the tablets", [it["from"] for it in session.told(do="tablets")["tablets"]], [None, "b", "c", "ca"])
                 same("the copies", [session.copy(tablet) for tablet in range(4)], texts)

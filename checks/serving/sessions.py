@@ -14,6 +14,7 @@ import threading
 import time
 from collections.abc import Iterator
 
+from common.resting import rests
 from common.served import Client, Json, Served, fifo, free_port, image, message, row_of, same, written
 from common.tried import checks_in, checks_parser, try_checks
 from faults import refused_sessions
@@ -216,6 +217,22 @@ def check_a_fault_beside_a_silent_stream(program: str, folder: str) -> None:
             with Client(served.port) as client:
                 same("what is answered", client.read("k"), {"row": None})
             ends_with(served, 1, b"", b"pnuts: stream east failed\n")
+
+
+def check_sessions_at_rest(program: str, folder: str) -> None:
+    """Sessions that have not asked, have half a line, 65,536 bytes of one or replies that they do not take, and silent streams: the program rests."""
+    (west, pipe), east = fifo(folder, "west"), written(folder, "east", b"".join(message(at, f"k{at:04}", 0, "x" * 900) for at in range(1, 1001)))
+    with Served(program, [("west", west), ("east", east)], sessions=8) as served:
+        with pipe, contextlib.ExitStack() as stay:
+            rests(served.process.pid, "with no client yet")
+            pipe.write(message(1, "w", 0, "y") + message(2, "w", 1, "y")[:20])
+            clients = [stay.enter_context(Client(served.port)) for _ in range(8)]
+            clients[0].wait_for("k1000", row_of("k1000", 0, "x" * 900))
+            page = b'{"do":"scan","query":{"limit":1000}}\n'
+            for client, text in zip(clients[1:], (b"", page[:9], b"x" * 65_535, b"x" * 65_536, b"x" * 200_000, page * 9, page)):
+                client.send(text)
+            rests(served.process.pid, "with clients that ask no more")
+        ends_with(served, 0, b"served 8\n", b"")
 
 
 def stream_messages(name: str, count: int) -> Iterator[tuple[int, Json]]:

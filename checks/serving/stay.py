@@ -2,15 +2,18 @@
 
   checks/run stay PROGRAM [CHECK ..]
 
-All take some two minutes. It needs 20,000 descriptors. Exit status 0 where each holds.
+All take some four minutes. It needs 20,000 descriptors. Exit status 0 where each holds.
 """
 from common.tried import checks_in, checks_parser, try_checks
-from serving import staying_clients, staying_limits, staying_moments, staying_rounds, staying_slow, staying_streams, staying_words
+from serving import (staying_clients, staying_descriptors, staying_limits, staying_lines, staying_moments, staying_rounds, staying_slow,
+                     staying_streams, staying_words)
 from serving.staying import raise_descriptors
 
 
 def main(words: list[str]) -> int:
-    checks = checks_in(staying_clients, staying_slow, staying_limits, staying_moments, staying_rounds, staying_streams, staying_words)
+    modules = (staying_clients, staying_slow, staying_lines, staying_limits, staying_descriptors, staying_moments, staying_rounds,
+               staying_streams, staying_words)
+    checks = checks_in(*modules)
     given = checks_parser(__doc__, checks).parse_args(words)
     raise_descriptors()
     return try_checks(given.program, checks, given.names or checks)

@@ -15,6 +15,7 @@ from collections import defaultdict
 from collections.abc import Callable, Iterator, Sequence
 from typing import BinaryIO
 
+from common.resting import Rest, descriptors, memory, rest_of, rests, same_rest, sockets
 from common.served import SECONDS, STARTING, Client, Json, free_port, same
 
 FORK = multiprocessing.get_context("fork")
@@ -56,7 +57,10 @@ def until(what: str, holds: Callable[[], object], seconds: float = SECONDS) -> N
 
 
 class Staying:
-    """A program that serves until it is killed; what it says goes to a file. Its streams are names and paths."""
+    """A program that serves until it is killed; what it says goes to a file. Its streams are names and paths.
+
+    Where the block ends and it still runs, all its clients have gone: it has to rest then, unless it is not looked at.
+    """
 
     def __init__(
         self,
@@ -67,9 +71,12 @@ class Staying:
         threads: int = 4,
         errors: BinaryIO | int | None = None,
         environment: dict[str, str] | None = None,
+        is_looked_at: bool = True,
     ) -> None:
         pipes = {"stdin": subprocess.DEVNULL, "stdout": subprocess.PIPE, "env": environment}
-        self.port, self.folder = free_port(), folder
+        self.port, self.folder, self.is_looked_at = free_port(), folder, is_looked_at
+        # The sockets at which it listens.
+        self.listeners = 1 + ("--control" in words) + sum(path.startswith("listen:") for _, path in streams)
         self.errors = os.path.join(folder, f"errors-{self.port}")
         where = [] if "--socket" in words else ["--port", str(self.port)]
         line = [program, "serve", "--stay", "--sessions", str(threads), *where, *words]
@@ -80,11 +87,19 @@ class Staying:
         is_ready = select.select([self.process.stdout], [], [], SECONDS)[0]
         self.first = self.process.stdout.readline() if is_ready else b""
         if not self.first.startswith(b"listening on "):
-            self.__exit__()
+            self.end()
             raise AssertionError(f"it does not listen: {self.first!r}, {self.said()!r}")
         return self
 
-    def __exit__(self, *_: object) -> None:
+    def __exit__(self, fault: object, *_: object) -> None:
+        try:
+            if not fault and self.is_looked_at and self.is_running():
+                rests(self.process.pid, "once all have gone")
+                until("it has no more sockets than it listens at", lambda: sockets(self.process.pid) <= self.listeners)
+        finally:
+            self.end()
+
+    def end(self) -> None:
         self.process.kill()
         self.process.wait()
         self.process.stdout.close()
@@ -102,25 +117,18 @@ class Staying:
 
     def memory(self) -> int:
         """Its resident memory now, in KB."""
-        with open(f"/proc/{self.process.pid}/status") as file:
-            return next(int(line.split()[1]) for line in file if line.startswith("VmRSS"))
+        return memory(self.process.pid)
 
     def descriptors(self) -> int:
-        return len(os.listdir(f"/proc/{self.process.pid}/fd"))
+        return descriptors(self.process.pid)
 
-    def wait_for_descriptors(self, most: int) -> None:
-        until(f"it has at most {most} descriptors", lambda: self.descriptors() <= most)
+    def rest(self, when: str) -> Rest:
+        """What it has once it rests."""
+        return rest_of(self.process.pid, when)
 
-    def descriptors_at_rest(self) -> int:
-        """How many it has once there are no more and no fewer for a second."""
-        seen: list[int] = []
-
-        def is_at_rest() -> bool:
-            seen.append(self.descriptors())
-            return len(seen) > 100 and len(set(seen[-100:])) == 1
-
-        until("its descriptors stay", is_at_rest)
-        return seen[-1]
+    def same_rest(self, before: Rest, when: str, more_kb: int) -> None:
+        """Fails unless it rests with what it had before, and at most so many KB more."""
+        same_rest(self.process.pid, before, when, more_kb)
 
 
 class Beside:

@@ -33,8 +33,8 @@ def check_idle(program: str, folder: str) -> None:
     """10,000 idle connections, of which some asked or sent half a line, beside 256 busy ones: they cost little, and still ask."""
     path = fed(folder)
     with contextlib.ExitStack() as stay:
-        stay.enter_context(Beside(feed, path, 2_000))
         region = stay.enter_context(Staying(program, folder, [("east", path)], "--connections", str(IDLE + 2 * BUSY)))
+        stay.enter_context(Beside(feed, path, 2_000))
         swarm = stay.enter_context(Swarm(region.port, BUSY))
         alone, before = swarm.run_for(2), region.memory()
         idle = [stay.enter_context(Client(region.port)) for _ in range(IDLE)]
@@ -54,7 +54,7 @@ def check_idle(program: str, folder: str) -> None:
 def check_one_after_another(program: str, folder: str) -> None:
     """20,000 connections, of one thread and of four: what one was shown the next is shown too, and nothing is left of them."""
     path = fed(folder)
-    with Beside(feed, path, 2_000), Staying(program, folder, [("east", path)], threads=1) as region:
+    with Staying(program, folder, [("east", path)], threads=1) as region, Beside(feed, path, 2_000):
         shown = dict.fromkeys(map(key_of, range(KEYS)), -1)
         for key in itertools.islice(itertools.cycle(shown), TURNS // 4):
             with Client(region.port) as client:
@@ -67,12 +67,9 @@ def check_one_after_another(program: str, folder: str) -> None:
         with Client(region.port) as client:
             client.wait_for("k000", row_of("k000", 1, "x"))
         turn_over(region.port, TURNS // 10)
-        descriptors, before = region.descriptors_at_rest(), region.memory()
+        before = region.rest("before they come")
         turn_over(region.port, TURNS)
-        region.wait_for_descriptors(descriptors)
-        grown = region.memory() - before
-        same(f"{TURNS:,} connections left {grown} KB, which is little enough", grown < LEAK_KB, True)
-        print(f"  {TURNS:,} connections left {grown} KB and no descriptor")
+        region.same_rest(before, f"once {TURNS:,} connections have gone", LEAK_KB)
 
 
 def turn_over(port: int, count: int) -> None:
@@ -92,7 +89,7 @@ def check_versions(program: str, folder: str) -> None:
         path = os.path.join(folder, f"fifo-{threads}")
         os.mkfifo(path)
         streams, words = [("east", path)], ["--bounds", '["k050"]', "--workers", "2"]
-        with Beside(feed, path, 20_000), Staying(program, folder, streams, *words, threads=threads) as region:
+        with Staying(program, folder, streams, *words, threads=threads) as region, Beside(feed, path, 20_000):
             with Swarm(region.port, 128, is_one_thread=threads == 1) as swarm:
                 rate = swarm.run_for(4)
                 until(f"each key has {VERSIONS} versions", lambda: swarm.run_for(1) and swarm.newest() >= VERSIONS)

@@ -1,6 +1,7 @@
 """Connections that are refused or end at a limit, and their count: checks of `checks/run stay`."""
 import contextlib
 import os
+import re
 import resource
 import socket
 import struct
@@ -169,7 +170,8 @@ def check_descriptors(program: str, folder: str) -> None:
         ran = subprocess.run(line, capture_output=True, timeout=SECONDS, check=False)
     finally:
         resource.setrlimit(resource.RLIMIT_NOFILE, (soft, hard))
-    same("its status and what it says", (ran.returncode, ran.stderr), (1, b"pnuts: cannot start: Too many open files\n"))
+    told = re.fullmatch(rb"pnuts: cannot start: (\d+) descriptors are needed, and %d are allowed\n" % DESCRIPTORS, ran.stderr)
+    same(f"its status, and whether it says how many are needed: {ran.stderr!r}", (ran.returncode, told and int(told[1]) > DESCRIPTORS), (1, True))
 
 
 def timer_of(port: int) -> int:

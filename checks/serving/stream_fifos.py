@@ -8,6 +8,7 @@ import socket
 import time
 from collections.abc import Iterator
 
+from common.resting import rests
 from common.served import SECONDS, Client, row_of, same, seconds_of
 from serving.staying import Staying, key_of, messages, until
 from serving.writers import Writer, failed, made, said_of_faults, socket_in
@@ -17,10 +18,7 @@ LIVES, RESTARTS, QUIET_LIVES = 200, 50, 300
 # How soon a feed is started again. How long a region is given to see the end of one that has gone: at least this many seconds, and this
 # many times as long as it took once.
 GAPS, SEEN, TIMES = (0.0, 0.0005, 0.002, 0.01, 0.05), 0.3, 20
-# How long something is looked at, and how much of a processor a region may take in a second in which nothing happens.
-LOOKED, AT_REST = 2.0, 0.1
 FEW_DESCRIPTORS, SILENT = 8, 60
-TICKS = os.sysconf("SC_CLK_TCK")
 
 
 def write(path: str, text: bytes) -> None:
@@ -33,20 +31,6 @@ def write(path: str, text: bytes) -> None:
 
 def wait_for(client: Client, at: int) -> None:
     client.wait_for(key_of(at), row_of(key_of(at), at // 100, "x"))
-
-
-def processor_seconds(region: Staying) -> float:
-    with open(f"/proc/{region.process.pid}/stat") as file:
-        fields = file.read().rpartition(")")[2].split()
-    return (int(fields[11]) + int(fields[12])) / TICKS
-
-
-def rests(region: Staying, when: str) -> None:
-    """Fails where it takes a processor although nothing happens."""
-    before = processor_seconds(region)
-    time.sleep(LOOKED)
-    took = (processor_seconds(region) - before) / LOOKED
-    same(f"whether {took:.2f} of a processor {when} are at most {AT_REST}", took <= AT_REST, True)
 
 
 @contextlib.contextmanager
@@ -169,7 +153,7 @@ def check_no_descriptor_left(program: str, folder: str) -> None:
                 wait_for(client, number)
             with Writer(at) as writer:
                 writer.is_taken(seen)
-                rests(region, "while no descriptor is left")
+                rests(region.process.pid, "while no descriptor is left")
                 same("whether the clients are answered", client.read(key_of(1)), {"row": row_of(key_of(1), 0, "x")})
         with Writer(at) as writer:
             same("what a socket's writer is told", writer.begin(), 0)
@@ -205,7 +189,7 @@ def check_errors_that_nobody_drains(program: str, folder: str) -> None:
                     same("what the region has", writer.begin(), 0)
                     writer.send(b"x\n")
                     same("what its writer is told", writer.last_lines(), [b'{"at":1,"error":"not-json"}\n'])
-            rests(region, "with words that nobody takes")
+            rests(region.process.pid, "with words that nobody takes")
             os.set_blocking(ours, False)
             os.read(ours, 1 << 20)
             write(path, messages(QUIET_LIVES + 1, 1))
@@ -220,32 +204,3 @@ def can_read(handle: int) -> bool:
     with contextlib.suppress(BlockingIOError):
         return bool(os.read(handle, 1 << 16))
     return False
-
-
-def check_changed_paths(program: str, folder: str) -> None:
-    """A FIFO whose path goes, or becomes another FIFO or a file, is read on by another path of it; the file is not, and nothing spins."""
-    path, east = made(folder)
-    other = os.path.join(folder, "other")
-    os.link(path, other)
-    with Staying(program, folder, [east]) as region, Client(region.port) as client:
-        with open(path, "wb", buffering=0) as pipe:
-            pipe.write(messages(1, 1))
-            os.remove(path)
-            pipe.write(messages(2, 1))
-        wait_for(client, 2)
-        region.wait_for_words(ENDED)
-        for at, make in enumerate((os.mkfifo, make_file, os.mkdir), 3):
-            make(path)
-            write(other, messages(at, 1))
-            wait_for(client, at)
-            region.wait_for_words(ENDED, at - 1)
-            rests(region, f"where another thing is at the path, made by {make.__name__}")
-            (os.rmdir if make is os.mkdir else os.remove)(path)
-        same("what is said of faults", said_of_faults(region), [])
-        same("how many lines are said", len(region.said().splitlines()), 2 * 4 - 1)
-
-
-def make_file(path: str) -> None:
-    """A file with a message that is not there."""
-    with open(path, "wb") as file:
-        file.write(messages(50, 1))

@@ -21,8 +21,8 @@ LITTLE, TEXT = MEGABYTE, b"y" * 4_000
 # How many of these are more than there is memory for.
 FILLED = 10 * LITTLE // len(TEXT)
 BIG = b'{"at":%d,"image":{"fields":{"a":"%b","b":"%b"},"key":"big%d","master":"w","version":[1,0]}}\n'
-# How long a region is looked at, and how often a second it may wake up while nothing comes.
-LOOKED, WAKE_UPS = 3.0, 30
+# How long a region is looked at, and how often a second it may wake up while nothing comes: it looks at each of 16 paths twice.
+LOOKED, WAKE_UPS = 3.0, 40
 
 
 def read_all(handle: int, wanted: int) -> list[bytes]:

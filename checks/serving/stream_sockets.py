@@ -153,15 +153,13 @@ def check_many_writers(program: str, folder: str) -> None:
         has = 0
         for at in range(WARM):
             has = come_and_go(path, at, has)
-        before, memory = region.descriptors_at_rest(), region.memory()
+        before = region.rest("before most of them")
         start = time.monotonic()
         for at in range(MANY):
             has = come_and_go(path, at, has)
         took = time.monotonic() - start
-        same("what descriptors are left", region.descriptors_at_rest() - before, 0)
-        grown = region.memory() - memory
-        print(f"  {MANY:,} writers in {took:.1f} s: {grown:,} KB more")
-        same(f"whether {grown} KB more are at most {LEAK_KB}", grown <= LEAK_KB, True)
+        print(f"  {MANY:,} writers in {took:.1f} s")
+        region.same_rest(before, "once they have gone", LEAK_KB)
 
 
 def check_listens_at_once(program: str, folder: str) -> None:

@@ -3,7 +3,7 @@
 from __future__ import annotations
 
 import sys
-from collections.abc import Generator, Sequence
+from collections.abc import Callable, Generator, Sequence
 from contextlib import closing
 from typing import Any, Protocol
 
@@ -27,6 +27,10 @@ class Unreachable(Exception):
     """The broker does not answer now. It is asked again."""
 
 
+class BadWords(Exception):
+    """What the words name is no broker's address, or no stream. Only other words help."""
+
+
 class Source(Protocol):
     """A broker's stream."""
 
@@ -34,7 +38,8 @@ class Source(Protocol):
         """The messages after this position, each once and in order.
 
         A batch is what is at hand. An empty one comes at least once a second while there is nothing, so that the feed
-        sees whether its region is there. Raises Unreachable where the broker is away, and Lost.
+        sees whether its region is there. Raises Unreachable where the broker is away, without a text while it is not known why,
+        Lost, and BadWords.
         """
 
     def describe(self, identity: Any) -> str:
@@ -44,6 +49,16 @@ class Source(Protocol):
 def tell(name: str, what: str) -> None:
     """Writes a line for whoever runs the feed."""
     print(f"{name}: {what}", file=sys.stderr, flush=True)
+
+
+def start(name: str, make: Callable[[], Source], output: Output) -> int:
+    """Runs the source that is made of the words, or answers status 2 where they name none."""
+    try:
+        source = make()
+    except BadWords as fault:
+        tell(name, str(fault))
+        return 2
+    return run(name, source, output)
 
 
 def run(name: str, source: Source, output: Output) -> int:
@@ -60,6 +75,10 @@ def run(name: str, source: Source, output: Output) -> int:
     except (BadBody, BadPairs, Lost) as fault:
         tell(name, str(fault))
         feed.finish()
+    except BadWords as fault:
+        tell(name, str(fault))
+        feed.finish()
+        return 2
     except KeyboardInterrupt:
         pass
     return 1
@@ -111,7 +130,7 @@ class _Feed:
                         self._see_broker()
                         self._hand_on(messages)
             except Unreachable as fault:
-                if not self._away:
+                if str(fault) and not self._away:
                     tell(self._name, f"waiting for the broker: {fault}")
                     self._away = True
                 self._output.pause(0.2)

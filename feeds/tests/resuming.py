@@ -3,6 +3,7 @@
 from __future__ import annotations
 
 import os
+import random
 import subprocess
 import tempfile
 import time
@@ -19,6 +20,8 @@ from .support import FEEDS, wait_until
 IMAGES = int(os.environ.get("FEEDS_IMAGES", "200000"))
 # How many of them may come again.
 MOST_AGAIN = 2_000
+# How often a feed or its region is killed at a random moment.
+KILLS = 20
 PATIENCE = 600.0
 
 
@@ -114,6 +117,23 @@ class Resuming(unittest.TestCase):
             self.assertGreater(region.writers, 2)
             self.assertLessEqual(region.again, MOST_AGAIN)
             print(f"{self.words[0]}: {region.again} of {IMAGES} images came again", flush=True)
+
+    def test_kills_at_random_moments(self) -> None:
+        chosen = random.Random(self.words[0])
+        self.fill(1, 2_000)
+        with self.region(slow=True) as region, ExitStack() as stay:
+            program = stay.enter_context(self.feed(region, "--socket"))
+            for kill in range(1, KILLS + 1):
+                time.sleep(chosen.uniform(0.05, 1))
+                self.assertTrue(program.is_running(), program.said())
+                if chosen.random() < 0.5:
+                    program.kill()
+                    program = stay.enter_context(self.feed(region, "--socket"))
+                else:
+                    region.stop()
+                    region.start(region.has - min(region.has, chosen.choice((0, 0, 1, 100))))
+                self.fill(2_000 + 100 * kill - 99, 100)
+            self.wait_for(region, program, 2_000 + 100 * KILLS)
 
     def test_a_region_that_has_a_part(self) -> None:
         self.fill(1, 2_500)

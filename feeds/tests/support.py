@@ -12,7 +12,10 @@ import time
 import unittest
 from collections.abc import Callable, Iterator, Sequence
 from contextlib import contextmanager
+from importlib.machinery import SourceFileLoader
+from importlib.util import module_from_spec, spec_from_loader
 from pathlib import Path
+from typing import Any
 
 FEEDS = Path(__file__).resolve().parents[1]
 
@@ -43,6 +46,16 @@ def wait_until(holds: Callable[[], bool], seconds: float = 30.0) -> None:
         if time.monotonic() > deadline:
             raise AssertionError("it did not come to it in time")
         time.sleep(0.02)
+
+
+def module_of(name: str) -> Any:
+    """A feed's program, as a module."""
+    loader = SourceFileLoader(name.replace("-", "_"), str(FEEDS / name))
+    spec = spec_from_loader(loader.name, loader)
+    assert spec is not None
+    module = module_from_spec(spec)
+    loader.exec_module(module)
+    return module
 
 
 class Feed:

@@ -6,13 +6,11 @@ import tempfile
 import unittest
 from collections.abc import Iterator
 from contextlib import contextmanager
-from importlib.machinery import SourceFileLoader
-from importlib.util import module_from_spec, spec_from_loader
 from pathlib import Path
 from types import SimpleNamespace
 from typing import Any
 
-from .support import FEEDS, image
+from .support import image, module_of
 
 try:
     import pika  # noqa: F401
@@ -20,17 +18,7 @@ except ImportError as fault:
     raise unittest.SkipTest("missing: python3-pika") from fault
 
 
-def program(name: str) -> Any:
-    """A feed's program, as a module."""
-    loader = SourceFileLoader(name.replace("-", "_"), str(FEEDS / name))
-    spec = spec_from_loader(loader.name, loader)
-    assert spec is not None
-    module = module_from_spec(spec)
-    loader.exec_module(module)
-    return module
-
-
-rabbitmq = program("rabbitmq-stream")
+rabbitmq = module_of("rabbitmq-stream")
 
 
 class Channel:

@@ -43,6 +43,13 @@ class Postgres(unittest.TestCase):
             self.assertEqual(running.lines, wanted(121))
         slow.close()
 
+    def test_a_table_that_is_no_outbox(self) -> None:
+        self.server.do("CREATE TABLE plain (id integer)")
+        with feed(*self.words[:-1], "plain") as running:
+            status, said = running.ended()
+            self.assertEqual((status, running.lines), (2, []))
+            self.assertRegex(said, "^postgres-outbox: the table plain is no outbox: [^\n]+\n$")
+
     def test_rows_that_are_rolled_back(self) -> None:
         connection = self.server.connection()
         with connection.cursor() as cursor:

@@ -2,7 +2,6 @@
 
 from __future__ import annotations
 
-import time
 import unittest
 
 from .rabbitmq_server import SMALL, Server, server_of
@@ -68,8 +67,8 @@ class RabbitMq(unittest.TestCase):
         self.server.make(plain, {})
         self.server.add(plain, 1, 3)
         with feed(*self.words[:-1], plain) as running:
-            time.sleep(3)
-            self.assertEqual((running.program.poll(), running.lines), (None, []))
+            self.assertEqual(running.ended(), (2, f"rabbitmq-stream: the queue {plain} is no stream in RabbitMQ\n"))
+            self.assertEqual(running.lines, [])
         with self.server.channel() as channel:
             wait_until(lambda: bool(channel.queue_declare(plain, passive=True).method.message_count == 3))
 

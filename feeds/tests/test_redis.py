@@ -87,6 +87,21 @@ class Redis(unittest.TestCase):
             self.server.client.delete("east")
             self.assertEqual(running.ended()[0], 1)
 
+    def test_a_key_that_is_no_stream(self) -> None:
+        self.server.client.set("east", "x")
+        with feed(*self.words) as running:
+            self.assertEqual(running.ended(), (2, "redis-stream: the key east is no stream in Redis\n"))
+
+    def test_a_key_that_becomes_another_one(self) -> None:
+        self.server.add(1, 3)
+        with feed(*self.words) as running:
+            running.wait_for(3)
+            with self.server.client.pipeline(transaction=True) as both:
+                both.delete("east")
+                both.set("east", "x")
+                both.execute()
+            self.assertEqual((running.ended()[0], running.lines), (2, wanted(3)))
+
     def test_a_body_that_is_no_json(self) -> None:
         self.server.add(1, 1)
         self.server.client.xadd("east", {"image": b"{"})

@@ -133,7 +133,7 @@ class Sockets(unittest.TestCase):
 
 
 class Scripted:
-    """A broker whose stream has these images, and does not answer at these positions at first."""
+    """A broker whose stream has these images, and does not answer at these positions at first, at the seventh without a reason."""
 
     def __init__(self, count: int, away: Sequence[int] = ()) -> None:
         self._count = count
@@ -146,7 +146,7 @@ class Scripted:
         for number in range(after + 1, self._count + 1):
             if number in self._away:
                 self._away.remove(number)
-                raise Unreachable("away")
+                raise Unreachable("" if number == 7 else "away")
             yield [(-number, image(number))]
             yield []
         raise Lost("no more")
@@ -163,11 +163,11 @@ class Running(unittest.TestCase):
         with tempfile.TemporaryDirectory() as folder:
             region = Region(Path(folder, "east"), 3)
             self.addCleanup(region.stop)
-            source, said = Scripted(20, (5, 9, 9)), io.StringIO()
+            source, said = Scripted(20, (5, 7, 9, 9)), io.StringIO()
             with redirect_stderr(said):
                 self.assertEqual(run("scripted", source, RegionSocket(str(region.path), lambda _: None)), 1)
             wait_until(lambda: region.has == 20)
-            self.assertEqual((region.faults, region.again, source.begun), ([], 0, [3, 4, 8, 8]))
+            self.assertEqual((region.faults, region.again, source.begun), ([], 0, [3, 4, 6, 8, 8]))
             told = ["waiting for the broker: away", "the broker is back"] * 2
             self.assertEqual(said.getvalue().splitlines(), [f"scripted: {line}" for line in [*told, "no more"]])
 

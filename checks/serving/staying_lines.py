@@ -1,0 +1,137 @@
+"""Long lines of many clients, and of the client for Python; and silence beside clients that come: checks of `checks/run stay`."""
+import contextlib
+import os
+import random
+import socket
+import struct
+import sys
+import time
+
+from common.crates import TOP
+from common.served import SECONDS, Client, in_time, row_of, same, seconds_of, written
+from serving.staying import Beside, Staying, messages, until
+from serving.staying_limits import none
+
+# Clients that send one long line each, and go. A region that spins has fewer threads than they are.
+CLIENTS, SIZES = 1_100, (65_536, 66_000, 81_920, 98_304, 131_071, 150_000)
+RESET = struct.pack("ii", 1, 0)
+# Keys that a client asks for: the greatest number of the longest ones.
+LETTERS, COUNT = 128, 100
+# How long one waits that may never be answered, and what clients may leave.
+PATIENCE, LEAK_KB = 20.0, 4_096
+# For how many seconds a client may be silent, how often others come meanwhile, and how much later than that it is ended at most.
+IDLE, COMING, LATER = 3, 0.04, 2.5
+
+
+def send_and_go(port: int, rng: random.Random) -> None:
+    """A client that sends one long line, some of it or a line behind it, and goes in one of three ways."""
+    size, way = rng.choice(SIZES), rng.randrange(3)
+    with contextlib.suppress(ConnectionError), socket.create_connection(("127.0.0.1", port), timeout=SECONDS) as client:
+        client.sendall(b'{"do":"read","key":"k001"}'.ljust(size) + rng.choice([b"", b"\n", b"\n{}\n"]))
+        if way == 1:
+            client.shutdown(socket.SHUT_WR)
+        elif way == 2:
+            client.setsockopt(socket.SOL_SOCKET, socket.SO_LINGER, RESET)
+
+
+def check_long_lines_of_many(program: str, folder: str) -> None:
+    """1,100 clients send one line of 65,536 bytes or more and go at once: nothing is left of them, and the next one is answered at once."""
+    rng = random.Random(4)
+    with Staying(program, folder, none(folder), "--connections", "1024") as region:
+        with Client(region.port) as client:
+            same("one before them", client.read("k"), {"row": None})
+            idle = seconds_of(lambda: client.read("k"))
+        before = None
+        # What the first ones take stays with the system's allocator.
+        for _ in range(2):
+            for _ in range(CLIENTS):
+                send_and_go(region.port, rng)
+            with Client(region.port) as client:
+                client.socket.settimeout(PATIENCE)
+                in_time("the reply to one behind them", seconds_of(lambda: same("one behind them", client.read("k"), {"row": None})), 1.0, idle)
+            if before:
+                region.same_rest(before, "once as many have gone again", LEAK_KB)
+            before = region.rest("once they have gone")
+
+
+def check_idle_with_a_long_line(program: str, folder: str) -> None:
+    """A client that sends 65,536 bytes without a newline, and no more, is ended as idle, and takes no processor."""
+    with Staying(program, folder, none(folder), "--idle", "2") as region:
+        for size in SIZES:
+            with socket.create_connection(("127.0.0.1", region.port), timeout=PATIENCE) as client:
+                client.sendall(b"x" * size)
+                with contextlib.suppress(ConnectionError):
+                    client.recv(1)
+                    same(f"what one with {size:,} bytes is told besides", client.recv(1), b"")
+
+
+def check_long_keys_of_the_client(program: str, folder: str) -> None:
+    """The client for Python asks for 100 keys of 128 Cyrillic letters, which is answered or refused at once, and then for others."""
+    sys.path.insert(0, str(TOP / "clients/python/src"))
+    from pnuts_client import Client as Asking
+    from pnuts_client.errors import PnutsError, Refused
+
+    with Staying(program, folder, [("east", written(folder, "east", messages(1, 100)))]) as region:
+        with Asking(f"tcp://127.0.0.1:{region.port}", timeout=PATIENCE, retries=0) as client:
+            until("the records are there", lambda: client.read("k099"))
+            idle = seconds_of(lambda: client.read("k001"))
+            keys = [chr(0x430 + at % 32) * LETTERS for at in range(COUNT)]
+            start = time.monotonic()
+            try:
+                with contextlib.suppress(Refused):
+                    same("what is there of its keys", client.get(keys), [None] * COUNT)
+            except PnutsError as fault:
+                raise AssertionError(f"a long get: {fault}") from fault
+            in_time("the reply to a long get", time.monotonic() - start, 1.0, idle)
+            same("the next record", client.read("k001").key, "k001")
+
+
+def come_and_go(is_over: object, port: int) -> None:
+    """Clients that come, ask and go, one after another."""
+    while not is_over():
+        with contextlib.suppress(OSError), socket.create_connection(("127.0.0.1", port), timeout=SECONDS) as client:
+            client.sendall(b"{}\n")
+            client.recv(100)
+        time.sleep(COMING)
+
+
+def check_idle_beside_others_that_come(program: str, folder: str) -> None:
+    """With --idle 3, a silent client and one with half a line are ended after three seconds and not before, however many others come
+    meanwhile; one that asks each second is not."""
+    for threads in (1, 2):
+        with Staying(program, folder, none(folder), "--idle", str(IDLE), threads=threads) as region:
+            with Beside(come_and_go, region.port), Beside(come_and_go, region.port), Client(region.port) as silent, Client(region.port) as half:
+                with Client(region.port) as honest:
+                    idle = seconds_of(lambda: honest.read("k"))
+                    start = time.monotonic()
+                    half.send(b'{"do":"re')
+                    same("what a silent one is sent", silent.reply(), b"")
+                    took = time.monotonic() - start
+                    same("what one with half a line is sent", half.reply(), b"")
+                    both = time.monotonic() - start
+                    same(f"whether {took:.2f} s of silence are at least {IDLE}, with {threads} threads", took > IDLE - 0.3, True)
+                    in_time("the end of a silent one", took - IDLE, LATER, idle)
+                    in_time("the end of one with half a line", both - IDLE, LATER, idle)
+                with Client(region.port) as honest:
+                    for _ in range(2 * IDLE):
+                        same("one that asks now and then", honest.read("k"), {"row": None})
+                        time.sleep(IDLE / 3)
+
+
+def check_at_rest_with_clients(program: str, folder: str) -> None:
+    """A region with clients that asked, have half a line, or take no replies takes no processor, and has what it had once they are gone."""
+    east = [("east", written(folder, "east", messages(1, 1_000, "x" * 900)))]
+    with Staying(program, folder, east, "--control", os.path.join(folder, "control")) as region:
+        with Client(region.port) as client:
+            client.wait_for("k099", row_of("k099", 9, "x" * 900))
+        before = None
+        for _ in range(2):
+            with contextlib.ExitStack() as stay:
+                clients = [stay.enter_context(Client(region.port)) for _ in range(90)]
+                for at, client in enumerate(clients):
+                    line = b'{"do":"scan","query":{"limit":1000}}\n'
+                    client.send([line, line[:20], line * 50, b"x" * 60_000, b"x" * 65_536, b"x" * 200_000][at % 6])
+                region.rest("with clients that ask no more")
+            if before:
+                region.same_rest(before, "once as many have gone again", LEAK_KB)
+            before = region.rest("once they have gone")
