@@ -109,11 +109,14 @@ func Ask[A any](ctx context.Context, c *Client, command Command, answer A, isRep
 
 // lineOf is the line of a command. A text that is no UTF-8 would be written as another one.
 func lineOf(command Command) ([]byte, error) {
-	line, err := json.Marshal(command)
-	if bytes.Contains(bytes.ReplaceAll(line, []byte(`\\`), nil), []byte(`\ufffd`)) {
+	var line bytes.Buffer
+	writer := json.NewEncoder(&line)
+	writer.SetEscapeHTML(false)
+	err := writer.Encode(command)
+	if bytes.Contains(bytes.ReplaceAll(line.Bytes(), []byte(`\\`), nil), []byte(`\ufffd`)) {
 		err = fmt.Errorf("pnuts: no UTF-8: %q", command)
 	}
-	return append(line, '\n'), err
+	return line.Bytes(), err
 }
 
 // ask has what is received for a command taken, by as many tries as it takes: it only reads, so where the connection broke, and where a

@@ -53,6 +53,21 @@ func TestLookups(t *testing.T) {
 	same(t, "keys", keysOf(records), append(keys, "", "k000"))
 }
 
+func TestKeysWhoseLinesWouldBeTooLong(t *testing.T) {
+	client, all := opened(t, Options{})
+	last := all[count-1]
+	for text, lines := range map[string]int{strings.Repeat("\u0436", 126): 1, strings.Repeat("\u0001", 254): 3} {
+		keys, wanted := []string{}, []string{}
+		for at := 0; at < 100; at++ {
+			keys, wanted = append(keys, fmt.Sprintf("%s%02d", text, at)), append(wanted, "")
+		}
+		same(t, "lines", len(endsOf(keys))-1, lines)
+		records, err := client.Get(background, append(keys, last))
+		must(t, err)
+		same(t, "keys", keysOf(records), append(wanted, last))
+	}
+}
+
 func TestScans(t *testing.T) {
 	client, keys := opened(t, Options{})
 	same(t, "all keys", scanned(t, client.Scan(background, Query{Limit: 7})), keys)

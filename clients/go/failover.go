@@ -32,7 +32,7 @@ func newOrder(names []string) *order {
 	return &order{names: names, regions: make([]regionState, len(names))}
 }
 
-// next is the first region that was not tried and is not left alone, else the one that is left alone for the shortest time, and whether
+// next is the first region that was not tried and is not left alone, else the one whose time ends first, and whether
 // there is one. Where it failed before, it is left alone by all others while this one finds out.
 func (o *order) next(now time.Time, tried []bool) (try, bool) {
 	o.mutex.Lock()

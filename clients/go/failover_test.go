@@ -229,7 +229,7 @@ func TestASilentRegionIsGivenUp(t *testing.T) {
 
 func TestALineEndsWhereAllSayNothing(t *testing.T) {
 	addresses := []string{fake(t, listen(t), []string{"1h"}), fake(t, listen(t), []string{"1h"})}
-	client, err := OpenAny(addresses, Options{Timeout: 500 * time.Millisecond})
+	client, err := OpenAny(addresses, Options{Timeout: 2 * time.Second})
 	must(t, err)
 	t.Cleanup(client.Close)
 	late, several := (*TimedOut)(nil), (*RegionsFailed)(nil)

@@ -1,9 +1,16 @@
 package pnuts
 
-import "context"
+import (
+	"context"
+	"encoding/json"
+)
 
-// maxKeys is how many keys one line may have.
-const maxKeys = 100
+const (
+	// maxKeys is how many keys one line may have.
+	maxKeys = 100
+	// maxSize is how many bytes they may have in a line, each with a comma.
+	maxSize = 65_536 - len(`{"do":"get","keys":[]}`)
+)
 
 // A Page has records in key order, and the query for those that follow, nil where these are the last.
 type Page struct {
@@ -44,12 +51,9 @@ func (c *Client) readAll(ctx context.Context, wanted []sight) ([]*Record, error)
 
 // Get gives the records of keys, in their order. More than 100 keys are asked for in several lines.
 func (c *Client) Get(ctx context.Context, keys []string) ([]*Record, error) {
-	records := make([]*Record, len(keys))
-	return records, together((len(keys)+maxKeys-1)/maxKeys, func(at int) error {
-		share := keys[at*maxKeys:]
-		if len(share) > maxKeys {
-			share = share[:maxKeys]
-		}
+	records, ends := make([]*Record, len(keys)), endsOf(keys)
+	return records, together(len(ends)-1, func(at int) error {
+		share, rows := keys[ends[at]:ends[at+1]], records[ends[at]:ends[at+1]]
 		found, err := Ask(ctx, c, Command{"do": "get", "keys": share}, without(), func(found reply) bool {
 			return found.hasRows() && len(found.Rows) == len(share)
 		})
@@ -60,16 +64,32 @@ func (c *Client) Get(ctx context.Context, keys []string) ([]*Record, error) {
 		if err != nil {
 			return err
 		}
-		copy(records[at*maxKeys:], found.Rows)
+		copy(rows, found.Rows)
 		for _, record := range later {
 			for index, key := range share {
 				if record != nil && key == record.Key {
-					records[at*maxKeys+index] = record
+					rows[index] = record
 				}
 			}
 		}
 		return nil
 	})
+}
+
+// endsOf are the indexes at which keys are cut, with both ends: for lines that have at most 100 keys and are not too long.
+func endsOf(keys []string) []int {
+	ends, size := []int{0}, 0
+	for at, key := range keys {
+		text, _ := json.Marshal(key)
+		size += len(text) + 1
+		if first := ends[len(ends)-1]; at > first && (at-first == maxKeys || size > maxSize) {
+			ends, size = append(ends, at), len(text)+1
+		}
+	}
+	if len(keys) > 0 {
+		ends = append(ends, len(keys))
+	}
+	return ends
 }
 
 // Page gives a page of what a query asks for, without deleted records. Of several regions it may have more rows than the limit.

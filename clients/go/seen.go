@@ -74,13 +74,16 @@ func (s *seen) note(known *list.Element, found sight) {
 
 // olderOf is what was seen of the keys of a page in a later version, and, where there are no conditions, of those that it lacks.
 func (s *seen) olderOf(query Query, page Page) []sight {
+	if s == nil {
+		return nil
+	}
 	keys, shown := make([]string, len(page.Records)), map[string]bool{}
 	for at, record := range page.Records {
 		keys[at] = record.Key
 		shown[record.Key] = true
 	}
 	found := s.older(keys, page.Records)
-	if s == nil || len(query.Where) > 0 {
+	if len(query.Where) > 0 {
 		return found
 	}
 	s.mutex.Lock()

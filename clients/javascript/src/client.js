@@ -11,7 +11,9 @@ import { Pool } from "./pool.js";
 import { answerOf, page, row, rowsOf, text } from "./replies.js";
 import { Seen, withLater } from "./seen.js";
 
+/** How many keys a line may have, and how many bytes they may have in it, each with a comma. */
 const MAX_KEYS = 100;
+const MAX_SIZE = 65_536 - '{"do":"get","keys":[]}'.length;
 
 /** Reads from a region, or from several. Any number of calls may be made at once; their lines are in flight together. */
 export class Client {
@@ -48,8 +50,8 @@ export class Client {
   }
 
   async get(keys) {
-    const batches = Array.from({ length: Math.ceil(keys.length / MAX_KEYS) }, (_, at) => keys.slice(at * MAX_KEYS, (at + 1) * MAX_KEYS));
-    const found = (await Promise.all(batches.map((batch) => this.ask({ do: "get", keys: batch }, rowsOf(batch.length))))).flat();
+    const asked = batchesOf(keys).map((batch) => this.ask({ do: "get", keys: batch }, rowsOf(batch.length)));
+    const found = (await Promise.all(asked)).flat();
     const older = this.#seen?.older(keys, found) ?? [];
     const later = new Map((await this.#readAll(older)).map((record) => [record?.key, record]));
     return found.map((record, at) => later.get(keys[at]) ?? record);
@@ -109,6 +111,22 @@ export class Client {
   #readAll(wanted) {
     return Promise.all(wanted.map(({ key, version }) => this.read(key, { atLeast: version })));
   }
+}
+
+/** Keys in lists of at most 100, in their order, for lines that are not too long. */
+export function batchesOf(keys) {
+  const batches = [];
+  let left = 0;
+  for (const key of keys) {
+    const size = Buffer.byteLength(JSON.stringify(key)) + 1;
+    if (batches.length === 0 || batches.at(-1).length === MAX_KEYS || size > left) {
+      batches.push([]);
+      left = MAX_SIZE;
+    }
+    batches.at(-1).push(key);
+    left -= size;
+  }
+  return batches;
 }
 
 /** Writes a file beside the path, and moves it there. */

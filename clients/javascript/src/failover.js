@@ -21,8 +21,8 @@ export class Order {
   }
 
   /**
-   * The first region that was not tried and is not left alone, else the one that is left alone for the shortest time. Where it
-   * failed before, it is left alone by all others while this one finds out.
+   * The first region that was not tried and is not left alone, else the one whose time ends first. Where it failed
+   * before, it is left alone by all others while this one finds out.
    */
   next(now, tried) {
     const waits = this.#regions.map(({ until }, at) => (tried.has(at) ? undefined : Math.max(until - now, 0)));

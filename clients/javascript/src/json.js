@@ -8,7 +8,13 @@ export function parse(text) {
   return LONG.test(text) ? new Reader(text).whole() : JSON.parse(text);
 }
 
-/** The text of a value. A number that a double has not for certain is refused, as its text may be that of another. */
+/** A surrogate that stands alone. */
+const ALONE = /\p{Surrogate}/u;
+
+/**
+ * The text of a value. A number that a double has not for certain is refused, as its text may be that of another, and so is a text
+ * that is no UTF-8.
+ */
 export function stringify(value) {
   if (typeof value === "bigint") {
     return value.toString();
@@ -22,6 +28,9 @@ export function stringify(value) {
   }
   if (typeof value === "number" && !Number.isSafeInteger(value)) {
     throw new RangeError(`no safe integer, nor a BigInt: ${value}`);
+  }
+  if (ALONE.test(value)) {
+    throw new RangeError(`no UTF-8: ${JSON.stringify(value)}`);
   }
   return JSON.stringify(value);
 }

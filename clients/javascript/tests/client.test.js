@@ -7,6 +7,7 @@ import { test } from "node:test";
 import { setTimeout as sleep } from "node:timers/promises";
 import * as all from "../src/index.js";
 import { BadLine, ConnectionFailed, CopyBehind, ProtocolError, RecordBehind, TimedOut, compareVersions, eq, has } from "../src/index.js";
+import { batchesOf } from "../src/client.js";
 import { COUNT, KEYS, NONE, PEOPLE, fake, folderOf, freePort, keysOf, ofTheProgram, open, opened, region, waitFor } from "./support.js";
 
 test("lookups", ofTheProgram, async (t) => {
@@ -17,6 +18,22 @@ test("lookups", ofTheProgram, async (t) => {
   assert.equal(await client.read("z"), null);
   await assert.rejects(client.read("k001", { atLeast: [1, 1] }), (fault) => fault instanceof RecordBehind && fault.has[1] === 0);
   assert.deepEqual(await keysOf(await client.get([...KEYS, "z", "k000"])), [...KEYS, undefined, "k000"]);
+});
+
+test("keys whose lines would be too long", ofTheProgram, async (t) => {
+  const client = await opened(t);
+  for (const [text, lines] of [["\u0436".repeat(126), 1], ["\u0001".repeat(254), 3]]) {
+    const keys = Array.from({ length: 100 }, (_, at) => `${text}${String(at).padStart(2, "0")}`);
+    assert.equal(batchesOf(keys).length, lines);
+    assert.deepEqual(await keysOf(await client.get([...keys, KEYS[0]])), [...new Array(100).fill(undefined), KEYS[0]]);
+  }
+});
+
+test("texts that are no UTF-8", async (t) => {
+  const client = open(t, "tcp://127.0.0.1:1");
+  for (const call of [() => client.read("k\ud800"), () => client.get(["a", "k\ud800"]), () => client.page({ from: "k\ud800" })]) {
+    await assert.rejects(call(), { name: "RangeError", message: 'no UTF-8: "k\\ud800"' });
+  }
 });
 
 test("scans", ofTheProgram, async (t) => {

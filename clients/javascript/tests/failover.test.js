@@ -150,7 +150,7 @@ test("a region that says nothing is given up after its share of the time", async
 
 test("a line ends where all regions say nothing", async (t) => {
   const addresses = [await fake(t, [[]]), await fake(t, [[]])];
-  await assert.rejects(open(t, addresses, { timeout: 500 }).read("k"), (fault) => {
+  await assert.rejects(open(t, addresses, { timeout: 2000 }).read("k"), (fault) => {
     assert.deepEqual([fault.name, fault.others.map(({ address }) => address)], ["TimedOut", addresses.slice(0, 1)]);
     return true;
   });

@@ -6,6 +6,7 @@ import tempfile
 import threading
 import time
 import unittest
+from collections.abc import Callable
 from pathlib import Path
 
 from pnuts_client import (
@@ -55,6 +56,27 @@ class OfARegion(unittest.TestCase):
             keys = [f"k{at:03}" for at in range(COUNT)] + ["z", "k000"]
             found = client.get(keys)
             self.assertEqual([record and record.key for record in found], keys[:COUNT] + [None, "k000"])
+
+    def test_keys_whose_lines_would_be_too_long(self) -> None:
+        cyrillic = ["\u0436" * 126 + f"{at:02}" for at in range(100)]
+        controls = ["\u0001" * 254 + f"{at:02}" for at in range(100)]
+        self.assertEqual([len(list(requests.in_batches(keys))) for keys in (cyrillic, controls)], [1, 3])
+        with region(PEOPLE) as port, Client(f"tcp://127.0.0.1:{port}") as client:
+            wait_for(client, LAST)
+            for keys in (cyrillic, controls):
+                found = client.get([*keys, LAST])
+                self.assertEqual([record and record.key for record in found], [None] * 100 + [LAST])
+
+    def test_texts_that_are_no_utf_8(self) -> None:
+        with Client("tcp://127.0.0.1:1") as client:
+            asked: list[Callable[[], object]] = [
+                lambda: client.read("k\ud800"),
+                lambda: client.get(["a", "k\ud800"]),
+                lambda: list(client.scan("k\ud800")),
+            ]
+            for each in asked:
+                with self.assertRaisesRegex(ValueError, r"no UTF-8: .*'k\\ud800'"):
+                    each()
 
     def test_scans(self) -> None:
         with region(PEOPLE) as port, Client(f"tcp://127.0.0.1:{port}") as client:

@@ -217,19 +217,19 @@ class SilentRegion(unittest.TestCase):
     def test_a_line_ends_where_all_say_nothing(self) -> None:
         with fake(replies()) as silent:
             addresses = [self.addresses[0], f"tcp://127.0.0.1:{silent}"]
-            with Client(addresses, timeout=0.5) as client, self.assertRaises(TimedOut) as late:
+            with Client(addresses, timeout=2) as client, self.assertRaises(TimedOut) as late:
                 client.read("k")
             self.assertEqual([(where, type(said)) for where, said in late.exception.others], [(self.addresses[0], TimedOut)])
             self.assertEqual(str(late.exception), f"no reply in time ({self.addresses[0]}: no reply in time)")
 
     def test_a_slow_consumer_loses_no_time(self) -> None:
         row = '{"row":null}\n'
-        with fake(replies(row, end=True)) as first, fake(replies(row)) as second:
+        with fake(replies(row, end=True)) as first, fake(replies(row, row)) as second:
             addresses = [f"tcp://127.0.0.1:{first}", f"tcp://127.0.0.1:{second}"]
-            with Client(addresses, timeout=0.5) as client:
+            with Client(addresses, timeout=2) as client:
                 answers = client.ask_all([requests.read("k"), requests.read("l")])
                 self.assertIsNone(next(answers))
-                time.sleep(0.7)
+                time.sleep(2.2)
                 self.assertEqual(list(answers), [None])
 
     def test_for_threads(self) -> None:

@@ -47,10 +47,13 @@ class Order:
         return len(self._regions)
 
     def next(self, now: float, tried: Container[int]) -> Try | None:
-        """The first region that was not tried and is not left alone, else the one that is left alone for the shortest time.
+        """The first region that was not tried and is not left alone, else the one whose time ends first.
 
         Where it failed before, it is left alone by all others while this one finds out.
         """
+        first = self._regions[0]
+        if not first.failures and 0 not in tried:
+            return Try(0, first.known)
         with self._lock:
             left = [(max(it.until - now, 0.0), at) for at, it in enumerate(self._regions) if at not in tried]
             if not left:
@@ -63,8 +66,10 @@ class Order:
 
     def answered(self, done: Try) -> None:
         """The region is well, unless it has failed since it was chosen."""
+        region = self._regions[done.region]
+        if not region.failures:
+            return
         with self._lock:
-            region = self._regions[done.region]
             if region.known == done.known:
                 region.failures, region.until = 0, 0.0
 

@@ -13,9 +13,11 @@ from .records import Record
 
 MAX_KEYS = 100
 """How many keys one `get` may have."""
+MAX_SIZE = 65_536 - len('{"do":"get","keys":[]}')
+"""How many bytes they may have in its line, each with a comma."""
 
 Answer = TypeVar("Answer")
-_text: Callable[[str], str] = json.JSONEncoder().encode
+_json: Callable[[Any], str] = json.JSONEncoder(ensure_ascii=False, separators=(",", ":")).encode
 
 
 class Request(NamedTuple, Generic[Answer]):
@@ -54,14 +56,13 @@ class Page:
 
 def read(key: str, at_least: tuple[int, int] | None = None) -> Request[Record | None]:
     """One record, a deleted one too; None where there is none. `at_least` is the version that is required."""
-    version = "" if at_least is None else f',"version":[{at_least[0]:d},{at_least[1]:d}]'
-    line = f'{{"do":"read","key":{_text(key)}{version}}}\n'.encode()
-    return Request(line, _row, key=key, at_least=at_least)
+    version = b"" if at_least is None else b',"version":[%d,%d]' % tuple(at_least)
+    return Request(b'{"do":"read","key":%b%b}\n' % (_text(key), version), _row, key=key, at_least=at_least)
 
 
 def get(keys: Sequence[str]) -> Request[list[Record | None]]:
     """The records of 1 to 100 keys, in their order."""
-    return Request(f'{{"do":"get","keys":[{",".join(map(_text, keys))}]}}\n'.encode(), _rows)
+    return Request(b'{"do":"get","keys":[%b]}\n' % b",".join(map(_text, keys)), _rows)
 
 
 def scan(query: Query) -> Request[Page]:
@@ -77,19 +78,30 @@ def copy(tablet: int, need: Mapping[str, int] | None = None) -> Request[bytes]:
 
 def ask(command: Mapping[str, Any], meaning: Callable[[Any], Answer]) -> Request[Answer]:
     """Any command that reads and has a reply of one line."""
-    return Request(json.dumps(command, separators=(",", ":")).encode() + b"\n", meaning)
+    return Request(_text(command) + b"\n", meaning)
 
 
 def in_batches(keys: Iterable[str]) -> Iterable[list[str]]:
-    """Keys in lists of at most 100, in their order."""
+    """Keys in lists of at most 100, in their order, for lines that are not too long."""
     batch: list[str] = []
+    left = MAX_SIZE
     for key in keys:
-        batch.append(key)
-        if len(batch) == MAX_KEYS:
+        size = len(_text(key)) + 1
+        if batch and (len(batch) == MAX_KEYS or size > left):
             yield batch
-            batch = []
+            batch, left = [], MAX_SIZE
+        batch.append(key)
+        left -= size
     if batch:
         yield batch
+
+
+def _text(value: Any) -> bytes:
+    """JSON as a line has it. What is no UTF-8, as a surrogate that stands alone, is refused."""
+    try:
+        return _json(value).encode()
+    except UnicodeEncodeError as fault:
+        raise ValueError(f"no UTF-8: {value!r}") from fault
 
 
 def _row(reply: Any) -> Record | None:
