@@ -2,6 +2,7 @@
 
 from __future__ import annotations
 
+import itertools
 import socket
 import unittest
 import unittest.mock
@@ -57,17 +58,25 @@ class KafkaOffsets(unittest.TestCase):
     def give(self, source: Any, after: int, count: int) -> list[tuple[int, bytes]]:
         """The next messages after a position."""
         found: list[tuple[int, bytes]] = []
-        batches = source.batches(after)
+        batches = self.begun(source, after)
         while len(found) < count:
             found.extend(next(batches))
-        batches.close()
         return found
+
+    def begun(self, source: Any, after: int) -> Any:
+        """Messages after a position, once the broker has answered: on a busy machine it may be late."""
+        while True:
+            batches = source.batches(after)
+            try:
+                return itertools.chain([next(batches)], batches)
+            except kafka.Unreachable:
+                pass
 
     def lost(self, source: Any, after: int) -> tuple[int, str]:
         """How many messages come after a position, and why no more."""
         count = 0
         with self.assertRaises(kafka.Lost) as lost:
-            for batch in source.batches(after):
+            for batch in self.begun(source, after):
                 count += len(batch)
         return count, str(lost.exception)
 
@@ -112,6 +121,22 @@ class KafkaOffsets(unittest.TestCase):
         self.assertEqual(count, 0)
         self.assertIn("is of another cluster than before", said)
 
+    def reason(self, source: Any) -> str:
+        """Why nothing comes, once a broker has answered."""
+        while True:
+            try:
+                next(source.batches(0))
+            except kafka.Unreachable as fault:
+                if "Failed to get" not in str(fault) and str(fault):
+                    return str(fault)
+
+    def test_reasons_to_wait(self) -> None:
+        self.assertEqual(self.reason(self.source(500)), f"the topic {self.topic} has no offset 500 yet")
+        self.server.hide(self.topic)
+        self.assertEqual(self.reason(self.source()), f"there is no topic {self.topic}")
+        self.server.hide(self.topic, kafka.KafkaError.TOPIC_AUTHORIZATION_FAILED)
+        self.assertIn("authorization failed", self.reason(self.source()))
+
     def test_a_topic_that_is_too_short_for_a_while(self) -> None:
         self.server.fill(self.topic, 1, 10)
         source = self.source()
@@ -136,7 +161,7 @@ class KafkaOffsets(unittest.TestCase):
         self.server.fill(self.topic, 1, 10)
         self.server.make(f"{self.topic}_two", 2)
         source = self.source()
-        batches = source.batches(0)
+        batches = self.begun(source, 0)
         next(batches)
         source._topic = f"{self.topic}_two"
         next(batches)
@@ -157,12 +182,11 @@ class KafkaOffsets(unittest.TestCase):
         self.server.fill(self.topic, 1, 10)
         source = self.source(4)
         self.assertIsNone(source.newest())
-        batches = source.batches(5)
+        batches = self.begun(source, 5)
         next(batches)
         self.assertEqual(source.newest(), 6)
         self.server.fill(self.topic, 11, 5)
         wait_until(lambda: bool(next(batches) is not None and source.newest() == 11))
-        batches.close()
 
     def test_words(self) -> None:
         for brokers in ("", "a b", "a:b", "a:0", "a:65536", "a:1:2", "a,,b", "::1", "[::1", "a:1,b:c"):
@@ -181,7 +205,4 @@ class KafkaOffsets(unittest.TestCase):
     def test_names_that_are_none(self) -> None:
         self.server.hide(self.topic, kafka.KafkaError.TOPIC_EXCEPTION)
         with self.assertRaisesRegex(kafka.BadWords, "no name of a topic"):
-            next(self.source().batches(0))
-        self.server.hide(self.topic, kafka.KafkaError.TOPIC_AUTHORIZATION_FAILED)
-        with self.assertRaisesRegex(kafka.Unreachable, "authorization failed"):
-            next(self.source().batches(0))
+            self.reason(self.source())
