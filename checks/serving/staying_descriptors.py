@@ -9,10 +9,10 @@ import time
 from collections.abc import Callable, Iterator
 
 from common.at_once import at_once
-from common.served import SECONDS, Client, free_port, same
+from common.served import SECONDS, free_port, same
 from serving.controlled import Session
 from serving.staying import Staying, messages, until
-from serving.staying_limits import is_answered, none, same_limit
+from serving.staying_limits import connected, is_answered, none, same_limit
 from serving.writers import Writer
 
 # The limits that are tried, the last of which is enough, and what a program is started with that has to have all of it.
@@ -100,7 +100,9 @@ def check_places_after_want(program: str, folder: str) -> None:
                 with contextlib.suppress(OSError), socket.create_connection(("127.0.0.1", region.port), timeout=0.01) as client:
                     client.sendall(b"{}\n")
                 time.sleep(max(0.0, min(WITHOUT / COMING, last - time.monotonic())))
-        with Client(region.port) as client:
-            same("one that comes then", client.read("z"), {"row": None})
+        with connected(region.port, PLACES) as clients:
+            last = time.monotonic() + PATIENCE
+            answered = sum(is_answered(client, max(0.1, last - time.monotonic())) for client in clients)
+            same("how many are answered at once, once there are descriptors again", answered, PLACES)
         same_limit(region.port, PLACES, "once there are descriptors again")
         region.same_rest(before, "once all have gone", 1_024)
