@@ -38,7 +38,7 @@ INNER = {"toolchain", "licences"}
 # What a line of a shell ends a program's words with.
 ENDS = {"|", "&", ";", "&&", "||", "<", ">", "#"}
 # The most words of documents together.
-LIMITS = ((900, r"README\.md"), (1_200, r"docs/architecture\.md"), (5_000, r"docs/guarantees\.md"), (16_000, r"(?:docs|bench)/\w+\.md"))
+LIMITS = ((900, r"README\.md"), (1_200, r"docs/architecture\.md"), (5_000, r"docs/guarantees\.md"), (17_000, r"(?:docs|bench)/\w+\.md"))
 FEEDS = ("redis-stream", "rabbitmq-stream", "kafka", "postgres-outbox")
 # Folders of programs that documents name by a path.
 FOLDERS = ("checks/", "bench/", "feeds/", "fuzz/", "packaging/", "clients/", "examples/", "docs/", "edits/", "crates/")
