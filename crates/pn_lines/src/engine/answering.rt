@@ -1,0 +1,72 @@
+//! How an engine has lines answered.
+
+ghost use Rattle.std.specs.Prelude.{◌≤◌, ◌<◌, ◌+◌, ◌≡◌, [], ℕ, Bool, List, length};
+ghost use Rattle.pn_line.specs.declared.line_buffer.TheConstants.{MAX_LINE_BYTES};
+ghost use Rattle.pn_lines.specs.Progress.{Advances};
+ghost use Rattle.pn_lines.specs.Standing.{Stands, by};
+ghost use Rattle.pn_lines.specs.Taking.{Asks, Takes};
+ghost use Rattle.pn_lines.specs.declared.engine.TheConstants.{MAX_STEP_UNITS};
+ghost use Rattle.pn_lines.specs.declared.engine.stage.Stage.TheVariants.{Going};
+ghost use Rattle.pn_lines.specs.declared.handler.TheConstants.{MAX_ANSWER_UNITS};
+
+use crate::engine::LineEngine;
+use crate::handler::{Answer, Answered, EndedBy, LineHandler};
+use crate::piece_text::PieceText;
+
+impl<G: Drop, T: PieceText> LineEngine<G, T> {
+    /// Has a line answered, or begun. How many units that took.
+    pub(super) fn ask<M: LineHandler<Going = G, Text = T>>(
+        &mut self,
+        machine: &mut M,
+        line: &[u8],
+        ended: EndedBy,
+    ) -> u32
+        requires ready { M.ready }
+        ensures asks { Asks (by M.moves M.answers M.goes) ended line.now machine.old machine.new self.old self.new }
+        ensures few { result ≤ MAX_ANSWER_UNITS }
+        ensures kept { M.keeps machine.old machine.new }
+    {
+        let Answered { answer, units } = machine.answer(self.alloc, line, ended);
+        self.take_answer(answer, ended);
+        units
+    }
+
+    /// Has a line answered that is too long.
+    pub(super) fn refuse_long<M: LineHandler<Going = G, Text = T>>(
+        &mut self,
+        machine: &mut M,
+        ended: EndedBy,
+    )
+        requires ready { M.ready }
+        ensures asks { (line : List ℕ) → MAX_LINE_BYTES < length line → Asks (by M.moves M.answers M.goes) ended line machine.old machine.new self.old self.new }
+        ensures kept { M.keeps machine.old machine.new }
+    {
+        let reply = machine.refuse_long(ended);
+        self.take_answer(Answer::Done(reply), ended);
+    }
+
+    /// Goes on with an answer. How many units that took: at least one.
+    pub(super) fn look_on<M: LineHandler<Going = G, Text = T>>(
+        &mut self,
+        machine: &mut M,
+        going: G,
+        ended: EndedBy,
+        units: u32,
+    ) -> u32
+        requires ready { M.ready }
+        requires some { 0 < units }
+        requires made { self.old.left ≡ [] }
+        ensures stands { (start : M) (taken given ahead : List ℕ) (last : Bool) → Stands (by M.moves M.answers M.goes) start taken given ahead last machine.old (record self.old { stage = Going going ended })
+            → Stands (by M.moves M.answers M.goes) start taken given ahead last machine.new self.new }
+        ensures advances { Advances M.left result 0 (record self.old { stage = Going going ended }) self.new }
+        ensures few { result ≤ units + MAX_STEP_UNITS }
+        ensures kept { M.keeps machine.old machine.new }
+    {
+        let Answered {
+            answer,
+            units: used,
+        } = machine.go_on(self.alloc, going, units);
+        self.take_answer(answer, ended);
+        used.max(1)
+    }
+}
