@@ -1,1 +1,3 @@
+pub mod Left
 pub mod Standing
+pub mod Taking

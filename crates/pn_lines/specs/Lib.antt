@@ -1,6 +1,7 @@
 pub mod Answers
 pub mod Engines
 pub mod Finding
+pub mod Giving
 pub mod Moves
 pub mod Progress
 pub mod Replies

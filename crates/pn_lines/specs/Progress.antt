@@ -41,12 +41,6 @@ IsNearer left old new =
     (bytes_left new < bytes_left old) ⊎ ((bytes_left new ≡ bytes_left old) × (going_left left new.stage < going_left left old.stage))
     ⊎ ((bytes_left new ≡ bytes_left old) × (going_left left new.stage ≡ going_left left old.stage) × (length new.left < length old.left))
 
--- what was given was added after what a buffer held, which keeps its memory
-pub record Adds (old new : Vec ℕ Global) : Type 0 where
-  pub given : List ℕ
-  pub items : new.items ≡ old.items ++ given
-  pub capacity : vec_capacity old ≤ vec_capacity new
-
 -- the bytes that were taken and given are counted, and no more units were used than were allowed and one step takes
 pub record Costs (allowed units taken : ℕ) (old new : Vec ℕ Global) : Type 0 where
   pub counted : taken + vec_len new ≤ vec_len old + UNIT_BYTES * units

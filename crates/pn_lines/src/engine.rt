@@ -34,14 +34,6 @@ pub struct Counts {
     pub refused: u64,
 }
 
-/// What is at hand of an input.
-#[derive(Clone, Copy, Debug)]
-pub struct Input<'a> {
-    pub bytes: &'a [u8],
-    /// Whether no more will come.
-    pub is_last: bool,
-}
-
 /// What a call came to.
 #[derive(Clone, Copy, Debug, PartialEq, Eq)]
 pub struct Progress {

@@ -1,6 +1,6 @@
 //! What answers lines.
 
-ghost use Rattle.std.specs.Prelude.{◌≡◌, ◌<◌, ◌≤◌, ◌×◌, ℕ, List, max, length};
+ghost use Rattle.std.specs.Prelude.{◌≡◌, ◌<◌, ◌≤◌, ℕ, List, max, length};
 ghost use Rattle.pn_line.specs.declared.line_buffer.TheConstants.{MAX_LINE_BYTES};
 ghost use Rattle.pn_lines.specs.Answers.{AnswersBy, answer_left, answer_of, done, reply_of};
 ghost use Rattle.pn_lines.specs.Moves.{IsPreorder};

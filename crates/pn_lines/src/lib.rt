@@ -7,10 +7,8 @@ mod engine;
 mod finding;
 mod handler;
 mod piece_text;
-#[cfg(test)]
-mod tests;
 
 pub use engine::stage::LinesEnd;
-pub use engine::{Counts, Input, LineEngine, MAX_CALL_UNITS, MAX_STEP_UNITS, Next, Progress};
+pub use engine::{Counts, LineEngine, MAX_CALL_UNITS, MAX_STEP_UNITS, Next, Progress};
 pub use handler::{Answer, Answered, EndedBy, LineHandler, LineReply, MAX_ANSWER_UNITS};
 pub use piece_text::{MAX_PIECE_BYTES, PieceText};

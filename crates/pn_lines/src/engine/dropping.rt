@@ -11,7 +11,7 @@ ghost use Rattle.pn_lines.specs.Taking.{Takes};
 
 use crate::engine::reading::cost_of;
 use crate::engine::stage::{LinesEnd, Stage};
-use crate::engine::{Input, LineEngine, Next, Step};
+use crate::engine::{LineEngine, Next, Step};
 use crate::finding::find_newline;
 use crate::handler::{EndedBy, LineHandler};
 use crate::piece_text::PieceText;
@@ -23,17 +23,18 @@ impl<G: Drop, T: PieceText> LineEngine<G, T> {
         &mut self,
         machine: &mut M,
         dropped: usize,
-        input: Input<'_>,
+        bytes: &[u8],
+        is_last: bool,
     ) -> Step
         requires ready { M.ready }
         requires some { 0 < dropped }
         requires made { self.old.left ≡ [] }
-        ensures takes { Takes (by M.moves M.answers M.goes) M.left input.bytes.now input.is_last machine.old machine.new (dropping dropped self.old) self.new (taken_by result) (units_by result) }
-        ensures next { (replies : Vec ℕ Global) → StepsTo result replies self.new input.bytes.now input.is_last }
+        ensures takes { Takes (by M.moves M.answers M.goes) M.left bytes.now is_last machine.old machine.new (dropping dropped self.old) self.new (taken_by result) (units_by result) }
+        ensures next { (replies : Vec ℕ Global) → StepsTo result replies self.new bytes.now is_last }
         ensures kept { M.keeps machine.old machine.new }
     {
         let most = ENDLESS.saturating_sub(dropped).min(MAX_KEPT_BYTES);
-        let window = &input.bytes[..input.bytes.len().min(most)];
+        let window = &bytes[..bytes.len().min(most)];
         match find_newline(window) {
             Some(at) => {
                 self.refuse_long(machine, EndedBy::Newline);
@@ -42,8 +43,8 @@ impl<G: Drop, T: PieceText> LineEngine<G, T> {
                     units: cost_of(at + 1),
                 }
             }
-            None if !input.bytes.is_empty() => self.drop_more(&*machine, dropped, input, window.len()),
-            None if input.is_last => {
+            None if !bytes.is_empty() => self.drop_more(&*machine, dropped, bytes, is_last, window.len()),
+            None if is_last => {
                 self.refuse_long(machine, EndedBy::Input);
                 Step::Went {
                     taken: 0,
@@ -62,16 +63,17 @@ impl<G: Drop, T: PieceText> LineEngine<G, T> {
         &mut self,
         _machine: &M,
         dropped: usize,
-        input: Input<'_>,
+        bytes: &[u8],
+        is_last: bool,
         count: usize,
     ) -> Step
         requires some { 0 < dropped }
-        requires within { count ≤ length input.bytes.now }
+        requires within { count ≤ length bytes.now }
         requires few { count ≤ MAX_KEPT_BYTES }
         requires short { dropped + count ≤ max dropped ENDLESS }
         requires any { (0 < count) ⊎ (ENDLESS ≤ dropped) }
-        requires unbroken { IsUnbroken (take count input.bytes.now) }
-        ensures takes { Takes (by M.moves M.answers M.goes) M.left input.bytes.now input.is_last _machine.now _machine.now (dropping dropped self.old) self.new (taken_by result) (units_by result) }
+        requires unbroken { IsUnbroken (take count bytes.now) }
+        ensures takes { Takes (by M.moves M.answers M.goes) M.left bytes.now is_last _machine.now _machine.now (dropping dropped self.old) self.new (taken_by result) (units_by result) }
         ensures some { 0 < units_by result }
     {
         if dropped + count < ENDLESS {

@@ -4,15 +4,16 @@ ghost use Rattle.std.specs.Prelude.{◌≡◌, ◌⊎◌, ◌+◌, ◌*◌, ◌�
 ghost use Rattle.std.specs.declared.alloc.Global.{Global};
 ghost use Rattle.pn_line.specs.Reads.{IsUnbroken};
 ghost use Rattle.pn_line.specs.declared.line_buffer.TheConstants.{MAX_LINE_BYTES};
+ghost use Rattle.pn_lines.specs.Engines.{dropping};
 ghost use Rattle.pn_lines.specs.Finding.{FindsLine, NewlineAt};
 ghost use Rattle.pn_lines.specs.Progress.{StepsTo, taken_by, units_by};
-ghost use Rattle.pn_lines.specs.Standing.{by};
+ghost use Rattle.pn_lines.specs.Standing.{by, count_of as counted};
 ghost use Rattle.pn_lines.specs.Taking.{Takes};
 ghost use Rattle.pn_lines.specs.declared.engine.stage.Stage.TheVariants.{Reading};
 ghost use Rattle.pn_lines.specs.declared.engine.TheConstants.{UNIT_BYTES};
 
 use crate::engine::stage::{LinesEnd, Stage};
-use crate::engine::{Input, LineEngine, Next, Step, UNIT_BYTES};
+use crate::engine::{LineEngine, Next, Step, UNIT_BYTES};
 use crate::finding::{Found, find_line};
 use crate::handler::{EndedBy, LineHandler};
 use crate::piece_text::PieceText;
@@ -23,26 +24,27 @@ impl<G: Drop, T: PieceText> LineEngine<G, T> {
     pub(super) fn read_line<M: LineHandler<Going = G, Text = T>>(
         &mut self,
         machine: &mut M,
-        input: Input<'_>,
+        bytes: &[u8],
+        is_last: bool,
     ) -> Step
         requires ready { M.ready }
         requires reads { self.old.stage ≡ Reading 0 }
         requires made { self.old.left ≡ [] }
-        ensures takes { Takes (by M.moves M.answers M.goes) M.left input.bytes.now input.is_last machine.old machine.new self.old self.new (taken_by result) (units_by result) }
-        ensures next { (replies : Vec ℕ Global) → StepsTo result replies self.new input.bytes.now input.is_last }
+        ensures takes { Takes (by M.moves M.answers M.goes) M.left bytes.now is_last machine.old machine.new (dropping 0 self.old) self.new (taken_by result) (units_by result) }
+        ensures next { (replies : Vec ℕ Global) → StepsTo result replies self.new bytes.now is_last }
         ensures kept { M.keeps machine.old machine.new }
     {
-        if self.is_full() && !input.bytes.is_empty() {
+        if self.is_full() && !bytes.is_empty() {
             self.set_stage(Stage::Ended(LinesEnd::TooManyTurns));
             return Step::Went {
                 taken: 0,
                 units: 1,
             };
         }
-        match find_line(input.bytes, input.is_last) {
-            Found::Line(at) => self.ask_line(machine, input, at),
-            Found::Last => self.ask_last(machine, input),
-            Found::Long => self.begin_long(&*machine, input),
+        match find_line(bytes, is_last) {
+            Found::Line(at) => self.ask_line(machine, bytes, is_last, at),
+            Found::Last => self.ask_last(machine, bytes, is_last),
+            Found::Long => self.begin_long(&*machine, bytes, is_last),
             Found::Part => Step::Waits(Next::Input),
         }
     }
@@ -51,21 +53,21 @@ impl<G: Drop, T: PieceText> LineEngine<G, T> {
     fn ask_line<M: LineHandler<Going = G, Text = T>>(
         &mut self,
         machine: &mut M,
-        input: Input<'_>,
+        bytes: &[u8],
+        is_last: bool,
         at: usize,
     ) -> Step
         requires ready { M.ready }
-        requires reads { self.old.stage ≡ Reading 0 }
         requires made { self.old.left ≡ [] }
-        requires ended { NewlineAt input.bytes.now at }
+        requires ended { NewlineAt bytes.now at }
         requires short { at ≤ MAX_LINE_BYTES }
         requires few { self.old.counts.lines < self.old.most }
-        ensures takes { Takes (by M.moves M.answers M.goes) M.left input.bytes.now input.is_last machine.old machine.new self.old self.new (taken_by result) (units_by result) }
+        ensures takes { Takes (by M.moves M.answers M.goes) M.left bytes.now is_last machine.old machine.new (dropping 0 self.old) self.new (taken_by result) (units_by result) }
         ensures some { 0 < units_by result }
         ensures kept { M.keeps machine.old machine.new }
     {
         self.count_lines(1);
-        let units = self.ask(machine, &input.bytes[..at], EndedBy::Newline);
+        let units = self.ask(machine, &bytes[..at], EndedBy::Newline);
         Step::Went {
             taken: at + 1,
             units: cost_of(at + 1) + units,
@@ -76,26 +78,24 @@ impl<G: Drop, T: PieceText> LineEngine<G, T> {
     fn ask_last<M: LineHandler<Going = G, Text = T>>(
         &mut self,
         machine: &mut M,
-        input: Input<'_>,
+        bytes: &[u8],
+        is_last: bool,
     ) -> Step
         requires ready { M.ready }
-        requires reads { self.old.stage ≡ Reading 0 }
         requires made { self.old.left ≡ [] }
-        requires last { input.is_last ≡ true }
-        requires unbroken { IsUnbroken input.bytes.now }
-        requires short { length input.bytes.now ≤ MAX_LINE_BYTES }
-        requires few { (self.old.counts.lines < self.old.most) ⊎ (input.bytes.now ≡ []) }
-        ensures takes { Takes (by M.moves M.answers M.goes) M.left input.bytes.now input.is_last machine.old machine.new self.old self.new (taken_by result) (units_by result) }
+        requires last { is_last ≡ true }
+        requires unbroken { IsUnbroken bytes.now }
+        requires short { length bytes.now ≤ MAX_LINE_BYTES }
+        requires few { (self.old.counts.lines < self.old.most) ⊎ (bytes.now ≡ []) }
+        ensures takes { Takes (by M.moves M.answers M.goes) M.left bytes.now is_last machine.old machine.new (dropping 0 self.old) self.new (taken_by result) (units_by result) }
         ensures some { 0 < units_by result }
         ensures kept { M.keeps machine.old machine.new }
     {
-        if !input.bytes.is_empty() {
-            self.count_lines(1);
-        }
-        let units = self.ask(machine, input.bytes, EndedBy::Input);
+        self.count_lines(count_of(bytes));
+        let units = self.ask(machine, bytes, EndedBy::Input);
         Step::Went {
-            taken: input.bytes.len(),
-            units: cost_of(input.bytes.len()) + units,
+            taken: bytes.len(),
+            units: cost_of(bytes.len()) + units,
         }
     }
 
@@ -103,12 +103,12 @@ impl<G: Drop, T: PieceText> LineEngine<G, T> {
     fn begin_long<M: LineHandler<Going = G, Text = T>>(
         &mut self,
         _machine: &M,
-        input: Input<'_>,
+        bytes: &[u8],
+        is_last: bool,
     ) -> Step
-        requires reads { self.old.stage ≡ Reading 0 }
-        requires long { FindsLine input.bytes.now input.is_last Found.Long }
+        requires long { FindsLine bytes.now is_last Found.Long }
         requires few { self.old.counts.lines < self.old.most }
-        ensures takes { Takes (by M.moves M.answers M.goes) M.left input.bytes.now input.is_last _machine.now _machine.now self.old self.new (taken_by result) (units_by result) }
+        ensures takes { Takes (by M.moves M.answers M.goes) M.left bytes.now is_last _machine.now _machine.now (dropping 0 self.old) self.new (taken_by result) (units_by result) }
         ensures some { 0 < units_by result }
     {
         self.count_lines(1);
@@ -118,6 +118,16 @@ impl<G: Drop, T: PieceText> LineEngine<G, T> {
             units: cost_of(MAX_KEPT_BYTES),
         }
     }
+}
+
+// How many lines a last part counts for.
+fn count_of(part: &[u8]) -> u64
+    ensures { result ≡ counted EndedBy.Input part.now }
+{
+    if part.is_empty() {
+        return 0;
+    }
+    1
 }
 
 /// How many units some bytes cost: at least one.

@@ -1,10 +1,11 @@
 //! How the parts of an engine's state change.
 
-ghost use Rattle.std.specs.Prelude.{◌≡◌, ◌≢◌, ◌+◌, ◌≤◌, ◌<◌, ◌↔◌, ◌++◌, IsTrue, [], List, ℕ, length, vec_len, vec_capacity};
+ghost use Rattle.std.specs.Prelude.{◌≡◌, ◌≢◌, ◌+◌, ◌≤◌, ◌<◌, ◌↔◌, ◌-◌, ◌^◌, IsTrue, [], length, min, vec_len, vec_capacity};
 ghost use Rattle.pn_lines.specs.Answers.{answer_of};
-ghost use Rattle.pn_lines.specs.Engines.{after_answer, dropping, with_lines};
-ghost use Rattle.pn_lines.specs.Progress.{Adds};
+ghost use Rattle.pn_lines.specs.Engines.{after_answer, dropping, stage_after as next_stage, with_lines};
+ghost use Rattle.pn_lines.specs.Giving.{Gives};
 ghost use Rattle.pn_lines.specs.declared.engine.TheConstants.{BLOCK_BYTES};
+ghost use Rattle.pn_lines.specs.Replies.{one_if};
 ghost use Rattle.pn_lines.specs.declared.engine.stage.Stage.TheVariants.{Reading};
 ghost use Rattle.pn_lines.specs.declared.piece_text.TheConstants.{MAX_PIECE_BYTES};
 
@@ -35,6 +36,7 @@ impl<G: Drop, T: PieceText> LineEngine<G, T> {
         requires { self.old.counts.lines + lines ≤ self.old.most }
         ensures { self.new ≡ with_lines lines self.old }
     {
+        let _most = self.most;
         self.counts.lines += lines;
     }
 
@@ -59,14 +61,9 @@ impl<G: Drop, T: PieceText> LineEngine<G, T> {
     fn take_reply(&mut self, reply: LineReply<T>, ended: EndedBy)
         ensures { self.new ≡ after_answer (answer_of T.unmade (Answer.Done reply)) ended self.old }
     {
-        if reply.is_refusal {
-            self.counts.refused = self.counts.refused.saturating_add(1);
-        }
+        self.counts.refused = count_if(self.counts.refused, reply.is_refusal);
         self.text = Some(reply.text);
-        self.stage = match ended {
-            EndedBy::Newline => Stage::Reading(0),
-            EndedBy::Input => Stage::Ended(LinesEnd::Input),
-        };
+        self.stage = stage_after(ended);
     }
 
     /// Whether text of a reply is still to be made.
@@ -81,9 +78,8 @@ impl<G: Drop, T: PieceText> LineEngine<G, T> {
 
     /// Makes text while there is room for a piece, of a block and less than a piece at most.
     pub(super) fn make_text(&mut self, replies: &mut Vec<u8>)
-        ensures whole { replies.new.items ++ self.new.left ≡ replies.old.items ++ self.old.left }
+        ensures gives { Gives self.old.left self.new.left replies.old replies.new }
         ensures others { self.new ≡ record self.old { left = self.new.left } }
-        ensures grows { Adds replies.old replies.new }
         ensures few { vec_len replies.new < vec_len replies.old + BLOCK_BYTES + MAX_PIECE_BYTES }
         ensures some { vec_len replies.old + MAX_PIECE_BYTES ≤ vec_capacity replies.old → self.old.left ≢ [] → length self.new.left < length self.old.left }
     {
@@ -92,10 +88,29 @@ impl<G: Drop, T: PieceText> LineEngine<G, T> {
     }
 }
 
+// One more where this is so, as far as that has 64 bits.
+fn count_if(count: u64, is_so: bool) -> u64
+    ensures { result ≡ min (count + one_if is_so) (2 ^ 64 - 1) }
+{
+    if is_so {
+        return count.saturating_add(1);
+    }
+    count
+}
+
+// What is done after a reply.
+fn stage_after<G>(ended: EndedBy) -> Stage<G>
+    ensures { result ≡ next_stage ended }
+{
+    match ended {
+        EndedBy::Newline => Stage::Reading(0),
+        EndedBy::Input => Stage::Ended(LinesEnd::Input),
+    }
+}
+
 // Makes text while there is room for a piece, of a block and less than a piece at most.
 fn fill<T: PieceText>(text: &mut T, replies: &mut Vec<u8>)
-    ensures whole { replies.new.items ++ T.unmade text.new ≡ replies.old.items ++ T.unmade text.old }
-    ensures grows { Adds replies.old replies.new }
+    ensures gives { Gives (T.unmade text.old) (T.unmade text.new) replies.old replies.new }
     ensures few { vec_len replies.new < vec_len replies.old + BLOCK_BYTES + MAX_PIECE_BYTES }
     ensures some { vec_len replies.old + MAX_PIECE_BYTES ≤ vec_capacity replies.old → T.unmade text.old ≢ [] → length (T.unmade text.new) < length (T.unmade text.old) }
 {

@@ -1,0 +1,70 @@
+-- How much is left after a step.
+use Rattle.std.proofs.Common.{◌≡◌, ◌⊎◌, ◌+◌, ◌-◌, ◌*◌, ◌<◌, ◌≤◌, ℕ, zero, suc, List, [], length, inl, inr, refl, sym, ap, ◌∙◌, arith}
+use Rattle.pn_line.specs.declared.line_buffer.TheConstants.{ENDLESS, MAX_LINE_BYTES}
+use Rattle.pn_lines.specs.Answers.{AnswerValue, answer_left, done, going}
+use Rattle.pn_lines.specs.Engines.{EngineValue, after_answer, dropping, with_lines}
+use Rattle.pn_lines.specs.Progress.{Advances, IsNearer, bytes_left, going_left, lines_left}
+use Rattle.pn_lines.specs.declared.engine.stage.Stage.TheVariants.{Reading, Going, Ended}
+use Rattle.pn_lines.specs.declared.handler.EndedBy.{EndedBy}
+use Rattle.pn_lines.specs.declared.handler.EndedBy.TheVariants.{Newline, Input}
+
+module _ {G : Type 0} where
+  -- after a whole line as many bytes are left as before it, without it
+  left_line : (answer : AnswerValue G) (run : EngineValue G) → bytes_left (after_answer answer Newline run) ≡ lines_left run.counts.lines run.most
+  left_line (done replied) run = refl
+  left_line (going g) run = refl
+
+  left_last : (answer : AnswerValue G) (run : EngineValue G) → bytes_left (after_answer answer Input run) ≤ 1
+  left_last (done replied) run = omega arith
+  left_last (going g) run = omega arith
+
+  -- while a line is dropped
+  left_dropped : (dropped : ℕ) (run : EngineValue G) → 0 < dropped → bytes_left (dropping dropped run) ≡ lines_left run.counts.lines run.most + (ENDLESS - dropped)
+  left_dropped zero run some = absurd (omega arith)
+  left_dropped (suc dropped) run some = refl
+
+  -- less is left of the bytes
+  by_bytes : (left : G → ℕ) (units taken : ℕ) (old new : EngineValue G) → 0 < units → bytes_left new < bytes_left old → bytes_left new + taken ≤ bytes_left old → Advances left units taken old new
+  by_bytes left units taken old new some less few = record { still = λ none. absurd (omega arith); nearer = λ used. inl less; fewer = few }
+
+  pub Advances-line : (left : G → ℕ) (units taken : ℕ) (answer : AnswerValue G) (run : EngineValue G) → 0 < units → run.counts.lines < run.most → taken ≤ ENDLESS
+      → Advances left units taken (dropping 0 run) (after_answer answer Newline (with_lines 1 (dropping 0 run)))
+  Advances-line left units taken answer run some few short =
+      let now = left_line answer (with_lines 1 (dropping 0 run)) in
+      by_bytes left units taken (dropping 0 run) (after_answer answer Newline (with_lines 1 (dropping 0 run))) some (omega (arith, now)) (omega (arith, now))
+
+  pub Advances-last : (left : G → ℕ) (units taken lines : ℕ) (answer : AnswerValue G) (run : EngineValue G) → 0 < units → (run.counts.lines < run.most) ⊎ (taken ≡ 0) → taken ≤ MAX_LINE_BYTES
+      → Advances left units taken (dropping 0 run) (after_answer answer Input (with_lines lines (dropping 0 run)))
+  Advances-last left units taken lines answer run some (inl few) short =
+      let now = left_last answer (with_lines lines (dropping 0 run)) in
+      by_bytes left units taken (dropping 0 run) (after_answer answer Input (with_lines lines (dropping 0 run))) some (omega (arith, now)) (omega (arith, now))
+  Advances-last left units taken lines answer run some (inr none) short =
+      let now = left_last answer (with_lines lines (dropping 0 run)) in
+      by_bytes left units taken (dropping 0 run) (after_answer answer Input (with_lines lines (dropping 0 run))) some (omega (arith, now)) (omega (arith, now))
+
+  -- the first bytes of a line that is too long
+  pub Advances-long : (left : G → ℕ) (units taken : ℕ) (run : EngineValue G) → 0 < units → 0 < taken → taken ≤ ENDLESS → run.counts.lines < run.most → Advances left units taken (dropping 0 run) (dropping taken (with_lines 1 run))
+  Advances-long left units taken run some any short few =
+      let now = left_dropped taken (with_lines 1 run) any in
+      by_bytes left units taken (dropping 0 run) (dropping taken (with_lines 1 run)) some (omega (arith, now)) (omega (arith, now))
+
+  -- more of it
+  pub Advances-dropped : (left : G → ℕ) (units dropped count : ℕ) (run : EngineValue G) → 0 < units → 0 < dropped → 0 < count → dropped + count < ENDLESS → Advances left units count (dropping dropped run) (dropping (dropped + count) run)
+  Advances-dropped left units dropped count run some any more short =
+      let was = left_dropped dropped run any in
+      let now = left_dropped (dropped + count) run (omega arith) in
+      by_bytes left units count (dropping dropped run) (dropping (dropped + count) run) some (omega (arith, was, now)) (omega (arith, was, now))
+
+  -- its end
+  pub Advances-refused : (left : G → ℕ) (units dropped taken : ℕ) (ended : EndedBy) (answer : AnswerValue G) (run : EngineValue G) → 0 < units → 0 < dropped → (dropped + taken ≤ ENDLESS) × ((0 < taken) ⊎ (ended ≡ Input)) → (taken ≡ 0) ⊎ (ended ≡ Newline)
+      → Advances left units taken (dropping dropped run) (after_answer answer ended run)
+  Advances-refused left units dropped taken Newline answer run some any (short, inl more) kind =
+      let was = left_dropped dropped run any in
+      let now = left_line answer run in
+      by_bytes left units taken (dropping dropped run) (after_answer answer Newline run) some (omega (arith, was, now)) (omega (arith, was, now))
+  Advances-refused left units dropped taken Newline answer run some any (short, inr other) kind = cc
+  Advances-refused left units dropped taken Input answer run some any short (inl none) =
+      let was = left_dropped dropped run any in
+      let now = left_last answer run in
+      by_bytes left units taken (dropping dropped run) (after_answer answer Input run) some (omega (arith, was, now)) (omega (arith, was, now))
+  Advances-refused left units dropped taken Input answer run some any short (inr other) = cc
