@@ -1,5 +1,5 @@
 -- How much is left after a step.
-use Rattle.std.proofs.Common.{◌≡◌, ◌⊎◌, ◌+◌, ◌-◌, ◌*◌, ◌<◌, ◌≤◌, ℕ, zero, suc, List, [], length, inl, inr, refl, sym, ap, ◌∙◌, arith}
+use Rattle.std.proofs.Common.{◌≡◌, ◌⊎◌, ◌+◌, ◌-◌, ◌*◌, ◌<◌, ◌≤◌, ℕ, zero, suc, List, [], length, inl, inr, refl, sym, ap, ◌∙◌, subst, arith}
 use Rattle.pn_line.specs.declared.line_buffer.TheConstants.{ENDLESS, MAX_LINE_BYTES}
 use Rattle.pn_lines.specs.Answers.{AnswerValue, answer_left, done, going}
 use Rattle.pn_lines.specs.Engines.{EngineValue, after_answer, dropping, with_lines}
@@ -56,15 +56,42 @@ module _ {G : Type 0} where
       by_bytes left units count (dropping dropped run) (dropping (dropped + count) run) some (omega (arith, was, now)) (omega (arith, was, now))
 
   -- its end
-  pub Advances-refused : (left : G → ℕ) (units dropped taken : ℕ) (ended : EndedBy) (answer : AnswerValue G) (run : EngineValue G) → 0 < units → 0 < dropped → (dropped + taken ≤ ENDLESS) × ((0 < taken) ⊎ (ended ≡ Input)) → (taken ≡ 0) ⊎ (ended ≡ Newline)
+  pub Advances-refused : (left : G → ℕ) (units dropped taken : ℕ) (ended : EndedBy) (answer : AnswerValue G) (run : EngineValue G) → 0 < units → 0 < dropped → ((taken ≡ 0) × (ended ≡ Input)) ⊎ ((0 < taken) × (dropped + taken ≤ ENDLESS) × (ended ≡ Newline))
       → Advances left units taken (dropping dropped run) (after_answer answer ended run)
-  Advances-refused left units dropped taken Newline answer run some any (short, inl more) kind =
+  Advances-refused left units dropped taken Newline answer run some any (inr (more, short, kind)) =
       let was = left_dropped dropped run any in
       let now = left_line answer run in
       by_bytes left units taken (dropping dropped run) (after_answer answer Newline run) some (omega (arith, was, now)) (omega (arith, was, now))
-  Advances-refused left units dropped taken Newline answer run some any (short, inr other) kind = cc
-  Advances-refused left units dropped taken Input answer run some any short (inl none) =
+  Advances-refused left units dropped taken Newline answer run some any (inl (none, kind)) = cc
+  Advances-refused left units dropped taken Input answer run some any (inl (none, kind)) =
       let was = left_dropped dropped run any in
       let now = left_last answer run in
       by_bytes left units taken (dropping dropped run) (after_answer answer Input run) some (omega (arith, was, now)) (omega (arith, was, now))
-  Advances-refused left units dropped taken Input answer run some any short (inr other) = cc
+  Advances-refused left units dropped taken Input answer run some any (inr (more, short, kind)) = cc
+
+  -- a step after others
+  IsNearer-trans : (left : G → ℕ) (a b c : EngineValue G) → IsNearer left a b → IsNearer left b c → IsNearer left a c
+  IsNearer-trans left a b c (inl p) (inl q) = inl (omega (arith, p, q))
+  IsNearer-trans left a b c (inl p) (inr (inl q)) = inl (omega (arith, p, q.0))
+  IsNearer-trans left a b c (inl p) (inr (inr q)) = inl (omega (arith, p, q.0))
+  IsNearer-trans left a b c (inr (inl p)) (inl q) = inl (omega (arith, p.0, q))
+  IsNearer-trans left a b c (inr (inl p)) (inr (inl q)) = inr (inl (q.0 ∙ p.0, omega (arith, p.1, q.1)))
+  IsNearer-trans left a b c (inr (inl p)) (inr (inr q)) = inr (inl (q.0 ∙ p.0, omega (arith, p.1, q.1)))
+  IsNearer-trans left a b c (inr (inr p)) (inl q) = inl (omega (arith, p.0, q))
+  IsNearer-trans left a b c (inr (inr p)) (inr (inl q)) = inr (inl (q.0 ∙ p.0, omega (arith, p.1, q.1)))
+  IsNearer-trans left a b c (inr (inr p)) (inr (inr q)) = inr (inr (q.0 ∙ p.0, q.1 ∙ p.1, omega (arith, p.2, q.2)))
+
+  nearer_after : (left : G → ℕ) (units taken : ℕ) (a b c : EngineValue G) → Advances left units taken a b → IsNearer left b c → IsNearer left a c
+  nearer_after left zero taken a b c first more = subst (λ (r : EngineValue G). IsNearer left r c) (first.still refl) more
+  nearer_after left (suc units) taken a b c first more = IsNearer-trans left a b c (first.nearer (omega arith)) more
+
+  pub Advances-more : (left : G → ℕ) (units more taken also : ℕ) (a b c : EngineValue G) → 0 < more → Advances left units taken a b → Advances left more also b c → Advances left (units + more) (taken + also) a c
+  Advances-more left units more taken also a b c some first second = record {
+    still = λ none. absurd (omega (arith, some, none));
+    nearer = λ used. nearer_after left units taken a b c first (second.nearer some);
+    fewer = omega (arith, first.fewer, second.fewer);
+  }
+
+  -- before the first step
+  pub Advances-none : (left : G → ℕ) (a : EngineValue G) → Advances left 0 0 a a
+  Advances-none left a = record { still = λ none. refl; nearer = λ used. absurd (omega (arith, used)); fewer = omega arith }

@@ -1,3 +1,5 @@
 pub mod Left
+pub mod Pieces
 pub mod Standing
+pub mod Stepping
 pub mod Taking

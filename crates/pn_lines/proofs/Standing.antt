@@ -28,9 +28,9 @@ refusals_of-append (x ∷ xs) ys = omega (arith, refusals_of-append xs ys)
 texts_of-push : (xs : List Replied) (x : Replied) → texts_of (xs ++ x ∷ []) ≡ texts_of xs ++ x.text
 texts_of-push xs x = texts_of-append xs (x ∷ []) ∙ ap (λ (l : List ℕ). texts_of xs ++ l) (append-nil x.text)
 
--- the line that is taken after what was taken
-taken_more : (taken lines rest more : List ℕ) → taken ≡ lines ++ rest → taken ++ more ≡ lines ++ (rest ++ more)
-taken_more taken lines rest more is = ap (λ (l : List ℕ). l ++ more) is ∙ append_assoc lines rest more
+pub no_length : {A : Type 0} (xs : List A) → length xs ≤ 0 → xs ≡ []
+no_length [] short = refl
+no_length (x ∷ xs) short = absurd (omega (arith, short))
 
 module _ {V G : Type 0} (handling : Handling V G) where
   -- one line more was answered
@@ -41,10 +41,16 @@ module _ {V G : Type 0} (handling : Handling V G) where
   AllAnswer-push was (l ∷ lines) [] between now line replied made one = absurd made
   AllAnswer-push was (l ∷ lines) (r ∷ replies) between now line replied made one = (made.0, made.1, AllAnswer-push made.0 lines replies between now line replied made.2 one)
 
+  given_at : (stage : Stage G) (count most : ℕ) (left more : List ℕ) (at : Position V) (replies : List Replied) → length more ≤ length left → StageAt handling stage count most left at replies → StageAt handling stage count most more at replies
+  given_at (Reading dropped) count most left more at replies less is = is
+  given_at (Going g ended) count most left more at replies less is = (is.0, is.1, no_length more (omega (arith, less, ap length is.2)))
+  given_at (Ended end.Input) count most left more at replies less is = is
+  given_at (Ended end.TooManyTurns) count most left more at replies less is = is
+
   -- text that was to be made was given
-  pub Stands-given : (start : V) (taken given gave ahead left : List ℕ) (last : Bool) (machine : V) (run : EngineValue G) → gave ++ left ≡ given ++ run.left → Stands handling start taken given ahead last machine run
+  pub Stands-given : (start : V) (taken given gave ahead left : List ℕ) (last : Bool) (machine : V) (run : EngineValue G) → gave ++ left ≡ given ++ run.left → length left ≤ length run.left → Stands handling start taken given ahead last machine run
       → Stands handling start taken gave ahead last machine (record run { left = left })
-  Stands-given start taken given gave ahead left last machine run same is = record {
+  Stands-given start taken given gave ahead left last machine run same less is = record {
     lines = is.lines;
     rest = is.rest;
     taken_is = is.taken_is;
@@ -56,7 +62,7 @@ module _ {V G : Type 0} (handling : Handling V G) where
     more = is.more;
     texts = same ∙ is.texts;
     refused = is.refused;
-    stage = is.stage;
+    stage = given_at run.stage run.counts.lines run.most run.left left (record { lines = is.lines; rest = is.rest; ahead = ahead; last = last; reached = is.reached; now = machine }) is.more less is.stage;
   }
 
   -- a line, or the last part, was taken and has this answer
@@ -89,7 +95,7 @@ module _ {V G : Type 0} (handling : Handling V G) where
       more = is.more;
       texts = is.texts;
       refused = is.refused;
-      stage = is.stage;
+      stage = (is.stage.0, is.stage.1, made);
     }
     Stands-answered Input (done replied) made is =
         let all = given_is is.replies is.more made is.stage.1 is.texts in
@@ -172,12 +178,12 @@ module _ {V G : Type 0} (handling : Handling V G) where
 
     -- the handler moved
     moved_at : IsPreorder handling.moves → (now : V) → handling.moves machine now → (stage : Stage G) (lines : List (List ℕ)) (rest : List ℕ) (reached : V) (more : List Replied)
-        → StageAt handling stage run.counts.lines run.most (record { lines = lines; rest = rest; ahead = ahead; last = last; reached = reached; now = machine }) more
-        → StageAt handling stage run.counts.lines run.most (record { lines = lines; rest = rest; ahead = ahead; last = last; reached = reached; now = now }) more
+        → StageAt handling stage run.counts.lines run.most run.left (record { lines = lines; rest = rest; ahead = ahead; last = last; reached = reached; now = machine }) more
+        → StageAt handling stage run.counts.lines run.most run.left (record { lines = lines; rest = rest; ahead = ahead; last = last; reached = reached; now = now }) more
     moved_at steady now moves (Reading dropped) lines rest reached more is =
         (record { moved = steady.goes_on reached machine now is.0.moved moves; unbroken = is.0.unbroken; dropped_is = is.0.dropped_is; counted = is.0.counted }, is.1)
     moved_at steady now moves (Going g ended) lines rest reached more is =
-        (record { line = is.0.line; first = is.0.first; between = is.0.between; rest_is = is.0.rest_is; is_line = is.0.is_line; moved = is.0.moved; answered = is.0.answered; goes_on = steady.goes_on is.0.between machine now is.0.goes_on moves; counted = is.0.counted; over = is.0.over }, is.1)
+        (record { line = is.0.line; first = is.0.first; between = is.0.between; rest_is = is.0.rest_is; is_line = is.0.is_line; moved = is.0.moved; answered = is.0.answered; goes_on = steady.goes_on is.0.between machine now is.0.goes_on moves; counted = is.0.counted; over = is.0.over }, is.1, is.2)
     moved_at steady now moves (Ended end.Input) lines rest reached more is =
         (is.0, record { line = is.1.line; first = is.1.first; between = is.1.between; rest_is = is.1.rest_is; is_line = is.1.is_line; moved = is.1.moved; answered = is.1.answered; goes_on = steady.goes_on is.1.between machine now is.1.goes_on moves; counted = is.1.counted; over = is.1.over }, is.2)
     moved_at steady now moves (Ended end.TooManyTurns) lines rest reached more is =

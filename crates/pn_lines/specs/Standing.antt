@@ -92,12 +92,12 @@ module _ {V G : Type 0} (handling : Handling V G) where
     pub unbroken : IsUnbroken at.rest
     pub bound : ((length at.lines ≡ most) × (at.rest ≡ []) × (at.ahead ≢ [])) ⊎ ((length at.lines < most) × (length at.rest ≡ ENDLESS))
 
-  -- what is so at a stage, and the replies that came after those to the lines
-  abbrev pub StageAt : Stage G → ℕ → ℕ → Position V → List Replied → Type 0
-  StageAt (Reading dropped) count most at more = IsReading dropped count at × (more ≡ [])
-  StageAt (Going g ended) count most at more = IsAsked ended (going g) count at × (more ≡ [])
-  StageAt (Ended end.Input) count most at more = (replied : Replied) × IsAsked Input (done replied) count at × (more ≡ replied ∷ [])
-  StageAt (Ended end.TooManyTurns) count most at more = IsStopped most at × (more ≡ [])
+  -- what is so at a stage, by the text that is still to be made, and the replies that came after those to the lines
+  abbrev pub StageAt : Stage G → ℕ → ℕ → List ℕ → Position V → List Replied → Type 0
+  StageAt (Reading dropped) count most left at more = IsReading dropped count at × (more ≡ [])
+  StageAt (Going g ended) count most left at more = IsAsked ended (going g) count at × (more ≡ []) × (left ≡ [])
+  StageAt (Ended end.Input) count most left at more = (replied : Replied) × IsAsked Input (done replied) count at × (more ≡ replied ∷ [])
+  StageAt (Ended end.TooManyTurns) count most left at more = IsStopped most at × (more ≡ [])
 
   -- lines were taken, and then the rest; the replies to the lines, and some after them, were given or are still to be made
   pub record StandsBy (is_at : Position V → List Replied → Type 0) (start : V) (taken given ahead : List ℕ) (last : Bool) (machine : V) (run : EngineValue G) : Type 0 where
@@ -115,4 +115,4 @@ module _ {V G : Type 0} (handling : Handling V G) where
     pub stage : is_at (record { lines = lines; rest = rest; ahead = ahead; last = last; reached = reached; now = machine }) more
 
   abbrev pub Stands : V → List ℕ → List ℕ → List ℕ → Bool → V → EngineValue G → Type 0
-  Stands start taken given ahead last machine run = StandsBy (StageAt run.stage run.counts.lines run.most) start taken given ahead last machine run
+  Stands start taken given ahead last machine run = StandsBy (StageAt run.stage run.counts.lines run.most run.left) start taken given ahead last machine run

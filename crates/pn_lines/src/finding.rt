@@ -1,6 +1,7 @@
 //! How the first line at hand is found.
 
-ghost use Rattle.std.specs.Prelude.{IfNone, IfSome};
+ghost use Rattle.std.specs.Prelude.{◌≤◌, IfNone, IfSome, length};
+ghost use Rattle.pn_line.specs.declared.line_buffer.TheConstants.{MAX_LINE_BYTES};
 ghost use Rattle.pn_line.specs.Reads.{IsUnbroken};
 ghost use Rattle.pn_lines.specs.Finding.{FindsLine, NewlineAt};
 
@@ -24,10 +25,22 @@ pub(crate) enum Found {
 pub(crate) fn find_line(bytes: &[u8], is_last: bool) -> Found
     ensures { FindsLine bytes.now is_last result }
 {
-    let window = &bytes[..bytes.len().min(MAX_KEPT_BYTES)];
-    match find_newline(window) {
+    if bytes.len() < MAX_KEPT_BYTES {
+        return find_short(bytes, is_last);
+    }
+    match find_newline(&bytes[..MAX_KEPT_BYTES]) {
         Some(at) => Found::Line(at),
-        None if bytes.len() >= MAX_KEPT_BYTES => Found::Long,
+        None => Found::Long,
+    }
+}
+
+// Finds the first line where there are no more bytes than it may have.
+fn find_short(bytes: &[u8], is_last: bool) -> Found
+    requires { length bytes.now ≤ MAX_LINE_BYTES }
+    ensures { FindsLine bytes.now is_last result }
+{
+    match find_newline(bytes) {
+        Some(at) => Found::Line(at),
         None if is_last => Found::Last,
         None => Found::Part,
     }

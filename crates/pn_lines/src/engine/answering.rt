@@ -1,15 +1,15 @@
 //! How an engine has lines answered.
 
-ghost use Rattle.std.specs.Prelude.{◌≤◌, ◌<◌, ◌+◌, ◌≡◌, [], ℕ, Bool, List, length};
-ghost use Rattle.pn_line.specs.declared.line_buffer.TheConstants.{MAX_LINE_BYTES};
-ghost use Rattle.pn_lines.specs.Progress.{Advances};
+ghost use Rattle.std.specs.Prelude.{◌≤◌, ◌<◌, ◌+◌, ◌≡◌, [], ℕ, Bool, IsFalse, IsTrue, List};
+ghost use Rattle.pn_lines.specs.Progress.{Advances, bytes_left, going_left};
 ghost use Rattle.pn_lines.specs.Standing.{Stands, by};
-ghost use Rattle.pn_lines.specs.Taking.{Asks, Takes};
+ghost use Rattle.pn_lines.specs.Taking.{Asks, Refuses};
 ghost use Rattle.pn_lines.specs.declared.engine.TheConstants.{MAX_STEP_UNITS};
 ghost use Rattle.pn_lines.specs.declared.engine.stage.Stage.TheVariants.{Going};
 ghost use Rattle.pn_lines.specs.declared.handler.TheConstants.{MAX_ANSWER_UNITS};
 
 use crate::engine::LineEngine;
+use crate::engine::stage::Stage;
 use crate::handler::{Answer, Answered, EndedBy, LineHandler};
 use crate::piece_text::PieceText;
 
@@ -38,11 +38,39 @@ impl<G: Drop, T: PieceText> LineEngine<G, T> {
         ended: EndedBy,
     )
         requires ready { M.ready }
-        ensures asks { (line : List ℕ) → MAX_LINE_BYTES < length line → Asks (by M.moves M.answers M.goes) ended line machine.old machine.new self.old self.new }
+        ensures refuses { Refuses (by M.moves M.answers M.goes) ended machine.old machine.new self.old self.new }
         ensures kept { M.keeps machine.old machine.new }
     {
         let reply = machine.refuse_long(ended);
         self.take_answer(Answer::Done(reply), ended);
+    }
+
+    /// Goes on with an answer that was begun. False where none was.
+    pub fn resume<M: LineHandler<Going = G, Text = T>>(
+        &mut self,
+        machine: &mut M,
+        units: u32,
+    ) -> bool
+        requires ready { M.ready }
+        requires some { 0 < units }
+        requires made { self.old.left ≡ [] }
+        ensures stands { (start : M) (taken given ahead : List ℕ) (last : Bool) → Stands (by M.moves M.answers M.goes) start taken given ahead last machine.old self.old
+            → Stands (by M.moves M.answers M.goes) start taken given ahead last machine.new self.new }
+        ensures nearer { IsTrue result → going_left M.left self.new.stage < going_left M.left self.old.stage }
+        ensures none { IsFalse result → (self.new ≡ self.old) × (going_left M.left self.old.stage ≡ 0) }
+        ensures bytes { bytes_left self.new ≤ bytes_left self.old }
+        ensures kept { M.keeps machine.old machine.new }
+    {
+        match self.take_stage() {
+            Stage::Going(going, ended) => {
+                self.look_on(machine, going, ended, units);
+                true
+            }
+            stage => {
+                self.set_stage(stage);
+                false
+            }
+        }
     }
 
     /// Goes on with an answer. How many units that took: at least one.
@@ -59,6 +87,8 @@ impl<G: Drop, T: PieceText> LineEngine<G, T> {
         ensures stands { (start : M) (taken given ahead : List ℕ) (last : Bool) → Stands (by M.moves M.answers M.goes) start taken given ahead last machine.old (record self.old { stage = Going going ended })
             → Stands (by M.moves M.answers M.goes) start taken given ahead last machine.new self.new }
         ensures advances { Advances M.left result 0 (record self.old { stage = Going going ended }) self.new }
+        ensures nearer { going_left M.left self.new.stage < M.left going + 1 }
+        ensures some { 0 < result }
         ensures few { result ≤ units + MAX_STEP_UNITS }
         ensures kept { M.keeps machine.old machine.new }
     {

@@ -1,6 +1,6 @@
 //! How the parts of an engine's state change.
 
-ghost use Rattle.std.specs.Prelude.{◌≡◌, ◌≢◌, ◌+◌, ◌≤◌, ◌<◌, ◌↔◌, ◌-◌, ◌^◌, IsTrue, [], length, min, vec_len, vec_capacity};
+ghost use Rattle.std.specs.Prelude.{◌≡◌, ◌≢◌, ◌+◌, ◌≤◌, ◌<◌, ◌↔◌, ◌-◌, ◌^◌, IsFalse, IsTrue, [], length, max, min, vec_len, vec_capacity};
 ghost use Rattle.pn_lines.specs.Answers.{answer_of};
 ghost use Rattle.pn_lines.specs.Engines.{after_answer, dropping, stage_after as next_stage, with_lines};
 ghost use Rattle.pn_lines.specs.Giving.{Gives};
@@ -33,7 +33,7 @@ impl<G: Drop, T: PieceText> LineEngine<G, T> {
 
     /// So many lines more were taken.
     pub(super) fn count_lines(&mut self, lines: u64)
-        requires { self.old.counts.lines + lines ≤ self.old.most }
+        requires { self.old.counts.lines + lines ≤ max self.old.most self.old.counts.lines }
         ensures { self.new ≡ with_lines lines self.old }
     {
         let _most = self.most;
@@ -41,7 +41,7 @@ impl<G: Drop, T: PieceText> LineEngine<G, T> {
     }
 
     /// Whether as many lines were taken as may be.
-    pub(super) fn is_full(&self) -> bool
+    pub fn is_full(&self) -> bool
         ensures { IsTrue result ↔ (self.now.most ≤ self.now.counts.lines) }
     {
         self.counts.lines >= self.most
@@ -67,8 +67,9 @@ impl<G: Drop, T: PieceText> LineEngine<G, T> {
     }
 
     /// Whether text of a reply is still to be made.
-    pub(super) fn has_text(&self) -> bool
-        ensures { IsTrue result ↔ (self.now.left ≢ []) }
+    pub fn has_text(&self) -> bool
+        ensures some { IsTrue result → self.now.left ≢ [] }
+        ensures none { IsFalse result → self.now.left ≡ [] }
     {
         match &self.text {
             Some(text) => !text.is_made(),
@@ -77,7 +78,7 @@ impl<G: Drop, T: PieceText> LineEngine<G, T> {
     }
 
     /// Makes text while there is room for a piece, of a block and less than a piece at most.
-    pub(super) fn make_text(&mut self, replies: &mut Vec<u8>)
+    pub fn make_text(&mut self, replies: &mut Vec<u8>)
         ensures gives { Gives self.old.left self.new.left replies.old replies.new }
         ensures others { self.new ≡ record self.old { left = self.new.left } }
         ensures few { vec_len replies.new < vec_len replies.old + BLOCK_BYTES + MAX_PIECE_BYTES }
