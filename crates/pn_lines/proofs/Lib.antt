@@ -3,3 +3,4 @@ pub mod Pieces
 pub mod Standing
 pub mod Stepping
 pub mod Taking
+pub mod Windows

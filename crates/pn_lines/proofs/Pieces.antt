@@ -20,10 +20,17 @@ broken (x ∷ xs) ys unbroken = broken xs ys (All-tail (λ (b : ℕ). b ≢ 10) 
 
 -- the first newline is at one place
 same_line : (xs ys more also : List ℕ) → IsUnbroken xs → IsUnbroken ys → xs ++ 10 ∷ more ≡ ys ++ 10 ∷ also → (xs ≡ ys) × (more ≡ also)
-same_line [] [] more also first second is = (refl, cc)
-same_line [] (y ∷ ys) more also first second is = let head : y ≡ 10 = cc in absurd (All-head (λ (b : ℕ). b ≢ 10) y ys second head)
-same_line (x ∷ xs) [] more also first second is = let head : x ≡ 10 = cc in absurd (All-head (λ (b : ℕ). b ≢ 10) x xs first head)
+same_line [] [] more also first second is = let all : 10 ∷ more ≡ 10 ∷ also = is in (refl, cc)
+same_line [] (y ∷ ys) more also first second is =
+    let all : 10 ∷ more ≡ y ∷ (ys ++ 10 ∷ also) = is in
+    let head : y ≡ 10 = cc in
+    absurd (All-head (λ (b : ℕ). b ≢ 10) y ys second head)
+same_line (x ∷ xs) [] more also first second is =
+    let all : x ∷ (xs ++ 10 ∷ more) ≡ 10 ∷ also = is in
+    let head : x ≡ 10 = cc in
+    absurd (All-head (λ (b : ℕ). b ≢ 10) x xs first head)
 same_line (x ∷ xs) (y ∷ ys) more also first second is =
+    let all : x ∷ (xs ++ 10 ∷ more) ≡ y ∷ (ys ++ 10 ∷ also) = is in
     let head : x ≡ y = cc in
     let tail : xs ++ 10 ∷ more ≡ ys ++ 10 ∷ also = cc in
     let rest = same_line xs ys more also (All-tail (λ (b : ℕ). b ≢ 10) x xs first) (All-tail (λ (b : ℕ). b ≢ 10) y ys second) tail in

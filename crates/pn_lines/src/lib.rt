@@ -7,8 +7,6 @@ mod engine;
 mod finding;
 mod handler;
 mod piece_text;
-#[cfg(test)]
-mod tests;
 
 pub use engine::stage::LinesEnd;
 pub use engine::{Counts, LineEngine, MAX_CALL_UNITS, MAX_STEP_UNITS, Next, Progress};

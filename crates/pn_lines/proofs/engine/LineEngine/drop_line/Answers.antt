@@ -1,6 +1,8 @@
 -- A line that is dropped is refused at its end.
-use Rattle.std.proofs.Common.{arith, rules}
+use Rattle.std.proofs.Common.{arith}
+use Rattle.std.proofs.lemmas.Grind.{common_steps}
 use Rattle.pn_lines.specs.Standing.{by}
+use Rattle.pn_lines.proofs.Standing.{no_length}
 use Rattle.pn_lines.proofs.Taking.{Takes-ended, Takes-refused}
 use Rattle.pn_lines.proofs.engine.LineEngine.drop_line.Goals as goal
 
@@ -14,4 +16,4 @@ pub returns-in-None-2-clause-takes : goal.returns-in-None-2-clause-takes
 returns-in-None-2-clause-takes g c =
     let M = g.M.LineHandler in
     Takes-ended (by M.moves M.answers M.goes) M.left g.met.M.LineHandler.steady.0 c.args.bytes.now c.args.is_last c.args.machine.now c.args.self.now c.refuse_long-in-None-2.new.machine c.refuse_long-in-None-2.new.self c.args.dropped
-        c.requires.some (search rules) c.if-is_last.true c.requires.made c.refuse_long-in-None-2.ensures.refuses
+        c.requires.some (no_length c.args.bytes.now (grind (arith, common_steps))) c.if-is_last.true c.requires.made c.refuse_long-in-None-2.ensures.refuses
