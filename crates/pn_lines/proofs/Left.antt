@@ -1,10 +1,9 @@
 -- How much is left after a step.
-use Rattle.std.proofs.Common.{◌≡◌, ◌⊎◌, ◌+◌, ◌-◌, ◌*◌, ◌<◌, ◌≤◌, ℕ, zero, suc, List, [], length, inl, inr, refl, sym, ap, ◌∙◌, subst, arith}
+use Rattle.std.proofs.Common.{◌≡◌, ◌⊎◌, ◌+◌, ◌-◌, ◌<◌, ◌≤◌, ℕ, zero, suc, inl, inr, refl, ◌∙◌, subst, arith}
 use Rattle.pn_line.specs.declared.line_buffer.TheConstants.{ENDLESS, MAX_LINE_BYTES}
-use Rattle.pn_lines.specs.Answers.{AnswerValue, answer_left, done, going}
+use Rattle.pn_lines.specs.Answers.{AnswerValue, done, going}
 use Rattle.pn_lines.specs.Engines.{EngineValue, after_answer, dropping, with_lines}
-use Rattle.pn_lines.specs.Progress.{Advances, IsNearer, bytes_left, going_left, lines_left}
-use Rattle.pn_lines.specs.declared.engine.stage.Stage.TheVariants.{Reading, Going, Ended}
+use Rattle.pn_lines.specs.Progress.{Advances, IsNearer, bytes_left, lines_left}
 use Rattle.pn_lines.specs.declared.handler.EndedBy.{EndedBy}
 use Rattle.pn_lines.specs.declared.handler.EndedBy.TheVariants.{Newline, Input}
 

@@ -1,5 +1,5 @@
 -- What is given does not depend on how the input came in pieces, nor on when there was room.
-use Rattle.std.proofs.Common.{◌≡◌, ◌≢◌, ◌+◌, ℕ, Bool, List, [], ◌∷◌, ◌++◌, length, All, refl, sym, ap, ◌∙◌, subst, arith, append_assoc, append-nil}
+use Rattle.std.proofs.Common.{◌≡◌, ◌≢◌, ℕ, Bool, List, [], ◌∷◌, ◌++◌, All, refl, sym, ap, ◌∙◌, subst, append_assoc, append-nil}
 use Rattle.std.proofs.lemmas.List.Elements.{All-head, All-tail}
 use Rattle.pn_line.specs.Reads.{IsUnbroken}
 use Rattle.pn_line.specs.Text.{text_of}
@@ -90,8 +90,8 @@ module _ {V G : Type 0} (handling : Handling V G) where
         let replies = same_answers start second.lines first.replies second.replies first.reached second.reached (subst (λ (ls : List (List ℕ)). AllAnswer handling start ls first.replies first.reached) lines.0 first.made) second.made in
         let line : one.1.line ≡ two.1.line = sym rest_one ∙ lines.1 ∙ rest_two in
         let asked_one : Answers handling second.reached Input two.1.line one.1.between one.0 =
-            subst (λ (l : List ℕ). Answers handling second.reached Input l one.1.between one.0) line
-            (subst (λ (v : V). Answers handling v Input one.1.line one.1.between one.0) replies.1 (record { between = one.1.first; moved = one.1.moved; answered = one.1.answered })) in
+        subst (λ (l : List ℕ). Answers handling second.reached Input l one.1.between one.0) line
+        (subst (λ (v : V). Answers handling v Input one.1.line one.1.between one.0) replies.1 (record { between = one.1.first; moved = one.1.moved; answered = one.1.answered })) in
         let asked_two : Answers handling second.reached Input two.1.line two.1.between two.0 = record { between = two.1.first; moved = two.1.moved; answered = two.1.answered } in
         let last_same = same_answer second.reached one.1.between two.1.between Input two.1.line one.0 two.0 asked_one asked_two in
         let texts_one : given ≡ texts_of first.replies ++ texts_of (one.0 ∷ []) = sym (append-nil given) ∙ ap (λ (l : List ℕ). given ++ l) (sym made) ∙ first.texts ∙ ap (λ (rs : List Replied). texts_of first.replies ++ texts_of rs) one.2 in

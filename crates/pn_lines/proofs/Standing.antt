@@ -1,15 +1,13 @@
 -- What the steps of an engine do to where it stands.
-use Rattle.std.proofs.Common.{◌≡◌, ◌≢◌, ◌⊎◌, ◌+◌, ◌-◌, ◌<◌, ◌≤◌, ◌^◌, ℕ, Bool, true, List, [], ◌∷◌, ◌++◌, length, All, min, inl, inr, refl, sym, ap, ◌∙◌, subst, arith, append_assoc, append-nil, length-append}
+use Rattle.std.proofs.Common.{◌≡◌, ◌≢◌, ◌+◌, ◌-◌, ◌≤◌, ◌^◌, ℕ, Bool, List, [], ◌∷◌, ◌++◌, length, min, inl, refl, sym, ap, ◌∙◌, subst, arith, append_assoc, append-nil, length-append}
 use Rattle.std.proofs.lemmas.List.Elements.{All-nil, All-cons, All-append}
-use Rattle.pn_line.specs.declared.line_buffer.TheConstants.{ENDLESS, MAX_LINE_BYTES}
-use Rattle.pn_line.specs.Reads.{IsUnbroken}
 use Rattle.pn_line.specs.Text.{text_of}
 use Rattle.pn_line.proofs.TextLaws.{text_of-push}
 use Rattle.pn_lines.specs.Answers.{AnswerValue, AnswersBy, done, going}
-use Rattle.pn_lines.specs.Engines.{EngineValue, after_answer, dropping, with_lines, with_refusal}
+use Rattle.pn_lines.specs.Engines.{EngineValue, after_answer, with_refusal}
 use Rattle.pn_lines.specs.Moves.{IsPreorder}
 use Rattle.pn_lines.specs.Replies.{Replied, one_if, refusals_of, texts_of}
-use Rattle.pn_lines.specs.Standing.{AllAnswer, Answers, Handling, IsAsked, IsLine, IsOver, IsReading, IsStopped, Position, StageAt, Stands, StandsBy, count_of, newline_of}
+use Rattle.pn_lines.specs.Standing.{AllAnswer, Answers, Handling, IsAsked, IsLine, Position, StageAt, Stands, StandsBy}
 use Rattle.pn_lines.specs.declared.engine.stage.LinesEnd.TheVariants as end
 use Rattle.pn_lines.specs.declared.engine.stage.Stage.{Stage}
 use Rattle.pn_lines.specs.declared.engine.stage.Stage.TheVariants.{Reading, Going, Ended}

@@ -1,7 +1,7 @@
 -- What each way of taking lines does to where an engine stands.
-use Rattle.std.proofs.Common.{◌≡◌, ◌≢◌, ◌⊎◌, ◌+◌, ◌*◌, ◌<◌, ◌≤◌, ◌^◌, ℕ, zero, suc, Bool, true, List, [], ◌∷◌, ◌++◌, length, All, max, min, take, drop, inl, inr, refl, sym, ap, ◌∙◌, subst, arith, append_assoc, append-nil, length-append, ⊎_elim}
-use Rattle.std.proofs.lemmas.List.Elements.{All-nil, All-cons, All-append}
-use Rattle.std.proofs.lemmas.List.{drop_all, length-take, take-append-drop, take-take, take_all}
+use Rattle.std.proofs.Common.{◌≡◌, ◌≢◌, ◌⊎◌, ◌+◌, ◌*◌, ◌<◌, ◌≤◌, ℕ, Bool, true, List, [], ◌∷◌, ◌++◌, length, max, take, drop, inl, inr, refl, sym, ap, ◌∙◌, subst, arith, append_assoc, append-nil, length-append, ⊎_elim}
+use Rattle.std.proofs.lemmas.List.Elements.{All-nil, All-append}
+use Rattle.std.proofs.lemmas.List.{drop_all, length-take, take-take, take_all}
 use Rattle.pn_line.specs.declared.line_buffer.TheConstants.{ENDLESS, MAX_KEPT_BYTES, MAX_LINE_BYTES}
 use Rattle.pn_line.specs.Reads.{IsUnbroken}
 use Rattle.pn_line.specs.Text.{text_of}
@@ -10,13 +10,11 @@ use Rattle.pn_lines.specs.Engines.{EngineValue, after_answer, dropping, with_lin
 use Rattle.pn_lines.specs.Finding.{NewlineAt}
 use Rattle.pn_lines.specs.Moves.{IsPreorder}
 use Rattle.pn_lines.specs.Progress.{Advances}
-use Rattle.pn_lines.specs.Replies.{Replied}
-use Rattle.pn_lines.specs.Standing.{Handling, IsLine, IsOver, IsReading, Stands, count_of, newline_of}
+use Rattle.pn_lines.specs.Standing.{Handling, IsLine, IsOver, Stands, count_of, newline_of}
 use Rattle.pn_lines.specs.Taking.{Asks, Refuses, Takes}
 use Rattle.pn_lines.specs.declared.engine.TheConstants.{MAX_STEP_UNITS, UNIT_BYTES}
 use Rattle.pn_lines.specs.declared.engine.stage.LinesEnd.TheVariants as end
-use Rattle.pn_lines.specs.declared.engine.stage.Stage.{Stage}
-use Rattle.pn_lines.specs.declared.engine.stage.Stage.TheVariants.{Reading, Ended}
+use Rattle.pn_lines.specs.declared.engine.stage.Stage.TheVariants.{Ended}
 use Rattle.pn_lines.specs.declared.handler.EndedBy.{EndedBy}
 use Rattle.pn_lines.specs.declared.handler.EndedBy.TheVariants.{Newline, Input}
 use Rattle.pn_lines.proofs.Left.{Advances-last, Advances-line, Advances-long, Advances-refused}

@@ -1,6 +1,5 @@
 -- The values of engines, and what an answer does to one.
-use Rattle.std.specs.Prelude.{◌≡◌, ℕ, ◌+◌, ◌-◌, ◌*◌, ◌^◌, min, Bool, List, [], Option, None, Some, length}
-use Rattle.pn_line.specs.declared.line_buffer.TheConstants.{ENDLESS}
+use Rattle.std.specs.Prelude.{ℕ, ◌+◌, ◌-◌, ◌^◌, min, Bool, List, [], Option, None, Some}
 use Rattle.pn_lines.specs.Answers.{AnswerValue, done, going}
 use Rattle.pn_lines.specs.Replies.{one_if}
 use Rattle.pn_lines.specs.declared.engine.Counts.{Counts}

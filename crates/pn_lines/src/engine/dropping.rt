@@ -43,13 +43,16 @@ impl<G: Drop, T: PieceText> LineEngine<G, T> {
                     units: cost_of(at + 1),
                 }
             }
-            None if !bytes.is_empty() => self.drop_more(&*machine, dropped, bytes, is_last, window.len()),
+            None if !bytes.is_empty() => self.drop_more(
+                &*machine,
+                dropped,
+                bytes,
+                is_last,
+                window.len(),
+            ),
             None if is_last => {
                 self.refuse_long(machine, EndedBy::Input);
-                Step::Went {
-                    taken: 0,
-                    units: 1,
-                }
+                Step::Went { taken: 0, units: 1 }
             }
             None => {
                 self.set_stage(Stage::Reading(dropped));

@@ -36,10 +36,7 @@ impl<G: Drop, T: PieceText> LineEngine<G, T> {
     {
         if self.is_full() && !bytes.is_empty() {
             self.set_stage(Stage::Ended(LinesEnd::TooManyTurns));
-            return Step::Went {
-                taken: 0,
-                units: 1,
-            };
+            return Step::Went { taken: 0, units: 1 };
         }
         match find_line(bytes, is_last) {
             Found::Line(at) => self.ask_line(machine, bytes, is_last, at),

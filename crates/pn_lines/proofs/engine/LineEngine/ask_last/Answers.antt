@@ -15,4 +15,4 @@ returns-clause-takes g c =
     let M = g.M.LineHandler in
     let count = c.count_lines.ensures ∙ ap (λ (n : ℕ). with_lines n c.args.self.now) c.count_of.ensures in
     Takes-last (by M.moves M.answers M.goes) M.left g.met.M.LineHandler.steady.0 c.args.bytes.now c.args.is_last c.args.machine.now c.args.self.now c.ask-units.new.machine c.ask-units.new.self (c.cost_of.result + c.ask-units.result)
-        c.requires.last c.requires.unbroken c.requires.short c.requires.few c.requires.made (rw count at c.ask-units.ensures.asks) (omega (arith, c.cost_of.ensures.enough)) (omega (arith, c.cost_of.ensures.enough)) (omega (arith, c.cost_of.ensures.least, c.ask-units.ensures.few, c.requires.short))
+    c.requires.last c.requires.unbroken c.requires.short c.requires.few c.requires.made (rw count at c.ask-units.ensures.asks) (omega (arith, c.cost_of.ensures.enough)) (omega (arith, c.cost_of.ensures.enough)) (omega (arith, c.cost_of.ensures.least, c.ask-units.ensures.few, c.requires.short))

@@ -1,5 +1,5 @@
 -- Each step goes on from those before it.
-use Rattle.std.proofs.Common.{◌≡◌, ◌+◌, ◌-◌, ◌*◌, ◌≤◌, ◌++◌, ℕ, List, length, take, drop, refl, subst, sym, arith}
+use Rattle.std.proofs.Common.{◌-◌, ◌++◌, ℕ, List, length, take, drop, subst, sym, arith}
 use Rattle.std.proofs.lemmas.List.{length-drop}
 use Rattle.pn_lines.specs.Standing.{Stands, by}
 use Rattle.pn_lines.proofs.Left.{Advances-more, Advances-none}

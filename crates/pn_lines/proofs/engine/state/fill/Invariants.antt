@@ -1,5 +1,5 @@
 -- Each piece is added after those before it, and leaves less.
-use Rattle.std.proofs.Common.{◌≡◌, ◌⊎◌, ◌+◌, ◌<◌, ◌≤◌, length, vec_capacity, vec_len}
+use Rattle.std.proofs.Common.{◌≡◌, ◌⊎◌, ◌+◌, ◌<◌, length, vec_capacity, vec_len}
 use Rattle.pn_lines.specs.Giving.{Gives}
 use Rattle.pn_lines.specs.declared.engine.TheConstants.{BLOCK_BYTES}
 use Rattle.pn_lines.specs.declared.piece_text.TheConstants.{MAX_PIECE_BYTES}
