@@ -1,3 +1,4 @@
+pub mod Driving
 pub mod Left
 pub mod Pieces
 pub mod Standing

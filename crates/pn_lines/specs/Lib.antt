@@ -1,4 +1,5 @@
 pub mod Answers
+pub mod Driving
 pub mod Engines
 pub mod Finding
 pub mod Giving

@@ -1,5 +1,5 @@
 -- Where an engine stands: what it took of an input and gave of replies since it began.
-use Rattle.std.specs.Prelude.{◌≡◌, ◌≢◌, ◌⊎◌, ◌<◌, ◌≤◌, ℕ, ◌+◌, ◌-◌, ◌^◌, min, Bool, true, List, [], ◌∷◌, ◌++◌, length, All}
+use Rattle.std.specs.Prelude.{◌≡◌, ◌≢◌, ◌⊎◌, ◌<◌, ◌≤◌, ℕ, zero, suc, ◌+◌, ◌-◌, ◌^◌, min, Bool, true, List, [], ◌∷◌, ◌++◌, length, All}
 use Rattle.pn_line.specs.Reads.{IsUnbroken}
 use Rattle.pn_line.specs.Text.{text_of}
 use Rattle.pn_line.specs.declared.line_buffer.TheConstants.{ENDLESS, MAX_LINE_BYTES}
@@ -27,6 +27,12 @@ abbrev pub count_of : EndedBy → List ℕ → ℕ
 count_of Newline line = 1
 count_of Input [] = 0
 count_of Input (b ∷ part) = 1
+
+-- the same by the number of its bytes
+abbrev pub count_by : EndedBy → ℕ → ℕ
+count_by Newline n = 1
+count_by Input zero = 0
+count_by Input (suc n) = 1
 
 -- after a last part nothing is at hand, and nothing will be
 abbrev pub IsOver : EndedBy → List ℕ → Bool → Type 0

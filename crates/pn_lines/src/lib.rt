@@ -3,6 +3,7 @@
 //! What returns no `Result` allocates nothing.
 #![tactic(auto)]
 
+mod driver;
 mod engine;
 mod finding;
 mod handler;
