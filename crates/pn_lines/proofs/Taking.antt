@@ -230,7 +230,7 @@ module _ {V G : Type 0} (handling : Handling V G) where
           }
 
   -- an answer sets what is done next, whatever it was
-  after_same : (answer : AnswerValue G) (ended : EndedBy) (run : EngineValue G) → after_answer answer ended run ≡ after_answer answer ended (dropping 0 run)
+  pub after_same : (answer : AnswerValue G) (ended : EndedBy) (run : EngineValue G) → after_answer answer ended run ≡ after_answer answer ended (dropping 0 run)
   after_same (done replied) ended run = refl
   after_same (going g) ended run = refl
 

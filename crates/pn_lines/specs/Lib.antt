@@ -1,5 +1,6 @@
 pub mod Answers
 pub mod Driving
+pub mod Ends
 pub mod Engines
 pub mod Finding
 pub mod Giving

@@ -1,5 +1,6 @@
 //! A driver that waits for its source and its sink.
 
+mod reading;
 mod settling;
 
 /// Why the lines of an input were not answered to its end.

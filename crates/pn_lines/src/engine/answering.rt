@@ -30,6 +30,8 @@ impl<G: Drop, T: PieceText> LineEngine<G, T> {
         requires few { (self.old.counts.lines < self.old.most) ⊎ ((ended ≡ EndedBy.Input) × (line.now.count ≡ 0)) }
         ensures asks { (text : List ℕ) → line.now ≡ so_far text → Asks (by M.moves M.answers M.goes) ended text machine.old machine.new (with_lines (count_of ended text) self.old) self.new }
         ensures after { IsAfter ended self.new.stage }
+        ensures lines { self.new.counts.lines ≡ self.old.counts.lines + count_by ended line.now.count }
+        ensures most { self.new.most ≡ self.old.most }
         ensures kept { M.keeps machine.old machine.new }
     {
         self.count_lines(lines_in(line, ended));
@@ -51,6 +53,7 @@ impl<G: Drop, T: PieceText> LineEngine<G, T> {
         ensures asks { Asks (by M.moves M.answers M.goes) ended line.now machine.old machine.new self.old self.new }
         ensures few { result ≤ MAX_ANSWER_UNITS }
         ensures after { IsAfter ended self.new.stage }
+        ensures same { SameLines self.old self.new }
         ensures kept { M.keeps machine.old machine.new }
     {
         let Answered { answer, units } = machine.answer(self.alloc, line, ended);
@@ -67,6 +70,7 @@ impl<G: Drop, T: PieceText> LineEngine<G, T> {
         requires ready { M.ready }
         ensures refuses { Refuses (by M.moves M.answers M.goes) ended machine.old machine.new self.old self.new }
         ensures after { IsAfter ended self.new.stage }
+        ensures same { SameLines self.old self.new }
         ensures kept { M.keeps machine.old machine.new }
     {
         let reply = machine.refuse_long(ended);
