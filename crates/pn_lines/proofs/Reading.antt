@@ -2,7 +2,7 @@
 use Rattle.std.proofs.Common.{◌≡◌, ◌≢◌, ◌⊎◌, ◌+◌, ◌<◌, ◌≤◌, ℕ, Bool, true, false, Option, None, Some, IfSome, OnSome, List, [], ◌∷◌, ◌++◌, length, All, inl, inr, refl, sym, ap, ◌∙◌, subst, arith, append_assoc, append-nil, length-append, ⊎_elim}
 use Rattle.std.specs.Prelude.{Result, Ok, Err}
 use Rattle.std.specs.Io.KnownBytes.{Appends, Consumes, IsAtEnd, Keeps}
-use Rattle.std.proofs.KnownBytes.{Appends-trans, Consumes-kept, Consumes-nil}
+use Rattle.std.proofs.KnownBytes.{Appends-nil, Appends-trans, Consumes-kept, Consumes-nil}
 use Rattle.std.proofs.lemmas.List.Elements.{All-head, All-tail, All-nil, All-cons, All-append}
 use Rattle.pn_line.specs.Line.{LineBufferValue, so_far}
 use Rattle.pn_line.specs.LinesRead.{PartRead}
@@ -12,10 +12,11 @@ use Rattle.pn_line.specs.Text.{text_of}
 use Rattle.pn_line.specs.declared.line_buffer.TheConstants.{ENDLESS, MAX_LINE_BYTES}
 use Rattle.pn_line.proofs.KnownLaws.{ReadsPart-from_takes}
 use Rattle.pn_line.proofs.LineLaws.{with_bytes-nil}
+use Rattle.pn_line.proofs.TextLaws.{text_of-nil}
 use Rattle.pn_lines.specs.Answers.{AnswersBy, done}
 use Rattle.pn_lines.specs.Driving.{IsAfter, IsReading, Reads, Writes}
-use Rattle.pn_lines.specs.Ends.{Answered, Broken, Cut, Ended, Exceeded, HasEnded, Start}
-use Rattle.pn_lines.specs.Engines.{EngineValue, after_answer, dropping, stage_after, with_lines}
+use Rattle.pn_lines.specs.Ends.{Answered, Broken, Cut, Ended, Exceeded, HasEnded, Start, start_at}
+use Rattle.pn_lines.specs.Engines.{EngineValue, after_answer, dropping, new_engine, stage_after, with_lines}
 use Rattle.pn_lines.specs.Moves.{IsPreorder}
 use Rattle.pn_lines.specs.Progress.{going_left}
 use Rattle.pn_lines.specs.Replies.{Replied, refusals_of, texts_of}
@@ -29,6 +30,7 @@ use Rattle.pn_lines.specs.declared.engine.stage.Stage.{Stage}
 use Rattle.pn_lines.specs.declared.engine.stage.Stage.TheVariants.{Reading, Going, Ended as HasStopped}
 use Rattle.pn_lines.specs.declared.handler.EndedBy.{EndedBy}
 use Rattle.pn_lines.specs.declared.handler.EndedBy.TheVariants.{Newline, Input}
+use Rattle.pn_lines.proofs.Driving.{Writes-sent}
 use Rattle.pn_lines.proofs.Standing.{Stands-answered, no_length}
 use Rattle.pn_lines.proofs.Taking.{Asked-line, after_same}
 
@@ -370,3 +372,50 @@ module _ {V G : Type 0} (handling : Handling V G) (start : Start V) where
 
     pub Ends-all : IsPreorder handling.moves → Reads handling start left written replies true machine run → HasEnded handling most start left written machine (Ok run.counts)
     Ends-all steady reads = all_by start.left refl steady reads
+
+  -- all that waited was written
+  pub Reads-sent : (left before after : Option (List ℕ)) (waited waits : List ℕ) (last : Bool) (machine : V) (run : EngineValue G) → waits ≡ [] → Appends before after waited → Reads handling start left before waited last machine run
+      → Reads handling start left after waits last machine run
+  Reads-sent left before after waited waits last machine run none sent reads =
+      Reads-writes left before after waited waits last machine machine run run (Writes-sent handling before after waited waits waited machine run sent (ap (λ (l : List ℕ). waited ++ l) none ∙ append-nil waited)) reads
+
+  -- a prefix of it was
+  pub Reads-cut : (left before after : Option (List ℕ)) (waited : List ℕ) (last : Bool) (machine : V) (run : EngineValue G) (prefix : AppendsPrefix before after waited) → Reads handling start left before waited last machine run
+      → Reads handling start left after prefix.back last machine run
+  Reads-cut left before after waited last machine run prefix reads =
+      Reads-writes left before after waited prefix.back last machine machine run run (Writes-sent handling before after waited prefix.back prefix.sent machine run prefix.appends prefix.whole) reads
+
+-- more will come, so the input is not at its end
+pub not_last : (P : Type 0) → false ≡ true → P
+not_last P same = let no : ⊥ = cc in absurd no
+
+module _ {V G : Type 0} (handling : Handling V G) (steady : IsPreorder handling.moves) (machine : V) where
+  -- before the first line
+  pub Stands-new : (most : ℕ) → Stands handling machine [] [] [] false machine (new_engine most)
+  Stands-new most = record {
+    lines = [];
+    rest = [];
+    taken_is = ap (λ (l : List ℕ). l ++ []) (sym text_of-nil);
+    are_lines = All-nil IsLine;
+    few = omega arith;
+    replies = [];
+    reached = machine;
+    made = refl;
+    more = [];
+    texts = refl;
+    refused = omega arith;
+    stage = (record { moved = steady.stays machine; unbroken = All-nil (λ (b : ℕ). b ≢ 10); dropped_is = refl; counted = inl (refl, refl) }, refl);
+  }
+
+  pub Reads-new : (left written : Option (List ℕ)) (replies : List ℕ) (run : EngineValue G) → replies ≡ [] → run ≡ new_engine run.most → Reads handling (start_at machine left written) left written replies false machine run
+  Reads-new None written replies run none new = tt
+  Reads-new (Some input) written replies run none new = record {
+    taken = [];
+    rest = input;
+    out = [];
+    input_is = refl;
+    left_is = refl;
+    wrote = Appends-nil written;
+    stands = subst (λ (l : List ℕ). Stands handling machine [] l [] false machine run) (sym none) (subst (λ (r : EngineValue G). Stands handling machine [] [] [] false machine r) (sym new) (Stands-new run.most));
+    at_end = λ same. not_last (input ≡ []) same;
+  }

@@ -9,6 +9,7 @@ mod finding;
 mod handler;
 mod piece_text;
 
+pub use driver::{LinesFault, answer_lines};
 pub use engine::stage::LinesEnd;
 pub use engine::{Counts, LineEngine, MAX_CALL_UNITS, MAX_STEP_UNITS, Next, Progress};
 pub use handler::{Answer, Answered, EndedBy, LineHandler, LineReply, MAX_ANSWER_UNITS};
