@@ -1,10 +1,10 @@
 -- Writing on.
-use Rattle.std.proofs.Common.{◌≡◌, ◌+◌, ◌≤◌, ℕ, Bool, Option, List, [], ◌∷◌, ◌++◌, length, Vec, refl, sym, ap, ◌∙◌, subst, arith, append_assoc, append-nil, length-append}
+use Rattle.std.proofs.Common.{◌≡◌, ◌≤◌, ℕ, Bool, Option, List, [], ◌∷◌, ◌++◌, length, Vec, refl, sym, ap, ◌∙◌, subst, arith, append_assoc, append-nil, length-append}
 use Rattle.std.specs.Prelude.{Result, Ok, Err, OnErr}
 use Rattle.std.proofs.KnownBytes.{Appends-nil, Appends-trans}
 use Rattle.std.specs.Io.KnownBytes.{Appends}
 use Rattle.std.specs.declared.alloc.Global.{Global}
-use Rattle.pn_line.specs.Sent.{AppendsPrefix, Sends}
+use Rattle.pn_line.specs.Sent.{AppendsPrefix}
 use Rattle.pn_lines.specs.Driving.{Fails, SameLines, Writes}
 use Rattle.pn_lines.specs.Engines.{EngineValue}
 use Rattle.pn_lines.specs.Giving.{Gives}

@@ -1,9 +1,9 @@
 -- What a driver has read and written after each line, and how it ends.
-use Rattle.std.proofs.Common.{◌≡◌, ◌≢◌, ◌⊎◌, ◌+◌, ◌<◌, ◌≤◌, ℕ, Bool, true, false, Option, None, Some, IfSome, OnSome, List, [], ◌∷◌, ◌++◌, length, All, inl, inr, refl, sym, ap, ◌∙◌, subst, arith, append_assoc, append-nil, length-append, ⊎_elim}
-use Rattle.std.specs.Prelude.{Result, Ok, Err}
-use Rattle.std.specs.Io.KnownBytes.{Appends, Consumes, IsAtEnd, Keeps}
+use Rattle.std.proofs.Common.{◌≡◌, ◌≢◌, ◌⊎◌, ◌+◌, ◌<◌, ◌≤◌, ℕ, Bool, true, false, Option, None, Some, IfSome, OnSome, List, [], ◌∷◌, ◌++◌, length, All, inl, inr, refl, sym, ap, ◌∙◌, subst, arith, append_assoc, append-nil, ⊎_elim}
+use Rattle.std.specs.Prelude.{Ok, Err}
+use Rattle.std.specs.Io.KnownBytes.{Appends, IsAtEnd, Keeps}
 use Rattle.std.proofs.KnownBytes.{Appends-nil, Appends-trans, Consumes-kept, Consumes-nil}
-use Rattle.std.proofs.lemmas.List.Elements.{All-head, All-tail, All-nil, All-cons, All-append}
+use Rattle.std.proofs.lemmas.List.Elements.{All-head, All-tail, All-nil, All-cons}
 use Rattle.pn_line.specs.Line.{LineBufferValue, so_far}
 use Rattle.pn_line.specs.LinesRead.{PartRead}
 use Rattle.pn_line.specs.Reads.{IsUnbroken, Takes}
@@ -13,18 +13,15 @@ use Rattle.pn_line.specs.declared.line_buffer.TheConstants.{ENDLESS, MAX_LINE_BY
 use Rattle.pn_line.proofs.KnownLaws.{ReadsPart-from_takes}
 use Rattle.pn_line.proofs.LineLaws.{with_bytes-nil}
 use Rattle.pn_line.proofs.TextLaws.{text_of-nil}
-use Rattle.pn_lines.specs.Answers.{AnswersBy, done}
 use Rattle.pn_lines.specs.Driving.{IsAfter, IsReading, Reads, Writes}
 use Rattle.pn_lines.specs.Ends.{Answered, Broken, Cut, Ended, Exceeded, HasEnded, Start, start_at}
-use Rattle.pn_lines.specs.Engines.{EngineValue, after_answer, dropping, new_engine, stage_after, with_lines}
+use Rattle.pn_lines.specs.Engines.{EngineValue, dropping, new_engine, stage_after, with_lines}
 use Rattle.pn_lines.specs.Moves.{IsPreorder}
 use Rattle.pn_lines.specs.Progress.{going_left}
 use Rattle.pn_lines.specs.Replies.{Replied, refusals_of, texts_of}
-use Rattle.pn_lines.specs.Standing.{Answers, Handling, IsLine, IsOver, StageAt, Stands, count_of, newline_of}
+use Rattle.pn_lines.specs.Standing.{Handling, IsLine, IsOver, StageAt, Stands, count_of, newline_of}
 use Rattle.pn_lines.specs.Taking.{Asks}
-use Rattle.pn_lines.specs.declared.driver.LinesFault.{LinesFault}
-use Rattle.pn_lines.specs.declared.driver.LinesFault.TheVariants.{Memory, Read, TooManyTurns, Write}
-use Rattle.pn_lines.specs.declared.engine.Counts.{Counts}
+use Rattle.pn_lines.specs.declared.driver.LinesFault.TheVariants.{Read, TooManyTurns, Write}
 use Rattle.pn_lines.specs.declared.engine.stage.LinesEnd.TheVariants as end
 use Rattle.pn_lines.specs.declared.engine.stage.Stage.{Stage}
 use Rattle.pn_lines.specs.declared.engine.stage.Stage.TheVariants.{Reading, Going, Ended as HasStopped}
@@ -116,26 +113,26 @@ module _ {V G : Type 0} (handling : Handling V G) (start : Start V) where
   Reads-line left leaves written replies last was now old new line ended steady reading made few short takes over closes asks reads =
       on_told start.left (λ (input : List ℕ). IsReading handling start input left written replies false was old) (λ (input : List ℕ). IsReading handling start input leaves written replies last now new)
       (λ input is.
-        let known : Takes (so_far []) line (Some is.rest) leaves (newline_of ended) = subst (λ (l : Option (List ℕ)). Takes (so_far []) line l leaves (newline_of ended)) is.left_is takes in
-        let part = ReadsPart-from_takes [] is.rest (All-nil (λ (b : ℕ). b ≢ 10)) known in
-        let text = part.taken in
-        let asked = asks text part.line in
-        let count : line.count ≡ length text = ap (λ (l : LineBufferValue). l.count) part.line in
-        let stands = subst (λ (s : Stage G). Stands handling start.machine is.taken (is.out ++ replies) [] false was (record old { stage = s })) reading is.stands in
-        let fits = fits_in text ended few count stands.few in
-        let taken = Asked-line handling start.machine is.taken (is.out ++ replies) [] [] last was old now text ended asked.answer steady (record { unbroken = part.unbroken; short = omega (arith, count, short) }) over fits asked.answered (Stands-last handling start.machine is.taken (is.out ++ replies) [] false last was old stands) in
-        let has = asked.has ∙ after_same handling asked.answer ended (with_lines (count_of ended text) old) in
-        record {
-          taken = is.taken ++ (text ++ newline_of ended);
-          rest = part.rest;
-          out = is.out;
-          input_is = is.input_is ∙ ap (λ (l : List ℕ). is.taken ++ l) (part.text_is ∙ sym (append_assoc text (newline_of ended) part.rest)) ∙ sym (append_assoc is.taken (text ++ newline_of ended) part.rest);
-          left_is = part.leaves_is;
-          wrote = is.wrote;
-          stands = subst (λ (r : EngineValue G). Stands handling start.machine (is.taken ++ (text ++ newline_of ended)) (is.out ++ replies) [] last now r) (sym has)
-              (Stands-answered handling start.machine (is.taken ++ (text ++ newline_of ended)) (is.out ++ replies) [] last now (with_lines (count_of ended text) (dropping 0 old)) ended asked.answer made taken);
-          at_end = λ closing. ends_here left leaves is.rest part.rest is.left_is part.leaves_is (closes closing);
-        }) reads
+      let known : Takes (so_far []) line (Some is.rest) leaves (newline_of ended) = subst (λ (l : Option (List ℕ)). Takes (so_far []) line l leaves (newline_of ended)) is.left_is takes in
+      let part = ReadsPart-from_takes [] is.rest (All-nil (λ (b : ℕ). b ≢ 10)) known in
+      let text = part.taken in
+      let asked = asks text part.line in
+      let count : line.count ≡ length text = ap (λ (l : LineBufferValue). l.count) part.line in
+      let stands = subst (λ (s : Stage G). Stands handling start.machine is.taken (is.out ++ replies) [] false was (record old { stage = s })) reading is.stands in
+      let fits = fits_in text ended few count stands.few in
+      let taken = Asked-line handling start.machine is.taken (is.out ++ replies) [] [] last was old now text ended asked.answer steady (record { unbroken = part.unbroken; short = omega (arith, count, short) }) over fits asked.answered (Stands-last handling start.machine is.taken (is.out ++ replies) [] false last was old stands) in
+      let has = asked.has ∙ after_same handling asked.answer ended (with_lines (count_of ended text) old) in
+      record {
+        taken = is.taken ++ (text ++ newline_of ended);
+        rest = part.rest;
+        out = is.out;
+        input_is = is.input_is ∙ ap (λ (l : List ℕ). is.taken ++ l) (part.text_is ∙ sym (append_assoc text (newline_of ended) part.rest)) ∙ sym (append_assoc is.taken (text ++ newline_of ended) part.rest);
+        left_is = part.leaves_is;
+        wrote = is.wrote;
+        stands = subst (λ (r : EngineValue G). Stands handling start.machine (is.taken ++ (text ++ newline_of ended)) (is.out ++ replies) [] last now r) (sym has)
+            (Stands-answered handling start.machine (is.taken ++ (text ++ newline_of ended)) (is.out ++ replies) [] last now (with_lines (count_of ended text) (dropping 0 old)) ended asked.answer made taken);
+        at_end = λ closing. ends_here left leaves is.rest part.rest is.left_is part.leaves_is (closes closing);
+      }) reads
     where
       fits_in : (text : List ℕ) (of : EndedBy) → (old.counts.lines < old.most) ⊎ ((of ≡ Input) × (line.count ≡ 0)) → line.count ≡ length text → old.counts.lines ≤ old.most → old.counts.lines + count_of of text ≤ old.most
       fits_in text Newline (inl below) count most = omega (arith, below)
@@ -165,16 +162,20 @@ module _ {V G : Type 0} (handling : Handling V G) (start : Start V) where
     cut_at : (input : List ℕ) (is : IsReading handling start input left written replies last machine run) (stage : Stage G)
         → StageAt handling stage run.counts.lines run.most run.left (record { lines = is.stands.lines; rest = is.stands.rest; ahead = []; last = last; reached = is.stands.reached; now = machine }) is.stands.more → (IsGoing stage → run.left ≢ [])
         → (reached : V) × handling.moves reached machine × Cut handling start input left written reached
-    cut_at input is (Reading dropped) at some = (is.stands.reached, at.0.moved, record {
-      lines = is.stands.lines;
-      part = is.stands.rest;
-      replies = is.stands.replies;
-      reached = is.stands.reached;
-      answered = record { read = read_to input left written replies is.stands.rest is.rest last machine run left is at.0.unbroken refl is.left_is; are_lines = is.stands.are_lines; made = is.stands.made };
-      last = [];
-      ended = inl (refl, refl);
-      prefix = record { sent = is.out; back = replies ++ run.left; appends = is.wrote; whole = gave input left written replies last machine run is [] at.1 };
-    })
+    cut_at input is (Reading dropped) at some = (
+      is.stands.reached,
+      at.0.moved,
+      record {
+        lines = is.stands.lines;
+        part = is.stands.rest;
+        replies = is.stands.replies;
+        reached = is.stands.reached;
+        answered = record { read = read_to input left written replies is.stands.rest is.rest last machine run left is at.0.unbroken refl is.left_is; are_lines = is.stands.are_lines; made = is.stands.made };
+        last = [];
+        ended = inl (refl, refl);
+        prefix = record { sent = is.out; back = replies ++ run.left; appends = is.wrote; whole = gave input left written replies last machine run is [] at.1 };
+      },
+    )
     cut_at input is (Going g ended) at some = absurd (some tt at.2)
     cut_at input is (HasStopped end.Input) at some =
         let asked = at.1 in
@@ -192,16 +193,20 @@ module _ {V G : Type 0} (handling : Handling V G) (start : Start V) where
             prefix = record { sent = is.out; back = replies ++ run.left; appends = is.wrote; whole = gave input left written replies last machine run is (at.0 ∷ []) at.2 ∙ ap (λ (l : List ℕ). texts_of is.stands.replies ++ l) (append-nil at.0.text) };
           },
         )
-    cut_at input is (HasStopped end.TooManyTurns) at some = (is.stands.reached, at.0.moved, record {
-      lines = is.stands.lines;
-      part = is.stands.rest;
-      replies = is.stands.replies;
-      reached = is.stands.reached;
-      answered = record { read = read_to input left written replies is.stands.rest is.rest last machine run left is at.0.unbroken refl is.left_is; are_lines = is.stands.are_lines; made = is.stands.made };
-      last = [];
-      ended = inl (refl, refl);
-      prefix = record { sent = is.out; back = replies ++ run.left; appends = is.wrote; whole = gave input left written replies last machine run is [] at.1 };
-    })
+    cut_at input is (HasStopped end.TooManyTurns) at some = (
+      is.stands.reached,
+      at.0.moved,
+      record {
+        lines = is.stands.lines;
+        part = is.stands.rest;
+        replies = is.stands.replies;
+        reached = is.stands.reached;
+        answered = record { read = read_to input left written replies is.stands.rest is.rest last machine run left is at.0.unbroken refl is.left_is; are_lines = is.stands.are_lines; made = is.stands.made };
+        last = [];
+        ended = inl (refl, refl);
+        prefix = record { sent = is.out; back = replies ++ run.left; appends = is.wrote; whole = gave input left written replies last machine run is [] at.1 };
+      },
+    )
 
     -- it ends by that
     cut_by : (known : Option (List ℕ)) → start.left ≡ known → IsPreorder handling.moves → (IsGoing run.stage → run.left ≢ []) → IfSome known (λ input. IsReading handling start input left written replies last machine run) → HasEnded handling most start left written machine (Err Write)

@@ -97,7 +97,13 @@ pub(super) fn answer_line<G: Drop, T: PieceText, M: LineHandler<Going = G, Text 
 }
 
 /// Reads a line and answers it. What was counted where the input is at its end.
-pub(super) fn answer_next<G: Drop, T: PieceText, M: LineHandler<Going = G, Text = T>, S: Source, W: Sink>(
+pub(super) fn answer_next<
+    G: Drop,
+    T: PieceText,
+    M: LineHandler<Going = G, Text = T>,
+    S: Source,
+    W: Sink,
+>(
     machine: &mut M,
     engine: &mut LineEngine<G, T>,
     line: &mut LineBuffer,

@@ -1,5 +1,5 @@
 -- Before the first line nothing was read or written.
-use Rattle.std.proofs.Common.{List, ℕ, refl, ap}
+use Rattle.std.proofs.Common.{refl, ap}
 use Rattle.pn_lines.specs.Engines.{EngineValue}
 use Rattle.pn_lines.specs.Standing.{by}
 use Rattle.pn_lines.proofs.Reading.{Reads-new}

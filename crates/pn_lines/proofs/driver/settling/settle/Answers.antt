@@ -1,5 +1,5 @@
 -- Text is made, and then an answer is gone on with.
-use Rattle.std.proofs.Common.{◌≤◌, sym, ap, ◌∙◌, subst, arith}
+use Rattle.std.proofs.Common.{sym, subst, arith}
 use Rattle.pn_lines.specs.Driving.{Fails, IsAfter}
 use Rattle.pn_lines.specs.Engines.{EngineValue}
 use Rattle.pn_lines.specs.Standing.{by}
@@ -14,7 +14,7 @@ returns-in_err-write_text-clause-err g c =
     let before = g.W.Sink.contents c.answers.output in
     let after = g.W.Sink.contents c.write_text.new.output in
     on_fault c.from_residual.result (Fails handling first after c.args.replies.now.items c.args.machine.now c.answers.machine c.args.engine.now c.write_text.new.engine)
-        (Fails-then handling first before after c.args.replies.now.items c.answers.replies.items c.args.machine.now c.answers.machine c.answers.machine c.args.engine.now c.answers.engine c.write_text.new.engine c.answers.invariant.writes c.in_err-write_text.ensures.err)
+    (Fails-then handling first before after c.args.replies.now.items c.answers.replies.items c.args.machine.now c.answers.machine c.answers.machine c.args.engine.now c.answers.engine c.write_text.new.engine c.answers.invariant.writes c.in_err-write_text.ensures.err)
 
 pub returns-in_err-write_text-clause-after : goal.returns-in_err-write_text-clause-after
 returns-in_err-write_text-clause-after g c = λ ended is.

@@ -1,5 +1,5 @@
 -- Room is made, and then text.
-use Rattle.std.proofs.Common.{◌≤◌, ap, ◌∙◌, arith, append-nil}
+use Rattle.std.proofs.Common.{ap, ◌∙◌, arith, append-nil}
 use Rattle.pn_lines.specs.Driving.{Fails}
 use Rattle.pn_lines.specs.Engines.{EngineValue}
 use Rattle.pn_lines.specs.Standing.{by}
@@ -14,8 +14,8 @@ returns-in_err-make_room-clause-err g c =
     let after = g.W.Sink.contents c.make_room.new.output in
     let machine = c.args._machine.now in
     on_fault c.from_residual.result (Fails handling before after c.args.replies.now.items machine machine c.args.engine.now c.pieces.engine)
-        (Fails-sent handling before (g.W.Sink.contents c.pieces.output) after c.args.replies.now.items c.pieces.replies.items machine machine c.args.engine.now c.pieces.engine c.pieces.invariant.writes c.in_err-make_room.ensures.err
-            (c.has_text.ensures.some c.pieces-test.true))
+    (Fails-sent handling before (g.W.Sink.contents c.pieces.output) after c.args.replies.now.items c.pieces.replies.items machine machine c.args.engine.now c.pieces.engine c.pieces.invariant.writes c.in_err-make_room.ensures.err
+    (c.has_text.ensures.some c.pieces-test.true))
 
 pub pieces-preserved : goal.pieces-preserved
 pieces-preserved g c =

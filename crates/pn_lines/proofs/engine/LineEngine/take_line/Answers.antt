@@ -1,10 +1,10 @@
 -- The line is answered, whether its bytes were kept or not.
-use Rattle.std.proofs.Common.{◌≡◌, ◌<◌, ◌≤◌, ℕ, List, length, ap, ◌∙◌, subst, arith}
-use Rattle.pn_line.specs.Line.{LineBufferValue, so_far}
+use Rattle.std.proofs.Common.{◌<◌, ◌≤◌, ℕ, List, length, ap, ◌∙◌, subst, arith}
+use Rattle.pn_line.specs.Line.{LineBufferValue}
 use Rattle.pn_line.specs.declared.line_buffer.TheConstants.{MAX_LINE_BYTES}
 use Rattle.pn_line.proofs.LineLaws.{kept_bytes-short}
 use Rattle.pn_lines.specs.Answers.{AnswersBy, done}
-use Rattle.pn_lines.specs.Engines.{EngineValue, after_answer, with_lines}
+use Rattle.pn_lines.specs.Engines.{after_answer, with_lines}
 use Rattle.pn_lines.specs.Standing.{count_by}
 use Rattle.pn_lines.proofs.Driving.{count_by-length}
 use Rattle.pn_lines.proofs.engine.LineEngine.take_line.Goals as goal
