@@ -1,7 +1,8 @@
 -- The line is read and answered, and its text is written as far as there is no room for it.
 use Rattle.std.proofs.lemmas.Result.{on_err_weaker, on_ok_weaker}
 use Rattle.pn_lines.specs.Standing.{by}
-use Rattle.pn_lines.proofs.Reading.{Ends-cut, Reads-line, Reads-writes, after_all}
+use Rattle.pn_lines.proofs.Ending.{Ends-cut}
+use Rattle.pn_lines.proofs.Reading.{Reads-line, Reads-writes, after_all}
 use Rattle.pn_lines.proofs.driver.reading.answer_line.Goals as goal
 
 pub returns-clause-ok : goal.returns-clause-ok

@@ -5,7 +5,8 @@ use Rattle.std.specs.Prelude.{OnSome}
 use Rattle.std.specs.Io.KnownBytes.{IsAtEnd}
 use Rattle.pn_lines.specs.Standing.{by}
 use Rattle.pn_lines.specs.declared.handler.EndedBy.TheVariants.{Newline, Input}
-use Rattle.pn_lines.proofs.Reading.{Ends-all, Ends-broken, Ends-cut_read, Ends-cut_settled, Ends-exceeded, Reads-cut, Reads-sent, not_last}
+use Rattle.pn_lines.proofs.Ending.{Ends-all, Ends-broken, Ends-cut_read, Ends-cut_settled, Ends-exceeded}
+use Rattle.pn_lines.proofs.Reading.{Reads-cut, Reads-sent, not_last}
 use Rattle.pn_lines.proofs.driver.reading.answer_next.Goals as goal
 
 pub returns-in_err-answer_line-in-Ok-Newline-clause-ends : goal.returns-in_err-answer_line-in-Ok-Newline-clause-ends

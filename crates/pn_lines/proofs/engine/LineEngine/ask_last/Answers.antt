@@ -2,7 +2,7 @@
 use Rattle.std.proofs.Common.{ℕ, ◌+◌, ap, ◌∙◌, arith}
 use Rattle.pn_lines.specs.Engines.{with_lines}
 use Rattle.pn_lines.specs.Standing.{by}
-use Rattle.pn_lines.proofs.Taking.{Takes-last, last_counts}
+use Rattle.pn_lines.proofs.Steps.{Takes-last, last_counts}
 use Rattle.pn_lines.proofs.engine.LineEngine.ask_last.Goals as goal
 
 pub count_lines-requires : goal.count_lines-requires

@@ -1,7 +1,7 @@
 -- The line is answered.
 use Rattle.std.proofs.Common.{◌+◌, arith}
 use Rattle.pn_lines.specs.Standing.{by}
-use Rattle.pn_lines.proofs.Taking.{Takes-line}
+use Rattle.pn_lines.proofs.Steps.{Takes-line}
 use Rattle.pn_lines.proofs.engine.LineEngine.ask_line.Goals as goal
 
 pub returns-clause-takes : goal.returns-clause-takes

@@ -3,7 +3,7 @@ use Rattle.std.proofs.Common.{ap, ◌∙◌, arith}
 use Rattle.pn_line.specs.declared.line_buffer.TheConstants.{MAX_KEPT_BYTES}
 use Rattle.pn_lines.specs.Engines.{dropping}
 use Rattle.pn_lines.specs.Standing.{by}
-use Rattle.pn_lines.proofs.Taking.{Takes-long}
+use Rattle.pn_lines.proofs.Steps.{Takes-long}
 use Rattle.pn_lines.proofs.engine.LineEngine.begin_long.Goals as goal
 
 pub returns-clause-takes : goal.returns-clause-takes

@@ -3,7 +3,7 @@ use Rattle.std.proofs.Common.{arith}
 use Rattle.std.proofs.lemmas.Grind.{common_steps}
 use Rattle.pn_lines.specs.Standing.{by}
 use Rattle.pn_lines.proofs.Standing.{no_length}
-use Rattle.pn_lines.proofs.Taking.{Takes-ended, Takes-refused}
+use Rattle.pn_lines.proofs.Steps.{Takes-ended, Takes-refused}
 use Rattle.pn_lines.proofs.engine.LineEngine.drop_line.Goals as goal
 
 pub returns-in-Some-clause-takes : goal.returns-in-Some-clause-takes
