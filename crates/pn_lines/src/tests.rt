@@ -5,7 +5,7 @@ ghost use Rattle.pn_lines.specs.declared.piece_text.TheConstants.{MAX_PIECE_BYTE
 
 use crate::{
     Answer, Answered, EndedBy, LineEngine, LineHandler, LineReply, LinesEnd, LinesFault,
-    MAX_PIECE_BYTES, Next, PieceText, answer_lines,
+    MAX_CALL_UNITS, MAX_PIECE_BYTES, Next, PieceText, answer_lines,
 };
 use pn_line::{FailingSink, FailingSource};
 use std::alloc::{AllocError, Global};
@@ -129,7 +129,7 @@ fn replies_to(alloc: Global, input: &[u8], size: usize, units: u32) -> Result<Ve
             part_of(input, from, to),
             is_last,
             &mut replies,
-            units,
+            units.min(MAX_CALL_UNITS),
         );
         from = (from + progress.taken).min(to);
         match progress.next {
