@@ -8,8 +8,6 @@ mod engine;
 mod finding;
 mod handler;
 mod piece_text;
-#[cfg(test)]
-mod tests;
 
 pub use driver::{LinesFault, answer_lines};
 pub use engine::stage::LinesEnd;
