@@ -19,7 +19,8 @@ CRASHES, HANGS, QUEUE = "crashes", "hangs", "queue"
 
 
 def bounds_of(words: list[str]) -> list[str]:
-    return json.loads(words[words.index("--bounds") + 1]) if "--bounds" in words else []
+    bounds: list[str] = json.loads(words[words.index("--bounds") + 1]) if "--bounds" in words else []
+    return bounds
 
 
 def children_seconds() -> float:
