@@ -7,7 +7,7 @@ import resource
 import subprocess
 
 from common.tried import first_fault
-from faults.damage import slow_replies
+from replies.slow import slow_replies
 from harnesses import CASES, Harness
 
 # How much processor time an input may take, and how long is waited for an end.
