@@ -10,7 +10,7 @@ import threading
 import time
 from collections.abc import Callable, Sequence
 from multiprocessing import sharedctypes
-from typing import IO, Any
+from typing import IO, Any, AnyStr, Self
 
 SECONDS = 60
 # Below those that the system gives to clients, from any one on. Processes that were forked share the last one.
@@ -31,7 +31,7 @@ def same(what: str, found: object, wanted: object) -> None:
         raise AssertionError(f"{what}: {str(found)[:300]}, not {str(wanted)[:300]}")
 
 
-def piped(pipe: IO[bytes] | None) -> IO[bytes]:
+def piped(pipe: IO[AnyStr] | None) -> IO[AnyStr]:
     """A pipe of a process that was started with it."""
     if pipe is None:
         raise ValueError("the process was started without this pipe")
@@ -109,7 +109,7 @@ class Client:
         self.socket.setsockopt(socket.IPPROTO_TCP, socket.TCP_NODELAY, 1)
         self.replies = self.socket.makefile("rb")
 
-    def __enter__(self) -> "Client":
+    def __enter__(self) -> Self:
         return self
 
     def __exit__(self, *_: object) -> None:
