@@ -11,6 +11,8 @@ from collections.abc import Callable
 WORDS = "amber birch cedar delta ember fjord grove haven inlet jetty karst ledge marsh north oasis pines quarry river stone".split()
 PLAIN_WORDS = WORDS[:15] + ["\u00e9tang"]
 RARE = ["\u00e9tang", "\u6771\u4eac", '"quoted"', "back\\slash", "\u0141\u00f3d\u017a"]
+# Conditions beside one on the state.
+MORE: list[list[list[str]]] = [[], [["has", "city"]], [["gt", "about", "h"]], [["prefix", "title", "s"]]]
 STATES = ["active", "away", "blocked", "idle", "invited"]
 MASTERS = ["asia-south", "eu-north", "us-east", "us-west"]
 FIELDS = ["about", "city", "email", "motto", "notes", "title"]
@@ -176,7 +178,7 @@ class Data:
 
     def conditional(self, limit: int) -> dict[str, object]:
         state = self.rng.choice(STATES)
-        more = self.rng.choice([[], [["has", "city"]], [["gt", "about", "h"]], [["prefix", "title", "s"]]])
+        more = self.rng.choice(MORE)
         return {"from": self.some_key(), "limit": limit, "where": [["eq", "state", state], *more]}
 
 

@@ -4,6 +4,8 @@ import pathlib
 import subprocess
 from collections.abc import Sequence
 
+from common.served import piped
+
 TICKS = os.sysconf("SC_CLK_TCK")
 OPTIONS = ["-std=c11", "-D_GNU_SOURCE", "-O2", "-Wall", "-Wextra", "-Wconversion", "-Wshadow", "-Werror", "-pthread"]
 
@@ -23,18 +25,19 @@ class Server:
     """A process that serves sessions, which is ended with the block. It is ready once a line of its output has the word."""
 
     def __init__(self, command: Sequence[str], port: int, word: bytes = b"listening", errors: int | None = None) -> None:
-        self.port, self.word = port, word
+        self.program, self.port, self.word = command[0], port, word
         self.process = subprocess.Popen(command, stdin=subprocess.DEVNULL, stdout=subprocess.PIPE, stderr=errors)
+        self.stdout = piped(self.process.stdout)
 
     def __enter__(self) -> "Server":
-        if not any(self.word in line for line in self.process.stdout):
-            raise ChildProcessError(f"{self.process.args[0]} does not listen")
+        if not any(self.word in line for line in self.stdout):
+            raise ChildProcessError(f"{self.program} does not listen")
         return self
 
     def __exit__(self, *_: object) -> None:
         self.process.kill()
         self.process.wait()
-        self.process.stdout.close()
+        self.stdout.close()
 
     def processor_seconds(self) -> float:
         return seconds_so_far(self.process.pid)

@@ -65,10 +65,11 @@ def until(what: str, holds: Callable[[], bool], seconds: float = SECONDS) -> flo
 def faults_of_threads() -> list[str]:
     """What threads end by from now on. Each is said on standard error, too."""
     faults: list[str] = []
+    say = threading.excepthook
 
     def note(ended: threading.ExceptHookArgs) -> None:
         faults.append(f"a thread ended by {ended.exc_type.__name__}: {ended.exc_value}")
-        threading.__excepthook__(ended)
+        say(ended)
 
     threading.excepthook = note
     return faults
@@ -97,8 +98,8 @@ class Processes:
     def start(self, name: str, command: Sequence[Word], environment: dict[str, str] | None = None) -> subprocess.Popen[bytes]:
         """Starts a program. What it says goes to the file of its name."""
         with open(said_by(name), "ab") as said:
-            streams = {"stdin": subprocess.DEVNULL, "stdout": said, "stderr": said}
-            program = subprocess.Popen(command, **streams, env={**os.environ, **(environment or {})}, start_new_session=True)
+            within = {**os.environ, **(environment or {})}
+            program = subprocess.Popen(command, stdin=subprocess.DEVNULL, stdout=said, stderr=said, env=within, start_new_session=True)
         self._stay.callback(end, program)
         return program
 

@@ -7,7 +7,7 @@ import resource
 import subprocess
 
 from common.tried import first_fault
-from faults.damage import slow_replies
+from replies.slow import slow_replies
 from harnesses import CASES, Harness
 
 # How much processor time an input may take, and how long is waited for an end.
@@ -19,7 +19,8 @@ CRASHES, HANGS, QUEUE = "crashes", "hangs", "queue"
 
 
 def bounds_of(words: list[str]) -> list[str]:
-    return json.loads(words[words.index("--bounds") + 1]) if "--bounds" in words else []
+    bounds: list[str] = json.loads(words[words.index("--bounds") + 1]) if "--bounds" in words else []
+    return bounds
 
 
 def children_seconds() -> float:

@@ -10,9 +10,9 @@ from common.tried import parser_of
 
 
 def parts(program: str, scripts: str, live: str, soak: str) -> list[Part]:
-    narrow = {"exit-statuses": [program], "live-copies": [program], "memory-limit": [program], "waiting-rounds": [program],
+    narrow: dict[str, list[str]] = {"exit-statuses": [program], "live-copies": [program], "memory-limit": [program], "waiting-rounds": [program],
               "json-lines": [program, "--lines", "100000"], "random-scripts": [scripts, "--scripts", "3000"], "random-words": [program],
-              "rising-keys": [program], "locks": [program], "readme": [program], "words": [], "links": [], "naming": []}
+              "rising-keys": [program], "locks": [program], "readme": [program], "words": [], "links": [], "naming": [], "types": []}
     wide = {"sessions": [program], "out-of-memory": [program, live], "failing-calls": [program], "damaged-input": [program],
             "damaged-streams": [program], "clients": [program],
             "limits": [program], "stay": [program], "skipped": [program], "streams": [program], "control": [program], "ends": [program],

@@ -4,7 +4,7 @@ import concurrent.futures
 import multiprocessing
 import os
 from collections.abc import Callable, Iterable, Iterator
-from typing import TypeVar
+from typing import Any, TypeVar
 
 FORK = multiprocessing.get_context("fork")
 # More than there are processors, as each also waits for the program that it starts.
@@ -16,14 +16,14 @@ Found = TypeVar("Found")
 CALLED: list[Callable[..., object]] = []
 
 
-def call(given: object) -> object:
+def call(given: Any) -> Any:
     return CALLED[0](given)
 
 
 def at_once(function: Callable[[Given], Found], each: Iterable[Given]) -> Iterator[Found]:
     """What a function answers to each, in their order. Where no more are asked for, some were called in vain."""
     waiting: collections.deque[concurrent.futures.Future[Found]] = collections.deque()
-    with concurrent.futures.ProcessPoolExecutor(PROCESSES, FORK, CALLED.append, [function]) as pool:
+    with concurrent.futures.ProcessPoolExecutor(PROCESSES, FORK, CALLED.append, (function,)) as pool:
         for given in each:
             waiting.append(pool.submit(call, given))
             if len(waiting) == 2 * PROCESSES:

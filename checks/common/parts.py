@@ -25,10 +25,10 @@ class Part(NamedTuple):
 
     def run(self) -> "End":
         """Runs it, and shows what it writes: line by line where it is alone, and else at its end."""
-        start, lines = time.monotonic(), []
-        pipes = {"stdin": subprocess.DEVNULL, "stdout": subprocess.PIPE, "stderr": subprocess.STDOUT}
-        with subprocess.Popen(self.command, text=True, errors="replace", **pipes) as process:
-            for line in process.stdout:
+        start, lines = time.monotonic(), list[str]()
+        command, pipe = self.command, subprocess.PIPE
+        with subprocess.Popen(command, text=True, errors="replace", stdin=subprocess.DEVNULL, stdout=pipe, stderr=subprocess.STDOUT) as process:
+            for line in process.stdout or ():
                 lines.append(line)
                 if self.is_alone:
                     print(line, end="", flush=True)

@@ -1,7 +1,7 @@
 """A program that serves sessions, and clients that talk to it: what the checks and benches of sessions share."""
 import contextlib
+import ctypes
 import json
-import multiprocessing
 import os
 import random
 import socket
@@ -9,24 +9,33 @@ import subprocess
 import threading
 import time
 from collections.abc import Callable, Sequence
-from typing import IO
+from multiprocessing import sharedctypes
+from typing import IO, Any, AnyStr, Self
 
 SECONDS = 60
 # Below those that the system gives to clients, from any one on. Processes that were forked share the last one.
 PORTS = range(10_000, 32_768)
-LAST_PORT = multiprocessing.Value("i", random.randrange(len(PORTS)))
+LAST_PORT = sharedctypes.synchronized(sharedctypes.RawValue(ctypes.c_int, random.randrange(len(PORTS))))
 # A program that starts holds what other threads have open until it has begun, and so a port that is tried.
 STARTING = threading.Lock()
 # How many times as long as an idle wait something may take that is not held up: a machine that is busy makes both longer.
 TIMES = 50
 
-Json = dict[str, object]
+# What is sent and answered: each command has other members.
+Json = dict[str, Any]
 
 
 def same(what: str, found: object, wanted: object) -> None:
     """Fails where something is not as it should be."""
     if found != wanted:
         raise AssertionError(f"{what}: {str(found)[:300]}, not {str(wanted)[:300]}")
+
+
+def piped(pipe: IO[AnyStr] | None) -> IO[AnyStr]:
+    """A pipe of a process that was started with it."""
+    if pipe is None:
+        raise ValueError("the process was started without this pipe")
+    return pipe
 
 
 def image(key: str, number: int, text: str, master: str = "w", generation: int = 1) -> Json:
@@ -69,22 +78,22 @@ class Served:
     ) -> None:
         named = [f"{name}={path}" for name, path in streams]
         pipe = subprocess.PIPE
-        pipes = {"stdin": subprocess.DEVNULL, "stdout": pipe, "stderr": pipe}
         with STARTING:
             self.port = port or free_port()
             line = [program, "serve", "--sessions", str(sessions), "--port", str(self.port), *words, *named]
-            self.process = subprocess.Popen(line, **pipes, env=environment, preexec_fn=before)
+            self.process = subprocess.Popen(line, stdin=subprocess.DEVNULL, stdout=pipe, stderr=pipe, env=environment, preexec_fn=before)
+            self.stdout, self.stderr = piped(self.process.stdout), piped(self.process.stderr)
 
     def __enter__(self) -> "Served":
-        self.first = self.process.stdout.readline()
+        self.first = self.stdout.readline()
         return self
 
     def __exit__(self, *_: object) -> None:
         if self.process.poll() is None:
             self.process.kill()
         self.process.wait()
-        self.process.stdout.close()
-        self.process.stderr.close()
+        self.stdout.close()
+        self.stderr.close()
 
     def end(self) -> tuple[int, bytes, bytes]:
         """Its status, and what it wrote after its first line on both outputs."""
@@ -100,7 +109,7 @@ class Client:
         self.socket.setsockopt(socket.IPPROTO_TCP, socket.TCP_NODELAY, 1)
         self.replies = self.socket.makefile("rb")
 
-    def __enter__(self) -> "Client":
+    def __enter__(self) -> Self:
         return self
 
     def __exit__(self, *_: object) -> None:
@@ -115,7 +124,8 @@ class Client:
 
     def ask(self, command: Json) -> Json:
         self.send(json.dumps(command).encode() + b"\n")
-        return json.loads(self.reply())
+        reply: Json = json.loads(self.reply())
+        return reply
 
     def read(self, key: str) -> Json:
         return self.ask({"do": "read", "key": key})

@@ -48,6 +48,7 @@ import sys
 import tempfile
 import threading
 import time
+from collections.abc import Callable
 
 from common.crates import TOP, crates_below
 from common.tried import parser_of
@@ -77,8 +78,9 @@ class Workspace:
     def take(self, name: str) -> None:
         """Copies a crate. (What a check keeps is replaced and never written in place, so that links to it do.)"""
         here, there = f"{self.at}/crates/{name}", f"{TOP}/crates/{name}"
-        how = os.link if os.stat(TOP).st_dev == os.stat(self.at).st_dev else shutil.copy2
-        shutil.copytree(f"{there}/out", f"{here}/out", copy_function=how)
+        is_near = os.stat(TOP).st_dev == os.stat(self.at).st_dev
+        how: dict[bool, Callable[[str, str], object]] = {True: os.link, False: shutil.copy2}
+        shutil.copytree(f"{there}/out", f"{here}/out", copy_function=how[is_near])
         for part in ("src", "specs", "proofs"):
             if os.path.isdir(f"{there}/{part}"):
                 shutil.copytree(f"{there}/{part}", f"{here}/{part}", ignore=shutil.ignore_patterns("tests"))
@@ -127,7 +129,9 @@ class Trial:
             self.own.copy, self.own.crate = Workspace(self.folder, crate, self.seconds), crate
         locations = {location for edit in edits for location in edit.locations}
         is_whole = None in locations or any(not location.module for location in locations if location)
-        return self.own.copy.check({**texts_of(edits), **dropped}, set() if is_whole else {location.module for location in locations})
+        modules = set() if is_whole else {location.module for location in locations if location}
+        said: str = self.own.copy.check({**texts_of(edits), **dropped}, modules)
+        return said
 
     def say(self, edit: Edit, text: str) -> None:
         with self.lock:
@@ -191,8 +195,8 @@ class Trial:
 
     def is_proved(self, control: Edit, said: str) -> bool:
         """Whether a check proved the functions that a right body is in."""
-        is_own = lambda function: any(location is None or is_at(function, location) for location in control.locations)
-        unproved = [f"{function}: {goals}" for function, goals in unproved_in(said) if is_own(function)]
+        unproved = [f"{function}: {goals}" for function, goals in unproved_in(said)
+                    if any(location is None or is_at(function, location) for location in control.locations)]
         has_ended = ENDED.search(said) is not None
         self.say(control, f"NOT PROVED: {unproved[0]}" if unproved else "proved" if has_ended else self.why_no_end(said))
         return has_ended and not unproved

@@ -13,11 +13,13 @@ Of the checks only those are tried whose names have the text.
 
 Exit status 0 where each reply and each end is as it should be.
 """
+import functools
 import os
 import resource
 import subprocess
 from collections.abc import Iterator
 
+from common.served import piped
 from common.tried import Case, Cases, damaged, prefixes, try_cases
 from replies.slow import slow_replies
 from replies.stored import stored
@@ -98,14 +100,15 @@ def closed_fault(program: str, count: int) -> str | None:
     wanted = slow_replies(SCRIPT, [])
     pipe = subprocess.PIPE
     process = subprocess.Popen([program, "replay"], stdin=pipe, stdout=pipe, stderr=pipe)
+    given, written, errors = piped(process.stdin), piped(process.stdout), piped(process.stderr)
     with process:
-        process.stdin.write(b"".join(lines[:count]))
-        process.stdin.flush()
-        read = b"".join(process.stdout.readline() for _ in range(slow_replies(b"".join(lines[:count]), []).count(b"\n")))
-        process.stdout.close()
-        process.stdin.write(b"".join(lines[count:]))
-        process.stdin.close()
-        said = process.stderr.read()
+        given.write(b"".join(lines[:count]))
+        given.flush()
+        read = b"".join(written.readline() for _ in range(slow_replies(b"".join(lines[:count]), []).count(b"\n")))
+        written.close()
+        given.write(b"".join(lines[count:]))
+        given.close()
+        said = errors.read()
     return write_fault(wanted, read, process.returncode, said, False)
 
 
@@ -129,7 +132,7 @@ def cases(program: str, folder: str) -> Iterator[Cases]:
     for name in CUT:
         script = stored(name)
         text = b"".join(line + b"\n" for line in script.lines)
-        yield f"{name} cut", lambda cut, bounds=script.bounds: script_fault(program, cut, bounds), prefixes(text)
+        yield f"{name} cut", functools.partial(script_fault, program, bounds=script.bounds), prefixes(text)
     yield "long lines", fault, lengths()
     sizes = numbers("bytes", len(slow_replies(SCRIPT, [])) + 2)
     yield "files of every size", lambda size: sized_fault(program, folder, int(size)), sizes

@@ -48,7 +48,7 @@ def stream_fault(program: str, folder: str, text: bytes) -> str | None:
                 copy = copied(client, images)
                 client.end()
         except (OSError, TimeoutError) as fault:
-            return f"{fault}; {served.first}, {served.end()}"
+            return f"{fault}; {served.first!r}, {served.end()}"
         end = served.end()
     wanted = (1, b"", b"pnuts: stream east failed\n") if has_fault else (0, b"served 1\n", b"")
     return None if copy == copy_of("east", images) and end == wanted else f"{end}, {copy}"

@@ -12,6 +12,7 @@ Of the checks only those are tried whose names have the text. Each call takes a 
 Exit status 0 where that holds for every k.
 """
 import contextlib
+import functools
 import os
 import subprocess
 from collections.abc import Callable, Iterator
@@ -143,9 +144,8 @@ def cases(program: str, folder: str) -> Iterator[Cases]:
         yield calls("reads", lambda at, size: read_fault(program, library, at, size), len(SCRIPT) // size, size)
         yield calls("writes", lambda at, size: write_fault(program, library, at, size), replies // size, size)
     for size in (1, 20):
-        fault = lambda call: lambda at, size: session_fault(program, library, folder, call, at, size)
-        yield calls("receipts", fault("recv"), len(SESSION) // size, size)
-        yield calls("sends", fault("send"), session // size, size)
+        yield calls("receipts", functools.partial(session_fault, program, library, folder, "recv"), len(SESSION) // size, size)
+        yield calls("sends", functools.partial(session_fault, program, library, folder, "send"), session // size, size)
     for size in (20, 100):
         # Each reply is sent alone.
         sends = sum(-(-min(len(row), len(empty)) // size) for row, empty in zip(REPLIES, EMPTY))

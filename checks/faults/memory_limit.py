@@ -127,7 +127,8 @@ class Asking(threading.Thread):
     def __init__(self, port: int, keys: int) -> None:
         super().__init__()
         self.port, self.keys = port, keys
-        self.rows, self.refused, self.fault = 0, 0, None
+        self.rows, self.refused = 0, 0
+        self.fault: Exception | None = None
 
     def look(self, client: Client, number: int, shown: set[int]) -> None:
         reply = client.ask({"do": "read", "key": key_of(number)})

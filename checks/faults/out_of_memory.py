@@ -17,6 +17,7 @@ connection that keeps input, end well whichever allocation is refused, unless th
 
 Exit status 0 where that holds for each allocation.
 """
+import functools
 import os
 import subprocess
 import tempfile
@@ -68,20 +69,20 @@ def cases(program: str, live: str) -> Iterator[Case]:
     for stored_script in talks():
         script = Script(program, stored_script)
         name = f"{stored_script.name.partition('-with-')[0]} by {stored_script.workers}"
-        yield name, lambda given, it=script: it.fault(given, True), ONE
+        yield name, functools.partial(script.fault, is_repeated=True), ONE
     for workers in WORKERS[1:]:
         script = Script(program, wide_rounds(workers))
-        yield f"wide rounds by {workers}", lambda given, it=script: it.fault(given, True), IN_THREADS
+        yield f"wide rounds by {workers}", functools.partial(script.fault, is_repeated=True), IN_THREADS
     for name in SENT_TWICE:
         yield f"{name}, each command twice", Script(program, stored(name)).fault_of_twice, ONE
     for name in SENT_ONCE:
         script = Script(program, stored(name))
-        yield f"{name}, each command once", lambda given, it=script: it.fault(given, False), ONE
+        yield f"{name}, each command once", functools.partial(script.fault, is_repeated=False), ONE
     for name in SENT_FOR_GOOD:
         script = Script(program, stored(name))
-        yield f"{name}, for good", lambda given, it=script: it.fault(given, False), FOR_GOOD
+        yield f"{name}, for good", functools.partial(script.fault, is_repeated=False), FOR_GOOD
     for name, (line, answer) in ENDS_WELL.items():
-        yield name, lambda given, line=line, answer=answer: case_fault(live, line, answer, given), ONE
+        yield name, functools.partial(case_fault, live, line, answer), ONE
 
 
 def main(words: list[str]) -> int:

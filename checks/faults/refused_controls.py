@@ -77,7 +77,8 @@ class Asking:
                     self.session = Session(self.control)
 
     def told(self, **command: Json | str | int) -> Json:
-        return json.loads(self.ask(json.dumps(command).encode() + b"\n"))
+        reply: Json = json.loads(self.ask(json.dumps(command).encode() + b"\n"))
+        return reply
 
 
 def give(region: Staying, path: str, asking: Asking) -> bool:

@@ -5,6 +5,7 @@ import subprocess
 import threading
 from collections.abc import Iterator
 
+from common.served import piped
 from faults.refused_states import MEMORY, Command, Judge, States
 from replies.stored import Stored
 
@@ -20,17 +21,18 @@ class Talk:
     """A program that is talked to, command by command."""
 
     def __init__(self, command: list[str], given: dict[str, str]) -> None:
-        pipes = {"stdin": subprocess.PIPE, "stdout": subprocess.PIPE, "stderr": subprocess.PIPE}
-        self.process = subprocess.Popen(command, env=given, **pipes)
+        pipe = subprocess.PIPE
+        self.process = subprocess.Popen(command, env=given, stdin=pipe, stdout=pipe, stderr=pipe)
+        self.stdin, self.stdout, self.stderr = piped(self.process.stdin), piped(self.process.stdout), piped(self.process.stderr)
         self.limit = threading.Timer(SECONDS, self.process.kill)
         self.limit.start()
 
     def say(self, *lines: bytes) -> None:
-        self.process.stdin.write(b"".join(line + b"\n" for line in lines))
-        self.process.stdin.flush()
+        self.stdin.write(b"".join(line + b"\n" for line in lines))
+        self.stdin.flush()
 
     def hear(self) -> str:
-        line = self.process.stdout.readline()
+        line = self.stdout.readline()
         if not line:
             raise BrokenPipeError
         return line.decode().rstrip("\n")
@@ -49,13 +51,13 @@ class Talk:
     def end(self) -> tuple[int, str, str]:
         """The status, and what it still wrote on both outputs."""
         try:
-            self.process.stdin.close()
+            self.stdin.close()
         except BrokenPipeError:
             pass
-        rest, said = self.process.stdout.read(), self.process.stderr.read()
+        rest, said = self.stdout.read(), self.stderr.read()
         self.limit.cancel()
-        self.process.stdout.close()
-        self.process.stderr.close()
+        self.stdout.close()
+        self.stderr.close()
         return self.process.wait(), rest.decode(), said.decode()
 
 
@@ -70,7 +72,7 @@ class Script:
 
     def __init__(self, program: str, script: Stored) -> None:
         self.command = [program, "replay", *script.words()]
-        self.steps = [*map(tuple, script.commands()), *CLOSING]
+        self.steps: list[Command] = [*(tuple(lines) for lines in script.commands()), *CLOSING]
         self.states = States(script.bounds)
         self.due: list[list[str]] = []
         state = self.states.start
@@ -96,7 +98,7 @@ class Script:
                 return None
             replies = talk.replies(step)
         is_right = judge.is_right(step, replies) and (replies != [MEMORY] or not is_repeated)
-        return None if is_right else f"{step[0][:200]}: {replies}"
+        return None if is_right else f"{step[0][:200]!r}: {replies}"
 
     def fault(self, given: dict[str, str], is_repeated: bool) -> str | None:
         """What is wrong with a talk. Where one allocation is refused, the refused command comes again."""

@@ -55,7 +55,8 @@ def space_of(process: int) -> int:
 
 def still(asking: Session, client: Client) -> Json:
     """The marks, once they have stood still for so long while both who ask were answered."""
-    marks, since, last = {}, time.monotonic(), time.monotonic() + SECONDS
+    marks: Json = {}
+    since, last = time.monotonic(), time.monotonic() + SECONDS
     while time.monotonic() < since + LONG:
         now = asking.told(do="marks")["marks"]
         same("the first key", client.read(key_of(2))["row"] is None, False)

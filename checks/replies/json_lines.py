@@ -66,7 +66,7 @@ def spans_of_digits(line: bytes) -> list[tuple[int, int]]:
 
 def nested(rng: random.Random, line: bytes) -> bytes:
     """The line within arrays or objects, near the deepest that is read."""
-    depth = rng.choice([1, 2, 100, *range(120, DEEPEST)])
+    depth: int = rng.choice([1, 2, 100, *range(120, DEEPEST)])
     opening, closing = rng.choice([(b"[", b"]"), (b'{"a":', b"}")])
     return opening * depth + line + closing * (depth - rng.choice([0, 0, 0, 1]))
 

@@ -71,8 +71,12 @@ def beyond(member: str) -> Json:
     return {"error": "out-of-range", "member": member}
 
 
-def commands(member: str, line: Callable[[int], Json], most: int, **other: object) -> Limit:
+def commands(member: str, line: Callable[[int], Json], most: int, **other: Json) -> Limit:
     return Limit(beyond(member), line, most, **other)
+
+
+def delivering(of: Callable[[int], Json]) -> Callable[[int], Json]:
+    return lambda n: deliver(of(n))
 
 
 # The limits of an image, each with its member.
@@ -101,7 +105,7 @@ COMMANDS: Mapping[str, Limit] = {
     "a key": commands("key", lambda n: {"do": "read", "key": "k" * n}, 256),
     "a key's bytes": commands("key", lambda n: {"do": "read", "key": "é" * (n // 2) + "k" * (n % 2)}, 256),
     "a version to reach": commands("version", lambda n: {"do": "read", "key": "none", "version": [1, n]}, VERSION),
-    **{name: commands(member, lambda n, of=of: deliver(of(n)), most) for name, (member, of, most) in IMAGES.items()},
+    **{name: commands(member, delivering(of), most) for name, (member, of, most) in IMAGES.items()},
     "the name of a stream": commands("stream", lambda n: deliver(image(), stream="e" * n), 32),
     "a position": commands("first", lambda n: deliver(image(), first=n), VERSION),
     "the name of a stream that a copy has to reach": commands("need", lambda n: {"do": "copy", "need": {"e" * n: 1}, "tablet": 0}, 32),
@@ -121,10 +125,14 @@ def message(at: int, one: Json) -> bytes:
     return text_of({"at": at, "image": one})
 
 
+def giving(at: int, of: Callable[[int], Json]) -> Callable[[int], bytes]:
+    return lambda n: message(at, of(n))
+
+
 def messages(at: int) -> Mapping[str, Limit]:
     """The limits of a message at a position of a stream."""
     return {
-        **{name: Limit(beyond(member), lambda n, of=of: message(at, of(n)), most) for name, (member, of, most) in IMAGES.items()},
+        **{name: Limit(beyond(member), giving(at, of), most) for name, (member, of, most) in IMAGES.items()},
         "a line": Limit(TOO_LONG, lambda n: message(at, image()).ljust(n), LINE, LINE_SIZES),
         "a line that begins with white space": Limit(TOO_LONG, lambda n: message(at, image()).rjust(n), LINE, LINE_SIZES),
     }

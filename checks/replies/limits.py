@@ -18,7 +18,7 @@ from serving.staying import raise_descriptors
 
 def main(words: list[str]) -> int:
     parser = program_parser(__doc__)
-    ways = {**line_ways.WAYS, **line_streams.WAYS}
+    ways: dict[str, line_ways.Way | line_streams.StreamWay] = {**line_ways.WAYS, **line_streams.WAYS}
     parser.add_argument("ways", metavar="WAY", nargs="*", help=f"the ways that have one of these texts in their names: {', '.join(ways)}")
     given, failed = parser.parse_args(words), 0
     raise_descriptors()

@@ -36,7 +36,7 @@ KINDS = {*REFUSED, *(f"bad-shape {word}" for word in SHAPES), *(f"out-of-range {
 
 
 def refusal_kind(reply: Json) -> str:
-    word = reply["error"]
+    word: str = reply["error"]
     if word == "behind":
         return "behind stream" if "stream" in reply else "behind null" if reply["has"] is None else "behind version"
     return f"{word} {reply['member']}" if "member" in reply else word
@@ -86,7 +86,7 @@ def first_difference(talk: Talk, replies: list[bytes]) -> str | None:
     pairs = list(zip(wanted + [b""] * len(replies), replies + [b""] * len(wanted)))
     for number, (want, got) in enumerate(pairs):
         if want != got:
-            return f"{talk.name}: line {number + 1} of the replies\n  want {want[:500]}\n  got  {got[:500]}"
+            return f"{talk.name}: line {number + 1} of the replies\n  want {want[:500]!r}\n  got  {got[:500]!r}"
     return None
 
 

@@ -1,6 +1,7 @@
 """Random talks with regions: one that loses tablets, one that it takes copies from, and one that takes the same images anew."""
 import json
 import random
+from collections.abc import Callable
 
 from replies.random_values import (BATCH, KEYS, MANY_KEYS, NO_BOUNDS, bent, bounds_of, damaged, image, line_of, no_json, other_bounds,
                            query, spelled)
@@ -108,7 +109,8 @@ class Meeting:
 
     def bounds(self) -> list[str]:
         """The bounds of the first region's tablets."""
-        return [tablet.ends[0] for tablet in self.first.region.tablets[1:]]
+        starts = (tablet.ends[0] for tablet in self.first.region.tablets[1:])
+        return [start for start in starts if start is not None]
 
     def follow(self) -> None:
         """The second region gets the tablets of the first."""
@@ -168,27 +170,28 @@ class Meeting:
 
     def walk(self, talk: Talk, asked: Json, most: int = 6) -> list[bytes]:
         """Scans page after page."""
-        lines = []
+        lines = list[bytes]()
         while asked is not None and len(lines) < most:
             lines.append(line_of(self.rng, {"do": "scan", "query": asked}))
             asked = json.loads(talk.say(lines[-1])).get("next")
         return lines
 
     def read(self, talk: Talk) -> str:
-        members = self.rng.choice([{}, {"version": None}, {"version": [1, self.rng.randrange(6)]}])
+        members = self.rng.choice(list[Json]([{}, {"version": None}, {"version": [1, self.rng.randrange(6)]}]))
         return talk.ask(do="read", key=self.rng.choice(self.keys), **members)
 
     def question(self, talk: Talk) -> Json:
         """A command that changes nothing."""
         rng, last = self.rng, len(talk.region.log)
-        return rng.choice([
+        commands: list[Callable[[], Json]] = [
             lambda: {"do": "get", "keys": rng.choices(self.keys, k=rng.randrange(1, 5))},
             lambda: {"do": "notices", "since": max(last + rng.randrange(-7, 3), 0)},
             lambda: {"do": "copy", "need": rng.choice([None, {"east": 2, "west": 9}]), "tablet": self.tablet()},
             lambda: {"do": rng.choice(["marks", "tablets"] if len(self.keys) < 20 else ["marks"])},
             lambda: {"do": "read", "key": rng.choice(self.keys), "version": [1, rng.randrange(6)]},
             lambda: {"do": "scan", "query": self.query()},
-        ])()
+        ]
+        return rng.choice(commands)()
 
     def fault(self, talk: Talk) -> str | None:
         """A line that is refused, or one that only asks."""

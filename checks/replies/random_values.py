@@ -2,6 +2,7 @@
 import json
 import random
 import re
+from collections.abc import Iterable
 
 from replies.slow import text_of
 from replies.slow_lines import Json
@@ -20,12 +21,12 @@ SPELLED = ["#-0", "#10.0", "#1e1", "#1E2", "#-0.0", "#1e-400", "#1e400", "#010",
 UNQUOTED = re.compile(r'"#([-+.0-9eE]+)"')
 MASTERS = ["w", "w", "u", "-", "0"]
 WORDS = ["adopt", "copy", "deliver", "get", "lose", "marks", "notices", "read", "relayout", "scan", "tablets", "fly"]
-ODD = [None, True, False, 0, 1, -1, 1.5, 1000.0, 2**64 - 1, 2**64, 10**15, 10**15 + 1, 10**18, 10**18 + 1, "", "k", "W", "x" * 33,
+ODD: list[Json] = [None, True, False, 0, 1, -1, 1.5, 1000.0, 2**64 - 1, 2**64, 10**15, 10**15 + 1, 10**18, 10**18 + 1, "", "k", "W", "x" * 33,
        "x" * 65, "x" * 256, "x" * 257, [], [1], [1, 2], [1, 0, 0], [0, 1], [10**15, 10**15], {}, {"v": "x"}, {"v": 7},
        "#-0", "#1e1", {"v": "#-0"}, {"v": -7}, {"EAST": 5}, {"east": 0}, [["has", "v"]] * 17, [["eq", "v", 7]], [["prefix", "v", 7]], [["has", ""]], [["is", "v"]], [["eq", "v"]], [["has", "v", "x"]]]
 LARGE = ["x" * 4_097, {f"{number}": "" for number in range(65)}, {"u": "x" * 4_096, "v": "x" * 4_096}]
 NO_BOUNDS = [[""], ["a", ""], ["x" * 257], ["b", "a"], ["a", "a"], ["a", "b", "b"], MANY_KEYS[:64], [*MANY_KEYS[:62], "0"]]
-EDGES = {
+EDGES: dict[Json, list[Json]] = {
     "bounds": [*NO_BOUNDS, [], MANY_KEYS[:63]],
     "batches": [[], [{"first": 1, "images": [], "stream": "s"}] * 65], "fields": LARGE, "first": [0, 10**15, 10**15 + 1],
     "key": ["", "x" * 257], "keys": [[], [""], ["a"] * 101, ["a"] * 100], "lines": [0, 1_000_001], "master": ["", "W", "x" * 33],
@@ -67,12 +68,13 @@ def image(rng: random.Random, keys: list[str], index: int, is_numbered: bool) ->
     return {**body, "key": rng.choice(keys), "master": rng.choice(MASTERS), "version": [generation, number]}
 
 
-def condition(rng: random.Random, is_numbered: bool) -> list[str | int]:
+def condition(rng: random.Random, is_numbered: bool) -> Json:
     word, field = rng.choice(["has", "eq", "lt", "gt", "prefix"]), rng.choice(["u", "v", "v", "w"])
     if word == "has":
         return [word, field]
     if is_numbered and rng.random() < 0.7:
-        return [word, field, rng.choice(TEXTS if word == "prefix" and rng.random() < 0.9 else [*TEXTS, *NUMBERS, *NUMBERS])]
+        mixed: list[str | int] = [*TEXTS, *NUMBERS, *NUMBERS]
+        return [word, field, rng.choice(TEXTS) if word == "prefix" and rng.random() < 0.9 else rng.choice(mixed)]
     return [word, field, rng.choice(["", "x", "xy", "y", "\u00e9"])]
 
 
@@ -86,7 +88,7 @@ def spelled(rng: random.Random) -> Json:
 
 
 def query(rng: random.Random, keys: list[str], is_numbered: bool) -> Json:
-    asked = {}
+    asked: Json = {}
     for name in ("from", "to", "after"):
         if rng.random() < 0.3:
             asked[name] = rng.choice([None, *keys])
@@ -97,10 +99,10 @@ def query(rng: random.Random, keys: list[str], is_numbered: bool) -> Json:
     return asked
 
 
-def parts_of(value: Json) -> list[tuple[Json, str | int]]:
+def parts_of(value: Json) -> list[tuple[Json, Json]]:
     """Each part of a value: what holds it, and by which name or number."""
-    names = list(value) if isinstance(value, dict) else range(len(value)) if isinstance(value, list) else []
-    parts = []
+    names: Iterable[Json] = value if isinstance(value, dict) else range(len(value)) if isinstance(value, list) else []
+    parts: list[tuple[Json, Json]] = []
     for name in names:
         parts += [(value, name), *parts_of(value[name])]
     return parts

@@ -63,18 +63,20 @@ def row_of(key: str, record: Record) -> Json:
     return {"contents": list(map(shown_content, contents)), "key": key, "state": state, "version": version}
 
 
-def is_met(condition: list[str | int], fields: dict[str, Value]) -> bool:
+def is_met(condition: Json, fields: dict[str, Value]) -> bool:
     word, field, *operand = condition
     if field not in fields or word == "has":
         return field in fields
     asked, has = comparable(operand[0]), fields[field]
     if asked[0] != has[0]:
         return False
-    return {"eq": lambda: has == asked, "lt": lambda: has < asked, "gt": lambda: has > asked,
-            "prefix": lambda: has[1].startswith(asked[1])}[word]()
+    if word == "prefix":
+        return str(has[1]).startswith(str(asked[1]))
+    holds: bool = {"eq": has == asked, "lt": has < asked, "gt": has > asked}[word]
+    return holds
 
 
-def is_shown(record: Record, conditions: list[list[str | int]]) -> bool:
+def is_shown(record: Record, conditions: list[Json]) -> bool:
     return any(kind == 1 and all(is_met(condition, dict(fields)) for condition in conditions)
                for kind, fields, _ in record[1])
 
@@ -135,7 +137,7 @@ class Region:
     def copied(self) -> "Region":
         """A region that goes on from here by itself. Both share their lists, which are replaced and never changed."""
         region = copy.copy(self)
-        region.tablets = list(map(copy.copy, self.tablets))
+        region.tablets = [copy.copy(tablet) for tablet in self.tablets]
         return region
 
     def tablet_of(self, key: str) -> int:
@@ -162,7 +164,7 @@ class Region:
             images += batch["images"]
         if len(marks) > MAX_STREAMS:
             raise Refused("too-many-streams")
-        changes = [change for tablet in self.tablets for change in tablet.take(images, marks)]
+        changes: list[Change | None] = [change for tablet in self.tablets for change in tablet.take(images, marks)]
         self.marks = marks
         self.log = self.log + changes
         return {"changed": len(changes)}
@@ -182,7 +184,7 @@ class Region:
         start, end, after = query.get("from"), query.get("to"), query.get("after")
         limit, conditions = query.get("limit", 100), query.get("where", [])
         first = max((self.tablet_of(key) for key in (start, after) if key is not None), default=0)
-        rows = []
+        rows = list[Json]()
         for number in range(first, len(self.tablets)):
             below = self.tablets[number].ends[0]
             if len(rows) > limit or below is not None and end is not None and not below < end:
@@ -234,8 +236,9 @@ class Region:
         new = self.log[since:]
         if since > last or len(new) > MAX_NOTICES or None in new:
             return {"missed": True, "next": last}
+        changes = [change for change in new if change]
         notices = [{"after": after, "before": before, "key": key, "number": number}
-                   for number, (key, before, after) in enumerate(new, since + 1)]
+                   for number, (key, before, after) in enumerate(changes, since + 1)]
         return {"next": last, "notices": notices}
 
     def shown_tablets(self) -> Json:
@@ -251,13 +254,14 @@ class Region:
         if word == "copy":
             lines = self.copy(command["tablet"], command.get("need") or {})
             return "\n".join([text_of({"lines": len(lines)}), *lines])
-        return text_of({
+        answers: dict[str, Callable[[], Json]] = {
             "deliver": lambda: self.deliver(command["batches"]), "get": lambda: self.get(command["keys"]),
             "lose": lambda: self.lose(command["tablet"]), "marks": lambda: {"marks": self.marks},
             "notices": lambda: self.notices(command["since"]), "scan": lambda: self.scan(command["query"]),
             "read": lambda: self.read(command["key"], command.get("version")), "tablets": self.shown_tablets,
             "relayout": lambda: self.relayout(command["bounds"]),
-        }[word]())
+        }
+        return text_of(answers[word]())
 
     def end_text(self) -> str:
         self.announced = 0

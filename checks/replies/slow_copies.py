@@ -73,8 +73,8 @@ def meet(one: Ends, other: Ends) -> bool:
 
 def is_after(image: Json, last: Json) -> bool:
     if image["key"] == last["key"]:
-        return image["version"] == last["version"] and content_of(last) < content_of(image)
-    return last["key"] < image["key"]
+        return bool(image["version"] == last["version"]) and content_of(last) < content_of(image)
+    return bool(last["key"] < image["key"])
 
 
 def value_of(line: bytes, number: int) -> Json:
@@ -107,7 +107,7 @@ def read_copy(text: bytes) -> Json:
     if not lines:
         raise Refused("truncated")
     head = value_of(lines[0], 1)
-    copy = {"ends": range_of(head), "marks": {}, "images": []}
+    copy: Json = {"ends": range_of(head), "marks": {}, "images": []}
     if copy["ends"] is None:
         raise Refused("bad-line", line=1)
     copy["form"] = head["copy"]

@@ -14,7 +14,7 @@ DEEPEST = 127
 NAME = re.compile(r"[a-z0-9-]{1,32}\Z")
 IMAGE_NAMES = {"deleted", "fields", "key", "master", "version"}
 QUERY_NAMES = {"after", "from", "limit", "to", "where"}
-MEMBERS = {
+MEMBERS: dict[str, list[str]] = {
     "adopt": ["lines"], "copy": ["need", "tablet"], "deliver": ["batches"], "get": ["keys"], "lose": ["tablet"],
     "marks": [], "notices": ["since"], "read": ["key", "version"], "relayout": ["bounds"], "scan": ["query"], "tablets": [],
 }
@@ -167,7 +167,7 @@ def is_condition(value: Json) -> bool:
     if not isinstance(value, list) or len(value) not in (2, 3) or not are_texts(value[:2]):
         return False
     if len(value) == 2:
-        return value[0] == "has"
+        return bool(value[0] == "has")
     return value[0] in ("eq", "lt", "gt") and is_value(value[2]) or value[0] == "prefix" and isinstance(value[2], str)
 
 

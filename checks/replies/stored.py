@@ -36,7 +36,7 @@ def announced(line: bytes) -> int:
         command = command_of(line, 1)
     except Refused:
         return 0
-    return command["lines"] if command["do"] == "adopt" else 0
+    return int(command["lines"]) if command["do"] == "adopt" else 0
 
 
 def sections(name: str) -> dict[str, list[bytes]]:

@@ -214,7 +214,7 @@ def main(words: list[str]) -> int:
     parser.add_argument("--seed", type=int, default=1)
     told = parser.parse_args(words)
     program, last = told.program, time.monotonic() + told.seconds
-    met, greatest, replies, messages_taken = Counter(), 0, 0, 0
+    met, greatest, replies, messages_taken = Counter[str](), 0, 0, 0
     with tempfile.TemporaryDirectory() as folder:
         alone = Episode(program, folder, told.seed, 0)
         alone.run()

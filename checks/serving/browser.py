@@ -9,6 +9,7 @@ import shutil
 import signal
 import subprocess
 import time
+from typing import Any
 
 from common.served import SECONDS, Json
 from serving.staying import until
@@ -32,7 +33,7 @@ class Browser:
 
     def __init__(self, folder: str) -> None:
         (self._given, self._asks), (self._replies, self._taken) = os.pipe(), os.pipe()
-        line = [browser(), *WORDS, f"--user-data-dir={folder}/browser", "about:blank"]
+        line = [browser() or BROWSERS[0], *WORDS, f"--user-data-dir={folder}/browser", "about:blank"]
         with open(f"{folder}/browser-said", "wb") as said:
             self.process = subprocess.Popen(line, stdin=subprocess.DEVNULL, stdout=said, stderr=said, start_new_session=True,
                                             pass_fds=(READS, WRITES), preexec_fn=self._put_pipes)
@@ -75,7 +76,8 @@ class Browser:
             self.happened.append(found)
         if "error" in found:
             raise AssertionError(f"{method}: {found['error']}")
-        return found["result"]
+        result: Json = found["result"]
+        return result
 
     def _message(self, last: float) -> Json:
         """The next message of the browser."""
@@ -87,7 +89,8 @@ class Browser:
                 raise AssertionError(f"the browser ended with {self.process.wait()}")
             self._rest += part
         message, _, self._rest = self._rest.partition(b"\0")
-        return json.loads(message)
+        found: Json = json.loads(message)
+        return found
 
     def open(self, url: str) -> None:
         """Goes to an address, also where the page is there already, and waits until all of it is loaded."""
@@ -95,7 +98,7 @@ class Browser:
         self.ask("Page.navigate", url=url)
         until(f"{url} is there", lambda: self.value('!window.isLeft && document.readyState === "complete" && location.href') == url)
 
-    def value(self, script: str) -> object:
+    def value(self, script: str) -> Any:
         """What an expression is in the page."""
         found = self.ask("Runtime.evaluate", expression=script, returnByValue=True, awaitPromise=True)
         if "exceptionDetails" in found:

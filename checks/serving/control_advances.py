@@ -88,7 +88,8 @@ def check_fifos_after_an_advance(program: str, folder: str) -> None:
 
 
 def state_in(session: Session, at: int) -> str:
-    return session.told(do="stats")["streams"][at]["state"]
+    state: str = session.told(do="stats")["streams"][at]["state"]
+    return state
 
 
 def check_states_of_streams(program: str, folder: str) -> None:

@@ -15,7 +15,7 @@ from serving.staying import Beside, until
 SESSIONS, LINES = 16, 400
 # What a thousand sessions may leave, of which some had whole copies adopted.
 LEFT_KB = 8_192
-WORDS = [{"do": "marks"}, {"do": "tablets"}, {"do": "stats"}, {"do": "advance"}, {"do": "read", "key": "k001"}, {"do": "get", "keys": ["k050", "k099"]},
+WORDS: list[Json] = [{"do": "marks"}, {"do": "tablets"}, {"do": "stats"}, {"do": "advance"}, {"do": "read", "key": "k001"}, {"do": "get", "keys": ["k050", "k099"]},
          {"do": "scan", "query": {"limit": 2}}, {"do": "copy", "tablet": 1}]
 MARKS = b'{"do":"marks"}\n'
 
@@ -24,7 +24,7 @@ class Looking:
     """A session that asks without pause, and what it was told, of which nothing may become less."""
 
     def __init__(self, control: str, seed: int) -> None:
-        self.chance, self.control, self.number, self.position, self.faults = random.Random(seed), control, 0, 0, []
+        self.chance, self.control, self.number, self.position, self.faults = random.Random(seed), control, 0, 0, list[str]()
 
     def run(self) -> None:
         try:

@@ -101,7 +101,7 @@ def check_stop(program: str, folder: str) -> None:
 
 def check_stop_beside_lines(program: str, folder: str) -> None:
     """A stop beside 256 connections that go on sending: each reads whole replies to its first lines, over TCP and a Unix socket."""
-    for words in ([], ["--socket", f"{folder}/clients"]):
+    for words in (list[str](), ["--socket", f"{folder}/clients"]):
         with region_in(folder, program, *words) as (region, control, path), Session(control) as session:
             written(path, 1, 1000)
             clients = [Pipelining(words[1] if words else region.port) for _ in range(CLIENTS)]

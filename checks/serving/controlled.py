@@ -53,7 +53,8 @@ class Session:
         return self.reply()
 
     def told(self, **command: Json | str | int) -> Json:
-        return json.loads(self.ask(json.dumps(command).encode() + b"\n"))
+        reply: Json = json.loads(self.ask(json.dumps(command).encode() + b"\n"))
+        return reply
 
     def copy(self, tablet: int, need: Json | None = None) -> bytes:
         """The text of a copy."""

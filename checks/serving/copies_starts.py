@@ -210,7 +210,7 @@ def check_writers(program: str, folder: str) -> None:
                     writer.shutdown(socket.SHUT_WR)
                     said = told.read().decode().replace(f'{{"taken":{at}}}\n', "")
                 same(f"what the writer of {at} is told", said, f'{{"after":{mark}}}\n{wanted}')
-                until("the marks are those wanted", lambda then=then: session.told(do="marks") == {"marks": {"east": then}})
+                until("the marks are those wanted", lambda: session.told(do="marks") == {"marks": {"east": then}})
 
 
 def check_refused_allocations(program: str, folder: str) -> None:

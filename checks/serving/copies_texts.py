@@ -30,7 +30,7 @@ def line_of(piece: bytes, first: int, fault: Json) -> int:
     lines = piece.count(b"\n")
     if fault["error"] == "truncated":
         return first + lines
-    return first + (fault["line"] if "line" in fault else lines) - 1
+    return first + (int(fault["line"]) if "line" in fault else lines) - 1
 
 
 def begin_of(ends: Ends) -> str:

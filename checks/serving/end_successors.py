@@ -6,7 +6,7 @@ import subprocess
 import time
 from collections.abc import Iterator
 
-from common.served import SECONDS, free_port, same
+from common.served import SECONDS, free_port, piped, same
 from serving.control_stops import SCAN
 from serving.controlled import Session
 from serving.end_stops import QUICK, ends, idle_of
@@ -36,9 +36,9 @@ def refused_at(program: str, folder: str) -> None:
                   [f"east=listen:{folder}/feed"]):
         line = [program, "serve", "--stay", "--port", str(free_port()), *words]
         with subprocess.Popen(line, stdin=subprocess.DEVNULL, stdout=subprocess.PIPE, stderr=subprocess.PIPE) as second:
-            first = second.stdout.readline()
+            first = piped(second.stdout).readline()
             second.kill()
-            said = second.stderr.read()
+            said = piped(second.stderr).read()
         same(f"whether a successor with {words} is refused, which says {first!r}, {said!r}", (first, said.endswith(IN_USE)), (b"", True))
 
 

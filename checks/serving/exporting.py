@@ -34,7 +34,7 @@ class Exporter:
 
     def __init__(self, control: str, *words: str) -> None:
         self.address = f"127.0.0.1:{free_port()}"
-        line = [python(), "-m", "pnuts_client.ctl", "--control", control, "exporter", "--listen", self.address, *words]
+        line = [python() or PYTHONS[0], "-m", "pnuts_client.ctl", "--control", control, "exporter", "--listen", self.address, *words]
         environment = {**os.environ, "PYTHONPATH": str(CLIENT), "PYTHONDONTWRITEBYTECODE": "1"}
         self.process = subprocess.Popen(line, env=environment, stdin=subprocess.DEVNULL)
 

@@ -7,10 +7,10 @@ import random
 import socket
 import subprocess
 from collections.abc import Callable, Iterator, Sequence
-from typing import NamedTuple
+from typing import NamedTuple, TypeVar
 
 from common.resting import rests
-from common.served import SECONDS, Served, same, seconds_of
+from common.served import SECONDS, Served, piped, same, seconds_of
 from common.tried import FAULTS as FAULTS_OF_A_CHECK
 from replies.limit_table import COMMANDS, CONTROL, LINE, READ_ONLY, SCRIPT, SESSION, Limit, text_of
 from serving.line_talks import PIECES, Talk, ends_of, shut, talk_all
@@ -25,6 +25,8 @@ FAULTS = 3
 # What a line at its limit is not answered.
 NOT_TAKEN = (b'{"error":"out-of-range"', b'{"error":"too-long"', b'{"error":"bad-shape"', b'{"error":"read-only"')
 
+# What is cut into parts.
+Item = TypeVar("Item")
 # Has a talk talk to a program, until the end of the stack.
 Connect = Callable[[Talk, contextlib.ExitStack], Talk]
 
@@ -77,7 +79,7 @@ def talk_by(connection: socket.socket, talk: Talk, is_cut: bool) -> Talk:
     return talk.begin(connection.fileno(), connection.fileno())
 
 
-def over_socket(family: int, address: object) -> Connect:
+def over_socket(family: int, address: tuple[str, int] | str) -> Connect:
     """Talks over connections to an address."""
 
     def connect(talk: Talk, stay: contextlib.ExitStack) -> Talk:
@@ -98,9 +100,10 @@ def script(program: str, folder: str, count: int) -> Iterator[Server]:
     def connect(talk: Talk, stay: contextlib.ExitStack) -> Talk:
         ran = stay.enter_context(subprocess.Popen([program, "replay"], stdin=subprocess.PIPE, stdout=subprocess.PIPE, bufsize=0))
         stay.callback(ran.kill)
+        given, taken = piped(ran.stdin), piped(ran.stdout)
         if talk.finish:
-            talk.finish = ran.stdin.close
-        return talk.begin(ran.stdin.fileno(), ran.stdout.fileno())
+            talk.finish = given.close
+        return talk.begin(given.fileno(), taken.fileno())
 
     yield Server(None, connect)
 
@@ -113,7 +116,7 @@ def ending(program: str, folder: str, count: int) -> Iterator[Server]:
         same("how it ends", served.end(), (0, b"served %d\n" % count, b""))
 
 
-def staying(at: Callable[[Staying, str], tuple[int, object]], *words: str) -> Callable[[str, str, int], contextlib.AbstractContextManager[Server]]:
+def staying(at: Callable[[Staying, str], tuple[int, tuple[str, int] | str]], *words: str) -> Callable[[str, str, int], contextlib.AbstractContextManager[Server]]:
     """A program that stays, with connections to one of its addresses."""
 
     @contextlib.contextmanager
@@ -198,7 +201,7 @@ def batch_faults(server: Server, batch: Sequence[Case], is_last: bool) -> list[s
     return faults
 
 
-def parts_of(cases: Sequence[Case], size: int) -> list[Sequence[Case]]:
+def parts_of(cases: Sequence[Item], size: int) -> list[Sequence[Item]]:
     return [cases[at : at + size] for at in range(0, len(cases), size)]
 
 

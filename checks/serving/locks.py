@@ -14,7 +14,7 @@ import sys
 import tempfile
 from collections.abc import Iterator
 
-from common.served import SECONDS, free_port, same
+from common.served import SECONDS, free_port, piped, same
 from common.tried import checks_in, checks_parser, try_checks
 
 # A user that is nobody, and how a program is started as it.
@@ -32,8 +32,8 @@ def words_of(kind: str, path: str) -> list[str]:
 def started(program: str, kind: str, path: str, is_user: bool) -> Iterator[subprocess.Popen[str]]:
     """A program with a socket at a path, until the block ends."""
     line = [program, "serve", "--stay", "--port", str(free_port()), *words_of(kind, path)]
-    pipes = {"stdin": subprocess.DEVNULL, "stdout": subprocess.PIPE, "stderr": subprocess.PIPE, "text": True}
-    with subprocess.Popen([*AS_USER, *line] if is_user else line, **pipes) as process:
+    words, pipe = [*AS_USER, *line] if is_user else line, subprocess.PIPE
+    with subprocess.Popen(words, stdin=subprocess.DEVNULL, stdout=pipe, stderr=pipe, text=True) as process:
         try:
             yield process
         finally:
@@ -42,19 +42,19 @@ def started(program: str, kind: str, path: str, is_user: bool) -> Iterator[subpr
 
 def starts(program: str, kind: str, path: str, is_user: bool, what: str) -> None:
     with started(program, kind, path, is_user) as process:
-        first = process.stdout.readline()
+        first = piped(process.stdout).readline()
         if not first.startswith("listening on "):
-            raise AssertionError(f"with {kind}, {what}, it does not start: {process.stderr.read()!r}")
+            raise AssertionError(f"with {kind}, {what}, it does not start: {piped(process.stderr).read()!r}")
         same(f"whether its socket is there with {kind}, {what}", os.path.exists(path), True)
 
 
 def refused(program: str, kind: str, path: str, is_user: bool, what: str) -> str:
     """Why a program does not start, whose message begins as those of its kind do."""
     with started(program, kind, path, is_user) as process:
-        first = process.stdout.readline()
+        first = piped(process.stdout).readline()
         if first:
             raise AssertionError(f"with {kind}, {what}, it starts")
-        said = process.stderr.read()
+        said = piped(process.stderr).read()
         same(f"its status with {kind}, {what}", process.wait(SECONDS), 1)
     same(f"how it begins what it says with {kind}, {what}: {said!r}", said.startswith(KINDS[kind]), True)
     return said.removeprefix(KINDS[kind])
@@ -97,7 +97,7 @@ def check_a_start_after_roots(program: str, folder: str) -> None:
 def is_started(program: str, kind: str, path: str) -> bool:
     """Whether a user's program starts."""
     with started(program, kind, path, True) as process:
-        return process.stdout.readline() != ""
+        return piped(process.stdout).readline() != ""
 
 
 def check_another_users_lock_that_stays(program: str, folder: str) -> None:
@@ -130,7 +130,7 @@ def check_a_lock_whose_holder_was_killed(program: str, folder: str) -> None:
     for kind in KINDS:
         path = os.path.join(folder, f"killed{kind}")
         with started(program, kind, path, False) as first:
-            same("whether the first one listens", first.stdout.readline().startswith("listening on "), True)
+            same("whether the first one listens", piped(first.stdout).readline().startswith("listening on "), True)
             said = refused(program, kind, path, False, "beside one that lives")
             same(f"whether it says that the path is in use: {said!r}", path in said and " in use" in said, True)
             first.send_signal(signal.SIGKILL)

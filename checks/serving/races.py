@@ -15,6 +15,7 @@ import subprocess
 import tempfile
 import threading
 from collections.abc import Iterator
+from typing import IO
 
 from common.crates import TOP
 from common.served import Client, Served, fifo, message, row_of, same
@@ -38,7 +39,8 @@ class Asking(threading.Thread):
     def __init__(self, port: int, over: threading.Event) -> None:
         super().__init__()
         self.port, self.over = port, over
-        self.replies, self.fault = 0, None
+        self.replies = 0
+        self.fault: Exception | None = None
 
     def ask_all(self, client: Client, number: int) -> None:
         row = client.read(key_of(number))["row"]
@@ -62,7 +64,7 @@ class Asking(threading.Thread):
             self.fault = fault
 
 
-def load(pipe: object, messages: int) -> None:
+def load(pipe: IO[bytes], messages: int) -> None:
     """Writes a stream: each key again and again, at a greater version each time."""
     with pipe:
         for at in range(1, messages + 1):

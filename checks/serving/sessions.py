@@ -248,7 +248,8 @@ def replayed(program: str, words: list[str], names: list[str], count: int) -> Js
     lines = [json.dumps({"do": "deliver", "batches": [batch]}) for batch in batches]
     script = "\n".join(lines + ['{"do":"scan","query":{"limit":1000}}']) + "\n"
     ran = subprocess.run([program, "replay", *words], input=script.encode(), capture_output=True, timeout=60)
-    return json.loads(ran.stdout.splitlines()[-1])
+    page: Json = json.loads(ran.stdout.splitlines()[-1])
+    return page
 
 
 def check_four_streams_in_one_region(program: str, folder: str) -> None:

@@ -14,7 +14,7 @@ import sys
 import time
 from collections.abc import Callable
 
-from common.served import SECONDS, Client, Served, message, row_of, same, written
+from common.served import SECONDS, Client, Served, message, piped, row_of, same, written
 from common.tried import checks_in, checks_parser, try_checks
 from serving.controlled import Session, region_in
 from serving.staying import CHUNK, KEYS, PAGE, Staying, key_of, messages, until
@@ -77,7 +77,7 @@ def check_control_sessions(program: str, folder: str) -> None:
 def check_clients(program: str, folder: str) -> None:
     """Clients over TCP and a Unix socket that asked nothing yet, that asked, have half a line, or take no replies; and those that come then."""
     east = [("east", written(folder, "east", messages(1, KEYS)))]
-    for words in ([], ["--socket", f"{folder}/clients"], ["--idle", "30"]):
+    for words in (list[str](), ["--socket", f"{folder}/clients"], ["--idle", "30"]):
         with Staying(program, folder, east, *words) as region, contextlib.ExitStack() as stay:
             def connect() -> socket.socket:
                 if "--socket" in words:
@@ -114,7 +114,7 @@ def check_sessions_that_end(program: str, folder: str) -> None:
     """Sessions without --stay, with and without --idle, that asked nothing yet, that asked, have half a line, or take no replies; and one
     that is not there yet."""
     east = [("east", written(folder, "east", messages(1, KEYS)))]
-    for words in ([], ["--idle", "30"]):
+    for words in (list[str](), ["--idle", "30"]):
         with Served(program, east, 5, words) as served, contextlib.ExitStack() as stay:
             new, asked, half = (stay.enter_context(Client(served.port)) for _ in range(3))
             deaf = stay.enter_context(deaf_client(served.port))
@@ -188,12 +188,12 @@ def check_nobody(program: str, folder: str) -> None:
         same("how it ends", served.end(), (0, b"served 1\n", b""))
     with subprocess.Popen([program, "replay"], stdin=subprocess.PIPE, stdout=subprocess.PIPE, bufsize=0) as script:
         for line in (READ, READ[:9]):
-            script.stdin.write(line)
+            piped(script.stdin).write(line)
             time.sleep(0.1)
             interrupt(script.pid)
-        script.stdin.write(READ[9:])
-        script.stdin.close()
-        same("a script", [script.stdout.read(), script.wait(SECONDS)], [NO_ROW * 2, 0])
+        piped(script.stdin).write(READ[9:])
+        piped(script.stdin).close()
+        same("a script", [piped(script.stdout).read(), script.wait(SECONDS)], [NO_ROW * 2, 0])
 
 
 def check_copies(program: str, folder: str) -> None:
@@ -211,7 +211,7 @@ def check_copies(program: str, folder: str) -> None:
             interrupt(served.pid)
             copies.write(text[40:])
         with open(stream, "wb", buffering=0) as east:
-            same("the first line", served.stdout.readline()[:13], b"listening on ")
+            same("the first line", piped(served.stdout).readline()[:13], b"listening on ")
             east.write(messages(1, 7)[:300])
             time.sleep(0.1)
             interrupt(served.pid)

@@ -15,14 +15,14 @@ import subprocess
 import tempfile
 import threading
 
-from common.served import Client, fifo, in_time, message, row_of, same, seconds_of
+from common.served import Client, Json, fifo, in_time, message, row_of, same, seconds_of
 from common.tried import program_parser
 from serving.staying import Staying, raise_descriptors
 
 RECORDS, SPARE_KB = 20_000, 256
 MEMORY, TOO_LONG = {"error": "memory"}, {"error": "too-long"}
 LINE = b'{"do":"read","key":"k1"}\n'
-ROW = {"row": row_of("k1", 1, "x")}
+ROW: Json = {"row": row_of("k1", 1, "x")}
 # How many bytes of a line a client sends at first: each fifth sends more than a line may have.
 LONG, SHORT = 70_000, 60_000
 

@@ -16,7 +16,7 @@ from collections.abc import Callable, Iterator, Sequence
 from typing import BinaryIO
 
 from common.resting import Rest, descriptors, memory, rest_of, rests, same_rest, sockets
-from common.served import SECONDS, STARTING, Client, Json, free_port, same
+from common.served import SECONDS, STARTING, Client, Json, free_port, piped, same
 
 FORK = multiprocessing.get_context("fork")
 KEYS = 100
@@ -73,7 +73,6 @@ class Staying:
         environment: dict[str, str] | None = None,
         is_looked_at: bool = True,
     ) -> None:
-        pipes = {"stdin": subprocess.DEVNULL, "stdout": subprocess.PIPE, "env": environment}
         self.port, self.folder, self.is_looked_at = free_port(), folder, is_looked_at
         # The sockets at which it listens.
         self.listeners = 1 + ("--control" in words) + sum(path.startswith("listen:") for _, path in streams)
@@ -81,11 +80,14 @@ class Staying:
         where = [] if "--socket" in words else ["--port", str(self.port)]
         line = [program, "serve", "--stay", "--sessions", str(threads), *where, *words]
         with STARTING, open(self.errors, "wb") as file:
-            self.process = subprocess.Popen([*line, *(f"{name}={path}" for name, path in streams)], **pipes, stderr=errors or file)
+            line += [f"{name}={path}" for name, path in streams]
+            nothing, pipe = subprocess.DEVNULL, subprocess.PIPE
+            self.process = subprocess.Popen(line, stdin=nothing, stdout=pipe, stderr=errors or file, env=environment)
+            self.stdout = piped(self.process.stdout)
 
     def __enter__(self) -> "Staying":
-        is_ready = select.select([self.process.stdout], [], [], SECONDS)[0]
-        self.first = self.process.stdout.readline() if is_ready else b""
+        is_ready = select.select([self.stdout], [], [], SECONDS)[0]
+        self.first = self.stdout.readline() if is_ready else b""
         if not self.first.startswith(b"listening on "):
             self.end()
             raise AssertionError(f"it does not listen: {self.first!r}, {self.said()!r}")
@@ -102,7 +104,7 @@ class Staying:
     def end(self) -> None:
         self.process.kill()
         self.process.wait()
-        self.process.stdout.close()
+        self.stdout.close()
 
     def said(self) -> bytes:
         """What it has said on standard error."""
@@ -217,7 +219,7 @@ class Swarm:
     def __init__(self, port: int, count: int, is_one_thread: bool = False, kind: type[Asker] = Asker) -> None:
         shared: dict[str, int] = defaultdict(lambda: -1)
         self.numbers = itertools.count(random.randrange(KEYS))
-        self.poll, self.took = select.epoll(), []
+        self.poll, self.took = select.epoll(), list[float]()
         self.askers: dict[int, Asker] = {}
         for _ in range(count):
             connection = socket.create_connection(("127.0.0.1", port), timeout=SECONDS)
@@ -290,4 +292,5 @@ def replayed(program: str, streams: dict[str, bytes], *words: str) -> list[Json]
             batch = {"first": part[0]["at"], "images": [one["image"] for one in part], "stream": name}
             lines.append(json.dumps({"do": "deliver", "batches": [batch]}).encode() + b"\n")
     ran = subprocess.run([program, "replay", *words], input=b"".join(lines) + PAGE, capture_output=True, timeout=SECONDS)
-    return json.loads(ran.stdout.splitlines()[-1])["rows"]
+    rows: list[Json] = json.loads(ran.stdout.splitlines()[-1])["rows"]
+    return rows

@@ -9,7 +9,7 @@ import time
 from collections.abc import Callable, Iterator
 
 from common.at_once import at_once
-from common.served import SECONDS, free_port, same
+from common.served import SECONDS, free_port, piped, same
 from serving.controlled import Session
 from serving.staying import Staying, messages, until
 from serving.staying_limits import connected, is_answered, none, same_limit
@@ -36,18 +36,18 @@ def limit_fault(program: str, folder: str, most: int) -> str | None:
     os.mkfifo(f"{own}/west")
     line = [program, "serve", "--stay", "--sessions", "3", "--port", str(port := free_port()), "--connections", str(CONNECTIONS),
             "--control", f"{own}/control", f"east=listen:{own}/east", f"west={own}/west", f"north=listen:{own}/north"]
-    pipes = {"stdin": subprocess.DEVNULL, "stdout": subprocess.PIPE, "stderr": subprocess.PIPE}
-    with subprocess.Popen(line, **pipes, preexec_fn=limited(most)) as process, contextlib.ExitStack() as stay:
+    nothing, pipe = subprocess.DEVNULL, subprocess.PIPE
+    with subprocess.Popen(line, stdin=nothing, stdout=pipe, stderr=pipe, preexec_fn=limited(most)) as process, contextlib.ExitStack() as stay:
         stay.callback(process.kill)
-        if not process.stdout.readline():
-            said = process.stderr.read()
+        if not piped(process.stdout).readline():
+            said = piped(process.stderr).read()
             is_right = process.wait(SECONDS) == 1 and REFUSED.fullmatch(said) and most < LIMITS[-1]
             return None if is_right else f"{most} descriptors: status {process.returncode}, {said!r}"
         try:
             all_are_served(stay, port, own)
-            return None
         except (AssertionError, OSError, ValueError) as fault:
             return f"{most} descriptors: {fault!r}"
+    return None
 
 
 def all_are_served(stay: contextlib.ExitStack, port: int, folder: str) -> None:

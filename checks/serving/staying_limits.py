@@ -10,7 +10,7 @@ import threading
 import time
 from collections.abc import Iterator
 
-from common.served import SECONDS, Client, free_port, same, written
+from common.served import SECONDS, Client, free_port, piped, same, written
 from faults.failing import environment, failing_library
 from serving.staying import CHUNK, PAGE, Staying, until
 
@@ -142,7 +142,7 @@ def begun_at(program: str, folder: str, path: str, words: list[str]) -> int:
     line = [program, "serve", "--stay", "--port", str(free_port()), *words, f"east={written(folder, 'east', b'')}"]
     started = [subprocess.Popen(line, stdout=subprocess.PIPE, stderr=subprocess.DEVNULL) for _ in range(AT_ONCE)]
     try:
-        said = [process.stdout.readline() for process in started]
+        said = [piped(process.stdout).readline() for process in started]
     finally:
         for process in started:
             process.kill()

@@ -6,6 +6,7 @@ import socket
 import struct
 import sys
 import time
+from collections.abc import Callable
 
 from common.crates import TOP
 from common.served import SECONDS, Client, in_time, row_of, same, seconds_of, written
@@ -16,7 +17,9 @@ from serving.staying_limits import none
 CLIENTS, SIZES = 1_100, (65_536, 66_000, 81_920, 98_304, 131_071, 150_000)
 RESET = struct.pack("ii", 1, 0)
 # Keys that a client asks for at once: the greatest number of the longest ones, of Cyrillic letters, and of what JSON writes at length.
-COUNT, KEYS_ASKED = 100, {"Cyrillic letters": lambda at: chr(0x430 + at % 32) * 128, "control characters": lambda at: chr(1 + at % 8) * 256}
+COUNT = 100
+KEYS_ASKED: dict[str, Callable[[int], str]] = {"Cyrillic letters": lambda at: chr(0x430 + at % 32) * 128,
+                                              "control characters": lambda at: chr(1 + at % 8) * 256}
 # How long one waits that may never be answered, and what clients may leave.
 PATIENCE, LEAK_KB = 20.0, 4_096
 # For how many seconds a client may be silent, how often others come meanwhile, and how much later than that it is ended at most.
@@ -82,10 +85,11 @@ def check_long_keys_of_the_client(program: str, folder: str) -> None:
                 except PnutsError as fault:
                     raise AssertionError(f"a get of keys of {name}: {fault}") from fault
                 in_time(f"the reply to keys of {name}", time.monotonic() - start, 1.0, idle)
-            same("the next record", client.read("k001").key, "k001")
+            record = client.read("k001")
+            same("the next record", record and record.key, "k001")
 
 
-def come_and_go(is_over: object, port: int) -> None:
+def come_and_go(is_over: Callable[[], bool], port: int) -> None:
     """Clients that come, ask and go, one after another."""
     while not is_over():
         with contextlib.suppress(OSError), socket.create_connection(("127.0.0.1", port), timeout=SECONDS) as client:

@@ -33,7 +33,7 @@ def versions_after(count: int) -> dict[str, int]:
 def page_at(client: Client) -> int:
     """How often all keys were written before a page, whose rows have to be those after some number of messages."""
     rows = client.ask(PAGE)["rows"]
-    shown = [row["version"][1] for row in rows]
+    shown: list[int] = [row["version"][1] for row in rows]
     if not shown:
         return 0
     cut = next((at for at, number in enumerate(shown) if number < shown[0]), len(shown))

@@ -78,7 +78,7 @@ def threads_started(program: str, folder: str, streams: list[tuple[str, str]], w
     watched = Watched(folder)
     words = [*BOUNDS, "--workers", str(workers)]
     last = {"do": "get", "keys": [f"{name}{os.path.getsize(path) and WIDE:05}" for name, path in streams]}
-    serving = Staying(program, folder, streams, *words, environment=watched.environment) if stays else (
+    serving: Staying | Served = Staying(program, folder, streams, *words, environment=watched.environment) if stays else (
         Served(program, streams, words=words, environment=watched.environment))
     with serving as region, Client(region.port) as client:
         wanted = [bool(os.path.getsize(path)) for _, path in streams]

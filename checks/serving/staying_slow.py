@@ -90,15 +90,21 @@ def check_slow_sender(program: str, folder: str) -> None:
     """With --idle, a client that sends a line now and then, for much longer, is answered; one whose line never ends is ended."""
     with Staying(program, folder, rows(folder), "--idle", "1") as region, Client(region.port) as client, Client(region.port) as endless:
         asked = client.socket.makefile("rb")
-        slowly(region.port, lambda: same("a reply", (client.send(READ), asked.readline())[1], NO_ROW))
+
+        def ask() -> None:
+            client.send(READ)
+            same("a reply", asked.readline(), NO_ROW)
+
+        slowly(region.port, ask)
         until("one whose line never ends is ended", lambda: has_ended(endless.socket) or trickle(endless), SECONDS)
 
 
-def trickle(client: Client) -> None:
-    """Sends a byte of a line that never ends, after a pause."""
+def trickle(client: Client) -> bool:
+    """Sends a byte of a line that never ends, after a pause. Its end is not seen by that."""
     time.sleep(PAUSE)
     with contextlib.suppress(ConnectionError):
         client.send(b" ")
+    return False
 
 
 @unless_paused
@@ -154,7 +160,12 @@ def check_silent(program: str, folder: str) -> None:
                 deaf.send(PAGE * 100)
         slow.send(PAGE * 200)
         parts: list[bytes] = []
-        slowly(region.port, lambda: (honest.read("k000"), parts.append(slow.socket.recv(CHUNK * 8))))
+
+        def ask() -> None:
+            honest.read("k000")
+            parts.append(slow.socket.recv(CHUNK * 8))
+
+        slowly(region.port, ask)
         same("what a silent one is sent", silent.reply(), b"")
         same("what one with half a line is sent", half.reply(), b"")
         same("the slow one was sent something", sum(map(len, parts)) > CHUNK, True)

@@ -10,7 +10,7 @@ import subprocess
 import threading
 import time
 
-from common.served import SECONDS, Client, Served, fifo, message, row_of, same, written
+from common.served import SECONDS, Client, Served, fifo, message, piped, row_of, same, written
 from faults.preloaded import Watched
 from serving.staying import KEYS, Staying, key_of, messages, until
 
@@ -70,8 +70,8 @@ def check_addresses(program: str, folder: str) -> None:
                 client.wait_for("k001", row_of("k001", 0, "x"))
                 client.end()
             same("how it ends", served.end(), (0, b"served 1\n", b""))
-    for address, shown in (("192.0.2.1", "192.0.2.1:7070"), ("2001:db8::1", "[2001:db8::1]:7070")):
-        fails_to_listen(program, east, f"{shown}: Cannot assign requested address", "--stay", "--listen", address)
+    for address, named in (("192.0.2.1", "192.0.2.1:7070"), ("2001:db8::1", "[2001:db8::1]:7070")):
+        fails_to_listen(program, east, f"{named}: Cannot assign requested address", "--stay", "--listen", address)
     for address in ("localhost", "127.0.0.1:80", "[::1]", ""):
         line = [program, "serve", "--stay", "--listen", address, f"east={east}"]
         same(f"its status with {address!r}", subprocess.run(line, capture_output=True, timeout=SECONDS).returncode, 2)
@@ -94,7 +94,7 @@ def check_unix_socket(program: str, folder: str) -> None:
                     same("what is answered after another one tried", client.read("k001"), {"row": row_of("k001", 0, "x")})
                 same("it is running", region.is_running(), True)
         none, long = os.path.join(folder, "none", "socket"), os.path.join(folder, "x" * 120)
-        for stays in ([], ["--stay"]):
+        for stays in (list[str](), ["--stay"]):
             fails_to_listen(program, east, f"{plain}: {IN_USE}", *stays, "--socket", plain)
             fails_to_listen(program, east, f"{none}: No such file or directory", *stays, "--socket", none)
         fails_to_listen(program, east, "", "--socket", long)
@@ -165,7 +165,7 @@ def check_mode_before_listening(program: str, folder: str) -> None:
 def serves_and_ends(program: str, east: str, path: str) -> None:
     """Without --stay one session over the socket, and the end."""
     process = subprocess.Popen([program, "serve", "--sessions", "1", "--socket", path, f"east={east}"], stdout=subprocess.PIPE, stderr=subprocess.PIPE)
-    same("the first line", process.stdout.readline()[:13], b"listening on ")
+    same("the first line", piped(process.stdout).readline()[:13], b"listening on ")
     with connected(path) as client:
         client.wait_for("k001", row_of("k001", 0, "x"))
         client.end()

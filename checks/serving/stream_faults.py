@@ -7,18 +7,18 @@ import signal
 import threading
 import time
 
-from common.served import Client, image, message, row_of, same, written
+from common.served import Client, Json, image, message, row_of, same, written
 from serving.staying import KEYS, Staying, key_of, messages, until
 from serving.writers import Writer, failed, made, said_of_faults, socket_in, written_by
 
 LONG, MUCH = 70_000, 5_000_000
 # The faults of a message, and the reason that the writer gets for each.
-Change = dict[str, object]
+Change = Json
 BAD_SHAPES: dict[str, Change] = {"key": {"key": 1}, "master": {"master": 5}, "version": {"version": "x"}, "other": {"more": 1},
                                  "fields": {"fields": []}, "deleted": {"deleted": False}}
 OUT_OF_RANGE: dict[str, Change] = {"key": {"key": ""}, "master": {"master": "W"}, "version": {"version": [0, 0]},
                                    "fields": {"fields": {"": "x"}}}
-Fault = tuple[bytes, dict[str, object], str]
+Fault = tuple[bytes, Json, str]
 
 
 def of(at: object, **changes: object) -> bytes:

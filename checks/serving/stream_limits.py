@@ -155,8 +155,10 @@ def check_streams_at_rest(program: str, folder: str) -> None:
         for path, _ in sockets:
             stay.enter_context(socket.socket(socket.AF_UNIX)).connect(path)
         rests(region, "with writers that wait")
-        for one in [*pipes, *(writer.socket for writer in writers)]:
-            one.close()
+        for pipe in pipes:
+            pipe.close()
+        for writer in writers:
+            writer.socket.close()
         until("it says of all FIFOs that they ended", lambda: region.said().count(b" ended\n") >= len(pipes), SECONDS)
         time.sleep(1)
         rests(region, "whose writers went")

@@ -6,7 +6,7 @@ import socket
 from collections.abc import Iterable
 from dataclasses import dataclass
 
-from common.served import Client, same
+from common.served import Client, Json, same
 from serving.staying import Staying, until
 from serving.stream_faults import faults_at, line_of
 from serving.writers import Writer, failed, said_of_faults, socket_in
@@ -19,11 +19,12 @@ PARTS, LONG = [1, 3, 10, 100, 1_000, 100_000], 5_000
 Records = dict[str, tuple[int, set[str]]]
 
 
-def image_at(at: int) -> dict[str, object]:
+def image_at(at: int) -> Json:
     """The image at a position, which is the same each time."""
     rng = random.Random(at)
-    found: dict[str, object] = {"key": f"k{rng.randrange(KEYS)}", "master": rng.choice("we"), "version": [1, rng.randrange(VERSIONS)]}
-    return found | ({"deleted": True} if rng.random() < 0.1 else {"fields": {"v": rng.choice("xyz") * rng.randint(0, 40)}})
+    found: Json = {"key": f"k{rng.randrange(KEYS)}", "master": rng.choice("we"), "version": [1, rng.randrange(VERSIONS)]}
+    body: Json = {"deleted": True} if rng.random() < 0.1 else {"fields": {"v": rng.choice("xyz") * rng.randint(0, 40)}}
+    return found | body
 
 
 def message_at(at: int) -> bytes:

@@ -70,7 +70,7 @@ def wait_until_loaded(region: Staying) -> None:
     until("all records are there", lambda: b"stream east ended" in region.said(), LOADING)
 
 
-def ask_without_end(is_over: Callable[[], bool], port: int, count: int, line: bytes, ready: socket.socket) -> None:
+def ask_without_end(is_over: Callable[[], bool], port: int, count: int, line: bytes, ready: "socket.socket | Quiet") -> None:
     """Clients that send a line again and again, as fast as it is taken, and take all replies."""
     poll, left = select.epoll(), dict[int, memoryview]()
     batch = line * max(1, CHUNK // len(line))

@@ -23,9 +23,9 @@ SECONDS = 600
 
 def tested(name: str, program: str) -> tuple[int, str]:
     """The status of a client's test, and what it writes. Nothing that it started is left."""
-    pipes = {"stdin": subprocess.DEVNULL, "stdout": subprocess.PIPE, "stderr": subprocess.STDOUT}
-    words = {"env": {**os.environ, "PNUTS": program}, "text": True, "errors": "replace", "start_new_session": True}
-    with subprocess.Popen([TOP / "clients" / name / "test"], **pipes, **words) as test:
+    given = {**os.environ, "PNUTS": program}
+    with subprocess.Popen([TOP / "clients" / name / "test"], stdin=subprocess.DEVNULL, stdout=subprocess.PIPE, stderr=subprocess.STDOUT,
+                          env=given, text=True, errors="replace", start_new_session=True) as test:
         try:
             written, _ = test.communicate(timeout=SECONDS)
             return test.returncode, written

@@ -11,7 +11,7 @@ import threading
 from collections.abc import Iterator
 from typing import IO
 
-from common.served import Client, Served, message, written
+from common.served import Client, Served, message, piped, written
 from common.tried import program_parser
 
 SCAN = b'{"do":"scan","query":{}}\n'
@@ -129,7 +129,7 @@ def end_of_words(program: str, *words: str) -> End:
 def end_of_help(program: str, *words: str) -> End:
     """Where help is asked for: whether the usage is shown."""
     status, shown, said = end_of_words(program, *words)
-    return status, b"\n\nUsage: " in shown, said
+    return status, isinstance(shown, bytes) and b"\n\nUsage: " in shown, said
 
 
 def end_of_unreadable(program: str) -> End:
@@ -148,9 +148,9 @@ def end_of_endless(program: str) -> End:
     running = subprocess.Popen([program, "replay"], stdin=pipe, stdout=pipe, stderr=pipe)
     block = b" " * LAST_LINE
     try:
-        running.stdin.write(SCAN)
+        piped(running.stdin).write(SCAN)
         for _ in range(ENDLESS // len(block)):
-            running.stdin.write(block)
+            piped(running.stdin).write(block)
     except BrokenPipeError:
         pass
     replies, said = running.communicate(timeout=SECONDS)

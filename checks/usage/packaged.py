@@ -163,7 +163,8 @@ def check_control(system: System) -> None:
 
 def status_of(system: System) -> dict[str, Any]:
     """What the service holds and does."""
-    return json.loads(system.run("pnuts-ctl", "--json", "status"))
+    status: dict[str, Any] = json.loads(system.run("pnuts-ctl", "--json", "status"))
+    return status
 
 
 def check_copies(system: System) -> None:
@@ -228,7 +229,7 @@ def check_feed(system: System) -> None:
     # What it has of the stream so far is not the broker's.
     system.run("systemctl", "restart", "pnuts")
     system.run("systemctl", "enable", "--now", FEED)
-    for number, killed in enumerate([[], [FEED], ["pnuts"], [FEED, "pnuts"]], 1):
+    for number, killed in enumerate([list[str](), [FEED], ["pnuts"], [FEED, "pnuts"]], 1):
         for unit in killed:
             check_killed(system, unit)
         system.run("redis-cli", "XADD", "east", "*", "image", json.dumps(image("k", number, "x")))

@@ -70,8 +70,9 @@ def drawn_bounds(rng: random.Random) -> str:
     if kind == "many":
         return json.dumps([f"{number:03}" for number in range(rng.choice([63, 64]))])
     texts = {"none": ["[]"], "no json": NO_JSON, "no array": NO_ARRAYS}
-    keys = rng.choices(KEYS + NO_KEYS if kind == "no keys" else KEYS, k=rng.randrange(4))
-    return rng.choice(texts[kind]) if kind in texts else json.dumps(sorted(keys) if kind == "keys" and rng.random() < 0.6 else keys)
+    pool: list[object] = [*KEYS, *NO_KEYS] if kind == "no keys" else [*KEYS]
+    keys = rng.choices(pool, k=rng.randrange(4))
+    return rng.choice(texts[kind]) if kind in texts else json.dumps(sorted(map(str, keys)) if kind == "keys" and rng.random() < 0.6 else keys)
 
 
 def drawn_stream(rng: random.Random) -> str:
@@ -118,8 +119,9 @@ def fault_of_address(words: Words) -> Refused | None:
         return words.listen, "no address of IPv4 or IPv6, and host names are not looked up"
     if words.stays and words.socket is not None and len(words.socket.encode()) > MOST_OF_SOCKET:
         return words.socket, "a path of more than 107 bytes"
-    is_mode = words.mode is None or MODE.fullmatch(words.mode) and int(words.mode, 8) <= MOST_OF_MODE
-    return None if is_mode else (words.mode, "no octal number up to 777")
+    if words.mode is None or MODE.fullmatch(words.mode) and int(words.mode, 8) <= MOST_OF_MODE:
+        return None
+    return words.mode, "no octal number up to 777"
 
 
 def fault_of_control(words: Words) -> Refused | None:
@@ -150,10 +152,10 @@ def fault_of_stream(stays: bool, word: str) -> str | None:
 def fault_of_streams(words: Words) -> Refused | None:
     if len(words.streams) > MOST_STREAMS:
         return words.streams[MOST_STREAMS], "more than 16"
-    faults = ((word, fault_of_stream(words.stays, word)) for word in words.streams)
+    faults = ((word, fault) for word in words.streams if (fault := fault_of_stream(words.stays, word)))
     names = [word.partition("=")[0] for word in words.streams]
     twice = ((word, "a name twice") for word, name in zip(words.streams, names) if names.count(name) > 1)
-    return next((it for it in faults if it[1]), None) or next(twice, None)
+    return next(faults, None) or next(twice, None)
 
 
 def faults_of(words: Words) -> Iterator[tuple[str, Refused]]:

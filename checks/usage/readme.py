@@ -41,8 +41,9 @@ def written_by(script: str, folder: pathlib.Path) -> str:
     user = [] if os.geteuid() == 0 else ["--user", "--map-root-user"]
     within = ["unshare", *user, "--net", "--pid", "--fork", "--kill-child", "bash", "-c", f"ip link set lo up\n{script}"]
     given = {**os.environ, "PATH": f"{folder / 'bin'}:{os.environ['PATH']}", "PYTHONDONTWRITEBYTECODE": "1"}
-    pipes = {"stdin": subprocess.DEVNULL, "stdout": subprocess.PIPE, "stderr": subprocess.STDOUT}
-    return subprocess.run(within, cwd=folder, env=given, text=True, timeout=SECONDS, check=True, **pipes).stdout
+    ran = subprocess.run(within, cwd=folder, env=given, text=True, timeout=SECONDS, check=True, stdin=subprocess.DEVNULL,
+                         stdout=subprocess.PIPE, stderr=subprocess.STDOUT)
+    return ran.stdout
 
 
 def main(words: list[str]) -> int:

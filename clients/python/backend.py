@@ -41,7 +41,7 @@ def metadata_lines(told: dict[str, Any]) -> Iterator[str]:
 
 
 def metadata(told: dict[str, Any]) -> bytes:
-    return ("\n".join(metadata_lines(told)) + "\n").encode() + (HERE / told["readme"]).read_bytes()
+    return ("\n".join(metadata_lines(told)) + "\n").encode() + Path(HERE, told["readme"]).read_bytes()
 
 
 def scripts(told: dict[str, Any]) -> bytes:

@@ -37,8 +37,8 @@ CLIENT_WORDS = {"PYTHONPATH": str(CLIENT), "PYTHONDONTWRITEBYTECODE": "1"}
 
 
 def run(*command: Word, environment: dict[str, str] | None = None) -> None:
-    pipes = {"stdout": subprocess.DEVNULL, "stderr": subprocess.PIPE}
-    subprocess.run(command, check=True, **pipes, env={**os.environ, **(environment or {})})
+    within = {**os.environ, **(environment or {})}
+    subprocess.run(command, check=True, stdout=subprocess.DEVNULL, stderr=subprocess.PIPE, env=within)
 
 
 def make_network(machines: Sequence[Machine]) -> None:
@@ -66,7 +66,7 @@ def make_certificates(addresses: Sequence[str]) -> None:
     names = ",".join(f"IP:{address}" for address in addresses)
     for who in ("proxy", "client"):
         made, own = CERTIFICATES / f"{who}.pem", CERTIFICATES / f"{who}.key"
-        words = ["-subj", f"/CN={who}", "-addext", f"subjectAltName={names}", "-CA", authority[0], "-CAkey", authority[1]]
+        words = ["-subj", f"/CN={who}", "-addext", f"subjectAltName={names}", "-CA", str(authority[0]), "-CAkey", str(authority[1])]
         run("openssl", "req", "-x509", *key, *words, "-out", made, "-keyout", own)
         made.write_bytes(made.read_bytes() + own.read_bytes())
 
@@ -218,7 +218,7 @@ class Machine:
 
     def start_feed(self, name: str) -> None:
         """The feed of a range's stream. It waits for the region, and begins where that is."""
-        words = ["--socket", "--url", f"amqp://guest:guest@{self.node}:5672/%2F", "--keep", self.path(name, "pairs"), name, self.path(name, "socket")]
+        words = ["--socket", "--url", f"amqp://guest:guest@{self.node}:5672/%2F", "--keep", str(self.path(name, "pairs")), name, str(self.path(name, "socket"))]
         self.start(f"{name}-feed", [FEEDS / "rabbitmq-stream", *words])
 
     def start_region(self, name: str) -> None:

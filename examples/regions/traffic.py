@@ -21,7 +21,7 @@ ATTEMPTS = 3
 # How long something may take at most: this many seconds, or on a machine that is busy, this many times as long as when nothing is killed.
 LONGEST, SLOWER = 3.0, 50
 # Streams in files of some hundreds of messages, as whole files are dropped.
-STREAM = {"x-queue-type": "stream", "x-initial-cluster-size": 3, "x-stream-max-segment-size-bytes": 50_000}
+STREAM: dict[str, object] = {"x-queue-type": "stream", "x-initial-cluster-size": 3, "x-stream-max-segment-size-bytes": 50_000}
 
 
 def range_of(key: str) -> str:
@@ -50,7 +50,7 @@ class Publisher:
         """The streams, each on all nodes, with the first image of each key and a record that says that they are all there."""
         connection = pika.BlockingConnection(pika.URLParameters(self.machines[0].url))
         for name in RANGES:
-            connection.channel().queue_declare(name, durable=True, arguments={**STREAM, "x-max-age": f"{self.kept_for}s"})
+            connection.channel().queue_declare(name, durable=True, arguments=STREAM | {"x-max-age": f"{self.kept_for}s"})
         connection.close()
         first = [(key, 0) for number in range(KEYS) for key in (f"a{number:03}", f"z{number:03}")]
         self.publish(first + [(key, 0) for key in LOADED.values()])
