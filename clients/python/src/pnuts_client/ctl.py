@@ -20,6 +20,7 @@ from .client import Client
 from .control import Control
 from .control_requests import LAST_NUMBER, Notice, Tablet
 from .errors import ConnectionFailed, PnutsError, TimedOut
+from .figures import Beside
 from .pauses import pause
 from .recovery import recover
 from .saving import save
@@ -77,6 +78,10 @@ def parser() -> argparse.ArgumentParser:
     shown = command(export, "exporter", "show the region to people at /, to Prometheus at /metrics, and to load balancers at /healthz (needs python3-prometheus-client)")
     shown.add_argument("--listen", type=_address, default=("127.0.0.1", 9107), metavar="ADDRESS:PORT", help="where (default: 127.0.0.1:9107)")
     shown.add_argument("--silence", type=int, metavar="SECONDS", help="/healthz is 503 also where a stream brought nothing for longer")
+    shown.add_argument("--feeds", type=Path, metavar="FOLDER", help="the folder of the files STREAM.json that feeds write by --figures")
+    shown.add_argument("--lag", type=_seconds, metavar="SECONDS",
+                       help="/healthz is 503 also where a stream lags for longer, or its feed does not tell, as it is for /healthz?lag=SECONDS")
+    shown.add_argument("--copies", type=Path, metavar="FILE", help="the file of copies whose age is shown")
     return words
 
 
@@ -225,12 +230,12 @@ def stop_region(region: Control, words: Words) -> int:
 
 def export(region: Control, words: Words) -> int:
     try:
-        from .exporter import serve
+        from .exporter import Shown, serve
     except ModuleNotFoundError as fault:
         raise PnutsError(f"{fault.name} is not installed: it is in Debian's python3-prometheus-client") from fault
     host, port = words.listen
     with Control(Unix(words.control), timeout=5.0, retries=1) as watched:
-        serve(region, watched, host, port, words.silence)
+        serve(region, watched, host, port, Shown(Beside(words.feeds, words.copies), words.silence, words.lag))
     return 0
 
 

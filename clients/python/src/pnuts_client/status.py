@@ -2,9 +2,10 @@
 
 from __future__ import annotations
 
-from collections.abc import Sequence
+from collections.abc import Iterable, Sequence
 
 from .control_requests import Lines, Marks, Stats, StreamStats, Tablet
+from .figures import Lags
 
 STREAMS = ("STREAM", "STATE", "POSITION", "MESSAGES", "SIZE", "LAST", "PATH")
 TABLETS = ("TABLET", "FROM", "TO", "STATE")
@@ -37,6 +38,22 @@ def faults_of(stats: Stats, tablets: Sequence[Tablet], silence: int | None) -> l
             found.append(f"stream {stream.name} has failed: {stream.reason}")
         elif silence is not None and since > silence:
             found.append(f"stream {stream.name} brought nothing for {since} seconds")
+    return found
+
+
+def lags_of(streams: Iterable[StreamStats], lags: Lags, most: float) -> list[str]:
+    """Which streams lag for longer than this many seconds, or have a feed that does not say it."""
+    found = []
+    for name in (it.name for it in streams):
+        lag = lags.get(name)
+        if lag is None:
+            found.append(f"stream {name} has no feed that tells how far its broker is")
+        elif lag.is_gone:
+            found.append(f"stream {name} has a feed that last told something {lag.age:.0f} seconds ago")
+        elif lag.seconds is None:
+            found.append(f"stream {name} has a feed that does not know how far its broker is")
+        elif lag.seconds > most:
+            found.append(f"stream {name} lags for {lag.seconds:.0f} seconds, by {lag.messages or 0} messages")
     return found
 
 
