@@ -86,7 +86,8 @@ class Pipe:
 
 
 def add_output_words(words: argparse.ArgumentParser) -> None:
-    """The words that say where lines go."""
+    """The words that say where lines go, and which others go there."""
+    words.add_argument("--instead", metavar="FILE", help='lines {"at":P,"image":I}: the image that is given at position P, in place of the message')
     words.add_argument("--socket", action="store_true", help="PATH is a region's socket, and is waited for where it is not there yet")
     words.add_argument(
         "output",

@@ -2,21 +2,24 @@
 
 from __future__ import annotations
 
+import argparse
 import sys
 from collections.abc import Callable, Generator, Sequence
 from contextlib import closing
+from functools import partial
 from typing import Any, Protocol
 
 from .bodies import BadBody, line_of
 from .ids import Ids
-from .output import Output, RegionGone
+from .instead import BadInstead, Instead
+from .output import Output, RegionGone, output_of
 from .pairs import BadPairs
 from .sockets import Refused, RegionAway, Unusable
 
 
 COPIES = "Start the region from copies of another one, which has it."
-# The id of each message at the broker, and its body.
-Batches = Generator[Sequence[tuple[Any, bytes]], None, None]
+# The id of each message at the broker, and its body, or why it has none.
+Batches = Generator[Sequence[tuple[Any, bytes | BadBody]], None, None]
 
 
 class Lost(Exception):
@@ -51,19 +54,19 @@ def tell(name: str, what: str) -> None:
     print(f"{name}: {what}", file=sys.stderr, flush=True)
 
 
-def start(name: str, make: Callable[[], Source], output: Output) -> int:
+def start(name: str, make: Callable[[], Source], words: argparse.Namespace) -> int:
     """Runs the source that is made of the words, or answers status 2 where they name none."""
     try:
-        source = make()
-    except BadWords as fault:
+        source, instead = make(), Instead(words.instead)
+    except (BadInstead, BadWords) as fault:
         tell(name, str(fault))
         return 2
-    return run(name, source, output)
+    return run(name, source, output_of(words, partial(tell, name)), instead)
 
 
-def run(name: str, source: Source, output: Output) -> int:
+def run(name: str, source: Source, output: Output, instead: Instead | None = None) -> int:
     """Gives all messages to the region until it goes for good, and answers the exit status."""
-    feed = _Feed(name, source, output)
+    feed = _Feed(name, source, output, instead or Instead())
     try:
         feed.give()
     except RegionGone:
@@ -87,10 +90,11 @@ def run(name: str, source: Source, output: Output) -> int:
 class _Feed:
     """How far the messages are given."""
 
-    def __init__(self, name: str, source: Source, output: Output) -> None:
+    def __init__(self, name: str, source: Source, output: Output, instead: Instead) -> None:
         self._name = name
         self._source = source
         self._output = output
+        self._instead = instead
         self._ids = Ids()
         self._position = 0
         self._away = False
@@ -140,7 +144,7 @@ class _Feed:
             tell(self._name, "the broker is back")
             self._away = False
 
-    def _hand_on(self, messages: Sequence[tuple[Any, bytes]]) -> None:
+    def _hand_on(self, messages: Sequence[tuple[Any, bytes | BadBody]]) -> None:
         if not messages:
             self._output.check()
             return
@@ -148,11 +152,21 @@ class _Feed:
         self._ids.add(first, [identity for identity, _ in messages])
         lines: list[bytes] = []
         try:
-            for _, body in messages:
-                lines.append(line_of(first + len(lines), body))
-        except BadBody as fault:
-            raise BadBody(f"{fault}; it is {self._source.describe(messages[len(lines)][0])}") from fault
+            for identity, body in messages:
+                lines.append(self._line(first + len(lines), identity, body))
         finally:
             self._output.write(b"".join(lines))
             self._position += len(lines)
         self._ids.forget(self._output.taken)
+
+    def _line(self, position: int, identity: Any, body: bytes | BadBody) -> bytes:
+        """The line of a message, or the one that is given instead."""
+        if line := self._instead.at(position):
+            tell(self._name, f"position {position}, {self._source.describe(identity)}: the image in {self._instead.path} is given instead")
+            return line
+        if isinstance(body, BadBody):
+            raise body
+        try:
+            return line_of(position, body)
+        except BadBody as fault:
+            raise BadBody(f"{fault}; it is {self._source.describe(identity)}") from fault
