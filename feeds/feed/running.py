@@ -10,6 +10,7 @@ from functools import partial
 from typing import Any, Protocol
 
 from .bodies import BadBody, line_of
+from .figures import Figures
 from .ids import Ids
 from .instead import BadInstead, Instead
 from .output import Output, RegionGone, output_of
@@ -48,6 +49,9 @@ class Source(Protocol):
     def describe(self, identity: Any) -> str:
         """What the broker calls the message of this id."""
 
+    def newest(self) -> int | None:
+        """The position of the broker's newest message, as far as it was told with the last batch; None where it was not."""
+
 
 def tell(name: str, what: str) -> None:
     """Writes a line for whoever runs the feed."""
@@ -61,12 +65,15 @@ def start(name: str, make: Callable[[], Source], words: argparse.Namespace) -> i
     except (BadInstead, BadWords) as fault:
         tell(name, str(fault))
         return 2
-    return run(name, source, output_of(words, partial(tell, name)), instead)
+    say = partial(tell, name)
+    figures = Figures(words.figures, say)
+    figures.begin()
+    return run(name, source, output_of(words, say), instead, figures)
 
 
-def run(name: str, source: Source, output: Output, instead: Instead | None = None) -> int:
+def run(name: str, source: Source, output: Output, instead: Instead | None = None, figures: Figures | None = None) -> int:
     """Gives all messages to the region until it goes for good, and answers the exit status."""
-    feed = _Feed(name, source, output, instead or Instead())
+    feed = _Feed(name, source, output, instead or Instead(), figures or Figures(None, partial(tell, name)))
     try:
         feed.give()
     except RegionGone:
@@ -90,11 +97,12 @@ def run(name: str, source: Source, output: Output, instead: Instead | None = Non
 class _Feed:
     """How far the messages are given."""
 
-    def __init__(self, name: str, source: Source, output: Output, instead: Instead) -> None:
+    def __init__(self, name: str, source: Source, output: Output, instead: Instead, figures: Figures) -> None:
         self._name = name
         self._source = source
         self._output = output
         self._instead = instead
+        self._figures = figures
         self._ids = Ids()
         self._position = 0
         self._away = False
@@ -132,12 +140,19 @@ class _Feed:
                 with closing(self._source.batches(self._position)) as batches:
                     for messages in batches:
                         self._see_broker()
+                        self._figures.note(self._source.newest(), self._taken())
                         self._hand_on(messages)
+                        self._figures.note(None, self._taken())
             except Unreachable as fault:
                 if str(fault) and not self._away:
                     tell(self._name, f"waiting for the broker: {fault}")
                     self._away = True
                 self._output.pause(0.2)
+                self._figures.note(None, self._taken())
+
+    def _taken(self) -> int | None:
+        """How far the region is, where it says so."""
+        return self._output.taken if self._output.tells else None
 
     def _see_broker(self) -> None:
         if self._away:
