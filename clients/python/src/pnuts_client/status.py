@@ -29,6 +29,11 @@ def shown_status(stats: Stats, tablets: Sequence[Tablet]) -> str:
     return "\n".join(shown)
 
 
+def shown_tablets(stats: Stats, tablets: Sequence[Tablet]) -> str:
+    """The table of tablets."""
+    return "\n".join(table(_tablets(stats, tablets)))
+
+
 def faults_of(stats: Stats, tablets: Sequence[Tablet], silence: int | None) -> list[str]:
     """What is wrong: tablets that are lost, and streams that have failed or are silent for longer than a given number of seconds."""
     found = [f"tablet {number} is recovering" for number, it in enumerate(tablets) if it.need is not None]
