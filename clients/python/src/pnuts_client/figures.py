@@ -81,7 +81,7 @@ class Beside:
 
 def read_figures(path: Path) -> Figures | None:
     """What a feed wrote, or None where it wrote nothing, or nothing that is understood."""
-    with contextlib.suppress(OSError, ValueError, TypeError, AttributeError):
+    with contextlib.suppress(OSError, ValueError, TypeError, AttributeError, KeyError):
         told = json.loads(path.read_bytes())
         heard, level, newest = (told.get(name) for name in ("heard", "level", "newest"))
         return Figures(float(told["at"]), _seconds(heard), _seconds(level), None if newest is None else int(newest))
