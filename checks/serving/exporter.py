@@ -50,7 +50,9 @@ def check_scrapes(program: str, folder: str) -> None:
         seen.wait_for("pnuts_up", [0.0])
         seen.wait_for_alerts("PnutsDown")
         same("its health", exporter.health()[0], 503)
-        with region_in(folder, program):
+        with region_in(folder, program) as (again, _, _):
+            # The exporter is still there when it ends.
+            again.is_looked_at = False
             seen.wait_for("pnuts_up", [1.0])
             seen.wait_for_alerts("PnutsStreamWithoutWriter")
             same("its health", exporter.health(), (200, "well\n"))
