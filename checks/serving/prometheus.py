@@ -54,5 +54,10 @@ class Prometheus:
         """The alerts that fire, or will once they have held for long enough."""
         return {it["labels"]["alertname"] for it in json.loads(answered(f"{self.url}/api/v1/alerts")[1])["data"]["alerts"]}
 
+    def states(self) -> dict[str, str]:
+        """The alerts that fire (`firing`), or will (`pending`)."""
+        alerts = json.loads(answered(f"{self.url}/api/v1/alerts")[1])["data"]["alerts"]
+        return {it["labels"]["alertname"]: it["state"] for it in sorted(alerts, key=lambda it: str(it["state"]), reverse=True)}
+
     def wait_for_alerts(self, *names: str) -> None:
         until(f"the alerts are {names}", lambda: self.alerts() == set(names))
