@@ -13,12 +13,11 @@ import threading
 from pathlib import Path
 
 sys.dont_write_bytecode = True
-sys.path.insert(0, str(Path(__file__).resolve().parents[1]))
-from operate.units import JOURNAL, UNITS, Services, answer  # noqa: E402
+sys.path[0] = str(Path(__file__).resolve().parents[1])
+from operate.units import JOURNAL, Services, answer  # noqa: E402
 
-PREFIX = "/opt/pnuts"
-# Folders that are empty at first, and the machine's alone.
-OWN = ("/run", "/var/lib", "/opt", "/etc/default", "/etc/systemd/system")
+# Folders that are the machine's alone, with what is installed in them.
+OWN = ("/var/lib", "/opt", "/etc/default", "/etc/systemd/system")
 USER = "pnuts:x:7001:7001::/nonexistent:/usr/sbin/nologin\n"
 PROGRAMS = "/run/bin"
 ASKING = """#!/usr/bin/python3
@@ -38,16 +37,17 @@ def mount(installed: Path) -> None:
     for folder in OWN:
         os.makedirs(folder, exist_ok=True)
         subprocess.run(["mount", "-t", "tmpfs", "-o", "mode=755", "none", folder], check=True)
+        there = Path(f"{installed}{folder}")
+        if there.is_dir():
+            subprocess.run(["cp", "-r", f"{there}/.", folder], check=True)
+    # What is installed is seen no more from here on.
+    subprocess.run(["mount", "-t", "tmpfs", "-o", "mode=755", "none", "/run"], check=True)
     for name, text in users.items():
         path = Path("/run") / name
         path.write_text(text, encoding="utf-8")
         subprocess.run(["mount", "--bind", path, f"/etc/{name}"], check=True)
-    os.makedirs(PREFIX)
-    subprocess.run(["cp", "-r", f"{installed}{PREFIX}/.", PREFIX], check=True)
-    subprocess.run(["cp", "-r", f"{installed}{UNITS}/.", UNITS], check=True)
-    subprocess.run(["cp", "-r", f"{installed}/etc/default/.", "/etc/default"], check=True)
-    os.makedirs(JOURNAL)
-    os.makedirs(PROGRAMS)
+    for made in (JOURNAL, Path(PROGRAMS)):
+        made.mkdir()
     for name in ("systemctl", "journalctl"):
         path = Path(PROGRAMS, name)
         path.write_text(ASKING, encoding="utf-8")

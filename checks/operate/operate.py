@@ -242,6 +242,11 @@ CHECKS: dict[str, Callable[[Site], None]] = {
     "tablets": check_tablets, "database": check_database}
 
 
+def lose_all(machines: dict[str, Machine]) -> None:
+    for it in machines.values():
+        it.lose()
+
+
 @contextlib.contextmanager
 def site(program: str) -> Iterator[Site]:
     """All that is there before something is lost."""
@@ -253,7 +258,7 @@ def site(program: str) -> Iterator[Site]:
         for number in range(FIRST):
             publisher.add(KEYS[number % len(KEYS)])
         machines = {f"10.0.0.{number}": Machine(number) for number in (2, 3)}
-        stack.callback(lambda: [it.lose() for it in machines.values()])
+        stack.callback(lose_all, machines)
         for machine in machines.values():
             configure(machine, "redis-stream", f"--url redis://{HUB}:{PORT}/0 east")
             machine.run("systemctl enable --now pnuts pnuts-feed@east pnuts-exporter pnuts-save.timer")
