@@ -112,13 +112,8 @@ class Service:
             self.status = self.process.wait()
             return self.status
         environment["MAINPID"] = str(self.process.pid)
-        ended = threading.Thread(target=self._watch, args=[unit, self.process], daemon=True)
-        for line in unit.all("ExecStartPost"):
-            if self._run(unit, line, environment):
-                ended.start()
-                return 1
-        ended.start()
-        return 0
+        threading.Thread(target=self._watch, args=[unit, self.process], daemon=True).start()
+        return max((self._run(unit, line, environment) for line in unit.all("ExecStartPost")), default=0)
 
     def stop(self) -> None:
         """Ends it: by its own command, and then by a signal."""
@@ -160,8 +155,7 @@ class Service:
                 return
             self.restarts += 1
             self._forget(unit)
-            if self._start(Unit(self.name)) and not self.is_active():
-                threading.Thread(target=self._watch, args=[unit, process], daemon=True).start()
+            self._start(Unit(self.name))
 
     def _run(self, unit: Unit, line: str, environment: Mapping[str, str]) -> int:
         return self._popen(unit, line.removeprefix("-"), environment).wait()

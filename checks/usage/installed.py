@@ -16,7 +16,7 @@ from usage.packaged import check_serving, differing, trace
 
 PREFIX = "/usr/local"
 ENVIRONMENT = "etc/default/pnuts"
-FEEDS = ("kafka", "postgres-outbox", "rabbitmq-stream", "redis-stream")
+FEEDS = ("check-images", "kafka", "postgres-outbox", "rabbitmq-stream", "redis-stream")
 FILES = {
     "bin/pnuts": 0o755,
     "bin/pnuts-ctl": 0o755,

@@ -20,18 +20,19 @@ Say = Callable[[str], None]
 class Figures:
     """What is known, in memory, and in the file where one is named. Times are seconds since 1970.
 
-    `level` is the last time at which the broker had no more than the region has now: since then the region lags. It is that of
-    the file before, if there is one, so that a feed that is started again and again lags on.
+    `level` is the last time at which the broker had no more than the region has now: since then the region lags. A feed begins
+    with what the file has, so that one that is started again and again lags on.
     """
 
     def __init__(self, path: str | None, say: Say) -> None:
         self._path = None if path is None else Path(path)
         self._say = say
         self._lock = threading.Lock()
-        self._level = _level_in(self._path) or time.time()
-        self._heard: float | None = None
-        self._newest: int | None = None
-        self._taken: int | None = None
+        before = _told_before(self._path)
+        self._level = before.get("level") or time.time()
+        self._heard: float | None = before.get("heard")
+        self._newest: int | None = before.get("newest")
+        self._taken: int | None = before.get("taken")
         # Times at which the broker's newest position was told that the region had not taken yet, with these positions.
         self._ahead: deque[tuple[float, int]] = deque()
         self._failed = False
@@ -39,7 +40,7 @@ class Figures:
     def begin(self) -> None:
         """Writes the file now and each second, until the program ends."""
         if self._path is not None:
-            self._write()
+            self.write()
             threading.Thread(target=self._write_on, daemon=True).start()
 
     def note(self, newest: int | None, taken: int | None) -> None:
@@ -62,17 +63,18 @@ class Figures:
     def _write_on(self) -> None:
         while True:
             time.sleep(EVERY)
-            self._write()
+            self.write()
 
     def _told(self) -> dict[str, Any]:
         with self._lock:
             level = None if self._taken is None else self._level
             return {"at": time.time(), "heard": self._heard, "level": level, "newest": self._newest, "taken": self._taken}
 
-    def _write(self) -> None:
-        """The file is the one before or the new one. That it cannot be written is said once, and ends nothing."""
-        assert self._path is not None
-        written = self._path.with_name(f".{self._path.name}.{os.getpid()}")
+    def write(self) -> None:
+        """Writes the file, which is the one before or the new one. That it cannot be written is said once, and ends nothing."""
+        if self._path is None:
+            return
+        written = self._path.with_name(f".{self._path.name}.{os.getpid()}.{threading.get_ident()}")
         try:
             written.write_text(json.dumps(self._told()) + "\n", encoding="utf-8")
             written.rename(self._path)
@@ -85,10 +87,11 @@ class Figures:
             self._failed = True
 
 
-def _level_in(path: Path | None) -> float | None:
-    """Since when the region lagged, as the file of a feed before says. A time to come is none."""
-    with contextlib.suppress(OSError, ValueError, TypeError, AttributeError):
+def _told_before(path: Path | None) -> dict[str, Any]:
+    """What the file has of a feed before. Of times to come, and what is no number, it has nothing."""
+    with contextlib.suppress(OSError, ValueError, AttributeError):
         if path is not None:
-            level = float(json.loads(path.read_bytes()).get("level"))
-            return level if level <= time.time() else None
-    return None
+            told, now = json.loads(path.read_bytes()), time.time()
+            times = {name: told.get(name) for name in ("heard", "level") if isinstance(told.get(name), (int, float)) and 0 < told[name] <= now}
+            return {**times, **{name: told.get(name) for name in ("newest", "taken") if type(told.get(name)) is int}}
+    return {}

@@ -11,7 +11,8 @@ from typing import Any, Protocol
 
 from .bodies import BadBody, line_of
 from .figures import Figures
-from .ids import Ids
+from .ids import Given, Ids
+from .images import why_refused
 from .instead import BadInstead, Instead
 from .output import Output, RegionGone, output_of
 from .pairs import BadPairs
@@ -91,6 +92,8 @@ def run(name: str, source: Source, output: Output, instead: Instead | None = Non
         return 2
     except KeyboardInterrupt:
         pass
+    finally:
+        feed.write_figures()
     return 1
 
 
@@ -104,6 +107,7 @@ class _Feed:
         self._instead = instead
         self._figures = figures
         self._ids = Ids()
+        self._given = Given()
         self._position = 0
         self._away = False
 
@@ -116,6 +120,7 @@ class _Feed:
             except RegionAway as fault:
                 tell(self._name, f"the region went: {fault}")
             self._ids.begin()
+            self._given.begin()
             self._position = self._output.begin()
             tell(self._name, f"the region is back, and has {self._position} messages")
 
@@ -128,11 +133,17 @@ class _Feed:
         except Unusable as fault:
             tell(self._name, str(fault))
 
+    def write_figures(self) -> None:
+        """Writes how far all is in the end."""
+        self._figures.note(None, self._taken())
+        self._figures.write()
+
     def tell_refusal(self, fault: Refused) -> None:
-        """Tells which message the region refused, and why."""
-        found = self._ids.at(fault.position)
+        """Tells which message the region refused, and why, with the field where one is at fault."""
+        found, line = self._ids.at(fault.position), self._given.at(fault.position)
         which = "" if found is None else f" position {fault.position}, {self._source.describe(found)}"
-        tell(self._name, f"the region refuses{which}: {fault.reason}")
+        why = "" if line is None else why_refused(line)
+        tell(self._name, f"the region refuses{which}: {fault.reason}{why and f': {why}'}")
 
     def _give_all(self) -> None:
         while True:
@@ -170,6 +181,7 @@ class _Feed:
             for identity, body in messages:
                 lines.append(self._line(first + len(lines), identity, body))
         finally:
+            self._given.add(first, lines)
             self._output.write(b"".join(lines))
             self._position += len(lines)
         self._ids.forget(self._output.taken)

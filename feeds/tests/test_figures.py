@@ -73,8 +73,9 @@ class Lag(unittest.TestCase):
         for start in (1_010, 1_020, 1_030):
             self.now = start
             anew = self.figures()
-            anew.note(9 + start, 5)
-            self.assertEqual(self.told(anew)["level"], 1_000)
+            self.assertEqual(self.told(anew), {"at": start, "heard": 1_005, "level": 1_000, "newest": 9, "taken": 5})
+        anew.note(9 + start, 5)
+        self.assertEqual(self.told(anew), {"at": start, "heard": start, "level": 1_000, "newest": 9 + start, "taken": 5})
 
     def test_a_region_that_says_nothing(self) -> None:
         figures = self.figures()
@@ -82,11 +83,11 @@ class Lag(unittest.TestCase):
         self.assertEqual(self.told(figures), {"at": 1_000, "heard": 1_000, "level": None, "newest": 9, "taken": None})
 
     def test_no_file_of_figures(self) -> None:
-        for text in ("", "{", "[]", "3", '{"level":"x"}', '{"level":[]}', '{"level":9e9}', '{"level":null}'):
+        for text in ("", "{", "[]", "3", "\xff", '{"level":"x"}', '{"level":[]}', '{"level":9e9}', '{"level":null,"newest":"x","taken":1.5}', '{"level":-1}'):
             self.path.write_text(text, encoding="utf-8")
             figures = self.figures()
             figures.note(9, 5)
-            self.assertEqual(self.told(figures)["level"], 1_000, text)
+            self.assertEqual(self.told(figures), {"at": 1_000, "heard": 1_000, "level": 1_000, "newest": 9, "taken": 5}, text)
 
     def test_a_region_that_lags_for_long_takes_no_memory(self) -> None:
         figures = self.figures()
@@ -102,6 +103,7 @@ class Lag(unittest.TestCase):
         for _ in range(2):
             with patch("feed.figures.threading.Thread.start"):
                 figures.begin()
+        figures.write()
         self.assertEqual(self.said, ["cannot write /proc/none/east.json: No such file or directory"])
 
 
@@ -118,5 +120,6 @@ class Written(unittest.TestCase):
             before = json.loads(path.read_bytes())["at"]
             wait_until(lambda: bool(json.loads(path.read_bytes())["at"] > before))
             told = json.loads(path.read_bytes())
-            self.assertEqual((told["newest"], told["taken"]), (9, 3))
+            self.assertEqual(told["newest"], 9)
+            self.assertIn(told["taken"], range(3, 10))
             self.assertLess(time.time() - told["heard"], 30)
