@@ -141,9 +141,10 @@ def check_poison(site: Site) -> None:
             same("what the feed says", f'refuses position {POISON}, entry' in machine.journal("pnuts-feed@east"), True)
             same("how far the region is", site.position(machine), POISON - 1)
         start = time.monotonic()
-        said = site.do(runbook("A message that no region takes"))
-        same("how often feeds say it", said.count(f"position {POISON}, entry"), 2)
+        site.do(runbook("A message that no region takes"))
         until("the regions have all again", site.is_level)
+        given = [it.journal("pnuts-feed@east").count("pnuts-east.instead is given instead") for it in site.machines.values()]
+        same("how often feeds say that an image is given instead", given, [1, 1])
         words.append(f"by the runbook they had all after {time.monotonic() - start:.1f} s")
         until("no alert is left", lambda: not site.seen.states())
 
