@@ -11,6 +11,7 @@ from serving.controlled import region_in, written
 from serving.exporting import Exporter, answered
 from serving.prometheus import FOLDER, RULES, Prometheus
 from serving.staying import until
+from serving.writers import Writer
 
 ALERT = re.compile(r"- alert: (\w+)")
 # What a dashboard leaves open, and what Grafana puts there.
@@ -74,6 +75,17 @@ def check_lag(program: str, folder: str) -> None:
         until("its page shows it", lambda: "gone" in answered(f"http://{exporter.address}/")[1])
     with region_in(folder, program) as (_, control, path), Exporter(control, *words, "--lag", "1000") as exporter:
         same("its health, by its words", exporter.health()[0], 503)
+
+
+def check_health_of_a_stream_that_failed(program: str, folder: str) -> None:
+    """A region whose stream has failed is asked on, as the message fails in all others too: `/healthz` says it, and is 200."""
+    with region_in(folder, program) as (_, control, path), Exporter(control) as exporter:
+        written(path, 1, 250)
+        with Writer(path) as writer:
+            writer.begin()
+            writer.send(b"x\n")
+            writer.last_lines()
+        until("its health says it", lambda: exporter.health() == (200, "stream east has failed: not-json\n"))
 
 
 def queries() -> Iterator[str]:

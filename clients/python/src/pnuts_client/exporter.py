@@ -25,7 +25,7 @@ from .errors import PnutsError
 from .figures import Beside, Lags
 from .history import History
 from .page import policy, shown_page
-from .status import faults_of, lags_of
+from .status import failures_of, lags_of, losses_of, silences_of
 
 PATIENCE = 10.0
 """For how many seconds a client is waited for that sends or takes nothing."""
@@ -150,14 +150,19 @@ def of_contents(stats: Stats) -> Iterable[Metric]:
     return records, deleted
 
 
-def faults(region: Control, shown: Shown, lag: float | None) -> list[str]:
-    """What is wrong with a region, of which one fault is that it does not answer."""
+def faults(region: Control, shown: Shown, lag: float | None) -> tuple[list[str], list[str]]:
+    """For what a region should not be asked, of which one fault is that it does not answer, and what else is wrong.
+
+    A stream that has failed is of the latter: a message that one region refuses, all refuse, and they serve what they have.
+    """
     try:
         stats, tablets = region.stats(), region.tablets()
     except PnutsError as fault:
-        return [str(fault)]
-    found = faults_of(stats, tablets, shown.silence)
-    return found if lag is None else [*found, *lags_of(stats.streams, shown.beside.lags(stats.streams), lag)]
+        return [str(fault)], []
+    found = [*losses_of(tablets), *silences_of(stats, shown.silence)]
+    if lag is not None:
+        found += lags_of(stats.streams, shown.beside.lags(stats.streams), lag)
+    return found, failures_of(stats)
 
 
 def lag_in(query: str, usual: float | None) -> float | None:
@@ -185,9 +190,9 @@ def app_of(region: Control, history: History, shown: Shown) -> App:
         except ValueError:
             start("400 Bad Request", [TEXT])
             return [b"of words there is lag=SECONDS\n"]
-        found = faults(region, shown, lag)
+        found, others = faults(region, shown, lag)
         start("503 Service Unavailable" if found else "200 OK", [TEXT])
-        return ["".join(f"{it}\n" for it in found or ["well"]).encode()]
+        return ["".join(f"{it}\n" for it in [*found, *others] or ["well"]).encode()]
 
     def app(environ: dict[str, Any], start: Callable[..., Any]) -> Iterable[bytes]:
         path = environ["PATH_INFO"] or "/"

@@ -40,7 +40,7 @@ def policy() -> str:
 
 
 def shown_page(view: View, silence: int | None = None, lag: float | None = None) -> bytes:
-    """The page of a view. What is wrong is as `/healthz` says it; streams whose feeds tell figures may lag for a time only."""
+    """The page of a view, with all that is wrong; streams whose feeds tell figures may lag for a time only."""
     wrong = [view.fault] if view.fault is not None else []
     if view.last is not None and not wrong:
         wrong = faults_of(view.last.stats, view.last.tablets, silence)

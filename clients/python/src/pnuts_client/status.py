@@ -36,12 +36,25 @@ def shown_tablets(stats: Stats, tablets: Sequence[Tablet]) -> str:
 
 def faults_of(stats: Stats, tablets: Sequence[Tablet], silence: int | None) -> list[str]:
     """What is wrong: tablets that are lost, and streams that have failed or are silent for longer than a given number of seconds."""
-    found = [f"tablet {number} is recovering" for number, it in enumerate(tablets) if it.need is not None]
+    return [*losses_of(tablets), *failures_of(stats), *silences_of(stats, silence)]
+
+
+def losses_of(tablets: Iterable[Tablet]) -> list[str]:
+    """Which tablets are lost: the region does not serve their keys."""
+    return [f"tablet {number} is recovering" for number, it in enumerate(tablets) if it.need is not None]
+
+
+def failures_of(stats: Stats) -> list[str]:
+    """Which streams have failed: the region serves what it has."""
+    return [f"stream {it.name} has failed: {it.reason}" for it in stats.streams if it.state == "failed"]
+
+
+def silences_of(stats: Stats, silence: int | None) -> list[str]:
+    """Which streams that have not failed brought nothing for longer than a number of seconds, where one is given."""
+    found = []
     for stream in stats.streams:
         since = stats.uptime if stream.since is None else stream.since
-        if stream.state == "failed":
-            found.append(f"stream {stream.name} has failed: {stream.reason}")
-        elif silence is not None and since > silence:
+        if silence is not None and since > silence and stream.state != "failed":
             found.append(f"stream {stream.name} brought nothing for {since} seconds")
     return found
 
