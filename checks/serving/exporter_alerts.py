@@ -26,7 +26,7 @@ def check_rules(program: str, folder: str) -> None:
     names = ALERT.findall(rules)
     same("the alerts that are tested", re.findall(r"^ {6}- alertname: (\w+)", tests, re.MULTILINE), names)
     same("what promtool says", promtool(folder, rules, tests), (0, 1))
-    wrong = {" == 0": " == 5", "> 30": "> 30000", "for: 1m": "for: 9m", "for: 5m": "for: 0m", "> 0.65": "> 0.4", "> 3600": "> 60", " unless": " and", "> 2": "> 1"}
+    wrong = {" == 0": " == 5", "> 30": "> 30000", "for: 1m": "for: 9m", "for: 5m": "for: 0m", "> 0.65": "> 0.4", "> 3600": "> 60", " unless": " and", " unless on (instance, stream) pnuts_feed_age": " or on (instance, stream) pnuts_feed_age", "> 2": "> 1"}
     for right, other in wrong.items():
         same(f"whether {right} is in the rules", right in rules, True)
         same(f"what promtool says where {other} is in its place", promtool(folder, rules.replace(right, other), tests)[0], 1)
