@@ -141,9 +141,10 @@ checks-clients: build
 checks-feeds:
 	@PNUTS="$(realpath $(PROGRAM))" feeds/test
 
-# Tests the feeds, gives 200,000 images through each, and runs both examples with real brokers, a database and proxies. Debian's
+# Tests the feeds, gives 200,000 images through each, and runs both examples and the runbooks, with real brokers, a database and proxies. Debian's
 # packages: redis-server python3-redis python3-hiredis rabbitmq-server python3-pika python3-confluent-kafka postgresql
-# python3-psycopg2 haproxy openssl iproute2 util-linux. What misses one of them says so, and is skipped.
+# python3-psycopg2 haproxy openssl prometheus python3-prometheus-client socat curl iproute2 util-linux. What misses one of them says so, and
+# is skipped.
 checks-brokers: build
 	@checks/run brokers "$(PROGRAM)"
 
