@@ -23,7 +23,6 @@ NETWORK, HUB = "10.0.0", "10.0.0.1"
 PREFIX = Path("/opt/pnuts")
 PATH = f"/run/bin:{PREFIX}/bin:/usr/sbin:/usr/bin:/sbin:/bin"
 PATIENCE = 180.0
-BOUNDS = '["k100","k200","k300"]'
 # Where a program for the shell finds the database.
 DATABASE = {"PGHOST": HUB, "PGUSER": "pn", "PGDATABASE": "postgres"}
 Word = str | os.PathLike[str]
@@ -171,9 +170,8 @@ class Machine:
 
 def configure(machine: Machine, feed: str, words: str, stream: str = "east") -> None:
     """What configuration gives a machine of a region: the files of /etc/default."""
-    bounds = BOUNDS.replace('"', '\\"')
     machine.write("/etc/default/pnuts", f'PNUTS_STREAMS="{stream}=listen:/run/pnuts/{stream}"\n'
-                  f'PNUTS_WORDS="--sessions 2 --listen {machine.address} --port 7070"\nPNUTS_LAYOUT="--bounds \'{bounds}\'"\nPNUTS_WITHOUT_COPIES=no\n')
+                  f'PNUTS_WORDS="--sessions 2 --listen {machine.address} --port 7070"\nPNUTS_LAYOUT=""\nPNUTS_WITHOUT_COPIES=no\n')
     machine.write(f"/etc/default/pnuts-feed-{stream}", f'FEED={feed}\nFEED_WORDS="{words}"\n')
     machine.write("/etc/default/pnuts-tools", f'EXPORTER_WORDS="--listen {machine.address}:9107"\n')
 

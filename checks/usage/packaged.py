@@ -194,6 +194,22 @@ def check_copies(system: System) -> None:
     system.run("systemctl", "restart", "pnuts")
 
 
+def check_tools(system: System) -> None:
+    """Copies that root or the timer's service saves are the service's own, and it starts from them; the exporter finds the region well."""
+    for line in (["pnuts-ctl", "save", COPIES], ["systemctl", "start", "pnuts-save"], ["pnuts-ctl", "save", COPIES]):
+        system.run(*line)
+        same("the copies' owner and mode", system.run("stat", "--format=%U:%G %a", COPIES).strip(), "pnuts:pnuts 640")
+    system.run("systemctl", "restart", "pnuts")
+    check_record(system, 0, "x")
+    system.run("systemctl", "enable", "--now", "pnuts-save.timer", "pnuts-exporter")
+    health = "import urllib.request; print(urllib.request.urlopen('http://127.0.0.1:9107/healthz').read().decode(), end='')"
+    system.wait_for("well", "python3", "-c", health)
+    same("the exporter's user", shown(system, "User", unit="pnuts-exporter"), ["pnuts"])
+    system.run("systemctl", "disable", "--now", "pnuts-save.timer", "pnuts-exporter")
+    (system.root / COPIES[1:]).unlink()
+    system.run("systemctl", "restart", "pnuts")
+
+
 def wait_for_words(system: System, words: str) -> None:
     """Waits until the journal of the service has these words."""
     last = time.monotonic() + SECONDS
@@ -274,6 +290,9 @@ def check_packages(system: System, packages: Sequence[Path]) -> Iterator[str]:
     check_serving(system)
     check_copies(system)
     yield "started from copies: it has what they have; of a text that is cut short it starts only where it is told to, without"
+    check_serving(system)
+    check_tools(system)
+    yield "copies that root or the timer's service saves are the service's own, and the exporter finds the region well"
     check_serving(system)
     yield f"did the {check_operation(system)} lines that pnuts(8) shows as examples"
     check_feed(system)
