@@ -42,7 +42,7 @@ def rows() -> list[Part]:
 
 def after() -> list[Part]:
     """What a program answers, and then how it serves."""
-    scripts = Part("random-scripts", [str(RUN), "random-scripts", PROGRAM, "--scripts", "1002", "--replay"], False)
+    scripts = Part("random-scripts", [str(RUN), "random-scripts", PROGRAM, "--scripts", "402", "--replay"], False)
     limits = Part("limits", [str(RUN), "limits", PROGRAM])
     return [*rows(), scripts, *(Part(name, [str(RUN), name, PROGRAM, *names.split()], False) for name, names in SERVING.items()), limits]
 
