@@ -43,8 +43,8 @@ STAGE ?= notices
 SOAK ?= 60
 SECONDS ?= 240
 
-.PHONY: run quick check test edits build licences install uninstall deb bench bench-beside checks checks-clients checks-feeds \
-	checks-brokers checks-install pictures races fuzz definitions rows toolchain
+.PHONY: run quick check test edits build licences install uninstall deb image bench bench-beside checks checks-clients \
+	checks-feeds checks-brokers checks-install pictures races fuzz definitions rows toolchain
 
 # Shows the program at work: the replies to the script on standard output. It proves nothing. A program that is current answers
 # at once; otherwise one is built as by `make quick`.
@@ -104,6 +104,10 @@ uninstall:
 deb: $(PROVED) licences
 	@packaging/deb "$(PNUTS)" "$(DEBS)"
 
+# Makes an image for containers of these packages, and of Debian's that they need. It needs root, and the network.
+image: deb
+	@packaging/image "$(DEBS)" "$(DEBS)/pnuts.oci"
+
 # Measures the built program, and prints tables.
 bench: build
 	@cd crates/pn_bench && rt run -- $$(< args) < stdin > /dev/null
@@ -152,9 +156,11 @@ pictures:
 	@cd docs/pictures; for it in *.dot; do dot -Tsvg -o "$${it%.dot}.svg" "$$it"; done
 	@cd docs/pictures; for it in *.gnuplot; do gnuplot "$$it" > "$${it%.gnuplot}.svg"; done
 
-# Installs and removes the program, and its Debian package in a system that is made for it. It needs root and the network.
+# Installs and removes the program, and its Debian package in a system that is made for it; makes an image, and runs and stops
+# containers of it. It needs root and the network.
 checks-install: $(PROVED)
 	@checks/run install "$(PNUTS)"
+	@checks/run image "$(PNUTS)"
 
 # Prints the definitions that contracts cite, each with its comment: of all crates, or of one.
 definitions:
