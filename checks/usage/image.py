@@ -36,7 +36,7 @@ from usage.one_session import connected
 TOOLS = {"dh": "debhelper", "mmdebstrap": "mmdebstrap", "umoci": "umoci", "unshare": "util-linux", "setpriv": "util-linux"}
 WORDS = {"PNUTS_WORDS": "--sessions 2 --socket /run/pnuts/socket"}
 # How many lines a client has in flight when a container is stopped, and how many clients there are.
-LINES, CLIENTS = 3_000, 8
+LINES, CLIENTS = 300, 8
 # For how many seconds a stop answers, and how many more the container has.
 SECONDS, MORE = 3, 4
 # What a process of a container may do, and who it is.
@@ -157,7 +157,7 @@ def check_stop(image: Image, folder: Path) -> str:
         give(it, 500)
         clients = [it.client() for _ in range(CLIENTS)]
         for at, client in enumerate(clients):
-            client.sendall(b"".join(b'{"do":"read","key":"k%d"}\n' % (1 + (at * 7 + line) % 500) for line in range(LINES // 10)))
+            client.sendall(b"".join(b'{"do":"read","key":"k%d"}\n' % (1 + (at * 7 + line) % 500) for line in range(LINES)))
         # They have come once the region is asked by another one.
         it.ask(b'{"do":"read","key":"k1"}\n')
         time.sleep(0.5)
@@ -167,9 +167,9 @@ def check_stop(image: Image, folder: Path) -> str:
         replies = [client.makefile("rb").read() for client in clients]
         status, took = it.ended(), time.monotonic() - start
     for reply in replies:
-        same("replies", [reply.count(b"\n"), reply.count(b'"version":[1,0]'), reply[-1:]], [LINES // 10, LINES // 10, b"\n"])
+        same("replies", [reply.count(b"\n"), reply.count(b'"version":[1,0]'), reply[-1:]], [LINES, LINES, b"\n"])
     same("how it ended", (status, took < SECONDS + MORE), (0, True))
-    return f"a container that is stopped answers {CLIENTS * (LINES // 10):,} lines of {CLIENTS} clients, and has ended after {took:.1f} seconds"
+    return f"a container that is stopped answers {CLIENTS * LINES:,} lines of {CLIENTS} clients, and has ended after {took:.1f} seconds"
 
 
 def check_deadline(image: Image, folder: Path) -> str:
