@@ -107,8 +107,12 @@ class Contained:
         self.process = process
 
     def signal(self, number: signal.Signals) -> None:
-        """See `Running`."""
-        run([*self._line, "kill", f"--signal={number.name}", self._name])
+        """See `Running`. A container that has just been started may not be there yet."""
+        last = time.monotonic() + PATIENCE
+        while (told := ended([*self._line, "kill", f"--signal={number.name}", self._name])).returncode and self.process.poll() is None:
+            if time.monotonic() > last:
+                raise TimeoutError(f"the container cannot be told {number.name}: {told.stdout}")
+            time.sleep(0.1)
 
 
 class Chroot:

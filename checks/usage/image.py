@@ -1,6 +1,6 @@
 """Makes an image for containers of a program's packages, and runs containers of it, which it stops under clients.
 
-  checks/run image PROGRAM
+  checks/run image PROGRAM [--image FILE]
 
 It makes the packages and the image (`packaging/image`), from the network. Containers are run by podman or, where that is refused,
 by chroot, without a network, with a root that is read-only, and without capabilities. All is apart from the system that runs the
@@ -147,7 +147,7 @@ def check_programs(image: Image, folder: Path) -> str:
     status = {name: value.split()[0] for name, _, value in (it.partition(":\t") for it in lines[2:]) if name in STATUS}
     same("what it may do", status, STATUS)
     feeds = "for it in kafka postgres-outbox rabbitmq-stream redis-stream; do /usr/share/pnuts-feeds/$it --help; done > /dev/null"
-    same("what feeds say", did(image, folder, "sh", "-ec", f"{feeds}; pnuts --version > /dev/null; ! touch /tmp/x 2> /dev/null"), "")
+    same("what feeds say", did(image, folder, "sh", "-ec", f"{feeds}; pnuts --version > /dev/null; ! touch /usr/x 2> /dev/null"), "")
     return "process 1 is tini, the user is pnuts and may do nothing, and each feed begins"
 
 
@@ -224,22 +224,22 @@ def check_ends(image: Image, folder: Path) -> str:
         did(image, volumes, "pnuts-ctl", "stop")
         same("how a stop by the control socket ends", it.ended(), 0)
     with region(image, volumes, None, ("sleep", "100")) as it:
-        wait_until("it runs", lambda: bool(it.process.poll() is None))
-        time.sleep(2)
+        time.sleep(1)
         it.signal(signal.SIGTERM)
         same("how another program ends", it.ended(), 128 + signal.SIGTERM)
     return "refused words end with 2, a fault with 1, a stop with 0, and other programs by the signal"
 
 
-def within(program: Path) -> int:
+def within(program: Path, made: Path | None) -> int:
     """The check, where mounts, processes and files are its own."""
     folder = next(Path(it) for it in ("/mnt", "/media", "/srv") if not any(path.is_relative_to(it) for path in (TOP, program)))
     run(["mount", "-t", "tmpfs", "-o", "mode=755", "tmpfs", folder])
     os.environ["TMPDIR"] = tempfile.tempdir = str(folder)
-    archive = folder / "pnuts.oci"
+    archive = made or folder / "pnuts.oci"
     try:
-        run(["make", "-C", TOP, "image", f"DEBS={folder}", f"PNUTS={program}"])
-        say(f"made an image; {check_config(archive)}")
+        if made is None:
+            run(["make", "-C", TOP, "image", f"DEBS={folder}", f"PNUTS={program}"])
+        say(check_config(archive))
         how, image = image_of(folder, archive)
         say(f"containers are run by {how}")
         for check in (check_programs, check_stop, check_deadline, check_copies, check_ends):
@@ -253,17 +253,18 @@ def within(program: Path) -> int:
 def main(words: list[str]) -> int:
     parser = program_parser(__doc__)
     parser.add_argument("--within", action="store_true", help=argparse.SUPPRESS)
+    parser.add_argument("--image", metavar="FILE", type=Path, help="an image that was made before, and is tried instead")
     told = parser.parse_args(words)
-    program = Path(told.program).resolve()
+    program, made = Path(told.program).resolve(), told.image and told.image.resolve()
     if told.within:
-        return within(program)
+        return within(program, made)
     wanted = [*sorted({package for tool, package in TOOLS.items() if shutil.which(tool) is None}), *([] if os.geteuid() == 0 else ["root"])]
     if wanted:
         say(f"checks/run image: skipped, for it needs {' '.join(wanted)}")
         return 0
     signal.signal(signal.SIGTERM, lambda *_: sys.exit(1))
     line = ["setpriv", "--pdeathsig=KILL", "unshare", "--mount", "--pid", "--fork", "--kill-child", "--mount-proc"]
-    with subprocess.Popen([*line, RUN, "image", "--within", program]) as running:
+    with subprocess.Popen([*line, RUN, "image", "--within", program, *(["--image", made] if made else [])]) as running:
         try:
             return running.wait()
         finally:
