@@ -31,7 +31,7 @@ for it in null zero random urandom; do touch "$1/dev/$it"; mount --bind "/dev/$i
 mount -o remount,bind,ro "$1"
 root=$1
 shift 3
-exec setpriv --no-new-privs --bounding-set=-all,+sys_chroot,+setuid,+setgid chroot --userspec=7070:7070 "$root" env -i PATH=/usr/sbin:/usr/bin:/sbin:/bin "$@"
+exec chroot "$root" setpriv --reuid=7070 --regid=7070 --clear-groups --no-new-privs --bounding-set=-all env -i PATH=/usr/sbin:/usr/bin:/sbin:/bin "$@"
 """
 PATIENCE = 60.0
 
