@@ -20,8 +20,9 @@ FOLDERS = {"run": "/run/pnuts", "copies": "/var/lib/pnuts"}
 # A container has no network, writes into its volumes alone, and may do nothing of what root may.
 PLAIN = ("--rm", "--network=none", "--read-only", "--cap-drop=all", "--security-opt=no-new-privileges", "--ulimit=nofile=4096:4096",
          "--ulimit=nproc=4096:4096")
-# What makes a folder the root of a process, with volumes, the files of devices and processes of its own.
+# What makes a folder the root of a process, with volumes, a loopback, and the files of devices and processes of its own.
 MOUNTS = """
+ip link set lo up
 mount --bind "$1" "$1"
 mount --bind "$2" "$1/run/pnuts"
 mount --bind "$3" "$1/var/lib/pnuts"

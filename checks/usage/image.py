@@ -33,7 +33,7 @@ from usage.containers import FOLDERS, PATIENCE, USER, Image, Running, config_of,
 from usage.fresh_system import run
 from usage.one_session import connected
 
-TOOLS = {"dh": "debhelper", "mmdebstrap": "mmdebstrap", "umoci": "umoci", "unshare": "util-linux", "setpriv": "util-linux"}
+TOOLS = {"dh": "debhelper", "ip": "iproute2", "mmdebstrap": "mmdebstrap", "umoci": "umoci", "unshare": "util-linux", "setpriv": "util-linux"}
 WORDS = {"PNUTS_WORDS": "--sessions 2 --socket /run/pnuts/socket"}
 # How many lines a client has in flight when a container is stopped, and how many clients there are.
 LINES, CLIENTS = 300, 8
