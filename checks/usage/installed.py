@@ -37,6 +37,7 @@ FILES = {
     "share/man/man8/pnuts-ctl.8": 0o644,
     "share/man/man8/pnuts.8": 0o644,
     "share/pnuts-feeds/postgres-outbox.sql": 0o644,
+    "share/pnuts-feeds/postgres-table.sql": 0o644,
     "share/pnuts-tools/container": 0o755,
     "share/pnuts-tools/pnuts.rules.yml": 0o644,
     "share/zsh/site-functions/_pnuts": 0o644,
