@@ -113,10 +113,11 @@ bench: build
 	bench/instructions "$(PROGRAM)"; \
 	exit $$status
 
-# Measures the built program beside a plain Rust program and servers that do nothing, and one that stays beside Redis.
-bench-beside: build
-	@bench/beside "$(PROGRAM)"
-	@bench/stay "$(PROGRAM)"
+# Measures the built program beside a plain Rust program and servers that do nothing, and one that stays beside Redis. Where
+# PNUTS=out/quick/pnuts names one that is not proved, it says so.
+bench-beside: $(PROVED)
+	@bench/beside "$(PNUTS)"
+	@bench/stay "$(PNUTS)"
 
 # Brings the built program to each of its ends; talks to its sessions, and misbehaves, where it stays by the thousand, after which it has
 # to rest; gives it each limit of a line in all ways; stops it by lines and signals; refuses each of its allocations in turn, and all

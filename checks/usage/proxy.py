@@ -39,12 +39,12 @@ def wait_until(what: str, holds: Callable[[], bool]) -> None:
 
 def make_certificates(folder: Path) -> None:
     """An authority, and certificates of it for a proxy and a client, as the files want them."""
-    key = ["-newkey", "ec", "-pkeyopt", "ec_paramgen_curve:prime256v1", "-nodes", "-days", "2"]
+    key: list[str | Path] = ["-newkey", "ec", "-pkeyopt", "ec_paramgen_curve:prime256v1", "-nodes", "-days", "2"]
     made = [folder / "authority.pem", folder / "authority.key"]
     run(["openssl", "req", "-x509", *key, "-subj", "/CN=authority", "-out", made[0], "-keyout", made[1]])
     for who in ("proxy", "client"):
         path, own = folder / f"{who}.pem", folder / f"{who}.key"
-        words = ["-subj", f"/CN={who}", "-addext", "subjectAltName=IP:127.0.0.1", "-CA", made[0], "-CAkey", made[1]]
+        words: list[str | Path] = ["-subj", f"/CN={who}", "-addext", "subjectAltName=IP:127.0.0.1", "-CA", made[0], "-CAkey", made[1]]
         run(["openssl", "req", "-x509", *key, *words, "-out", path, "-keyout", own])
         path.write_bytes(path.read_bytes() + own.read_bytes())
 
@@ -57,8 +57,8 @@ def run(command: list[str | Path], environment: Environment | None = None) -> No
 
 def check_files(folder: Path) -> str:
     """HAProxy takes the files with each number of regions, plain and with TLS, without a warning."""
-    count = 0
-    for tls in ({}, {"PNUTS_CERTIFICATES": str(folder)}):
+    count, ways = 0, list[Environment]([{}, {"PNUTS_CERTIFICATES": str(folder)}])
+    for tls in ways:
         for regions in range(1, 5):
             told = {f"PNUTS_REGION_{at}": f"127.0.0.{at}:7070" for at in range(1, regions + 1)}
             run(["haproxy", "-c", "-dW", "-f", PROXIES / "haproxy.cfg"], {**tls, **told})
