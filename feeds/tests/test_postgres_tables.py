@@ -3,12 +3,17 @@
 from __future__ import annotations
 
 import json
+import sys
+import threading
 import unittest
 from pathlib import Path
 from typing import Any
 
 from .postgres_server import Fault, Server, server_of
 from .support import FEEDS, feed
+
+sys.path.insert(0, str(FEEDS.parent / "clients/python/src"))
+from pnuts_client.publish import Outbox  # noqa: E402
 
 SQL = "".join(Path(FEEDS, name).read_text(encoding="utf-8") for name in ("postgres-outbox.sql", "postgres-table.sql"))
 TABLES = """
@@ -91,3 +96,28 @@ class PostgresTables(unittest.TestCase):
             with self.subTest(statement), self.assertRaises(Fault):
                 self.server.do(statement)
         self.assertEqual(len(self.images("people", 1)), 1)
+
+    def test_two_publishers_of_one_record(self) -> None:
+        outbox, sent, changes, numbers = Outbox("shop.own"), list[bytes](), 50, list[int]()
+
+        def change() -> None:
+            connection = self.server.connection()
+            for at in range(changes):
+                with connection, connection.cursor() as cursor:
+                    numbers.append(outbox.tell(cursor, "k", {"v": at}, "w").number)
+            connection.close()
+
+        connection = self.server.connection()
+        with connection, connection.cursor() as cursor:
+            outbox.create(cursor)
+            outbox.create(cursor)
+        threads = [threading.Thread(target=change) for _ in range(2)]
+        for thread in threads:
+            thread.start()
+        for thread in threads:
+            thread.join()
+        self.assertEqual(outbox.publish(connection, sent.append), 2 * changes)
+        self.assertEqual(outbox.publish(connection, sent.append), 0)
+        connection.close()
+        self.assertEqual(sorted(numbers), list(range(2 * changes)))
+        self.assertEqual(sorted(json.loads(it)["version"][1] for it in sent), list(range(2 * changes)))
