@@ -1,154 +1,323 @@
 package main
 
 import (
+	"bufio"
 	"context"
 	"encoding/json"
 	"errors"
+	"fmt"
 	"io"
-	"net"
 	"net/http"
+	"net/url"
+	"os"
+	"sort"
 	"strconv"
 	"strings"
+	"sync"
+	"sync/atomic"
 	"time"
+
+	"keqapwi.example/pnuts"
 )
 
-// piece is how many bytes a client has to take within patience.
-const piece = 256 << 10
+const (
+	asJSON = "application/json"
+	// mostLogged is how many bytes of a path or a cause are logged, and mostWaiting how many lines wait for who reads them.
+	mostLogged, mostWaiting = 1024, 1024
+)
 
-const ofJSON = "application/json"
-
-// An answer is what a request is answered with.
+// An answer is what a request is answered with. The last part of its path may be a key.
 type answer struct {
-	front   *front
+	*front
 	writer  http.ResponseWriter
 	request *http.Request
 	ctx     context.Context
-	route   route
-	// The last part of the path, as it was before it was encoded.
-	last   string
-	start  time.Time
-	status int
-	bytes  int64
-	fault  *fault
+	route   string
+	last    string
+	query   url.Values
+	entry   entry
+	// Whether a stream goes on, which ends the answer itself.
+	isHandedOn bool
 }
 
 // reply answers with a whole body.
 func (a *answer) reply(status int, kind string, body []byte) error {
 	header := a.writer.Header()
-	header["Content-Type"] = []string{kind}
-	header["Content-Length"] = []string{strconv.Itoa(len(body))}
-	header["X-Content-Type-Options"] = []string{"nosniff"}
-	a.status = status
+	header.Set("Content-Type", kind)
+	header.Set("Content-Length", strconv.Itoa(len(body)))
+	header.Set("X-Content-Type-Options", "nosniff")
+	if header.Get("Cache-Control") == "" {
+		header.Set("Cache-Control", "no-store")
+	}
+	a.entry.Status = status
 	a.writer.WriteHeader(status)
-	if a.request.Method != http.MethodHead {
-		for len(body) > 0 {
-			size := len(body)
-			if size > piece {
-				size = piece
-			}
-			if err := a.write(body[:size], false); err != nil {
-				return nil
-			}
-			body = body[size:]
+	for isTaken := a.request.Method != http.MethodHead; isTaken && len(body) > 0; {
+		size := len(body)
+		if size > piece {
+			size = piece
 		}
+		isTaken = a.write(body[:size]) == nil
+		body = body[size:]
 	}
 	return nil
 }
 
-// write writes some bytes, for which the client is waited for no longer than patience. A connection's own limit ends it; a stream of HTTP/2
-// is reset, since others share its connection.
-func (a *answer) write(text []byte, isFlushed bool) error {
-	do := func() error {
-		_, err := a.writer.Write(text)
-		if flusher, is := a.writer.(http.Flusher); is && isFlushed {
-			flusher.Flush()
-		}
-		return err
-	}
-	a.bytes += int64(len(text))
+// write writes some bytes. A connection has a limit of its own for that; in HTTP/2, where others share it, the stream alone is reset.
+func (a *answer) write(text []byte) error {
+	a.entry.Bytes += int64(len(text))
 	if a.request.ProtoMajor < 2 {
-		return do()
+		_, err := a.writer.Write(text)
+		return err
 	}
 	done, late := make(chan error, 1), time.NewTimer(patience)
 	defer late.Stop()
-	go func() { done <- do() }()
+	go func() {
+		_, err := a.writer.Write(text)
+		a.writer.(http.Flusher).Flush()
+		done <- err
+	}()
 	select {
 	case err := <-done:
 		return err
 	case <-late.C:
-		a.front.counts.slow.Add(1)
+		a.counts.slow.Add(1)
 		panic(http.ErrAbortHandler)
 	}
 }
 
+// body is what a request sends, which has to be there within patience.
+func (a *answer) body() ([]byte, error) {
+	if kind := a.request.Header.Get("Content-Type"); !strings.HasPrefix(strings.ToLower(kind), asJSON) {
+		return nil, faulty(http.StatusUnsupportedMediaType, "bad-request", "Content-Type", "it has to be "+asJSON)
+	}
+	if a.request.ProtoMajor < 2 {
+		connection := connectionOf(a.ctx)
+		_ = connection.SetReadDeadline(time.Now().Add(patience))
+		defer connection.SetReadDeadline(time.Time{})
+	} else {
+		defer time.AfterFunc(patience, func() { a.request.Body.Close() }).Stop()
+	}
+	found, err := io.ReadAll(http.MaxBytesReader(a.writer, a.request.Body, mostBody))
+	if is[*http.MaxBytesError](err) {
+		err = faulty(http.StatusRequestEntityTooLarge, "too-long", "body", fmt.Sprintf("it has more than %d bytes", mostBody))
+	} else if err != nil {
+		a.writer.Header().Set("Connection", "close")
+		err = faulty(http.StatusRequestTimeout, "late", "body", "it did not come whole in time")
+	}
+	return found, err
+}
+
+// A fault is why a request is not answered: what it is, where it lies, and why, in words.
+type fault struct {
+	status int
+	What   string `json:"error"`
+	Where  string `json:"where"`
+	Why    string `json:"why"`
+	// The version that the record has instead of the one that was asked for, and the row of one that is deleted.
+	Has *pnuts.Version  `json:"has,omitempty"`
+	Row json.RawMessage `json:"row,omitempty"`
+	// What the log alone is told, as it names addresses.
+	cause error
+}
+
+func (f *fault) Error() string { return fmt.Sprintf("%s: %s: %s", f.What, f.Where, f.Why) }
+
+func faulty(status int, what, where, why string) error {
+	return &fault{status: status, What: what, Where: where, Why: why}
+}
+
+func bad(where, why string) error { return faulty(http.StatusBadRequest, "bad-request", where, why) }
+
+func is[E error](err error) bool {
+	var found E
+	return errors.As(err, &found)
+}
+
+// Kinds of faults of regions, by their errors, of which the first that fits is told.
+var kinds = []struct {
+	fits      func(error) bool
+	status    int
+	what, why string
+}{
+	{is[*pnuts.BadLine], http.StatusBadRequest, "bad-request", "regions refuse it"},
+	{is[*pnuts.RecordBehind], http.StatusServiceUnavailable, "behind", "no region that answers has the version that was shown before"},
+	{is[*pnuts.CopyBehind], http.StatusServiceUnavailable, "behind", "the tablet has not taken all yet"},
+	{is[*pnuts.Recovering], http.StatusServiceUnavailable, "recovering", "the tablet was lost, and is not there again yet"},
+	{is[*pnuts.NoEntry], http.StatusServiceUnavailable, "busy", "the region has no reader free"},
+	{is[*pnuts.OutOfMemory], http.StatusServiceUnavailable, "busy", "the region has no memory for it"},
+	{is[*pnuts.ConnectionFailed], http.StatusServiceUnavailable, "away", "no region can be reached"},
+	{func(err error) bool { return errors.Is(err, context.DeadlineExceeded) }, http.StatusGatewayTimeout, "late", "no region answered in time"},
+	{func(err error) bool { return errors.Is(err, context.Canceled) }, http.StatusRequestTimeout, "gone", "the client did not wait"},
+	{func(error) bool { return true }, http.StatusBadGateway, "failed", "what answers is no region, or one of another version"},
+}
+
+// ofRegions is the fault of what regions did not answer, by the error of the one that was asked last.
+func ofRegions(err error, where string, asked *pnuts.Version) error {
+	at := 0
+	for !kinds[at].fits(err) {
+		at++
+	}
+	found := &fault{status: kinds[at].status, What: kinds[at].what, Where: where, Why: kinds[at].why, cause: err}
+	line, behind := (*pnuts.BadLine)(nil), (*pnuts.RecordBehind)(nil)
+	if errors.As(err, &line) {
+		found.Where, found.Why = strings.TrimSpace(where+" "+line.Member), found.Why+" as "+line.Reason
+	} else if errors.As(err, &behind) {
+		found.Has = behind.Has
+		if asked != nil && (behind.Has == nil || behind.Has.Less(*asked)) {
+			found.status, found.Why = http.StatusPreconditionFailed, "no region has the record in this version or a later one yet"
+		}
+	}
+	return found
+}
+
 // fail answers with a fault.
 func (a *answer) fail(err error) {
-	if !errors.As(err, &a.fault) {
-		a.fault = &fault{status: http.StatusInternalServerError, What: "failed", Where: "pnuts-http", Why: err.Error()}
+	found := &fault{status: http.StatusInternalServerError, What: "failed", Where: "pnuts-http", Why: err.Error()}
+	errors.As(err, &found)
+	if found.What == "behind" || found.status >= http.StatusServiceUnavailable {
+		a.writer.Header().Set("Retry-After", "1")
 	}
-	header := a.writer.Header()
-	if a.fault.isRetried() {
-		header.Set("Retry-After", "1")
-	}
-	if a.fault.status == http.StatusUnauthorized {
-		header.Set("WWW-Authenticate", "Bearer")
-	}
-	if a.fault.allow != "" {
-		header.Set("Allow", a.fault.allow)
-	}
-	header.Del("ETag")
-	header.Set("Cache-Control", "no-store")
-	body, _ := json.Marshal(a.fault)
-	_ = a.reply(a.fault.status, ofJSON, append(body, '\n'))
+	a.entry.Fault = found
+	body, _ := json.Marshal(found)
+	_ = a.reply(found.status, asJSON, append(body, '\n'))
 }
 
 // end counts the answer, and writes it into the log.
 func (a *answer) end() {
-	took := time.Since(a.start)
-	a.front.counts.answered(a.route.name, a.status, took)
-	if !a.front.words.isQuiet {
-		a.front.log.write(a.entry(took))
+	if !a.isHandedOn {
+		a.ended(a.route, a.entry)
 	}
 }
 
-// connection is the one of a request, beneath TLS. It is that of several requests in HTTP/2.
-func (a *answer) connection() *connection {
-	found, _ := a.request.Context().Value(connectionKey{}).(*connection)
-	return found
+func (f *front) ended(route string, it entry) {
+	it.Seconds = time.Since(it.start).Seconds()
+	f.counts.answered(route, it)
+	if !f.words.isQuiet {
+		f.log.write(it)
+	}
 }
 
-type connectionKey struct{}
-
-// withConnection lets handlers find a request's connection.
-func withConnection(ctx context.Context, found net.Conn) context.Context {
-	if within, is := found.(interface{ NetConn() net.Conn }); is {
-		found = within.NetConn()
-	}
-	return context.WithValue(ctx, connectionKey{}, found)
+// An entry is what is logged of a request.
+type entry struct {
+	start   time.Time
+	Time    string  `json:"time"`
+	Client  string  `json:"client"`
+	Method  string  `json:"method"`
+	Path    string  `json:"path"`
+	Proto   string  `json:"proto"`
+	Status  int     `json:"status"`
+	Bytes   int64   `json:"bytes"`
+	Seconds float64 `json:"seconds"`
+	Fault   *fault  `json:"fault,omitempty"`
+	Cause   string  `json:"cause,omitempty"`
 }
 
-// body is what a request sends, which has to be there within patience.
-func (a *answer) body() ([]byte, error) {
-	kind, _, _ := strings.Cut(a.request.Header.Get("Content-Type"), ";")
-	if kind = strings.TrimSpace(kind); !strings.EqualFold(kind, ofJSON) {
-		return nil, &fault{status: http.StatusUnsupportedMediaType, What: "bad-request", Where: "Content-Type", Why: "it has to be " + ofJSON}
+func entryOf(request *http.Request) entry {
+	return entry{start: time.Now(), Client: request.RemoteAddr, Method: cut(request.Method), Path: request.URL.EscapedPath(),
+		Proto: request.Proto, Status: http.StatusOK}
+}
+
+func cut(text string) string {
+	if len(text) > mostLogged {
+		text = text[:mostLogged] + ".."
 	}
-	if a.request.ProtoMajor < 2 {
-		connection := a.connection()
-		_ = connection.SetReadDeadline(time.Now().Add(patience))
-		defer connection.SetReadDeadline(time.Time{})
-	} else {
-		late := time.AfterFunc(patience, func() { a.request.Body.Close() })
-		defer late.Stop()
+	return text
+}
+
+// An accessLog writes entries as lines of JSON, while requests go on. Where nobody takes them, it drops them.
+type accessLog struct {
+	entries chan entry
+	dropped atomic.Int64
+	ended   chan struct{}
+}
+
+func newLog() *accessLog {
+	l := &accessLog{entries: make(chan entry, mostWaiting), ended: make(chan struct{})}
+	go l.run()
+	return l
+}
+
+func (l *accessLog) write(it entry) {
+	select {
+	case l.entries <- it:
+	default:
+		l.dropped.Add(1)
 	}
-	found, err := io.ReadAll(http.MaxBytesReader(a.writer, a.request.Body, mostBody))
-	switch tooLong := (*http.MaxBytesError)(nil); {
-	case errors.As(err, &tooLong):
-		return nil, &fault{status: http.StatusRequestEntityTooLarge, What: "too-long", Where: "body", Why: "it has more than " +
-			strconv.Itoa(mostBody) + " bytes"}
-	case err != nil:
-		a.writer.Header().Set("Connection", "close")
-		return nil, &fault{status: http.StatusRequestTimeout, What: "late", Where: "body", Why: "it did not come whole in time", cause: err}
+}
+
+// run writes what is at hand together, until the entry of no request.
+func (l *accessLog) run() {
+	defer close(l.ended)
+	out := bufio.NewWriter(os.Stdout)
+	for it := <-l.entries; it.Status != 0; it = <-l.entries {
+		it.Time, it.Path = it.start.UTC().Format("2006-01-02T15:04:05.000Z"), cut(it.Path)
+		if it.Fault != nil && it.Fault.cause != nil {
+			it.Cause = cut(it.Fault.cause.Error())
+		}
+		if json.NewEncoder(out).Encode(it) != nil || len(l.entries) == 0 && out.Flush() != nil {
+			l.dropped.Add(1)
+			out.Reset(os.Stdout)
+		}
 	}
-	return found, nil
+	_ = out.Flush()
+}
+
+// end writes what is left, for a second.
+func (l *accessLog) end() {
+	l.write(entry{})
+	select {
+	case <-l.ended:
+	case <-time.After(time.Second):
+	}
+}
+
+// Counts are what was done so far: requests of each route with each status, and how long they took; connections, and what streams did.
+type counts struct {
+	mutex                                 sync.Mutex
+	requests                              map[string]int64
+	seconds                               map[string]float64
+	accepted, streams, slow, missed, told atomic.Int64
+}
+
+func newCounts() *counts { return &counts{requests: map[string]int64{}, seconds: map[string]float64{}} }
+
+func (c *counts) answered(route string, it entry) {
+	labels := `{route="` + route + `",status="` + strconv.Itoa(it.Status) + `"}`
+	c.mutex.Lock()
+	defer c.mutex.Unlock()
+	c.requests[labels]++
+	c.seconds[labels] += it.Seconds
+}
+
+// metrics answers with counts, for Prometheus.
+func (a *answer) metrics() error {
+	sessions, unfollowed, requests, seconds := int64(0), 0, []string{}, []string{}
+	for _, client := range a.clients {
+		sessions += client.Sessions()
+	}
+	for _, it := range a.histories {
+		if it.Err() != nil {
+			unfollowed++
+		}
+	}
+	a.counts.mutex.Lock()
+	for labels, count := range a.counts.requests {
+		requests = append(requests, fmt.Sprintf("pnuts_http_requests_total%s %d\n", labels, count))
+		seconds = append(seconds, fmt.Sprintf("pnuts_http_request_seconds_total%s %g\n", labels, a.counts.seconds[labels]))
+	}
+	a.counts.mutex.Unlock()
+	sort.Strings(requests)
+	sort.Strings(seconds)
+	lines := []string{"# TYPE pnuts_http_requests_total counter\n", strings.Join(requests, ""),
+		"# TYPE pnuts_http_request_seconds_total counter\n", strings.Join(seconds, "")}
+	for name, value := range map[string]any{"connections_accepted_total": a.counts.accepted.Load(), "streams_open": a.counts.streams.Load(),
+		"slow_total": a.counts.slow.Load(), "changes_told_total": a.counts.told.Load(), "missed_total": a.counts.missed.Load(),
+		"log_dropped_total": a.log.dropped.Load(), "region_sessions_total": sessions, "ranges_not_followed": unfollowed} {
+		kind := "gauge"
+		if strings.HasSuffix(name, "_total") {
+			kind = "counter"
+		}
+		lines = append(lines, fmt.Sprintf("# TYPE pnuts_http_%s %s\npnuts_http_%s %d\n", name, kind, name, value))
+	}
+	return a.reply(http.StatusOK, "text/plain; version=0.0.4; charset=utf-8", []byte(strings.Join(lines, "")))
 }

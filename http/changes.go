@@ -1,143 +1,157 @@
 package main
 
 import (
+	"encoding/json"
 	"fmt"
 	"math/rand"
+	"net"
 	"net/http"
-	"strconv"
+	"reflect"
 	"strings"
 	"time"
+
+	"keqapwi.example/pnuts/control"
 )
 
 const (
-	// beat is how often a stream without changes shows that it is there.
-	beat = 15 * time.Second
-	// mostTold is how many changes are written at a time.
-	mostTold = 256
+	// beat is how often a stream without changes shows that it is there, and mostTold how many changes are written together.
+	beat, mostTold = 15 * time.Second, 256
+	// mostHeld is how many bytes the system keeps of a stream that the client did not take.
+	mostHeld   = 64 << 10
+	asEvents   = "text/event-stream"
+	streamHead = "HTTP/1.1 200 OK\r\nContent-Type: " + asEvents + "\r\nCache-Control: no-store\r\nConnection: close\r\n\r\n"
 )
 
 // A stream tells a client what changes, from the marks of all ranges on.
 type stream struct {
-	*answer
-	marks []mark
+	*front
+	marks []control.Mark
+	write func([]byte) error
+	gone  <-chan struct{}
 }
 
-// changes answers with changes as they come, until the client goes, takes nothing, or the front stops.
-func (f *front) changes(a *answer) error {
-	if _, err := a.query(); err != nil {
+// changes answers with a stream, which lasts until the client goes or takes nothing, or the front stops.
+func (a *answer) changes() error {
+	if len(a.histories) == 0 {
+		return faulty(http.StatusNotFound, "not-found", "path", "no --control tells changes")
+	}
+	for at, it := range a.histories {
+		if err := it.Err(); err != nil {
+			where := fmt.Sprintf("range %d", at)
+			return &fault{status: http.StatusServiceUnavailable, What: "away", Where: where, Why: "its changes are not followed", cause: err}
+		}
+	}
+	if a.request.Method == http.MethodHead {
+		return a.reply(http.StatusOK, asEvents, nil)
+	}
+	leave, err := a.enter(a.streams)
+	if err != nil {
 		return err
 	}
-	if len(f.watches) == 0 {
-		return &fault{status: http.StatusNotFound, What: "not-found", Where: "path", Why: "no --control tells changes"}
-	}
-	for at, watch := range f.watches {
-		if _, _, err := watch.now(); err != nil {
-			return &fault{status: http.StatusServiceUnavailable, What: "away", Where: rangeName(at), Why: "its changes are not followed", cause: err}
+	a.counts.streams.Add(1)
+	s := &stream{a.front, make([]control.Mark, len(a.histories)), a.write, a.ctx.Done()}
+	if last := strings.Split(a.request.Header.Get("Last-Event-ID"), "_"); len(last) == len(s.marks) {
+		for at := range last {
+			s.marks[at] = control.MarkOf(last[at])
 		}
 	}
-	select {
-	case f.streams <- struct{}{}:
-	default:
-		return busy("streams", "there are %d already", cap(f.streams))
+	if hijacker, is := a.writer.(http.Hijacker); is {
+		return s.handOn(a, hijacker, leave)
 	}
-	f.counts.streams.Add(1)
-	defer func() { f.counts.streams.Add(-1); <-f.streams }()
-	if connection := a.connection(); connection != nil && a.request.ProtoMajor < 2 {
-		connection.holdLittle()
-	}
-	header := a.writer.Header()
-	header.Set("Content-Type", "text/event-stream")
-	header.Set("Cache-Control", "no-store")
-	header.Set("X-Accel-Buffering", "no")
-	stream := &stream{a, marksOf(a.request.Header.Get("Last-Event-ID"), len(f.watches))}
-	// Clients of a front that stops come again at different times.
-	_ = a.write([]byte(fmt.Sprintf("retry: %d\n\n", 1000+rand.Intn(2000))), true)
-	stream.run()
+	defer leave()
+	defer a.counts.streams.Add(-1)
+	a.writer.Header().Set("Content-Type", asEvents)
+	a.writer.Header().Set("Cache-Control", "no-store")
+	s.run("")
 	return nil
 }
 
-// marksOf reads the marks of an event; of what is none, such as have never been.
-func marksOf(text string, count int) []mark {
-	marks, parts := make([]mark, count), strings.Split(text, "_")
-	for at := range marks {
-		if at < len(parts) && len(parts) == count {
-			life, number, _ := strings.Cut(parts[at], ".")
-			marks[at].life = life
-			marks[at].number, _ = strconv.ParseInt(number, 10, 64)
-		}
+// handOn lets the stream go on without what the library keeps of a request.
+func (s *stream) handOn(a *answer, hijacker http.Hijacker, leave func()) error {
+	if socket, is := connectionOf(a.ctx).Conn.(*net.TCPConn); is {
+		_ = socket.SetWriteBuffer(mostHeld)
 	}
-	return marks
+	connection, _, err := hijacker.Hijack()
+	if err != nil {
+		leave()
+		return err
+	}
+	gone, route, entry := make(chan struct{}), a.route, a.entry
+	s.gone, a.isHandedOn = gone, true
+	s.write = func(text []byte) error {
+		entry.Bytes += int64(len(text))
+		_, err := connection.Write(text)
+		return err
+	}
+	go func() {
+		// A client has nothing more to send: whatever comes ends the stream.
+		_, _ = connection.Read(make([]byte, 1))
+		close(gone)
+	}()
+	go func() {
+		s.run(streamHead)
+		_ = connection.Close()
+		s.ended(route, entry)
+		s.counts.streams.Add(-1)
+		leave()
+	}()
+	return nil
 }
 
-// run tells changes until nobody takes them, or the front stops.
-func (s *stream) run() {
-	quiet := time.NewTimer(beat)
+func whenever(it any) reflect.SelectCase {
+	return reflect.SelectCase{Dir: reflect.SelectRecv, Chan: reflect.ValueOf(it)}
+}
+
+// run tells changes as they come. Clients of a front that stops come again at different times.
+func (s *stream) run(head string) {
+	quiet := time.NewTicker(beat)
 	defer quiet.Stop()
-	for {
-		news := s.front.news.wait()
-		if s.tellAll() != nil {
-			return
+	text := fmt.Appendf([]byte(head), "retry: %d\n\n", 1000+rand.Intn(2000))
+	waits := []reflect.SelectCase{whenever(s.gone), whenever(s.stopping.Done()), whenever(quiet.C)}
+	for woken := len(waits); woken > 1; woken, _, _ = reflect.Select(waits) {
+		waits = waits[:3]
+		if woken == 2 {
+			text = append(text, ":\n\n"...)
 		}
-		quiet.Reset(beat)
-		select {
-		case <-news:
-		case <-quiet.C:
-			if s.write([]byte(":\n\n"), true) != nil {
-				return
-			}
-		case <-s.request.Context().Done():
-			return
-		case <-s.front.stopping.Done():
-			return
-		}
-	}
-}
-
-// tellAll tells what is known of all ranges.
-func (s *stream) tellAll() error {
-	for at := range s.front.watches {
-		for isMore := true; isMore; {
-			var err error
-			if isMore, err = s.tell(at); err != nil {
-				return err
+		for at, it := range s.histories {
+			found, to, news := it.After(s.marks[at], mostTold)
+			text = s.told(text, at, found, to)
+			waits = append(waits, whenever(news))
+			if len(found.Changes) == mostTold {
+				waits[len(waits)-1] = whenever(isOver)
 			}
 		}
+		if len(text) > 0 && s.write(text) != nil {
+			return
+		}
+		text = nil
 	}
-	return nil
 }
 
-// tell tells some changes of a range, and says whether there may be more.
-func (s *stream) tell(at int) (bool, error) {
-	if err := s.request.Context().Err(); err != nil {
-		return false, err
+// isOver is a channel that has ended.
+var isOver = func() <-chan struct{} { it := make(chan struct{}); close(it); return it }()
+
+// told adds what a range tells.
+func (s *stream) told(text []byte, at int, found control.Notices, to control.Mark) []byte {
+	for _, it := range found.Changes {
+		s.marks[at].Number = it.Number
+		data, _ := json.Marshal(it)
+		text = fmt.Appendf(text, "event: change\nid: %s\ndata: %s\n\n", s.id(), data)
 	}
-	watch := s.front.watches[at]
-	found, isKnown := watch.after(s.marks[at], mostTold)
-	var text []byte
-	if !isKnown {
-		_, s.marks[at], _ = watch.now()
-		text = s.event(text, "missed", []byte(`{"range":`+strconv.Itoa(at)+`}`))
-		s.front.counts.missed.Add(1)
+	s.counts.told.Add(int64(len(found.Changes)))
+	if found.Missed {
+		s.marks[at] = to
+		text = fmt.Appendf(text, "event: missed\nid: %s\ndata: {\"range\":%d}\n\n", s.id(), at)
+		s.counts.missed.Add(1)
 	}
-	for _, it := range found {
-		s.marks[at].number = it.number
-		text = s.event(text, "change", it.data)
-	}
-	s.front.counts.told.Add(int64(len(found)))
-	if text == nil {
-		return false, nil
-	}
-	return len(found) == mostTold, s.write(text, true)
+	return text
 }
 
-// event adds an event, with the marks of all ranges after it.
-func (s *stream) event(text []byte, kind string, data []byte) []byte {
-	text = append(append(append(text, "event: "...), kind...), "\nid: "...)
+// id is that of an event: the marks of all ranges.
+func (s *stream) id() string {
+	parts := make([]string, len(s.marks))
 	for at, it := range s.marks {
-		if at > 0 {
-			text = append(text, '_')
-		}
-		text = append(text, it.String()...)
+		parts[at] = it.String()
 	}
-	return append(append(append(text, "\ndata: "...), data...), "\n\n"...)
+	return strings.Join(parts, "_")
 }

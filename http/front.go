@@ -2,15 +2,21 @@ package main
 
 import (
 	"context"
-	"errors"
+	"crypto/sha256"
+	"crypto/tls"
+	_ "embed" // for the description
+	"fmt"
 	"net/http"
 	"net/url"
+	"os"
+	"regexp"
 	"strings"
-	"sync"
 	"sync/atomic"
 	"time"
+	"unicode/utf8"
 
 	"keqapwi.example/pnuts"
+	"keqapwi.example/pnuts/control"
 )
 
 const (
@@ -18,179 +24,208 @@ const (
 	patience = 10 * time.Second
 	// idle is how long a connection is kept without a request.
 	idle = 75 * time.Second
-	// mostHeader is how many bytes the head of a request may have, and mostBody its body.
-	mostHeader, mostBody = 16 << 10, 64 << 10
-	// mostRequests is how many are answered at once, beside streams of changes, and mostPages those of many records.
+	// mostHeader and mostBody are the most bytes of a request; piece is how many of an answer have to be taken within patience.
+	mostHeader, mostBody, piece = 16 << 10, 64 << 10, 256 << 10
+	// mostRequests and mostPages are how many are answered at once that ask for one record, and for many.
 	mostRequests, mostPages = 4096, 64
 )
 
+//go:embed openapi.json
+var description []byte
+
 // A front answers requests by what regions have. It keeps nothing between them.
 type front struct {
-	words   words
-	clients []*pnuts.Client
-	regions *pnuts.Regions
-	watches []*watch
-	// Closed and made anew when a watch has found something.
-	news   news
-	tokens atomic.Pointer[tokens]
-	counts *counts
-	log    *accessLog
-	// Who is answered at once: all but streams, those that ask for many records, and streams.
-	requests, pages, streams chan struct{}
+	words       words
+	regions     *pnuts.Regions
+	clients     []*pnuts.Client
+	histories   []*control.History
+	tokens      atomic.Pointer[tokens]
+	certificate atomic.Pointer[tls.Certificate]
+	counts      *counts
+	log         *accessLog
+	// Who is answered at once.
+	requests, pages, copies, streams chan struct{}
 	// Done once it is told to stop.
 	stopping context.Context
-	health   health
 }
 
-func newFront(told words, log *accessLog, stopping context.Context) (*front, error) {
-	clients, regions, err := told.open()
-	if err != nil {
-		return nil, err
-	}
-	made := &front{words: told, clients: clients, regions: regions, counts: newCounts(), log: log, stopping: stopping,
-		requests: make(chan struct{}, mostRequests), pages: make(chan struct{}, mostPages), streams: make(chan struct{}, told.streams)}
-	made.news.next = make(chan struct{})
-	if err = made.loadTokens(); err != nil {
-		return nil, err
-	}
-	for _, address := range told.controls {
-		watch, err := newWatch(address, &made.news)
+func newFront(told words, stopping context.Context) (f *front, err error) {
+	few := func(count int) chan struct{} { return make(chan struct{}, count) }
+	f = &front{words: told, counts: newCounts(), log: newLog(), stopping: stopping, requests: few(mostRequests),
+		pages: few(mostPages), copies: few(1), streams: few(told.streams)}
+	options := pnuts.Options{Connections: told.sessions, Timeout: time.Duration(told.seconds) * time.Second}
+	for _, addresses := range told.regions {
+		client, err := pnuts.OpenAny(addresses, options)
 		if err != nil {
 			return nil, err
 		}
-		made.watches = append(made.watches, watch)
+		f.clients = append(f.clients, client)
 	}
-	return made, nil
-}
-
-// A route is what is done for a path: with which method, by whom, and how.
-type route struct {
-	name, methods, right string
-	do                   func(*front, *answer) error
-}
-
-var (
-	ofRecord  = route{"record", "GET, HEAD", "read", (*front).record}
-	ofPage    = route{"page", "GET, HEAD", "read", (*front).page}
-	ofGet     = route{"get", "POST", "read", (*front).get}
-	ofCopy    = route{"copy", "GET, HEAD", "copy", (*front).copy}
-	ofChanges = route{"changes", "GET", "changes", (*front).changes}
-	ofHealth  = route{"health", "GET, HEAD", "", (*front).tellHealth}
-	ofMetrics = route{"metrics", "GET, HEAD", "", (*front).tellMetrics}
-	ofSelf    = route{"description", "GET, HEAD", "", (*front).describe}
-	ofNone    = route{"none", "", "", func(_ *front, a *answer) error {
-		return &fault{status: http.StatusNotFound, What: "not-found", Where: "path", Why: "there is no such path: see /openapi.json"}
-	}}
-)
-
-// routeOf finds what a path asks for, and the last part of it, as it was before it was encoded.
-func routeOf(path string) (route, string, error) {
-	switch path {
-	case "/records":
-		return ofPage, "", nil
-	case "/get":
-		return ofGet, "", nil
-	case "/changes":
-		return ofChanges, "", nil
-	case "/healthz":
-		return ofHealth, "", nil
-	case "/metrics":
-		return ofMetrics, "", nil
-	case "/openapi.json":
-		return ofSelf, "", nil
-	}
-	for prefix, found := range map[string]route{"/records/": ofRecord, "/copies/": ofCopy} {
-		if last := strings.TrimPrefix(path, prefix); strings.HasPrefix(path, prefix) && !strings.Contains(last, "/") {
-			text, err := url.PathUnescape(last)
-			return found, text, err
+	for _, address := range told.controls {
+		history, err := control.Follow(stopping, address, options)
+		if err != nil {
+			return nil, err
 		}
+		f.histories = append(f.histories, history)
 	}
-	return ofNone, "", nil
+	if f.regions, err = pnuts.NewRegions(told.bounds, f.clients); err == nil {
+		err = f.load()
+	}
+	return f, err
+}
+
+// load reads the files of tokens and certificates, as far as words name them. Where it fails, what was read before stays.
+func (f *front) load() error {
+	if f.words.tokens != "" {
+		found, err := tokensOf(f.words.tokens)
+		if err != nil {
+			return err
+		}
+		f.tokens.Store(&found)
+	}
+	if f.words.certificate != "" {
+		found, err := tls.LoadX509KeyPair(f.words.certificate, f.words.key)
+		if err != nil {
+			return fmt.Errorf("%s: %v", f.words.certificate, err)
+		}
+		f.certificate.Store(&found)
+	}
+	return nil
+}
+
+// A route is what is done for a path: by which method, with which right and members of the query, among how many, and how.
+type route struct {
+	name, method, right string
+	members             []string
+	among               func(*front) chan struct{}
+	do                  func(*answer) error
+}
+
+func ofRequests(f *front) chan struct{} { return f.requests }
+func ofPages(f *front) chan struct{}    { return f.pages }
+func ofCopies(f *front) chan struct{}   { return f.copies }
+
+var routes = map[string]route{
+	"/records/":     {"record", "GET", "read", []string{"at-least"}, ofRequests, (*answer).record},
+	"/records":      {"page", "GET", "read", []string{"from", "to", "after", "limit", "where"}, ofPages, (*answer).page},
+	"/get":          {"get", "POST", "read", nil, ofPages, (*answer).get},
+	"/copies/":      {"copy", "GET", "copy", []string{"range"}, ofCopies, (*answer).copy},
+	"/changes":      {"changes", "GET", "changes", nil, ofRequests, (*answer).changes},
+	"/healthz":      {"healthz", "GET", "", nil, ofRequests, (*answer).health},
+	"/metrics":      {"metrics", "GET", "", nil, ofRequests, (*answer).metrics},
+	"/openapi.json": {"openapi", "GET", "", nil, ofRequests, func(a *answer) error { return a.reply(http.StatusOK, asJSON, description) }},
 }
 
 // ServeHTTP answers a request.
 func (f *front) ServeHTTP(writer http.ResponseWriter, request *http.Request) {
-	a := &answer{front: f, writer: writer, request: request, start: time.Now(), status: http.StatusOK}
+	a := &answer{front: f, writer: writer, request: request, ctx: request.Context(), route: "none", entry: entryOf(request)}
 	defer a.end()
-	var err error
-	a.route, a.last, err = routeOf(request.URL.EscapedPath())
-	if err != nil {
-		a.fail(bad("path", "%v", err))
-		return
-	}
-	if err = f.answer(a); err != nil {
+	if err := a.do(); err != nil {
 		a.fail(err)
 	}
 }
 
-func (f *front) answer(a *answer) error {
-	if a.route.methods != "" && !strings.Contains(a.route.methods, a.request.Method) {
-		return &fault{status: http.StatusMethodNotAllowed, What: "bad-method", Where: "method", allow: a.route.methods,
-			Why: "this path has " + a.route.methods}
+// do finds what the path asks for, and does it where the request may.
+func (a *answer) do() (err error) {
+	path := a.request.URL.EscapedPath()
+	chosen, isKnown := routes[path]
+	if at := strings.LastIndexByte(path, '/') + 1; !isKnown && at > 1 {
+		chosen, isKnown = routes[path[:at]]
+		a.last, err = url.PathUnescape(path[at:])
 	}
-	if err := f.mayDo(a.request, a.route.right); err != nil {
+	if !isKnown || err != nil {
+		return faulty(http.StatusNotFound, "not-found", "path", "there is no such path: /openapi.json has all")
+	}
+	a.route = chosen.name
+	if method := a.request.Method; method != chosen.method && (method != http.MethodHead || chosen.method != http.MethodGet) {
+		a.writer.Header().Set("Allow", chosen.method)
+		return faulty(http.StatusMethodNotAllowed, "bad-method", "method", "this path has "+chosen.method)
+	}
+	if err = a.mayDo(chosen.right); err == nil {
+		err = a.readQuery(chosen.members)
+	}
+	if err != nil {
 		return err
 	}
-	if a.route.name == ofChanges.name {
-		return a.route.do(f, a)
+	leave, err := a.enter(chosen.among(a.front))
+	if err != nil {
+		return err
 	}
-	select {
-	case f.requests <- struct{}{}:
-		defer func() { <-f.requests }()
-	default:
-		return busy("requests", "%d are answered already", mostRequests)
-	}
-	ctx, stop := context.WithTimeout(a.request.Context(), f.words.timeout)
-	defer stop()
-	a.ctx = ctx
-	return a.route.do(f, a)
+	defer leave()
+	return chosen.do(a)
 }
 
-// turn waits for one of a few places, and gives what leaves it again.
-func turn(ctx context.Context, places chan struct{}) (func(), error) {
-	select {
-	case places <- struct{}{}:
-		return func() { <-places }, nil
-	case <-ctx.Done():
-		return nil, busy("requests", "%d that ask for many records are answered already", cap(places))
+// readQuery reads what is behind `?`: members that are known, each at most once, but for `where`.
+func (a *answer) readQuery(known []string) (err error) {
+	if a.query, err = url.ParseQuery(a.request.URL.RawQuery); err != nil {
+		return bad("query", err.Error())
 	}
-}
-
-// A health is what was found last, for a second.
-type health struct {
-	mutex  sync.Mutex
-	when   time.Time
-	faults []*fault
-}
-
-// faultsOf asks each range for a record, at most once a second.
-func (f *front) faultsOf() []*fault {
-	f.health.mutex.Lock()
-	defer f.health.mutex.Unlock()
-	if time.Since(f.health.when) < time.Second {
-		return f.health.faults
-	}
-	ctx, stop := context.WithTimeout(context.Background(), 2*time.Second)
-	defer stop()
-	found := make([]*fault, len(f.clients))
-	var asking sync.WaitGroup
-	for at, client := range f.clients {
-		asking.Add(1)
-		go func(at int, client *pnuts.Client) {
-			defer asking.Done()
-			_, err := client.Read(ctx, "healthz")
-			recovering := (*pnuts.Recovering)(nil)
-			if err != nil && !errors.As(err, &recovering) {
-				found[at] = ofRegions(err, rangeName(at), nil)
-			}
-		}(at, client)
-	}
-	asking.Wait()
-	f.health.when, f.health.faults = time.Now(), nil
-	for _, fault := range found {
-		if fault != nil {
-			f.health.faults = append(f.health.faults, fault)
+	for name, values := range a.query {
+		isKnown := false
+		for _, it := range known {
+			isKnown = isKnown || it == name && (len(values) == 1 || it == "where")
+		}
+		if !isKnown || !utf8.ValidString(strings.Join(values, "")) {
+			return bad(cut(name), fmt.Sprintf("there may be %q, once and in UTF-8", known))
 		}
 	}
-	return f.health.faults
+	return nil
+}
+
+// enter waits a second for a place, and gives what leaves it again.
+func (a *answer) enter(among chan struct{}) (leave func(), err error) {
+	late := time.NewTimer(time.Second)
+	defer late.Stop()
+	select {
+	case among <- struct{}{}:
+		return func() { <-among }, nil
+	case <-late.C:
+		return nil, faulty(http.StatusServiceUnavailable, "busy", "pnuts-http", fmt.Sprintf("%d such requests are answered already", cap(among)))
+	case <-a.ctx.Done():
+		return nil, ofRegions(a.ctx.Err(), "request", nil)
+	}
+}
+
+// Tokens are what clients show, by their digests, each with its rights.
+type tokens map[[sha256.Size]byte]string
+
+// tokenLine is a token with what it is for.
+var tokenLine = regexp.MustCompile(`^([A-Za-z0-9._~+/-]{16,512}=*)[ \t]+((?:read|copy|changes)(?:,(?:read|copy|changes))*)$`)
+
+// tokensOf reads a file of tokens. Empty lines, and those that begin with #, are none.
+func tokensOf(path string) (tokens, error) {
+	text, err := os.ReadFile(path)
+	found := tokens{}
+	for at, line := range strings.Split(string(text), "\n") {
+		if line = strings.TrimSpace(line); line == "" || line[0] == '#' {
+			continue
+		}
+		parts := tokenLine.FindStringSubmatch(line)
+		if parts == nil {
+			return nil, fmt.Errorf("%s: line %d is no token of 16 signs or more with its rights, as `TOKEN read,copy,changes`", path, at+1)
+		}
+		found[sha256.Sum256([]byte(parts[1]))] = parts[2]
+	}
+	if err == nil && len(found) == 0 {
+		err = fmt.Errorf("%s has no token", path)
+	}
+	return found, err
+}
+
+// mayDo says why a request may not do something, where tokens are wanted for it.
+func (a *answer) mayDo(right string) error {
+	known := a.tokens.Load()
+	if known == nil || right == "" {
+		return nil
+	}
+	kind, given, _ := strings.Cut(a.request.Header.Get("Authorization"), " ")
+	rights, isKnown := (*known)[sha256.Sum256([]byte(strings.TrimSpace(given)))]
+	if !isKnown || !strings.EqualFold(kind, "bearer") {
+		a.writer.Header().Set("WWW-Authenticate", "Bearer")
+		return faulty(http.StatusUnauthorized, "unauthorized", "Authorization", "a bearer token is wanted that is known")
+	}
+	if !strings.Contains(","+rights+",", ","+right+",") {
+		return faulty(http.StatusForbidden, "forbidden", "Authorization", "the token is not for "+right)
+	}
+	return nil
 }

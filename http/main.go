@@ -4,10 +4,11 @@ package main
 import (
 	"context"
 	"crypto/tls"
-	_ "embed"
+	"encoding/json"
 	"errors"
 	"flag"
 	"fmt"
+	"io"
 	"log"
 	"net"
 	"net/http"
@@ -15,43 +16,93 @@ import (
 	"os/signal"
 	"strings"
 	"sync"
-	"sync/atomic"
 	"syscall"
 	"time"
 )
 
-// lastSeconds is how long requests are answered once it is told to stop.
-const lastSeconds = 10 * time.Second
+const (
+	version = "0.2.0"
+	// lastTime is how long what was asked is still answered once it is told to stop.
+	lastTime = 10 * time.Second
+	help     = `Answers HTTP by what regions of pnuts have: records, pages of them, and their changes as they come.
 
-// version is that of the package.
-const version = "0.2.0"
+  pnuts-http [OPTION ..] REGION[,REGION ..] ..
 
-//go:embed openapi.json
-var description []byte
+REGION is tcp://HOST:PORT, tls://HOST:PORT or unix:PATH. Regions with commas between them have the same streams, and any of them may fail.
+With --bounds, each further word has the regions of a further range of keys.
 
-// describe answers with the description of all answers.
-func (f *front) describe(a *answer) error { return a.reply(http.StatusOK, ofJSON, description) }
+Options:
+`
+)
 
-// tellHealth says whether each range has a region that answers.
-func (f *front) tellHealth(a *answer) error {
-	a.writer.Header().Set("Cache-Control", "no-store")
-	if f.stopping.Err() != nil {
-		return &fault{status: http.StatusServiceUnavailable, What: "stopping", Where: "pnuts-http", Why: "it was told to stop"}
+// Words are what the program was started with: among them, of each range the control socket and the regions.
+type words struct {
+	listen, certificate, key, tokens        string
+	sessions, connections, streams, seconds int
+	isQuiet, isVersion                      bool
+	bounds, controls                        []string
+	regions                                 [][]string
+}
+
+// parsed reads the words. The error of --help is flag.ErrHelp.
+func parsed(given []string) (told words, err error) {
+	options := flag.NewFlagSet("pnuts-http", flag.ContinueOnError)
+	options.SetOutput(io.Discard)
+	options.StringVar(&told.listen, "listen", "127.0.0.1:8080", "`ADDRESS:PORT` to listen on")
+	options.StringVar(&told.certificate, "certificate", "", "`FILE` of the certificates for HTTPS and HTTP/2, read again at SIGHUP")
+	options.StringVar(&told.key, "key", "", "`FILE` of their private key")
+	options.StringVar(&told.tokens, "tokens", "", "`FILE` of the tokens that clients need, read again at SIGHUP")
+	options.Func("bounds", "`JSON` with the first key of each range but the first", func(text string) error {
+		return json.Unmarshal([]byte(text), &told.bounds)
+	})
+	options.Func("control", "`REGION` whose control socket tells changes; once for each range, in order", func(text string) error {
+		told.controls = append(told.controls, text)
+		return nil
+	})
+	options.IntVar(&told.sessions, "sessions", 4, "`NUMBER` of sessions of each region")
+	options.IntVar(&told.connections, "connections", 20_000, "`NUMBER` of clients at once. More of them wait")
+	options.IntVar(&told.streams, "streams", 15_000, "`NUMBER` of streams of changes at once")
+	options.IntVar(&told.seconds, "timeout", 10, "`SECONDS` that regions have for a request")
+	options.BoolVar(&told.isQuiet, "quiet", false, "write no line for each request to standard output")
+	options.BoolVar(&told.isVersion, "version", false, "print the version")
+	if err = options.Parse(given); errors.Is(err, flag.ErrHelp) {
+		fmt.Print(help)
+		options.SetOutput(os.Stdout)
+		options.PrintDefaults()
 	}
-	for _, found := range f.faultsOf() {
-		copied := *found
-		copied.status = http.StatusServiceUnavailable
-		return &copied
+	for _, word := range options.Args() {
+		told.regions = append(told.regions, strings.Split(word, ","))
 	}
-	return a.reply(http.StatusOK, ofJSON, []byte(`{"health":"well"}`+"\n"))
+	if err == nil && !told.isVersion {
+		err = told.check()
+	}
+	return told, err
+}
+
+// check says what is wrong with the words together.
+func (w *words) check() error {
+	ranges := len(w.bounds) + 1
+	switch least, most := 1, 1_000_000; {
+	case len(w.regions) != ranges:
+		return fmt.Errorf("%d ranges take as many words of regions, not %d", ranges, len(w.regions))
+	case len(w.controls) != 0 && len(w.controls) != ranges:
+		return fmt.Errorf("--control is wanted once for each of %d ranges, or never, not %d times", ranges, len(w.controls))
+	case (w.certificate == "") != (w.key == ""):
+		return errors.New("--certificate and --key belong together")
+	case w.sessions < least || w.connections < least || w.streams < least || w.seconds < least:
+		return fmt.Errorf("numbers are %d at least", least)
+	case w.sessions > 1000 || w.connections > most || w.streams > most || w.seconds > 600:
+		return fmt.Errorf("there are at most 1000 sessions, %d connections and streams, and 600 seconds", most)
+	}
+	return nil
 }
 
 func say(text string, of ...any) { fmt.Fprintf(os.Stderr, "pnuts-http: "+text+"\n", of...) }
 
 func main() {
-	// Where nobody reads what it says, that is lost, and not a reason to end.
+	// Where nobody reads what it says, that is lost, and no reason to end.
 	signal.Ignore(syscall.SIGPIPE)
-	told, err := parsed(os.Args[1:], os.Stdout)
+	told, err := parsed(os.Args[1:])
 	switch {
 	case errors.Is(err, flag.ErrHelp):
 	case err != nil:
@@ -67,119 +118,110 @@ func main() {
 	}
 }
 
-// serve answers until SIGTERM or SIGINT, and what was asked by then for a while more.
+// serve answers until SIGTERM or SIGINT.
 func serve(told words) error {
 	stopping, stop := signal.NotifyContext(context.Background(), syscall.SIGTERM, syscall.SIGINT)
 	defer stop()
-	log := newLog(os.Stdout)
-	defer log.close(time.Second)
-	front, err := newFront(told, log, stopping)
+	front, err := newFront(told, stopping)
 	if err != nil {
 		return err
 	}
-	server := newServer(front)
-	certificates := &certificates{files: told}
+	listener, err := net.Listen("tcp", told.listen)
+	if err != nil {
+		return err
+	}
+	listener = &places{listener, make(chan struct{}, told.connections), front.counts}
+	server := &http.Server{Handler: front, ReadHeaderTimeout: patience, IdleTimeout: idle, MaxHeaderBytes: mostHeader,
+		ConnContext: withConnection, ErrorLog: log.New(os.Stderr, "pnuts-http: ", 0)}
+	serving := func() error { return server.Serve(listener) }
 	if told.certificate != "" {
-		if err = certificates.load(); err != nil {
-			return err
-		}
-		server.TLSConfig = &tls.Config{MinVersion: tls.VersionTLS12, GetCertificate: certificates.get}
+		get := func(*tls.ClientHelloInfo) (*tls.Certificate, error) { return front.certificate.Load(), nil }
+		server.TLSConfig = &tls.Config{MinVersion: tls.VersionTLS12, GetCertificate: get}
+		serving = func() error { return server.ServeTLS(listener, "", "") }
 	}
-	listener, err := listen(told.listen, told.connections, front.counts)
-	if err != nil {
-		return err
-	}
-	defer listener.Close()
-	var watching sync.WaitGroup
-	for _, it := range front.watches {
-		watching.Add(1)
-		go func(it *watch) { defer watching.Done(); it.run(stopping, say) }(it)
-	}
-	go front.loadAgain(certificates)
+	again, ended := make(chan os.Signal, 1), make(chan error, 1)
+	signal.Notify(again, syscall.SIGHUP)
 	say("listening on %s", listener.Addr())
-	ended := make(chan error, 1)
-	go func() { ended <- server.serve(listener) }()
-	select {
-	case err = <-ended:
-		return err
-	case <-stopping.Done():
+	go func() { ended <- serving() }()
+	for {
+		select {
+		case err = <-ended:
+			return err
+		case <-again:
+			say("tokens and certificates are read again, error %v", front.load())
+		case <-stopping.Done():
+			// Another signal ends it at once.
+			stop()
+			front.end(server)
+			return nil
+		}
 	}
-	stop()
-	last, done := context.WithTimeout(context.Background(), lastSeconds)
+}
+
+// end waits for what was asked, and for streams to end, but not for long.
+func (f *front) end(server *http.Server) {
+	last, done := context.WithTimeout(context.Background(), lastTime)
 	defer done()
-	if err = server.Shutdown(last); err != nil {
-		say("some requests were not answered in %.0f seconds", lastSeconds.Seconds())
+	err := server.Shutdown(last)
+	for err == nil && len(f.streams) > 0 {
+		time.Sleep(10 * time.Millisecond)
+		err = last.Err()
+	}
+	if err != nil {
+		say("some requests were not answered in %v", lastTime)
 		server.Close()
 	}
-	for _, client := range front.clients {
-		client.Close()
-	}
-	watching.Wait()
-	return nil
+	f.log.end()
 }
 
-// A server with limits.
-type server struct{ http.Server }
-
-func newServer(front *front) *server {
-	return &server{http.Server{Handler: front, ReadHeaderTimeout: patience, IdleTimeout: idle, MaxHeaderBytes: mostHeader,
-		ConnContext: withConnection, ErrorLog: log.New(faults{}, "", 0)}}
+// Places are those of all connections that are open at once.
+type places struct {
+	net.Listener
+	taken  chan struct{}
+	counts *counts
 }
 
-func (s *server) serve(from net.Listener) (err error) {
-	if s.TLSConfig != nil {
-		err = s.ServeTLS(from, "", "")
-	} else {
-		err = s.Serve(from)
-	}
-	if errors.Is(err, http.ErrServerClosed) {
-		err = nil
-	}
-	return err
-}
-
-// Faults of the library go to standard error, but for those of clients.
-type faults struct{}
-
-func (faults) Write(text []byte) (int, error) {
-	if !strings.Contains(string(text), "TLS handshake error") {
-		say("%s", strings.TrimSpace(string(text)))
-	}
-	return len(text), nil
-}
-
-// Certificates are those of the server, as they were read last.
-type certificates struct {
-	files words
-	found atomic.Pointer[tls.Certificate]
-}
-
-func (c *certificates) load() error {
-	if c.files.certificate == "" {
-		return nil
-	}
-	found, err := tls.LoadX509KeyPair(c.files.certificate, c.files.key)
+// Accept waits for a client, and then for a place.
+func (p *places) Accept() (net.Conn, error) {
+	found, err := p.Listener.Accept()
 	if err != nil {
-		return fmt.Errorf("--certificate: %v", err)
+		return nil, err
 	}
-	c.found.Store(&found)
-	return nil
+	p.taken <- struct{}{}
+	p.counts.accepted.Add(1)
+	return &connection{Conn: found, of: p}, nil
 }
 
-func (c *certificates) get(*tls.ClientHelloInfo) (*tls.Certificate, error) {
-	return c.found.Load(), nil
+// A connection of a client, beneath TLS. It is ended where it takes nothing for as long as patience.
+type connection struct {
+	net.Conn
+	of     *places
+	ending sync.Once
 }
 
-// loadAgain reads tokens and certificates again at each SIGHUP.
-func (f *front) loadAgain(certificates *certificates) {
-	told := make(chan os.Signal, 1)
-	signal.Notify(told, syscall.SIGHUP)
-	for range told {
-		for _, err := range []error{f.loadTokens(), certificates.load()} {
-			if err != nil {
-				say("%v: those of before stay", err)
-			}
-		}
-		say("tokens and certificates were read again")
-	}
+// Close ends the connection, and gives its place to another.
+func (c *connection) Close() error {
+	c.ending.Do(func() { <-c.of.taken })
+	return c.Conn.Close()
 }
+
+func (c *connection) Write(text []byte) (int, error) {
+	_ = c.Conn.SetWriteDeadline(time.Now().Add(patience))
+	size, err := c.Conn.Write(text)
+	if errors.Is(err, os.ErrDeadlineExceeded) {
+		c.of.counts.slow.Add(1)
+	}
+	return size, err
+}
+
+type connectionKey struct{}
+
+// withConnection lets the connection of a request be found.
+func withConnection(ctx context.Context, found net.Conn) context.Context {
+	if within, is := found.(*tls.Conn); is {
+		found = within.NetConn()
+	}
+	return context.WithValue(ctx, connectionKey{}, found)
+}
+
+func connectionOf(ctx context.Context) *connection { return ctx.Value(connectionKey{}).(*connection) }

@@ -2,11 +2,16 @@ package main
 
 import (
 	"bytes"
+	"context"
+	"crypto/sha256"
 	"encoding/json"
+	"errors"
+	"fmt"
 	"net/http"
-	"net/url"
+	"regexp"
 	"strconv"
 	"strings"
+	"time"
 	"unicode/utf8"
 
 	"keqapwi.example/pnuts"
@@ -15,171 +20,157 @@ import (
 const (
 	// mostKeys is how many keys are asked for at once, and mostKey how many bytes one has.
 	mostKeys, mostKey = 100, 256
-	// mostRows is how many records a page has, usualRows how many where nothing is said, and mostConditions how many these meet.
-	mostRows, usualRows, mostConditions = 1000, 100, 16
-	// mostNumber is the greatest one that a version has.
-	mostNumber = 1_000_000_000_000_000
+	// mostRows and usualRows are how many records a page has at most, and where nothing is said.
+	mostRows, usualRows = 1000, 100
 )
 
-func rangeName(at int) string { return "range " + strconv.Itoa(at) }
-
-// rangeOf is the number of the range that a key is in.
-func (f *front) rangeOf(key string) int {
-	at := 0
-	for at < len(f.words.firsts) && f.words.firsts[at] <= key {
-		at++
-	}
-	return at
-}
+// versionForm is that of a version. Regions say what is beyond their limits.
+var versionForm = regexp.MustCompile(`^(\d{1,16})\.(\d{1,16})$`)
 
 // checkKey says what is wrong with a key.
 func checkKey(where, key string) error {
-	if key == "" || len(key) > mostKey {
-		return bad(where, "a key has 1 to %d bytes, not %d", mostKey, len(key))
-	}
-	if !utf8.ValidString(key) {
-		return bad(where, "a key is text in UTF-8")
+	if key == "" || len(key) > mostKey || !utf8.ValidString(key) {
+		return bad(where, fmt.Sprintf("a key has 1 to %d bytes of UTF-8, and this one %d", mostKey, len(key)))
 	}
 	return nil
 }
 
-// query reads what a path has behind `?`. Each member is one of those that are known, and there once, but for `where`.
-func (a *answer) query(known ...string) (url.Values, error) {
-	found, err := url.ParseQuery(a.request.URL.RawQuery)
-	if err != nil {
-		return nil, bad("query", "%v", err)
-	}
-	for name, values := range found {
-		isKnown := false
-		for _, it := range known {
-			isKnown = isKnown || it == name
-		}
-		switch {
-		case !isKnown:
-			return nil, bad(name, "there is no such member: there are %s", strings.Join(known, ", "))
-		case name != "where" && len(values) > 1:
-			return nil, bad(name, "it is there %d times", len(values))
-		}
-	}
-	return found, nil
-}
-
-// record answers with the record of a key.
-func (f *front) record(a *answer) error {
-	found, err := a.query("at-least")
-	if err == nil {
-		err = checkKey("path", a.last)
-	}
-	if err != nil {
+// record answers with the record of a key, and a tag of its version and all that is shown.
+func (a *answer) record() error {
+	if err := checkKey("path", a.last); err != nil {
 		return err
 	}
-	least, err := versionOf(found.Get("at-least"))
-	if err != nil {
-		return err
+	var least *pnuts.Version
+	if a.query.Has("at-least") {
+		parts := versionForm.FindStringSubmatch(a.query.Get("at-least"))
+		if parts == nil {
+			return bad("at-least", "a version is GENERATION.NUMBER")
+		}
+		least = &pnuts.Version{}
+		least[0], _ = strconv.ParseInt(parts[1], 10, 64)
+		least[1], _ = strconv.ParseInt(parts[2], 10, 64)
 	}
-	var record *pnuts.Record
-	client := f.clients[f.rangeOf(a.last)]
-	if least == nil {
-		record, err = client.Read(a.ctx, a.last)
-	} else {
-		record, err = client.ReadAtLeast(a.ctx, a.last, *least)
+	row, err := a.regions.Of(a.last).ReadRow(a.ctx, a.last, least)
+	switch {
+	case err != nil:
+		return ofRegions(err, "regions of the key", least)
+	case row == nil:
+		return faulty(http.StatusNotFound, "not-found", "path", "there is no record of this key")
+	case row.State == "deleted":
+		return &fault{status: http.StatusNotFound, What: "deleted", Where: "path", Why: "the record of this key is deleted", Row: row.Text}
 	}
-	if err != nil {
-		return ofRegions(err, rangeName(f.rangeOf(a.last)), least)
-	}
-	if record == nil {
-		return &fault{status: http.StatusNotFound, What: "not-found", Where: "path", Why: "there is no record of this key"}
-	}
-	text := appendRecord(make([]byte, 0, 1024), record)
-	if record.State == "deleted" {
-		return &fault{status: http.StatusNotFound, What: "deleted", Where: "path", Why: "the record of this key is deleted", Row: text}
-	}
-	text = append(text, '\n')
-	tag := tagOf(record.Version, text)
+	sum := sha256.Sum256(row.Text)
+	tag := fmt.Sprintf(`"%v-%x"`, row.Version, sum[:12])
 	header := a.writer.Header()
-	header["Etag"], header["Cache-Control"] = []string{tag}, []string{"no-cache"}
-	if isAmong(tag, a.request.Header["If-None-Match"]) {
-		a.status = http.StatusNotModified
-		a.writer.WriteHeader(a.status)
-		return nil
-	}
-	return a.reply(http.StatusOK, ofJSON, text)
-}
-
-// versionOf reads G.N; nil where there is none.
-func versionOf(text string) (*pnuts.Version, error) {
-	if text == "" {
-		return nil, nil
-	}
-	generation, number, _ := strings.Cut(text, ".")
-	g, err := strconv.ParseUint(generation, 10, 63)
-	n, other := strconv.ParseUint(number, 10, 63)
-	if err != nil || other != nil || g < 1 || g > mostNumber || n > mostNumber {
-		return nil, bad("at-least", "a version is GENERATION.NUMBER, of which each is at most 10^15, and the first at least 1")
-	}
-	return &pnuts.Version{int64(g), int64(n)}, nil
-}
-
-// isAmong says whether a tag is one of those that a client has.
-func isAmong(tag string, lines []string) bool {
-	for _, line := range lines {
-		for _, it := range strings.Split(line, ",") {
-			if it = strings.TrimPrefix(strings.TrimSpace(it), "W/"); it == tag || it == "*" {
-				return true
-			}
+	header.Set("ETag", tag)
+	header.Set("Cache-Control", "no-cache")
+	for _, it := range strings.Split(strings.Join(a.request.Header["If-None-Match"], ","), ",") {
+		if it = strings.TrimPrefix(strings.TrimSpace(it), "W/"); it == tag || it == "*" {
+			a.entry.Status = http.StatusNotModified
+			a.writer.WriteHeader(a.entry.Status)
+			return nil
 		}
 	}
-	return false
+	return a.reply(http.StatusOK, asJSON, append(row.Text, '\n'))
+}
+
+// rows answers with records.
+func (a *answer) rows(records []*pnuts.Record) error {
+	text, err := json.Marshal(map[string]any{"rows": append([]*pnuts.Record{}, records...)})
+	if err != nil {
+		return err
+	}
+	return a.reply(http.StatusOK, asJSON, append(text, '\n'))
+}
+
+// decoded reads a text that is one JSON value.
+func decoded(text []byte, into any) error {
+	reader := json.NewDecoder(bytes.NewReader(text))
+	reader.UseNumber()
+	reader.DisallowUnknownFields()
+	err := reader.Decode(into)
+	if err == nil && (reader.More() || !utf8.Valid(text)) {
+		err = errors.New("it is no UTF-8, or something follows it")
+	}
+	return err
 }
 
 // get answers with the records of keys, in their order.
-func (f *front) get(a *answer) error {
-	if _, err := a.query(); err != nil {
-		return err
-	}
+func (a *answer) get() error {
 	text, err := a.body()
 	if err != nil {
 		return err
 	}
-	var asked struct{ Keys []*string }
-	reader := json.NewDecoder(bytes.NewReader(text))
-	reader.DisallowUnknownFields()
-	if err = reader.Decode(&asked); err == nil && reader.More() {
-		err = bad("body", "something follows it")
+	var asked struct{ Keys []string }
+	if err = decoded(text, &asked); err != nil || len(asked.Keys) == 0 || len(asked.Keys) > mostKeys {
+		return bad("body", fmt.Sprintf(`{"keys":["K"]} is wanted, with 1 to %d keys, not %d: %v`, mostKeys, len(asked.Keys), err))
 	}
-	if err != nil || !utf8.Valid(text) {
-		return bad("body", `it is no JSON as {"keys":["K"]}: %v`, err)
+	for _, key := range asked.Keys {
+		if err = checkKey("keys", key); err != nil {
+			return err
+		}
 	}
-	keys, err := keysOf(asked.Keys)
+	records, err := a.regions.Get(a.ctx, asked.Keys)
 	if err != nil {
-		return err
+		return ofRegions(err, "regions of the keys", nil)
 	}
-	leave, err := turn(a.ctx, f.pages)
-	if err != nil {
-		return err
-	}
-	defer leave()
-	records, err := f.regions.Get(a.ctx, keys)
-	if err != nil {
-		return ofRegions(err, "ranges", nil)
-	}
-	a.writer.Header().Set("Cache-Control", "no-store")
-	return a.reply(http.StatusOK, ofJSON, appendRows(nil, records))
+	return a.rows(records)
 }
 
-func keysOf(given []*string) ([]string, error) {
-	if len(given) == 0 || len(given) > mostKeys {
-		return nil, bad("keys", "there are 1 to %d keys, not %d", mostKeys, len(given))
-	}
-	keys := make([]string, len(given))
-	for at, key := range given {
-		if key == nil {
-			return nil, bad("keys", "key %d is no text", at)
+// page answers with some records of a range in key order, and tells where the next ones are. Each `where` is a condition, of which regions
+// say what is wrong.
+func (a *answer) page() error {
+	query := pnuts.Query{From: a.query.Get("from"), To: a.query.Get("to"), After: a.query.Get("after"), Limit: usualRows}
+	if a.query.Has("limit") {
+		limit, err := strconv.Atoi(a.query.Get("limit"))
+		if err != nil || limit < 1 || limit > mostRows {
+			return bad("limit", fmt.Sprintf("a page has 1 to %d records", mostRows))
 		}
-		if err := checkKey("keys", *key); err != nil {
-			return nil, err
-		}
-		keys[at] = *key
+		query.Limit = limit
 	}
-	return keys, nil
+	for _, text := range a.query["where"] {
+		var condition pnuts.Condition
+		if err := decoded([]byte(text), &condition); err != nil || len(condition) < 2 {
+			return bad("where", `["has",F] is wanted, or ["eq",F,X], and so with lt, gt and prefix`)
+		}
+		query.Where = append(query.Where, condition)
+	}
+	found, err := a.regions.Page(a.ctx, query)
+	if err != nil {
+		return ofRegions(err, "regions of the page", nil)
+	}
+	if found.Next != nil {
+		a.query.Set("after", found.Next.After)
+		a.writer.Header().Set("Link", "</records?"+a.query.Encode()+`>; rel="next"`)
+	}
+	return a.rows(found.Records)
+}
+
+// copy answers with the copy of a tablet. Each has the size of one, so one is made at a time.
+func (a *answer) copy() error {
+	tablet, err := strconv.ParseUint(a.last, 10, 31)
+	if err != nil {
+		return bad("path", "a tablet is a number")
+	}
+	at, err := strconv.ParseUint("0"+a.query.Get("range"), 10, 31)
+	if err != nil || at >= uint64(len(a.clients)) {
+		return bad("range", fmt.Sprintf("a range is a number below %d", len(a.clients)))
+	}
+	text, err := a.clients[at].CopyText(a.ctx, int(tablet), nil)
+	if err != nil {
+		return ofRegions(err, "regions of the range", nil)
+	}
+	return a.reply(http.StatusOK, "application/jsonl", text)
+}
+
+// health says whether each range has a region that answers.
+func (a *answer) health() error {
+	ctx, stop := context.WithTimeout(a.ctx, 2*time.Second)
+	defer stop()
+	for at, client := range a.clients {
+		if _, err := client.Read(ctx, "healthz"); err != nil && !is[*pnuts.Recovering](err) {
+			return faulty(http.StatusServiceUnavailable, "away", fmt.Sprintf("range %d", at), "none of its regions answers")
+		}
+	}
+	return a.reply(http.StatusOK, asJSON, []byte(`{"health":"well"}`+"\n"))
 }
