@@ -132,7 +132,7 @@ func serve(told words) error {
 	}
 	listener = &places{listener, make(chan struct{}, told.connections), front.counts}
 	server := &http.Server{Handler: front, ReadHeaderTimeout: patience, IdleTimeout: idle, MaxHeaderBytes: mostHeader,
-		ConnContext: withConnection, ErrorLog: log.New(os.Stderr, "pnuts-http: ", 0)}
+		ConnContext: withConnection, ErrorLog: log.New(complaints{}, "", 0)}
 	serving := func() error { return server.Serve(listener) }
 	if told.certificate != "" {
 		get := func(*tls.ClientHelloInfo) (*tls.Certificate, error) { return front.certificate.Load(), nil }
@@ -156,6 +156,16 @@ func serve(told words) error {
 			return nil
 		}
 	}
+}
+
+// Complaints are those of the library, of which those about clients are passed over: they would be as many as clients like.
+type complaints struct{}
+
+func (complaints) Write(text []byte) (int, error) {
+	if it := string(text); strings.Contains(it, "panic") || strings.Contains(it, "Accept") {
+		say("%s", strings.TrimSpace(it))
+	}
+	return len(text), nil
 }
 
 // end waits for what was asked, and for streams to end, but not for long.
