@@ -62,27 +62,19 @@ func (a *answer) reply(status int, kind string, body []byte) error {
 	return nil
 }
 
-// write writes some bytes. A connection has a limit of its own for that; in HTTP/2, where others share it, the stream alone is reset.
+// write writes some bytes. In HTTP/1 the connection has a limit for that; in HTTP/2, which writes later, it is ended here.
 func (a *answer) write(text []byte) error {
 	a.entry.Bytes += int64(len(text))
-	if a.request.ProtoMajor < 2 {
-		_, err := a.writer.Write(text)
-		return err
+	if a.request.ProtoMajor > 1 {
+		late := time.AfterFunc(patience, func() {
+			a.counts.slow.Add(1)
+			connectionOf(a.ctx).Close()
+		})
+		defer late.Stop()
+		defer a.writer.(http.Flusher).Flush()
 	}
-	done, late := make(chan error, 1), time.NewTimer(patience)
-	defer late.Stop()
-	go func() {
-		_, err := a.writer.Write(text)
-		a.writer.(http.Flusher).Flush()
-		done <- err
-	}()
-	select {
-	case err := <-done:
-		return err
-	case <-late.C:
-		a.counts.slow.Add(1)
-		panic(http.ErrAbortHandler)
-	}
+	_, err := a.writer.Write(text)
+	return err
 }
 
 // body is what a request sends, which has to be there within patience.
@@ -90,19 +82,16 @@ func (a *answer) body() ([]byte, error) {
 	if kind := a.request.Header.Get("Content-Type"); !strings.HasPrefix(strings.ToLower(kind), asJSON) {
 		return nil, faulty(http.StatusUnsupportedMediaType, "bad-request", "Content-Type", "it has to be "+asJSON)
 	}
-	if a.request.ProtoMajor < 2 {
-		connection := connectionOf(a.ctx)
-		_ = connection.SetReadDeadline(time.Now().Add(patience))
-		defer connection.SetReadDeadline(time.Time{})
-	} else {
+	if a.request.ProtoMajor > 1 {
 		defer time.AfterFunc(patience, func() { a.request.Body.Close() }).Stop()
 	}
 	found, err := io.ReadAll(http.MaxBytesReader(a.writer, a.request.Body, mostBody))
 	if is[*http.MaxBytesError](err) {
 		err = faulty(http.StatusRequestEntityTooLarge, "too-long", "body", fmt.Sprintf("it has more than %d bytes", mostBody))
 	} else if err != nil {
-		a.writer.Header().Set("Connection", "close")
 		err = faulty(http.StatusRequestTimeout, "late", "body", "it did not come whole in time")
+	} else if a.request.ProtoMajor < 2 {
+		_ = connectionOf(a.ctx).SetReadDeadline(time.Time{})
 	}
 	return found, err
 }

@@ -120,6 +120,10 @@ var routes = map[string]route{
 func (f *front) ServeHTTP(writer http.ResponseWriter, request *http.Request) {
 	a := &answer{front: f, writer: writer, request: request, ctx: request.Context(), route: "none", entry: entryOf(request)}
 	defer a.end()
+	if request.ContentLength != 0 && request.ProtoMajor < 2 {
+		// The library waits for a whole body, also where nobody reads it.
+		_ = connectionOf(a.ctx).SetReadDeadline(a.entry.start.Add(patience))
+	}
 	if err := a.do(); err != nil {
 		a.fail(err)
 	}
