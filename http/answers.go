@@ -14,7 +14,6 @@ import (
 	"strconv"
 	"strings"
 	"sync"
-	"sync/atomic"
 	"time"
 
 	"keqapwi.example/pnuts"
@@ -67,7 +66,7 @@ func (a *answer) write(text []byte) error {
 	a.entry.Bytes += int64(len(text))
 	if a.request.ProtoMajor > 1 {
 		late := time.AfterFunc(patience, func() {
-			a.counts.slow.Add(1)
+			a.counts.add("slow_total", 1)
 			connectionOf(a.ctx).Close()
 		})
 		defer late.Stop()
@@ -180,9 +179,11 @@ func (a *answer) end() {
 
 func (f *front) ended(route string, it entry) {
 	it.Seconds = time.Since(it.start).Seconds()
-	f.counts.answered(route, it)
+	labels := `{route="` + route + `",status="` + strconv.Itoa(it.Status) + `"}`
+	f.counts.add("requests_total"+labels, 1)
+	f.counts.add("request_seconds_total"+labels, it.Seconds)
 	if !f.words.isQuiet {
-		f.log.write(it)
+		f.write(it)
 	}
 }
 
@@ -213,74 +214,47 @@ func cut(text string) string {
 	return text
 }
 
-// An accessLog writes entries as lines of JSON, while requests go on. Where nobody takes them, it drops them.
-type accessLog struct {
-	entries chan entry
-	dropped atomic.Int64
-	ended   chan struct{}
-}
-
-func newLog() *accessLog {
-	l := &accessLog{entries: make(chan entry, mostWaiting), ended: make(chan struct{})}
-	go l.run()
-	return l
-}
-
-func (l *accessLog) write(it entry) {
+// write hands an entry to those that are written. Where nobody takes them, it is dropped.
+func (f *front) write(it entry) {
 	select {
-	case l.entries <- it:
+	case f.entries <- it:
 	default:
-		l.dropped.Add(1)
+		f.counts.add("log_dropped_total", 1)
 	}
 }
 
-// run writes what is at hand together, until the entry of no request.
-func (l *accessLog) run() {
-	defer close(l.ended)
+// writeAll writes entries as lines of JSON, those that are at hand together, until one of no request.
+func (f *front) writeAll() {
+	defer close(f.written)
 	out := bufio.NewWriter(os.Stdout)
-	for it := <-l.entries; it.Status != 0; it = <-l.entries {
+	for it := <-f.entries; it.Status != 0; it = <-f.entries {
 		it.Time, it.Path = it.start.UTC().Format("2006-01-02T15:04:05.000Z"), cut(it.Path)
 		if it.Fault != nil && it.Fault.cause != nil {
 			it.Cause = cut(it.Fault.cause.Error())
 		}
-		if json.NewEncoder(out).Encode(it) != nil || len(l.entries) == 0 && out.Flush() != nil {
-			l.dropped.Add(1)
+		if json.NewEncoder(out).Encode(it) != nil || len(f.entries) == 0 && out.Flush() != nil {
+			f.counts.add("log_dropped_total", 1)
 			out.Reset(os.Stdout)
 		}
 	}
 	_ = out.Flush()
 }
 
-// end writes what is left, for a second.
-func (l *accessLog) end() {
-	l.write(entry{})
-	select {
-	case <-l.ended:
-	case <-time.After(time.Second):
-	}
-}
-
-// Counts are what was done so far: requests of each route with each status, and how long they took; connections, and what streams did.
+// Counts are what was done so far, by the names of metrics with their labels.
 type counts struct {
-	mutex                                 sync.Mutex
-	requests                              map[string]int64
-	seconds                               map[string]float64
-	accepted, streams, slow, missed, told atomic.Int64
+	mutex  sync.Mutex
+	values map[string]float64
 }
 
-func newCounts() *counts { return &counts{requests: map[string]int64{}, seconds: map[string]float64{}} }
-
-func (c *counts) answered(route string, it entry) {
-	labels := `{route="` + route + `",status="` + strconv.Itoa(it.Status) + `"}`
+func (c *counts) add(name string, more float64) {
 	c.mutex.Lock()
 	defer c.mutex.Unlock()
-	c.requests[labels]++
-	c.seconds[labels] += it.Seconds
+	c.values[name] += more
 }
 
 // metrics answers with counts, for Prometheus.
 func (a *answer) metrics() error {
-	sessions, unfollowed, requests, seconds := int64(0), 0, []string{}, []string{}
+	unfollowed, sessions, lines := 0, int64(0), []string{}
 	for _, client := range a.clients {
 		sessions += client.Sessions()
 	}
@@ -290,23 +264,11 @@ func (a *answer) metrics() error {
 		}
 	}
 	a.counts.mutex.Lock()
-	for labels, count := range a.counts.requests {
-		requests = append(requests, fmt.Sprintf("pnuts_http_requests_total%s %d\n", labels, count))
-		seconds = append(seconds, fmt.Sprintf("pnuts_http_request_seconds_total%s %g\n", labels, a.counts.seconds[labels]))
+	for name, value := range a.counts.values {
+		lines = append(lines, fmt.Sprintf("pnuts_http_%s %g\n", name, value))
 	}
 	a.counts.mutex.Unlock()
-	sort.Strings(requests)
-	sort.Strings(seconds)
-	lines := []string{"# TYPE pnuts_http_requests_total counter\n", strings.Join(requests, ""),
-		"# TYPE pnuts_http_request_seconds_total counter\n", strings.Join(seconds, "")}
-	for name, value := range map[string]any{"connections_accepted_total": a.counts.accepted.Load(), "streams_open": a.counts.streams.Load(),
-		"slow_total": a.counts.slow.Load(), "changes_told_total": a.counts.told.Load(), "missed_total": a.counts.missed.Load(),
-		"log_dropped_total": a.log.dropped.Load(), "region_sessions_total": sessions, "ranges_not_followed": unfollowed} {
-		kind := "gauge"
-		if strings.HasSuffix(name, "_total") {
-			kind = "counter"
-		}
-		lines = append(lines, fmt.Sprintf("# TYPE pnuts_http_%s %s\npnuts_http_%s %d\n", name, kind, name, value))
-	}
+	lines = append(lines, fmt.Sprintf("pnuts_http_region_sessions_total %d\n", sessions), fmt.Sprintf("pnuts_http_ranges_not_followed %d\n", unfollowed))
+	sort.Strings(lines)
 	return a.reply(http.StatusOK, "text/plain; version=0.0.4; charset=utf-8", []byte(strings.Join(lines, "")))
 }

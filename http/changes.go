@@ -44,11 +44,11 @@ func (a *answer) changes() error {
 	if a.request.Method == http.MethodHead {
 		return a.reply(http.StatusOK, asEvents, nil)
 	}
-	leave, err := a.enter(a.streams)
+	leave, err := a.enter("streams")
 	if err != nil {
 		return err
 	}
-	a.counts.streams.Add(1)
+	a.counts.add("streams_open", 1)
 	s := &stream{a.front, make([]control.Mark, len(a.histories)), a.write, a.ctx.Done()}
 	if last := strings.Split(a.request.Header.Get("Last-Event-ID"), "_"); len(last) == len(s.marks) {
 		for at := range last {
@@ -59,7 +59,7 @@ func (a *answer) changes() error {
 		return s.handOn(a, hijacker, leave)
 	}
 	defer leave()
-	defer a.counts.streams.Add(-1)
+	defer a.counts.add("streams_open", -1)
 	a.writer.Header().Set("Content-Type", asEvents)
 	a.writer.Header().Set("Cache-Control", "no-store")
 	s.run("")
@@ -92,7 +92,7 @@ func (s *stream) handOn(a *answer, hijacker http.Hijacker, leave func()) error {
 		s.run(streamHead)
 		_ = connection.Close()
 		s.ended(route, entry)
-		s.counts.streams.Add(-1)
+		s.counts.add("streams_open", -1)
 		leave()
 	}()
 	return nil
@@ -138,11 +138,11 @@ func (s *stream) told(text []byte, at int, found control.Notices, to control.Mar
 		data, _ := json.Marshal(it)
 		text = fmt.Appendf(text, "event: change\nid: %s\ndata: %s\n\n", s.id(), data)
 	}
-	s.counts.told.Add(int64(len(found.Changes)))
+	s.counts.add("changes_told_total", float64(len(found.Changes)))
 	if found.Missed {
 		s.marks[at] = to
 		text = fmt.Appendf(text, "event: missed\nid: %s\ndata: {\"range\":%d}\n\n", s.id(), at)
-		s.counts.missed.Add(1)
+		s.counts.add("missed_total", 1)
 	}
 	return text
 }

@@ -42,17 +42,22 @@ type front struct {
 	tokens      atomic.Pointer[tokens]
 	certificate atomic.Pointer[tls.Certificate]
 	counts      *counts
-	log         *accessLog
-	// Who is answered at once.
-	requests, pages, copies, streams chan struct{}
+	// What is to be logged, and the end of what was.
+	entries chan entry
+	written chan struct{}
+	// Places of those who are answered at once, by what they ask for.
+	places map[string]chan struct{}
 	// Done once it is told to stop.
 	stopping context.Context
 }
 
 func newFront(told words, stopping context.Context) (f *front, err error) {
-	few := func(count int) chan struct{} { return make(chan struct{}, count) }
-	f = &front{words: told, counts: newCounts(), log: newLog(), stopping: stopping, requests: few(mostRequests),
-		pages: few(mostPages), copies: few(1), streams: few(told.streams)}
+	f = &front{words: told, counts: &counts{values: map[string]float64{}}, entries: make(chan entry, mostWaiting),
+		written: make(chan struct{}), places: map[string]chan struct{}{}, stopping: stopping}
+	for name, most := range map[string]int{"requests": mostRequests, "pages": mostPages, "copies": 1, "streams": told.streams} {
+		f.places[name] = make(chan struct{}, most)
+	}
+	go f.writeAll()
 	options := pnuts.Options{Connections: told.sessions, Timeout: time.Duration(told.seconds) * time.Second}
 	for _, addresses := range told.regions {
 		client, err := pnuts.OpenAny(addresses, options)
@@ -93,27 +98,23 @@ func (f *front) load() error {
 	return nil
 }
 
-// A route is what is done for a path: by which method, with which right and members of the query, among how many, and how.
+// A route is what is done for a path: by which method, with which right and members of the query, among which places, and how.
 type route struct {
 	name, method, right string
 	members             []string
-	among               func(*front) chan struct{}
+	among               string
 	do                  func(*answer) error
 }
 
-func ofRequests(f *front) chan struct{} { return f.requests }
-func ofPages(f *front) chan struct{}    { return f.pages }
-func ofCopies(f *front) chan struct{}   { return f.copies }
-
 var routes = map[string]route{
-	"/records/":     {"record", "GET", "read", []string{"at-least"}, ofRequests, (*answer).record},
-	"/records":      {"page", "GET", "read", []string{"from", "to", "after", "limit", "where"}, ofPages, (*answer).page},
-	"/get":          {"get", "POST", "read", nil, ofPages, (*answer).get},
-	"/copies/":      {"copy", "GET", "copy", []string{"range"}, ofCopies, (*answer).copy},
-	"/changes":      {"changes", "GET", "changes", nil, ofRequests, (*answer).changes},
-	"/healthz":      {"healthz", "GET", "", nil, ofRequests, (*answer).health},
-	"/metrics":      {"metrics", "GET", "", nil, ofRequests, (*answer).metrics},
-	"/openapi.json": {"openapi", "GET", "", nil, ofRequests, func(a *answer) error { return a.reply(http.StatusOK, asJSON, description) }},
+	"/records/":     {"record", "GET", "read", []string{"at-least"}, "requests", (*answer).record},
+	"/records":      {"page", "GET", "read", []string{"from", "to", "after", "limit", "where"}, "pages", (*answer).page},
+	"/get":          {"get", "POST", "read", nil, "pages", (*answer).get},
+	"/copies/":      {"copy", "GET", "copy", []string{"range"}, "copies", (*answer).copy},
+	"/changes":      {"changes", "GET", "changes", nil, "requests", (*answer).changes},
+	"/healthz":      {"healthz", "GET", "", nil, "requests", (*answer).health},
+	"/metrics":      {"metrics", "GET", "", nil, "requests", (*answer).metrics},
+	"/openapi.json": {"openapi", "GET", "", nil, "requests", func(a *answer) error { return a.reply(http.StatusOK, asJSON, description) }},
 }
 
 // ServeHTTP answers a request.
@@ -151,7 +152,7 @@ func (a *answer) do() (err error) {
 	if err != nil {
 		return err
 	}
-	leave, err := a.enter(chosen.among(a.front))
+	leave, err := a.enter(chosen.among)
 	if err != nil {
 		return err
 	}
@@ -177,14 +178,15 @@ func (a *answer) readQuery(known []string) (err error) {
 }
 
 // enter waits a second for a place, and gives what leaves it again.
-func (a *answer) enter(among chan struct{}) (leave func(), err error) {
+func (a *answer) enter(among string) (leave func(), err error) {
+	places := a.places[among]
 	late := time.NewTimer(time.Second)
 	defer late.Stop()
 	select {
-	case among <- struct{}{}:
-		return func() { <-among }, nil
+	case places <- struct{}{}:
+		return func() { <-places }, nil
 	case <-late.C:
-		return nil, faulty(http.StatusServiceUnavailable, "busy", "pnuts-http", fmt.Sprintf("%d such requests are answered already", cap(among)))
+		return nil, faulty(http.StatusServiceUnavailable, "busy", among, fmt.Sprintf("%d are answered already", cap(places)))
 	case <-a.ctx.Done():
 		return nil, ofRegions(a.ctx.Err(), "request", nil)
 	}

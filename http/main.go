@@ -81,18 +81,15 @@ func parsed(given []string) (told words, err error) {
 
 // check says what is wrong with the words together.
 func (w *words) check() error {
-	ranges := len(w.bounds) + 1
-	switch least, most := 1, 1_000_000; {
+	switch ranges := len(w.bounds) + 1; {
 	case len(w.regions) != ranges:
 		return fmt.Errorf("%d ranges take as many words of regions, not %d", ranges, len(w.regions))
 	case len(w.controls) != 0 && len(w.controls) != ranges:
 		return fmt.Errorf("--control is wanted once for each of %d ranges, or never, not %d times", ranges, len(w.controls))
 	case (w.certificate == "") != (w.key == ""):
 		return errors.New("--certificate and --key belong together")
-	case w.sessions < least || w.connections < least || w.streams < least || w.seconds < least:
-		return fmt.Errorf("numbers are %d at least", least)
-	case w.sessions > 1000 || w.connections > most || w.streams > most || w.seconds > 600:
-		return fmt.Errorf("there are at most 1000 sessions, %d connections and streams, and 600 seconds", most)
+	case w.sessions < 1 || w.connections < 1 || w.streams < 1 || w.seconds < 1 || w.sessions > 1000 || w.seconds > 600 || w.connections > 1e6 || w.streams > 1e6:
+		return errors.New("numbers are 1 at least, and at most 1000 sessions, 600 seconds, 1000000 connections and streams")
 	}
 	return nil
 }
@@ -173,7 +170,7 @@ func (f *front) end(server *http.Server) {
 	last, done := context.WithTimeout(context.Background(), lastTime)
 	defer done()
 	err := server.Shutdown(last)
-	for err == nil && len(f.streams) > 0 {
+	for err == nil && len(f.places["streams"]) > 0 {
 		time.Sleep(10 * time.Millisecond)
 		err = last.Err()
 	}
@@ -181,7 +178,11 @@ func (f *front) end(server *http.Server) {
 		say("some requests were not answered in %v", lastTime)
 		server.Close()
 	}
-	f.log.end()
+	f.write(entry{})
+	select {
+	case <-f.written:
+	case <-time.After(time.Second):
+	}
 }
 
 // Places are those of all connections that are open at once.
@@ -198,7 +199,7 @@ func (p *places) Accept() (net.Conn, error) {
 		return nil, err
 	}
 	p.taken <- struct{}{}
-	p.counts.accepted.Add(1)
+	p.counts.add("connections_accepted_total", 1)
 	return &connection{Conn: found, of: p}, nil
 }
 
@@ -219,7 +220,7 @@ func (c *connection) Write(text []byte) (int, error) {
 	_ = c.Conn.SetWriteDeadline(time.Now().Add(patience))
 	size, err := c.Conn.Write(text)
 	if errors.Is(err, os.ErrDeadlineExceeded) {
-		c.of.counts.slow.Add(1)
+		c.of.counts.add("slow_total", 1)
 	}
 	return size, err
 }

@@ -185,13 +185,13 @@ func TestWords(t *testing.T) {
 // As many as there are places are answered at once, and others are told so after a second.
 func TestPlaces(t *testing.T) {
 	front, base := serving(t, fake(t, `{"rows":[],"next":null}`))
-	for at := 0; at < cap(front.pages); at++ {
-		front.pages <- struct{}{}
+	for at := 0; at < cap(front.places["pages"]); at++ {
+		front.places["pages"] <- struct{}{}
 	}
 	begin := time.Now()
 	answer, body := asked(t, "GET", base+"/records", "")
 	same(t, "where all places are taken", told(answer.StatusCode, strings.Contains(body, "busy"), time.Since(begin) > time.Second), "503 true true")
-	time.AfterFunc(100*time.Millisecond, func() { <-front.pages })
+	time.AfterFunc(100*time.Millisecond, func() { <-front.places["pages"] })
 	answer, _ = asked(t, "GET", base+"/records", "")
 	same(t, "where one is left", answer.StatusCode, http.StatusOK)
 }

@@ -62,7 +62,7 @@ func serving(t testing.TB, given ...string) (*front, string) {
 		for _, client := range front.clients {
 			client.Close()
 		}
-		until(t, "streams end", func() bool { return len(front.streams) == 0 })
+		until(t, "streams end", func() bool { return len(front.places["streams"]) == 0 })
 	})
 	return front, "http://" + listener.Addr().String()
 }
