@@ -20,8 +20,9 @@ FOLDERS = {"run": "/run/pnuts", "copies": "/var/lib/pnuts"}
 # A container has no network, writes into its volumes alone, and may do nothing of what root may.
 PLAIN = ("--rm", "--network=none", "--read-only", "--cap-drop=all", "--security-opt=no-new-privileges", "--ulimit=nofile=4096:4096",
          "--ulimit=nproc=4096:4096")
-# What makes a folder the root of a process, with volumes, the files of devices and processes of its own.
+# What makes a folder the root of a process, with volumes, a loopback, and the files of devices and processes of its own.
 MOUNTS = """
+ip link set lo up
 mount --bind "$1" "$1"
 mount --bind "$2" "$1/run/pnuts"
 mount --bind "$3" "$1/var/lib/pnuts"
@@ -31,7 +32,7 @@ for it in null zero random urandom; do touch "$1/dev/$it"; mount --bind "/dev/$i
 mount -o remount,bind,ro "$1"
 root=$1
 shift 3
-exec setpriv --no-new-privs --bounding-set=-all,+sys_chroot,+setuid,+setgid chroot --userspec=7070:7070 "$root" env -i PATH=/usr/sbin:/usr/bin:/sbin:/bin "$@"
+exec chroot "$root" setpriv --reuid=7070 --regid=7070 --clear-groups --no-new-privs --bounding-set=-all env -i PATH=/usr/sbin:/usr/bin:/sbin:/bin "$@"
 """
 PATIENCE = 60.0
 
@@ -107,8 +108,12 @@ class Contained:
         self.process = process
 
     def signal(self, number: signal.Signals) -> None:
-        """See `Running`."""
-        run([*self._line, "kill", f"--signal={number.name}", self._name])
+        """See `Running`. A container that has just been started may not be there yet."""
+        last = time.monotonic() + PATIENCE
+        while (told := ended([*self._line, "kill", f"--signal={number.name}", self._name])).returncode and self.process.poll() is None:
+            if time.monotonic() > last:
+                raise TimeoutError(f"the container cannot be told {number.name}: {told.stdout}")
+            time.sleep(0.1)
 
 
 class Chroot:

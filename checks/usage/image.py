@@ -1,6 +1,6 @@
 """Makes an image for containers of a program's packages, and runs containers of it, which it stops under clients.
 
-  checks/run image PROGRAM
+  checks/run image PROGRAM [--image FILE]
 
 It makes the packages and the image (`packaging/image`), from the network. Containers are run by podman or, where that is refused,
 by chroot, without a network, with a root that is read-only, and without capabilities. All is apart from the system that runs the
@@ -33,10 +33,10 @@ from usage.containers import FOLDERS, PATIENCE, USER, Image, Running, config_of,
 from usage.fresh_system import run
 from usage.one_session import connected
 
-TOOLS = {"dh": "debhelper", "mmdebstrap": "mmdebstrap", "umoci": "umoci", "unshare": "util-linux", "setpriv": "util-linux"}
+TOOLS = {"dh": "debhelper", "ip": "iproute2", "mmdebstrap": "mmdebstrap", "umoci": "umoci", "unshare": "util-linux", "setpriv": "util-linux"}
 WORDS = {"PNUTS_WORDS": "--sessions 2 --socket /run/pnuts/socket"}
 # How many lines a client has in flight when a container is stopped, and how many clients there are.
-LINES, CLIENTS = 3_000, 8
+LINES, CLIENTS = 300, 8
 # For how many seconds a stop answers, and how many more the container has.
 SECONDS, MORE = 3, 4
 # What a process of a container may do, and who it is.
@@ -147,7 +147,7 @@ def check_programs(image: Image, folder: Path) -> str:
     status = {name: value.split()[0] for name, _, value in (it.partition(":\t") for it in lines[2:]) if name in STATUS}
     same("what it may do", status, STATUS)
     feeds = "for it in kafka postgres-outbox rabbitmq-stream redis-stream; do /usr/share/pnuts-feeds/$it --help; done > /dev/null"
-    same("what feeds say", did(image, folder, "sh", "-ec", f"{feeds}; pnuts --version > /dev/null; ! touch /tmp/x 2> /dev/null"), "")
+    same("what feeds say", did(image, folder, "sh", "-ec", f"{feeds}; pnuts --version > /dev/null; ! touch /usr/x 2> /dev/null"), "")
     return "process 1 is tini, the user is pnuts and may do nothing, and each feed begins"
 
 
@@ -157,7 +157,7 @@ def check_stop(image: Image, folder: Path) -> str:
         give(it, 500)
         clients = [it.client() for _ in range(CLIENTS)]
         for at, client in enumerate(clients):
-            client.sendall(b"".join(b'{"do":"read","key":"k%d"}\n' % (1 + (at * 7 + line) % 500) for line in range(LINES // 10)))
+            client.sendall(b"".join(b'{"do":"read","key":"k%d"}\n' % (1 + (at * 7 + line) % 500) for line in range(LINES)))
         # They have come once the region is asked by another one.
         it.ask(b'{"do":"read","key":"k1"}\n')
         time.sleep(0.5)
@@ -167,9 +167,9 @@ def check_stop(image: Image, folder: Path) -> str:
         replies = [client.makefile("rb").read() for client in clients]
         status, took = it.ended(), time.monotonic() - start
     for reply in replies:
-        same("replies", [reply.count(b"\n"), reply.count(b'"version":[1,0]'), reply[-1:]], [LINES // 10, LINES // 10, b"\n"])
+        same("replies", [reply.count(b"\n"), reply.count(b'"version":[1,0]'), reply[-1:]], [LINES, LINES, b"\n"])
     same("how it ended", (status, took < SECONDS + MORE), (0, True))
-    return f"a container that is stopped answers {CLIENTS * (LINES // 10):,} lines of {CLIENTS} clients, and has ended after {took:.1f} seconds"
+    return f"a container that is stopped answers {CLIENTS * LINES:,} lines of {CLIENTS} clients, and has ended after {took:.1f} seconds"
 
 
 def check_deadline(image: Image, folder: Path) -> str:
@@ -224,22 +224,22 @@ def check_ends(image: Image, folder: Path) -> str:
         did(image, volumes, "pnuts-ctl", "stop")
         same("how a stop by the control socket ends", it.ended(), 0)
     with region(image, volumes, None, ("sleep", "100")) as it:
-        wait_until("it runs", lambda: bool(it.process.poll() is None))
-        time.sleep(2)
+        time.sleep(1)
         it.signal(signal.SIGTERM)
         same("how another program ends", it.ended(), 128 + signal.SIGTERM)
     return "refused words end with 2, a fault with 1, a stop with 0, and other programs by the signal"
 
 
-def within(program: Path) -> int:
+def within(program: Path, made: Path | None) -> int:
     """The check, where mounts, processes and files are its own."""
     folder = next(Path(it) for it in ("/mnt", "/media", "/srv") if not any(path.is_relative_to(it) for path in (TOP, program)))
     run(["mount", "-t", "tmpfs", "-o", "mode=755", "tmpfs", folder])
     os.environ["TMPDIR"] = tempfile.tempdir = str(folder)
-    archive = folder / "pnuts.oci"
+    archive = made or folder / "pnuts.oci"
     try:
-        run(["make", "-C", TOP, "image", f"DEBS={folder}", f"PNUTS={program}"])
-        say(f"made an image; {check_config(archive)}")
+        if made is None:
+            run(["make", "-C", TOP, "image", f"DEBS={folder}", f"PNUTS={program}"])
+        say(check_config(archive))
         how, image = image_of(folder, archive)
         say(f"containers are run by {how}")
         for check in (check_programs, check_stop, check_deadline, check_copies, check_ends):
@@ -253,17 +253,18 @@ def within(program: Path) -> int:
 def main(words: list[str]) -> int:
     parser = program_parser(__doc__)
     parser.add_argument("--within", action="store_true", help=argparse.SUPPRESS)
+    parser.add_argument("--image", metavar="FILE", type=Path, help="an image that was made before, and is tried instead")
     told = parser.parse_args(words)
-    program = Path(told.program).resolve()
+    program, made = Path(told.program).resolve(), told.image and told.image.resolve()
     if told.within:
-        return within(program)
+        return within(program, made)
     wanted = [*sorted({package for tool, package in TOOLS.items() if shutil.which(tool) is None}), *([] if os.geteuid() == 0 else ["root"])]
     if wanted:
         say(f"checks/run image: skipped, for it needs {' '.join(wanted)}")
         return 0
     signal.signal(signal.SIGTERM, lambda *_: sys.exit(1))
     line = ["setpriv", "--pdeathsig=KILL", "unshare", "--mount", "--pid", "--fork", "--kill-child", "--mount-proc"]
-    with subprocess.Popen([*line, RUN, "image", "--within", program]) as running:
+    with subprocess.Popen([*line, RUN, "image", "--within", program, *(["--image", made] if made else [])]) as running:
         try:
             return running.wait()
         finally:

@@ -37,6 +37,7 @@ FILES = {
     "share/man/man8/pnuts-ctl.8": 0o644,
     "share/man/man8/pnuts.8": 0o644,
     "share/pnuts-feeds/postgres-outbox.sql": 0o644,
+    "share/pnuts-feeds/postgres-table.sql": 0o644,
     **{f"share/pnuts-tools/pnuts.{it}": 0o644 for it in ("dashboard.json", "rules.yml", "tests.yml")},
     "share/pnuts-tools/container": 0o755,
     "share/zsh/site-functions/_pnuts": 0o644,
