@@ -18,7 +18,7 @@ mod version;
 pub use control::laws::commands_are_events;
 pub use control::mailboxes::{ControlMailboxes, ControlsClosed, MAX_CONTROLS, StopAsked};
 pub use control::session::{ControlSession, StatsSource};
-pub use copies::{CopiesFault, CopiesReader, open_copies};
+pub use copies::{CopiesFault, CopiesReader, open_copies, recut_copies};
 pub use laws::regions_converge;
 pub use machine::line_handler::{Answer, LineHandler};
 pub use machine::skipping::RefusesSkipped;
