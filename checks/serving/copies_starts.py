@@ -139,7 +139,7 @@ def recut_fault(program: str, seed: int) -> str | None:
     rng = random.Random(seed)
     streams = streams_of(rng, MANY_KEYS)
     ends = {name: rng.randrange(len(images) + 1) for name, images in streams.items()}
-    bounds, others = (bounds_of(rng, rng.choice([1, 2, 4, 8, 64])) for _ in range(2))
+    bounds, others = (sorted(rng.sample(MANY_KEYS, rng.choice(counts))) for counts in ([0, 1, 7, 63], [1, 3, 7, 63]))
     with tempfile.TemporaryDirectory() as folder:
         had, wanted = (taken(program, folder, ["--bounds", json.dumps(it)], part_of(streams, ends), len(it) + 1) for it in (bounds, others))
         path, control = written(folder, "copies", b"".join(rng.sample(had, len(had)))), os.path.join(folder, "control")
@@ -147,13 +147,13 @@ def recut_fault(program: str, seed: int) -> str | None:
         with Staying(program, folder, [(name, os.devnull) for name in streams], "--copies", path, "--bounds", json.dumps(others),
                      "--control", control, is_looked_at=False), Session(control) as session:
             tablets = [session.copy(tablet) for tablet in range(len(wanted))]
-        if tablets != wanted and others:
+        if tablets != wanted:
             return f"the tablets of seed {seed} are not those of a region of the other layout that took the same images"
         all_taken = taken(program, folder, ["--bounds", json.dumps(others)], streams, len(wanted))
         with Staying(program, folder, rest, "--copies", path, "--bounds", json.dumps(others), is_looked_at=False) as region:
             with Client(region.port) as client:
                 found = [copied(client, copy_line(tablet, streams)) for tablet in range(len(wanted))]
-        return None if found == all_taken or not others else f"the copies of seed {seed} are not those of a region that took all"
+        return None if found == all_taken else f"the copies of seed {seed} are not those of a region that took all"
 
 
 def check_other_bounds(program: str, folder: str) -> None:
