@@ -168,7 +168,7 @@ def check_bounds_of_other_moments(program: str, folder: str) -> None:
     path = written(folder, "copies", early + late)
     status, shown, said = refusal(program, path, "--bounds", '["a"]')
     same("the end", (status, shown), (1, ""))
-    same("what is said", said.startswith("pnuts: copies: bounds: tablet 1 would join copies that have 10 and 30 of stream "), True)
+    same("what is said", said.startswith("pnuts: copies: bounds: tablet 1 would join copies of different marks: behind: the tablet has 10 of stream "), True)
     with Staying(program, folder, [("east", os.devnull)], "--copies", path, "--bounds", '["a","b","ca"]', is_looked_at=False):
         pass
 

@@ -1,10 +1,14 @@
 -- Regions that start from copies without being served, and what they give in another layout.
-use Rattle.std.proofs.Common.{◌≡◌, ℕ, List, [], ◌∷◌, ◌++◌, map, Option, None, Some, Result, Ok, Err, ◌⊎◌, inl, inr, refl, sym, ap, ap₂, ◌∙◌, subst}
-use Rattle.std.specs.Prelude.{MatchResult}
-use Rattle.std.specs.List.{AllByRecursion, flat_map}
+use Rattle.std.proofs.Common.{◌≡◌, ℕ, suc, arith, ◌+◌, Bool, false, cond, not, nat_lt, List, [], ◌∷◌, ◌++◌, length, map, take, drop, slice_get, Option, None, Some, Result, Ok, Err, ◌⊎◌, inl, inr, refl, sym, ap, ap₂, ◌∙◌, subst}
+use Rattle.std.specs.Prelude.{MatchResult, IsSomeAnd}
+use Rattle.std.specs.List.{AllByRecursion, flat_map, position_or_len}
+use Rattle.std.specs.Option.{option_to_list}
 use Rattle.std.specs.List.Sorted.{IsPermutation}
+use Rattle.std.proofs.lemmas.Bool.Decides.{nat_tests}
+use Rattle.std.proofs.lemmas.List.{append_assoc, map-append, take-append-drop}
 use Rattle.std.proofs.lemmas.List.Elements.{All-from_recursion, recursion_from_All}
 use Rattle.std.proofs.lemmas.List.Sorted.{All-permutation}
+use Rattle.pn_json.proofs.TokenLists.{taken_next}
 use Rattle.pn_stream.specs.Brokers.{BrokerRecord}
 use Rattle.pn_tablet.specs.Copies.{TabletCopyValue}
 use Rattle.pn_tablet.specs.Copying.{copy_from, copy_of, copy_shortfall, unless_behind}
@@ -12,6 +16,7 @@ use Rattle.pn_tablet.specs.Layouts.{Bounds, IsLayout}
 use Rattle.pn_tablet.specs.Ranges.{Ends}
 use Rattle.pn_tablet.specs.Refusals.{Refuses}
 use Rattle.pn_tablet.specs.Steps.{is_memory}
+use Rattle.pn_tablet.specs.declared.fault.CopyFault.{CopyFault}
 use Rattle.pn_tablet.specs.declared.fault.OpFault.{OpFault as AdoptFault}
 use Rattle.pn_tablet.specs.Tablets.{TabletStateValue}
 use Rattle.pn_tablet.specs.declared.fault.OpFault.TheVariants as op
@@ -25,15 +30,19 @@ use Rattle.pn_region.specs.Faith.{AreFaithful}
 use Rattle.pn_region.specs.Honest.{IsHonestCopy}
 use Rattle.pn_region.specs.Recovery.{after_adoption}
 use Rattle.pn_region.specs.Regions.{RegionValue, all_cells}
-use Rattle.pn_region.specs.Relayouts.{made_of}
+use Rattle.pn_region.specs.Relayouts.{after_relayout, first_recovering, is_memory as is_no_relayout, is_recovering, made_of, with_layout, with_layout_unless}
+use Rattle.pn_region.specs.Serving.{AllServe}
 use Rattle.pn_region.specs.Starting.{AreHonestCopies, start_events}
+use Rattle.pn_region.specs.declared.fault.RelayoutFault.{RelayoutFault}
+use Rattle.pn_region.specs.declared.fault.RelayoutFault.TheVariants.{StillRecovering}
 use Rattle.pn_region.proofs.FaithfulCopies.{given_is_honest}
 use Rattle.pn_region.proofs.Relaying.{relays, same_records}
 use Rattle.pn_region.proofs.Starting.{later_faithful, started_is}
 use Rattle.pn_live.specs.Starting.{StopsAt, StopsStart}
 use Rattle.pn_live.specs.declared.fault.StartFault.{StartFault}
 use Rattle.pn_live.specs.declared.fault.StartFault.TheVariants.{Adopt as NotAdopted, Advance, Open}
-use Rattle.pn_serve.specs.Copies.Recutting.{AreRecut, copies_from}
+use Rattle.pn_serve.specs.Copies.Recutting.{AreRecut, IsShortAt, StopsGiving, copies_from}
+use Rattle.pn_serve.specs.declared.copies.fault.CopiesFault.{CopiesFault}
 
 -- wherever the copies that are left lead from here, all copies lead from the start
 abbrev pub LeadOn : List TabletCopyValue → RegionValue → List TabletCopyValue → RegionValue → Type 0
@@ -79,7 +88,73 @@ stops_start copies region (Open fault) stops = tt
 stops_start copies region (NotAdopted fault) stops = stops
 stops_start copies region (Advance fault) stops = stops
 
+-- ---- a region that serves changes its layout
+
+one_more_than : (n : ℕ) → 1 + n ≡ suc n
+one_more_than n = omega arith
+
+none_recovers : (ts : List TabletStateValue) → AllByRecursion (λ (t : TabletStateValue). t.status ≡ Serving) ts → position_or_len (λ (t : TabletStateValue). is_recovering t.status) ts ≡ length ts
+none_recovers [] serve = refl
+none_recovers (t ∷ ts) serve =
+    ap (λ (status : Status). cond (not (is_recovering status)) (1 + position_or_len (λ (u : TabletStateValue). is_recovering u.status) ts) 0) serve.0
+    ∙ ap (λ (n : ℕ). 1 + n) (none_recovers ts serve.1)
+    ∙ one_more_than (length ts)
+
+not_below : (n m : ℕ) → n ≡ m → nat_lt n m ≡ false
+not_below n m same = grind (arith, same, nat_tests)
+
+none_first : (ts : List TabletStateValue) → AllByRecursion (λ (t : TabletStateValue). t.status ≡ Serving) ts → first_recovering ts ≡ None
+none_first ts serve =
+    let first = position_or_len (λ (t : TabletStateValue). is_recovering t.status) ts in
+    ap (λ (below : Bool). cond below (Some first) None) (not_below first (length ts) (none_recovers ts serve))
+
+-- a region that serves is not refused another layout for a tablet that recovers
+pub relays_always : (region : RegionValue) (bounds : Bounds) (n : ℕ) → AllServe region → Refuses is_no_relayout (StillRecovering n) (after_relayout region bounds) → ⊥
+relays_always region bounds n serve refused =
+    differ (sym (ap (with_layout_unless region bounds) (none_first region.tablets serve)) ∙ refused)
+  where
+    differ : ◌≡◌ {A = Result RegionValue RelayoutFault} (Ok (with_layout region bounds)) (Err (StillRecovering n)) → ⊥
+    differ same = cc
+
 -- ---- what the tablets of a region give
+
+taken_more : (ts : List TabletStateValue) (n : ℕ) (t : TabletStateValue) → slice_get ts n ≡ Some t → take (n + 1) ts ≡ take n ts ++ t ∷ []
+taken_more ts n t there = sym (taken_next ts n) ∙ ap (λ (found : Option TabletStateValue). take n ts ++ option_to_list found) there
+
+-- one tablet more gives its copy
+pub given_more : (ts : List TabletStateValue) (n : ℕ) (copies : List TabletCopyValue) (copy : TabletCopyValue) → copies_from (take n ts) ≡ map Ok copies
+    → IsSomeAnd (slice_get ts n) (λ t. copy_of t [] ≡ Ok copy) → copies_from (take (n + 1) ts) ≡ map Ok (copies ++ copy ∷ [])
+given_more ts n copies copy so is = by_found (slice_get ts n) refl is where
+  by_found : (found : Option TabletStateValue) → slice_get ts n ≡ found → IsSomeAnd found (λ t. copy_of t [] ≡ Ok copy) → copies_from (take (n + 1) ts) ≡ map Ok (copies ++ copy ∷ [])
+  by_found None there is = absurd is
+  by_found (Some t) there is =
+      ap copies_from (taken_more ts n t there)
+      ∙ map-append (λ (u : TabletStateValue). copy_of u []) (take n ts) (t ∷ [])
+      ∙ ap₂ (λ (one more : List (Result TabletCopyValue CopyFault)). one ++ more) so (ap (λ (r : Result TabletCopyValue CopyFault). r ∷ []) is)
+      ∙ sym (map-append Ok copies (copy ∷ []))
+
+-- the first tablet that gives no copy
+pub stops_giving : (ts : List TabletStateValue) (n : ℕ) (copies : List TabletCopyValue) (fault : CopiesFault) → copies_from (take n ts) ≡ map Ok copies → length copies ≡ n
+    → IsSomeAnd (slice_get ts n) (λ t. IsShortAt n (copy_of t []) fault) → StopsGiving ts fault
+stops_giving ts n copies fault so count is = by_found (slice_get ts n) refl is where
+  later : List (Result TabletCopyValue CopyFault)
+  later = copies_from (drop (n + 1) ts)
+
+  by_found : (found : Option TabletStateValue) → slice_get ts n ≡ found → IsSomeAnd found (λ t. IsShortAt n (copy_of t []) fault) → StopsGiving ts fault
+  by_found None there is = absurd is
+  by_found (Some t) there is = record {
+    before = copies;
+    short = copy_of t [];
+    later = later;
+    given =
+        ap copies_from (sym (take-append-drop (n + 1) ts))
+        ∙ map-append (λ (u : TabletStateValue). copy_of u []) (take (n + 1) ts) (drop (n + 1) ts)
+        ∙ ap (λ (some : List TabletStateValue). copies_from some ++ later) (taken_more ts n t there)
+        ∙ ap (λ (some : List (Result TabletCopyValue CopyFault)). some ++ later) (map-append (λ (u : TabletStateValue). copy_of u []) (take n ts) (t ∷ []))
+        ∙ append_assoc (copies_from (take n ts)) (copy_of t [] ∷ []) later
+        ∙ ap (λ (some : List (Result TabletCopyValue CopyFault)). some ++ copy_of t [] ∷ later) so;
+    is_short = subst (λ (k : ℕ). IsShortAt k (copy_of t []) fault) (sym count) is;
+  }
 
 -- a copy of the tablet's range and cells
 record IsOf (t : TabletStateValue) (copy : TabletCopyValue) : Type 0 where

@@ -59,7 +59,7 @@ StopsOpen copies TooManyStreams = AreOfTooManyStreams copies
 StopsOpen copies Memory = Unit {0}
 StopsOpen copies (Line n fault) = ⊥
 StopsOpen copies Read = ⊥
-StopsOpen copies (Unequal n stream has wanted) = ⊥
+StopsOpen copies (Unequal n why) = ⊥
 
 -- the fault of copies that are those of no layout
 abbrev pub cut_fault : CutFault → CopiesFault

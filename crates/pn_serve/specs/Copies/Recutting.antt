@@ -6,7 +6,6 @@ use Rattle.pn_tablet.specs.Copying.{copy_of}
 use Rattle.pn_tablet.specs.Layouts.{Bounds}
 use Rattle.pn_tablet.specs.Tablets.{TabletStateValue}
 use Rattle.pn_tablet.specs.declared.fault.CopyFault.{CopyFault}
-use Rattle.pn_tablet.specs.declared.fault.CopyFault.TheVariants.{Behind}
 use Rattle.pn_region.specs.Regions.{RegionValue}
 use Rattle.pn_region.specs.Relayouts.{after_relayout}
 use Rattle.pn_region.specs.Starting.{StartsFrom}
@@ -26,8 +25,8 @@ pub record AreGiven (region : RegionValue) (bounds : Bounds) (copies : List Tabl
 
 -- the tablet of this number gives no copy, as it joins what copies of different marks had
 abbrev pub IsShortAt : ℕ → Result TabletCopyValue CopyFault → CopiesFault → Type 0
-IsShortAt n (Err (Behind stream has wanted)) fault = fault ≡ Unequal n stream has wanted
-IsShortAt n given fault = ⊥
+IsShortAt n (Err why) fault = fault ≡ Unequal n why
+IsShortAt n (Ok copy) fault = ⊥
 
 -- the first of these tablets that gives no copy
 pub record StopsGiving (tablets : List TabletStateValue) (fault : CopiesFault) : Type 0 where
@@ -63,5 +62,5 @@ pub record AreUnequal (copies : List TabletCopyValue) (bounds : Bounds) (fault :
 
 -- why copies are not recut
 abbrev pub StopsRecut : List TabletCopyValue → Bounds → CopiesFault → Type 0
-StopsRecut copies bounds (Unequal n stream has wanted) = AreUnequal copies bounds (Unequal n stream has wanted)
+StopsRecut copies bounds (Unequal n why) = AreUnequal copies bounds (Unequal n why)
 StopsRecut copies bounds fault = StopsOpen copies fault

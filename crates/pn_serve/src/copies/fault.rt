@@ -4,11 +4,11 @@ ghost use Rattle.std.specs.Prelude.{◌≡◌};
 ghost use Rattle.pn_serve.specs.Copies.{NoRefusal, cut_fault, start_fault};
 ghost use Rattle.pn_serve.specs.declared.copies.fault.CopiesFault.TheVariants.{Memory as no_memory};
 
-use pn_join::{NoMemory, StreamName};
+use pn_join::NoMemory;
 use pn_live::StartFault;
 use pn_record::Key;
 use pn_region::{AdoptFault, AdvanceFault};
-use pn_tablet::{CopyTextFault, CutFault, MAX_BOUNDS};
+use pn_tablet::{CopyFault, CopyTextFault, CutFault, MAX_BOUNDS};
 use std::alloc::{AllocError, AllocFailed};
 use std::fmt;
 
@@ -27,14 +27,8 @@ pub enum CopiesFault {
     TwoCopies(Option<Key>),
     /// The copies are of more than 16 streams.
     TooManyStreams,
-    /// A tablet of other bounds would join copies of different marks: the first stream in which they differ, the least position
-    /// that one has, 0 for none, and the greatest.
-    Unequal {
-        tablet: usize,
-        stream: StreamName,
-        has: u64,
-        wanted: u64,
-    },
+    /// The first tablet of other bounds that would join copies of different marks, and why it gives no copy.
+    Unequal(usize, CopyFault),
     Memory,
 }
 
@@ -47,16 +41,12 @@ impl fmt::Display for CopiesFault {
             CopiesFault::NoCopy(key) => write!(f, "no copy has the key {:?}", key_text(key)),
             CopiesFault::TwoCopies(key) => write!(f, "two copies have the key {:?}", key_text(key)),
             CopiesFault::TooManyStreams => f.write_str("too-many-streams"),
-            CopiesFault::Unequal {
-                tablet,
-                stream,
-                has,
-                wanted,
-            } => write!(
-                f,
-                "bounds: tablet {tablet} would join copies that have {has} and {wanted} of stream {}",
-                stream.as_str()
-            ),
+            CopiesFault::Unequal(tablet, fault) => {
+                write!(
+                    f,
+                    "bounds: tablet {tablet} would join copies of different marks: {fault}"
+                )
+            }
             CopiesFault::Memory => f.write_str("memory"),
         }
     }

@@ -38,11 +38,7 @@ pub fn recut_copies(
 }
 
 // The copies of all tablets of a region that serves, once it is in this layout.
-fn copies_in(
-    alloc: Global,
-    region: Region,
-    layout: Layout,
-) -> Result<Vec<TabletCopy>, CopiesFault>
+fn copies_in(alloc: Global, region: Region, layout: Layout) -> Result<Vec<TabletCopy>, CopiesFault>
     requires { AllServe region.state }
     ensures given { IfOk result (λ copies. AreGiven region.state layout copies.items) }
     ensures fault { IfErr result (λ fault. fault ≢ no_memory → GivesNone region.state layout fault) }
@@ -71,24 +67,13 @@ fn copies_of(alloc: Global, region: &Region) -> Result<Vec<TabletCopy>, CopiesFa
 
 // A copy of a tablet of a region that serves.
 fn copy_of_tablet(alloc: Global, region: &Region, tablet: usize) -> Result<TabletCopy, CopiesFault>
-    requires serves { AllServe region.now.state }
     requires within { tablet ≤ length region.now.state.layout }
     ensures given { IfOk result (λ copy. IsSomeAnd (slice_get region.now.state.tablets tablet) (λ state. copy_of state [] ≡ Ok copy)) }
     ensures fault { IfErr result (λ fault. fault ≢ no_memory → IsSomeAnd (slice_get region.now.state.tablets tablet) (λ state. IsShortAt tablet (copy_of state []) fault)) }
 {
     match region.copy(tablet, &Marks::new(alloc)) {
         Ok(copy) => Ok(copy),
-        Err(CopyFault::Behind {
-            stream,
-            has,
-            wanted,
-        }) => Err(CopiesFault::Unequal {
-            tablet,
-            stream,
-            has,
-            wanted,
-        }),
         Err(CopyFault::Memory) => Err(CopiesFault::Memory),
-        Err(CopyFault::Recovering | CopyFault::NoEntry) => unreachable!(),
+        Err(fault) => Err(CopiesFault::Unequal(tablet, fault)),
     }
 }
