@@ -171,7 +171,7 @@ class Machine:
 def configure(machine: Machine, feed: str, words: str, stream: str = "east") -> None:
     """What configuration gives a machine of a region: the files of /etc/default."""
     machine.write("/etc/default/pnuts", f'PNUTS_STREAMS="{stream}=listen:/run/pnuts/{stream}"\n'
-                  f'PNUTS_WORDS="--sessions 2 --listen {machine.address} --port 7070"\nPNUTS_LAYOUT=""\nPNUTS_WITHOUT_COPIES=no\n')
+                  f'PNUTS_WORDS="--sessions 2 --listen {machine.address} --port 7070"\nPNUTS_WITHOUT_COPIES=no\n')
     machine.write(f"/etc/default/pnuts-feed-{stream}", f'FEED={feed}\nFEED_WORDS="{words}"\n')
     machine.write("/etc/default/pnuts-tools", f'EXPORTER_WORDS="--listen {machine.address}:9107"\n')
 

@@ -132,7 +132,7 @@ def check_example(system: System) -> None:
     environment = system.root / ENVIRONMENT
     as_it_was = environment.read_text(encoding="utf-8")
     lines = [it for it in as_it_was.splitlines() if not it.startswith("PNUTS_WORDS=")]
-    environment.write_text("\n".join(it.removeprefix("# ") if "--bounds" in it else it for it in lines) + "\n", encoding="utf-8")
+    environment.write_text("\n".join(it.removeprefix("# ") if "PNUTS_BOUNDS='[\"" in it else it for it in lines) + "\n", encoding="utf-8")
     system.run("systemctl", "restart", "pnuts")
     process = check_serving(system)
     same("the bounds", '["g","p"]' in system.run("cat", f"/proc/{process}/cmdline").split("\0"), True)

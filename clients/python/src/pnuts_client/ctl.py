@@ -21,7 +21,7 @@ from .control import Control
 from .control_requests import LAST_NUMBER, Notice, Tablet
 from .errors import ConnectionFailed, PnutsError, TimedOut
 from .figures import Beside
-from .layouts import MOST_BOUNDS, as_json, bounds_of, copies_in, sizes_of
+from .layouts import MOST_TABLETS, as_json, copies_in, sizes_of
 from .pauses import pause
 from .recovery import recover
 from .saving import copies, save
@@ -33,7 +33,7 @@ EXAMPLES = """examples:
   pnuts-ctl --json watch --since 0
   pnuts-ctl save region.copies --from tcp://10.0.0.2:7070 --from tcp://10.0.0.3:7070
   pnuts-ctl save /var/lib/pnuts/copies --every 600
-  pnuts-ctl save eight.copies --bounds "$(pnuts-ctl tablets --into 8)"
+  pnuts-ctl tablets --into 8
   pnuts-ctl recover 3 --from tcp://10.0.0.2:7070
   pnuts-ctl exporter --listen 127.0.0.1:9107
 
@@ -66,7 +66,6 @@ def parser() -> argparse.ArgumentParser:
     copied.add_argument("--from", dest="peers", action="append", default=[], metavar="ADDRESS",
                         help=f"{PEER}; of several, a later one is asked where an earlier one has no copy (default: the control socket's)")
     copied.add_argument("--every", type=_seconds, metavar="SECONDS", help="write it anew again and again, until it is interrupted")
-    copied.add_argument("--bounds", type=_bounds, metavar="JSON", help="cut the copies at these keys: a region that starts from them has this layout")
     _add_certificates(copied)
     laid = command(show_tablets, "tablets", "show the tablets, or keys that cut them into others of like size")
     laid.add_argument("--into", type=_tablets, metavar="N", help="propose bounds of this many, as --bounds takes them: all copies are read")
@@ -117,17 +116,9 @@ def _seconds(text: str) -> float:
 
 def _tablets(text: str) -> int:
     """A number of tablets."""
-    if not text.isdecimal() or not 1 <= int(text) <= MOST_BOUNDS + 1:
-        raise argparse.ArgumentTypeError(f"no number from 1 to {MOST_BOUNDS + 1}: {text!r}")
+    if not text.isdecimal() or not 1 <= int(text) <= MOST_TABLETS:
+        raise argparse.ArgumentTypeError(f"no number from 1 to {MOST_TABLETS}: {text!r}")
     return int(text)
-
-
-def _bounds(text: str) -> list[str]:
-    """The keys at which tablets begin."""
-    try:
-        return bounds_of(text)
-    except PnutsError as fault:
-        raise argparse.ArgumentTypeError(str(fault)) from fault
 
 
 def _address(text: str) -> tuple[str, int]:
@@ -200,7 +191,7 @@ def save_copies(region: Control, words: Words) -> int:
 def _save_once(words: Words, addresses: Sequence[Address]) -> None:
     """Writes the file, whole or not at all."""
     with ExitStack() as stack:
-        count = save([stack.enter_context(Client(it, retries=1)) for it in addresses], words.file, words.bounds)
+        count = save([stack.enter_context(Client(it, retries=1)) for it in addresses], words.file)
     size = words.file.stat().st_size
     say(words, {"bytes": size, "path": str(words.file), "tablets": count}, f"{words.file}: {count} tablets, {size} bytes")
 
