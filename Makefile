@@ -43,8 +43,8 @@ STAGE ?= notices
 SOAK ?= 60
 SECONDS ?= 240
 
-.PHONY: run quick test edits build licences install uninstall deb image bench bench-beside checks checks-clients checks-feeds \
-	checks-brokers checks-install pictures races fuzz definitions rows toolchain
+.PHONY: run quick check test edits build licences install uninstall deb image bench bench-beside checks checks-clients \
+	checks-feeds checks-brokers checks-install pictures races fuzz definitions rows toolchain
 
 # Shows the program at work: the replies to the script on standard output. It proves nothing. A program that is current answers
 # at once; otherwise one is built as by `make quick`.
@@ -55,6 +55,10 @@ run: toolchain
 quick: toolchain licences
 	@bin/program quick > /dev/null
 	@echo "an optimised program that is not proved: $(QUICK)"
+
+# What a contributor wants to know before the gate, over a program without proofs: in some ten minutes.
+check: toolchain
+	@ROWS="$(ROWS)" checks/run before-gate
 
 # The gate: every proof from nothing, the edits that must fail, the program and the tests.
 test: toolchain

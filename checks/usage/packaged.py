@@ -18,7 +18,7 @@ from usage.fresh_system import CLEAN, PAUSE, SECONDS, System, run
 
 # What a session is read by, in another system.
 ONE_SESSION = Path(__file__).resolve().parent / "one_session.py"
-UNITS = ("/lib/systemd/system/pnuts.service", "/lib/systemd/system/pnuts-feed@.service")
+UNITS = tuple(f"/lib/systemd/system/{it}" for it in ("pnuts.service", "pnuts-feed@.service", "pnuts-exporter.service", "pnuts-save.service", "pnuts-save.timer"))
 ENVIRONMENT = "etc/default/pnuts"
 SOCKET = "/run/pnuts/east"
 COPIES = "/var/lib/pnuts/copies"
@@ -87,7 +87,8 @@ def check_units(system: System) -> None:
     for unit in UNITS:
         named = unit.replace("@", "@east")
         same(f"what is said against {named}", system.status(*verify, named), (0, ""))
-        system.run("systemd-analyze", "security", "--no-pager", f"--threshold={EXPOSURE}", "--offline=yes", unit)
+        if unit.endswith(".service"):
+            system.run("systemd-analyze", "security", "--no-pager", f"--threshold={EXPOSURE}", "--offline=yes", unit)
     (system.root / "etc/unknown.service").write_text(UNKNOWN, encoding="utf-8")
     same("a unit with an unknown line is refused", system.status(*verify, "/etc/unknown.service")[0], 1)
     (system.root / "etc/unknown.service").unlink()

@@ -1,4 +1,5 @@
-"""Does what docs/publishing.md shows, in a folder of its own: a table of PostgreSQL and one of SQLite are published, and regions have the record.
+"""Does what docs/publishing.md and clients/python/README.md show to publishers: a table of PostgreSQL and one of SQLite are published,
+and regions have the record.
 
   checks/run publishing PROGRAM
 
@@ -41,6 +42,11 @@ export PGHOST=$PWD/data PGUSER=root
 """
 
 
+def shown(text: str) -> list[str]:
+    """The lines of a shell that a text shows."""
+    return [re.sub("^    ", "", it, flags=re.MULTILINE) for it in SHOWN.findall(CODE.sub("", text))]
+
+
 def done(lines: str, folder: Path) -> str:
     """What the lines write, and then the record as a client reads it."""
     within = ["unshare", "--net", "--pid", "--fork", "--kill-child", "bash", "-c", lines]
@@ -50,19 +56,20 @@ def done(lines: str, folder: Path) -> str:
 
 
 def faults(program: str, folder: Path) -> list[str]:
-    text = (TOP / "docs/publishing.md").read_text(encoding="utf-8")
-    postgres, redis, check = (re.sub("^    ", "", it, flags=re.MULTILINE) for it in SHOWN.findall(CODE.sub("", text)))
+    client = (TOP / "clients/python/README.md").read_text(encoding="utf-8").partition("\n## Publishing\n")[2].partition("\n## ")[0]
+    postgres, check = shown((TOP / "docs/publishing.md").read_text(encoding="utf-8"))
+    (redis,) = shown(client)
     (folder / "bin").mkdir()
     (folder / "bin/pnuts").symlink_to(program)
     for name in ("clients", "feeds"):
         (folder / name).symlink_to(TOP / name)
-    (folder / "shop.py").write_text(CODE.findall(text)[0], encoding="utf-8")
+    (folder / "shop.py").write_text(CODE.findall(client)[0], encoding="utf-8")
     good = '{"deleted":true,"key":"k","master":"w","version":[1,0]}\n'
     (folder / "images").write_text(good + good.replace("[1,0]", "[0,0]") + "{\n", encoding="utf-8")
     found = [("postgres", done(START + postgres + READ, folder)), ("redis", done("ip link set lo up\n" + redis + READ, folder))]
     wrong = [f"the record of {name}: {said[-1_000:]}" for name, said in found if said.splitlines()[-1:] != ["{'price': 1400}"]]
     said = done(check, folder)
-    if said != '2:{"error":"out-of-range","member":"version"}\n3:{"error":"not-json"}\n':
+    if [": ".join(line.split(": ")[:2]) for line in said.splitlines()] != ["line 2, position 2: out-of-range version", "line 3, position 3: not-json whole"]:
         wrong.append(f"what is said of images: {said}")
     return wrong
 
@@ -80,5 +87,5 @@ def main(words: list[str]) -> int:
         wrong = faults(told.program, Path(made))
     for fault in wrong:
         print(f"checks/run publishing: WRONG: {fault}")
-    print("publishing: a table of PostgreSQL and one of SQLite are published as docs/publishing.md shows" if not wrong else f"{len(wrong)} are wrong")
+    print("publishing: a table of PostgreSQL and one of SQLite are published as documents show" if not wrong else f"{len(wrong)} are wrong")
     return 1 if wrong else 0

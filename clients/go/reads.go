@@ -10,6 +10,8 @@ const (
 	maxKeys = 100
 	// maxSize is how many bytes they may have in a line, each with a comma.
 	maxSize = 65_536 - len(`{"do":"get","keys":[]}`)
+	// usualLimit is how many rows a page has where a query does not say it.
+	usualLimit = 100
 )
 
 // A Page has records in key order, and the query for those that follow, nil where these are the last.
@@ -29,15 +31,20 @@ func (c *Client) ReadAtLeast(ctx context.Context, key string, version Version) (
 
 // read gives the record of a key, in a version that is asked for, and in the one that was seen.
 func (c *Client) read(ctx context.Context, key string, version *Version) (*Record, error) {
-	command := Command{"do": "read", "key": key}
-	if version = c.seen.atLeast(key, version); version != nil {
-		command["version"] = *version
-	}
-	found, err := Ask(ctx, c, command, without(), reply.hasRow)
+	found, err := Ask(ctx, c, c.readOf(key, version), without(), reply.hasRow)
 	if err == nil {
 		c.seen.older([]string{key}, []*Record{found.Row})
 	}
 	return found.Row, err
+}
+
+// readOf asks for a key in a version, and in the one that was seen.
+func (c *Client) readOf(key string, version *Version) Command {
+	command := Command{"do": "read", "key": key}
+	if version = c.seen.atLeast(key, version); version != nil {
+		command["version"] = *version
+	}
+	return command
 }
 
 // readAll gives the records of keys in the versions that were seen of them, or later ones.
@@ -122,17 +129,23 @@ func (c *Client) Scan(ctx context.Context, query Query) *Scanner {
 // Copy writes a copy of a tablet to a file, which is there whole or not at all. With positions of streams as need it fails
 // with CopyBehind where the tablet does not reach them.
 func (c *Client) Copy(ctx context.Context, tablet int, path string, need map[string]int64) error {
-	command, text := Command{"do": "copy", "tablet": tablet, "need": need}, []byte(nil)
-	err := c.ask(ctx, command, func(got received) error {
+	text, err := c.CopyText(ctx, tablet, need)
+	if err != nil {
+		return err
+	}
+	return writeWhole(path, text)
+}
+
+// CopyText gives the text of a copy, which Copy writes to a file.
+func (c *Client) CopyText(ctx context.Context, tablet int, need map[string]int64) (text []byte, err error) {
+	command := Command{"do": "copy", "tablet": tablet, "need": need}
+	err = c.ask(ctx, command, func(got received) error {
 		if text = got.text; text == nil {
 			return faultOf(command, got.reply)
 		}
 		return nil
 	})
-	if err != nil {
-		return err
-	}
-	return writeWhole(path, text)
+	return text, err
 }
 
 // together does something with each number below a count at once, and gives an error of those that there are.

@@ -82,6 +82,33 @@ func (r *Record) Fields() Fields {
 	return r.Contents[0].Fields
 }
 
+// MarshalJSON writes the record as a region does.
+func (r *Record) MarshalJSON() ([]byte, error) {
+	type row struct {
+		Contents []Content `json:"contents"`
+		Key      string    `json:"key"`
+		State    string    `json:"state"`
+		Version  Version   `json:"version"`
+	}
+	return json.Marshal(row{r.Contents, r.Key, r.State, r.Version})
+}
+
+// MarshalJSON writes the content as a region does.
+func (c Content) MarshalJSON() ([]byte, error) {
+	type deletion struct {
+		Deleted bool   `json:"deleted"`
+		Master  string `json:"master"`
+	}
+	type fields struct {
+		Fields Fields `json:"fields"`
+		Master string `json:"master"`
+	}
+	if c.Deleted {
+		return json.Marshal(deletion{true, c.Master})
+	}
+	return json.Marshal(fields{c.Fields, c.Master})
+}
+
 // isRow says whether a row has all that records have, or is null.
 func (r *Record) isRow() bool {
 	return r == nil || r.Version != Version{} && r.Key != "" && r.State != "" && len(r.Contents) > 0

@@ -49,6 +49,35 @@ func (r *Regions) Get(ctx context.Context, keys []string) ([]*Record, error) {
 	})
 }
 
+// Page gives a page of what a query asks for, of one region or of several that follow one another.
+func (r *Regions) Page(ctx context.Context, query Query) (whole Page, err error) {
+	limit := query.Limit
+	if limit == 0 {
+		limit = usualLimit
+	}
+	for _, it := range r.Scan(ctx, query).parts {
+		next := query
+		if count := len(whole.Records); count > 0 {
+			next.After = whole.Records[count-1].Key
+		}
+		if it.query.Limit = limit - len(whole.Records); it.query.Limit <= 0 {
+			whole.Next = &next
+			return whole, nil
+		}
+		page, err := it.client.Page(ctx, it.query)
+		if err != nil {
+			return Page{}, err
+		}
+		whole.Records = append(whole.Records, page.Records...)
+		if page.Next != nil {
+			next.After = page.Next.After
+			whole.Next = &next
+			return whole, nil
+		}
+	}
+	return whole, nil
+}
+
 // Scan is as that of a client, from one region on to the next.
 func (r *Regions) Scan(ctx context.Context, query Query) *Scanner {
 	scanner, low := &Scanner{ctx: ctx}, ""

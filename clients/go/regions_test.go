@@ -49,6 +49,16 @@ func TestTwoRegions(t *testing.T) {
 	must(t, err)
 	same(t, "all keys", scanned(t, both.Scan(background, Query{Limit: 2})), "[a c l m n \u00fc]")
 	same(t, "keys of both", scanned(t, both.Scan(background, Query{From: "c", To: "n", Limit: 1})), "[c l m]")
+	for limit, wanted := range map[int]string{1: "[a][c][l][m][n][\u00fc]", 2: "[a c][l m][n \u00fc]", 3: "[a c l][m n \u00fc]", 4: "[a c l m][n \u00fc]", 0: "[a c l m n \u00fc]"} {
+		found := ""
+		for query := (&Query{Limit: limit}); query != nil; {
+			page, err := both.Page(background, *query)
+			must(t, err)
+			found += fmt.Sprint(keysOf(page.Records))
+			query = page.Next
+		}
+		same(t, fmt.Sprintf("pages of %d", limit), found, wanted)
+	}
 	records, err := both.Get(background, []string{"n", "z", "a", "n"})
 	must(t, err)
 	same(t, "records", keysOf(records), "[n  a n]")

@@ -10,7 +10,9 @@ from functools import partial
 from typing import Any, Protocol
 
 from .bodies import BadBody, line_of
-from .ids import Ids
+from .figures import Figures
+from .ids import Given, Ids
+from .images import why_refused
 from .instead import BadInstead, Instead
 from .output import Output, RegionGone, output_of
 from .pairs import BadPairs
@@ -48,6 +50,9 @@ class Source(Protocol):
     def describe(self, identity: Any) -> str:
         """What the broker calls the message of this id."""
 
+    def newest(self) -> int | None:
+        """The position of the broker's newest message, as far as it was told with the last batch; None where it was not."""
+
 
 def tell(name: str, what: str) -> None:
     """Writes a line for whoever runs the feed."""
@@ -61,12 +66,15 @@ def start(name: str, make: Callable[[], Source], words: argparse.Namespace) -> i
     except (BadInstead, BadWords) as fault:
         tell(name, str(fault))
         return 2
-    return run(name, source, output_of(words, partial(tell, name)), instead)
+    say = partial(tell, name)
+    figures = Figures(words.figures, say)
+    figures.begin()
+    return run(name, source, output_of(words, say), instead, figures)
 
 
-def run(name: str, source: Source, output: Output, instead: Instead | None = None) -> int:
+def run(name: str, source: Source, output: Output, instead: Instead | None = None, figures: Figures | None = None) -> int:
     """Gives all messages to the region until it goes for good, and answers the exit status."""
-    feed = _Feed(name, source, output, instead or Instead())
+    feed = _Feed(name, source, output, instead or Instead(), figures or Figures(None, partial(tell, name)))
     try:
         feed.give()
     except RegionGone:
@@ -84,18 +92,22 @@ def run(name: str, source: Source, output: Output, instead: Instead | None = Non
         return 2
     except KeyboardInterrupt:
         pass
+    finally:
+        feed.write_figures()
     return 1
 
 
 class _Feed:
     """How far the messages are given."""
 
-    def __init__(self, name: str, source: Source, output: Output, instead: Instead) -> None:
+    def __init__(self, name: str, source: Source, output: Output, instead: Instead, figures: Figures) -> None:
         self._name = name
         self._source = source
         self._output = output
         self._instead = instead
+        self._figures = figures
         self._ids = Ids()
+        self._given = Given()
         self._position = 0
         self._away = False
 
@@ -108,6 +120,7 @@ class _Feed:
             except RegionAway as fault:
                 tell(self._name, f"the region went: {fault}")
             self._ids.begin()
+            self._given.begin()
             self._position = self._output.begin()
             tell(self._name, f"the region is back, and has {self._position} messages")
 
@@ -120,11 +133,17 @@ class _Feed:
         except Unusable as fault:
             tell(self._name, str(fault))
 
+    def write_figures(self) -> None:
+        """Writes how far all is in the end."""
+        self._figures.note(None, self._taken())
+        self._figures.write()
+
     def tell_refusal(self, fault: Refused) -> None:
-        """Tells which message the region refused, and why."""
-        found = self._ids.at(fault.position)
+        """Tells which message the region refused, and why, with the field where one is at fault."""
+        found, line = self._ids.at(fault.position), self._given.at(fault.position)
         which = "" if found is None else f" position {fault.position}, {self._source.describe(found)}"
-        tell(self._name, f"the region refuses{which}: {fault.reason}")
+        why = "" if line is None else why_refused(line)
+        tell(self._name, f"the region refuses{which}: {fault.reason}{why and f': {why}'}")
 
     def _give_all(self) -> None:
         while True:
@@ -132,12 +151,19 @@ class _Feed:
                 with closing(self._source.batches(self._position)) as batches:
                     for messages in batches:
                         self._see_broker()
+                        self._figures.note(self._source.newest(), self._taken())
                         self._hand_on(messages)
+                        self._figures.note(None, self._taken())
             except Unreachable as fault:
                 if str(fault) and not self._away:
                     tell(self._name, f"waiting for the broker: {fault}")
                     self._away = True
                 self._output.pause(0.2)
+                self._figures.note(None, self._taken())
+
+    def _taken(self) -> int | None:
+        """How far the region is, where it says so."""
+        return self._output.taken if self._output.tells else None
 
     def _see_broker(self) -> None:
         if self._away:
@@ -155,6 +181,7 @@ class _Feed:
             for identity, body in messages:
                 lines.append(self._line(first + len(lines), identity, body))
         finally:
+            self._given.add(first, lines)
             self._output.write(b"".join(lines))
             self._position += len(lines)
         self._ids.forget(self._output.taken)

@@ -31,6 +31,9 @@ class Bodies:
         """See `feed.running.Source`."""
         return f"number {identity}"
 
+    def newest(self) -> None:
+        """See `feed.running.Source`."""
+
 
 class Lines(Pipe):
     """Keeps what is written."""

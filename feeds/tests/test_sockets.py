@@ -155,6 +155,10 @@ class Scripted:
         """See `feed.running.Source`."""
         return f"number {identity}"
 
+    def newest(self) -> int:
+        """See `feed.running.Source`."""
+        return self._count
+
 
 class Running(unittest.TestCase):
     """A feed's life between a broker and a region that are away now and then."""

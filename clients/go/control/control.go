@@ -50,10 +50,10 @@ type Stream struct {
 
 // A Notice is a change of a record: its number, and the record's version before it, nil where there was none, and after it.
 type Notice struct {
-	Number int64
-	Key    string
-	Before *pnuts.Version
-	After  pnuts.Version
+	Number int64          `json:"number"`
+	Key    string         `json:"key"`
+	Before *pnuts.Version `json:"before"`
+	After  pnuts.Version  `json:"after"`
 }
 
 // Notices are changes, and in Next the number to ask with next. Missed says that some are not known, so all is to be read anew.

@@ -39,12 +39,13 @@ def free_port() -> int:
 
 @contextmanager
 def region(
-    streams: Images, *, sessions: int = 1, port: int | None = None, bounds: Sequence[str] = (), words: Sequence[str] = ()
+    streams: Images, *, sessions: int = 1, port: int | None = None, bounds: Sequence[str] | None = (), words: Sequence[str] = ()
 ) -> Iterator[int]:
     """A region that has taken the streams, and its port. It is killed at the end, whatever it does."""
     where = free_port() if port is None else port
     with tempfile.TemporaryDirectory() as folder:
-        line = [PROGRAM, "serve", f"--port={where}", f"--sessions={sessions}", f"--bounds={json.dumps(list(bounds))}", *words]
+        layout = [] if bounds is None else [f"--bounds={json.dumps(list(bounds))}"]
+        line = [PROGRAM, "serve", f"--port={where}", f"--sessions={sessions}", *layout, *words]
         for name, images in streams.items():
             path = Path(folder) / name
             lines = [json.dumps({"at": at, "image": it}) + "\n" for at, it in enumerate(images, start=1)]

@@ -12,23 +12,26 @@ from . import requests
 from .client import Client
 from .errors import BadLine, ConnectionFailed, PnutsError, Refused, TimedOut
 from .files import write_parts
+from .layouts import cut_anew
 
 
 class Unfit(PnutsError):
     """A copy, or a tablet, that is not what was asked for."""
 
 
-def save(regions: Client | Sequence[Client], path: Path) -> int:
+def save(regions: Client | Sequence[Client], path: Path, bounds: Sequence[str] | None = None) -> int:
     """Writes the copies of all tablets, one after another, to a file, which is there whole or not at all. How many they are.
 
     Each is of its own moment, and of the first region that gives it: a later one is asked where an earlier one recovers the
-    tablet, is behind, or does not answer. The regions need no control sockets.
+    tablet, is behind, or does not answer. The regions need no control sockets. With `bounds` the copies are cut at these, so that
+    a region that starts from them has this layout.
     """
     count = 0
+    texts = _ahead(copies(regions))
 
     def counted() -> Iterator[bytes]:
         nonlocal count
-        for count, text in enumerate(_ahead(copies(regions)), start=1):
+        for count, text in enumerate(texts if bounds is None else cut_anew(texts, bounds), start=1):
             yield text
 
     write_parts(path, counted())
