@@ -1,5 +1,5 @@
-"""Runs what needs real brokers or a proxy: the feeds' tests, 200,000 images through each feed, the proxy's files, both examples, and
-the runbooks. Says how long each took.
+"""Runs what needs real brokers or a proxy: the feeds' tests, 200,000 images through each feed, the proxy's files, what is shown to
+publishers, both examples, and the runbooks. Says how long each took.
 
   checks/run brokers PROGRAM [--only NAME]...
 
@@ -13,8 +13,8 @@ from common.tried import program_parser
 def parts(program: str) -> list[Part]:
     examples = [Part(name, [str(TOP / "examples" / name / "demo"), "--program", program], may_miss=True) for name in ("postgres", "regions")]
     feeds = [Part("feeds", ["env", f"PNUTS={program}", str(TOP / "feeds/test")]), Part("rates", [str(TOP / "feeds/rates"), program], may_miss=True)]
-    alone = [Part("proxy", [str(RUN), "proxy", program], may_miss=True), Part("operate", [str(RUN), "operate", program])]
-    return [*feeds, *examples, *alone]
+    others = [Part(name, [str(RUN), name, program], may_miss=name != "operate") for name in ("proxy", "publishing", "operate")]
+    return [*feeds, *others, *examples]
 
 
 def main(words: list[str]) -> int:

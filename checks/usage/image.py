@@ -215,8 +215,9 @@ def check_copies(image: Image, folder: Path) -> str:
 def check_ends(image: Image, folder: Path) -> str:
     """Words that are refused end it with 2; a region that is killed with its signal's status; a stop at its start at once."""
     volumes = make_volumes(folder)
-    with region(image, volumes, {"PNUTS_WORDS": "--fast"}) as it:
-        same("how refused words end", it.ended(), 2)
+    for words in ({"PNUTS_WORDS": "--fast"}, {"PNUTS_STOP_SECONDS": "61"}, {"PNUTS_STOP_SECONDS": "1s"}):
+        with region(image, volumes, words) as it:
+            same(f"how refused words end: {words}", it.ended(), 2)
     with region(image, volumes, {"PNUTS_STREAMS": "east=listen:/run/pnuts/none/east"}) as it:
         same("how a stream that cannot be opened ends", (it.ended(), "cannot open east" in it.said_now()), (1, True))
     with region(image, volumes) as it:
