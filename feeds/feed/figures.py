@@ -33,6 +33,9 @@ class Figures:
         self._heard: float | None = before.get("heard")
         self._newest: int | None = before.get("newest")
         self._taken: int | None = before.get("taken")
+        # Which stream it is, and a message that the region has, by its position and what the broker calls it.
+        self.stream: str | None = before.get("stream")
+        self.last: tuple[int, str] | None = before.get("last")
         # Times at which the broker's newest position was told that the region had not taken yet, with these positions.
         self._ahead: deque[tuple[float, int]] = deque()
         self._failed = False
@@ -54,6 +57,15 @@ class Figures:
             while taken is not None and self._ahead and self._ahead[0][1] <= taken:
                 self._level = self._ahead.popleft()[0]
 
+    def keep(self, stream: str | None, last: tuple[int, str] | None) -> None:
+        """What a feed that comes later may know the stream by."""
+        with self._lock:
+            self.stream, self.last = stream or self.stream, last or self.last
+
+    @property
+    def path(self) -> Path | None:
+        return self._path
+
     def _see(self, now: float, newest: int) -> None:
         if not self._ahead or now - self._ahead[-1][0] >= EVERY:
             self._ahead.append((now, newest))
@@ -68,7 +80,8 @@ class Figures:
     def _told(self) -> dict[str, Any]:
         with self._lock:
             level = None if self._taken is None else self._level
-            return {"at": time.time(), "heard": self._heard, "level": level, "newest": self._newest, "taken": self._taken}
+            known = {"last": self.last, "stream": self.stream}
+            return {"at": time.time(), "heard": self._heard, "level": level, "newest": self._newest, "taken": self._taken, **known}
 
     def write(self) -> None:
         """Writes the file, which is the one before or the new one. That it cannot be written is said once, and ends nothing."""
@@ -92,6 +105,10 @@ def _told_before(path: Path | None) -> dict[str, Any]:
     with contextlib.suppress(OSError, ValueError, AttributeError):
         if path is not None:
             told, now = json.loads(path.read_bytes()), time.time()
-            times = {name: told.get(name) for name in ("heard", "level") if isinstance(told.get(name), (int, float)) and 0 < told[name] <= now}
-            return {**times, **{name: told.get(name) for name in ("newest", "taken") if type(told.get(name)) is int}}
+            found = {name: told.get(name) for name in ("heard", "level") if isinstance(told.get(name), (int, float)) and 0 < told[name] <= now}
+            found |= {name: told.get(name) for name in ("newest", "taken") if type(told.get(name)) is int}
+            found |= {"stream": told["stream"]} if isinstance(told.get("stream"), str) else {}
+            last = told.get("last")
+            is_known = isinstance(last, list) and list(map(type, last)) == [int, str]
+            return {**found, **({"last": tuple(last)} if is_known else {})}
     return {}

@@ -50,6 +50,12 @@ class Source(Protocol):
     def describe(self, identity: Any) -> str:
         """What the broker calls the message of this id."""
 
+    def identity(self) -> str | None:
+        """Which stream it is, once a batch was there: feeds of the same one say the same, and of others none that is known to be another."""
+
+    def has(self, position: int, name: str) -> bool:
+        """Whether the broker has the message of this position, by what `describe` called it, or may have dropped it."""
+
     def newest(self) -> int | None:
         """The position of the broker's newest message, as far as it was told with the last batch; None where it was not."""
 
@@ -110,6 +116,7 @@ class _Feed:
         self._given = Given()
         self._position = 0
         self._away = False
+        self._is_same = False
 
     def give(self) -> None:
         """Gives messages, from what the region wants first, as often as it is connected to."""
@@ -151,15 +158,37 @@ class _Feed:
                 with closing(self._source.batches(self._position)) as batches:
                     for messages in batches:
                         self._see_broker()
+                        self._see_same()
                         self._figures.note(self._source.newest(), self._taken())
                         self._hand_on(messages)
-                        self._figures.note(None, self._taken())
+                        self._keep()
             except Unreachable as fault:
                 if str(fault) and not self._away:
                     tell(self._name, f"waiting for the broker: {fault}")
                     self._away = True
                 self._output.pause(0.2)
                 self._figures.note(None, self._taken())
+
+    def _see_same(self) -> None:
+        """That the stream is the one of the feed before, as its figures know it, where the region had something at first."""
+        if self._is_same:
+            return
+        self._is_same = True
+        if not self._position:
+            return
+        before, now, last = self._figures.stream, self._source.identity(), self._figures.last
+        if before and now and before != now:
+            raise BadWords(f"{self._figures.path} is of a feed of {before}, and this one reads {now}: remove it where the region is to take that")
+        if last and not self._source.has(*last):
+            raise Lost(f"the region was given position {last[0]}, {last[1]}, which is not there: it is another one than before")
+
+    def _keep(self) -> None:
+        """Notes how far the region is, and by what the stream is known."""
+        taken = self._taken()
+        found = self._ids.at(taken)
+        self._figures.keep(self._source.identity(), None if taken is None or found is None else (taken, self._source.describe(found)))
+        self._figures.note(None, taken)
+        self._ids.forget(self._output.taken)
 
     def _taken(self) -> int | None:
         """How far the region is, where it says so."""
@@ -184,7 +213,6 @@ class _Feed:
             self._given.add(first, lines)
             self._output.write(b"".join(lines))
             self._position += len(lines)
-        self._ids.forget(self._output.taken)
 
     def _line(self, position: int, identity: Any, body: bytes | BadBody) -> bytes:
         """The line of a message, or the one that is given instead."""

@@ -31,6 +31,13 @@ class Bodies:
         """See `feed.running.Source`."""
         return f"number {identity}"
 
+    def identity(self) -> None:
+        """See `feed.running.Source`."""
+
+    def has(self, position: int, name: str) -> bool:
+        """See `feed.running.Source`."""
+        return True
+
     def newest(self) -> None:
         """See `feed.running.Source`."""
 

@@ -12,7 +12,7 @@ from collections.abc import Mapping, Sequence
 from pathlib import Path
 
 from pnuts_client import Control, ctl
-from pnuts_client.layouts import NoCopy, copies_in, sizes_of
+from pnuts_client.layouts import NoCopy, as_json, copies_in, sizes_of
 
 from .support import image, region
 
@@ -51,6 +51,11 @@ class LayoutsTest(unittest.TestCase):
         self.assertLess(max(counts) - min(counts), 200)
         self.assertEqual(sizes_of([copy((None, None), {}, ["a"])]).bounds(8), [])
         self.assertEqual(sizes_of([copy((None, None), {}, [])]).bounds(2), [])
+
+    def test_bounds_stand_between_single_quotes(self) -> None:
+        told = as_json(["it's", "\\", '"', "é"])
+        self.assertNotIn("'", told)
+        self.assertEqual(json.loads(told), ["it's", "\\", '"', "é"])
 
     def test_a_region(self) -> None:
         images = [image(f"k{number:03}", (1, 0), v="x" * 200) for number in range(300)]

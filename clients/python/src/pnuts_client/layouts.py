@@ -84,5 +84,5 @@ def sizes_of(texts: Iterable[bytes]) -> Sizes:
 
 
 def as_json(bounds: Sequence[str]) -> str:
-    """Bounds as `--bounds` takes them."""
-    return json.dumps(list(bounds), ensure_ascii=False, separators=(",", ":"))
+    """Bounds as `--bounds` takes them, which stand between single quotes as they are."""
+    return json.dumps(list(bounds), ensure_ascii=False, separators=(",", ":")).replace("'", "\\u0027")
