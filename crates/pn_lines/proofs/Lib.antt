@@ -1,0 +1,10 @@
+pub mod Driving
+pub mod Ending
+pub mod Left
+pub mod Pieces
+pub mod Reading
+pub mod Standing
+pub mod Stepping
+pub mod Steps
+pub mod Taking
+pub mod Windows

@@ -1,0 +1,33 @@
+-- Answers to lines: at once, or gone on with.
+use Rattle.std.specs.Prelude.{ℕ, ◌+◌, List}
+use Rattle.pn_lines.specs.Replies.{Replied}
+use Rattle.pn_lines.specs.declared.handler.Answer.{Answer}
+use Rattle.pn_lines.specs.declared.handler.Answer.TheVariants.{Done, Going}
+use Rattle.pn_lines.specs.declared.handler.EndedBy.{EndedBy}
+use Rattle.pn_lines.specs.declared.handler.LineReply.{LineReply}
+
+-- a reply, or what is gone on with
+pub data AnswerValue (G : Type 0) : Type 0 where
+  done : Replied → AnswerValue G
+  going : G → AnswerValue G
+
+-- by the bytes of a reply's text
+module _ {T : Type 0} (unmade : T → List ℕ) where
+  -- a reply as its text and whether it is a refusal
+  abbrev pub reply_of : LineReply T → Replied
+  reply_of reply = record { text = unmade reply.text; refused = reply.is_refusal }
+
+  -- an answer likewise
+  abbrev pub answer_of : {G : Type 0} → Answer G T → AnswerValue G
+  answer_of (Done reply) = done (reply_of reply)
+  answer_of (Going g) = going g
+
+-- by a handler's relations to lines that are answered and to lines that are begun: the line is one or the other
+abbrev pub AnswersBy : {V G : Type 0} → (V → EndedBy → List ℕ → V → Replied → Type 0) → (V → EndedBy → List ℕ → V → G → Type 0) → V → EndedBy → List ℕ → V → AnswerValue G → Type 0
+AnswersBy answers goes was ended line now (done replied) = answers was ended line now replied
+AnswersBy answers goes was ended line now (going g) = goes was ended line now g
+
+-- how much of an answer is left, by how much is left of what is gone on with
+abbrev pub answer_left : {G : Type 0} → (G → ℕ) → AnswerValue G → ℕ
+answer_left left (done replied) = 0
+answer_left left (going g) = left g + 1

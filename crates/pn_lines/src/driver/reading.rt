@@ -1,0 +1,151 @@
+//! How a driver reads lines, and ends.
+
+ghost use Rattle.std.specs.Prelude.{◌≡◌, ◌≢◌, ◌+◌, ◌≤◌, ◌<◌, ◌⊎◌, [], ℕ, Bool, List, false, true, Err, None, Option, IfErr, IfOk, OnErr, OnOk, OnSome, vec_capacity};
+ghost use Rattle.std.specs.Io.KnownBytes.{Appends, IsAtEnd};
+ghost use Rattle.pn_line.specs.LineEnd.{newline_taken};
+ghost use Rattle.pn_line.specs.Prelude.{AppendsPrefix, so_far};
+ghost use Rattle.pn_line.specs.Reads.{Takes};
+ghost use Rattle.pn_line.specs.declared.line_buffer.TheConstants.{ENDLESS};
+ghost use Rattle.pn_lines.specs.Driving.{EndsHanded, Goes, GoesOn, Reads, Stops};
+ghost use Rattle.pn_lines.specs.Ends.{HasEnded, Start};
+ghost use Rattle.pn_lines.specs.Engines.{stage_after};
+ghost use Rattle.pn_lines.specs.Standing.{IsOver, by, count_by, newline_of};
+ghost use Rattle.pn_lines.specs.declared.engine.stage.Stage.TheVariants.{Reading};
+ghost use Rattle.pn_lines.specs.declared.piece_text.TheConstants.{MAX_PIECE_BYTES};
+
+use crate::driver::LinesFault;
+use crate::driver::settling::{settle, write_out};
+use crate::engine::{Counts, LineEngine};
+use crate::handler::{EndedBy, LineHandler};
+use crate::piece_text::PieceText;
+use pn_line::{LineBuffer, LineEnd, Sink, Source, read_line};
+
+/// Reads a line, unless as many were answered as may be.
+pub(super) fn next_line<G: Drop, T: PieceText, S: Source>(
+    engine: &LineEngine<G, T>,
+    line: &mut LineBuffer,
+    input: &mut S,
+) -> Result<LineEnd, LinesFault>
+    ensures takes { IfOk result (λ end. Takes (so_far []) line.new (S.left input.old) (S.left input.new) (newline_taken end)) }
+    ensures stops { IfOk result (λ end. Stops end engine.now.counts.lines engine.now.most (S.left input.old) line.new) }
+    ensures below { IfOk result (λ end. end ≢ LineEnd.Endless → line.new.count < ENDLESS) }
+    ensures end { IfOk result (λ end. end ≡ LineEnd.EndOfInput → OnSome (S.left input.old) (IsAtEnd (S.left input.new))) }
+    ensures end_comes { IfOk result (λ end. end ≡ LineEnd.EndOfInput → S.may_end) }
+    ensures fault { IfErr result (λ fault. (fault ≡ LinesFault.Read) × S.may_fail) }
+    ensures kept { OnErr result (Takes (so_far []) line.new (S.left input.old) (S.left input.new) []) }
+{
+    line.start();
+    if engine.is_full() {
+        return match input.has_more() {
+            Ok(false) => Ok(LineEnd::EndOfInput),
+            Ok(true) => Ok(LineEnd::Endless),
+            Err(_) => Err(LinesFault::Read),
+        };
+    }
+    match read_line(line, input) {
+        Ok(end) => Ok(end),
+        Err(_) => Err(LinesFault::Read),
+    }
+}
+
+/// Writes what waits, and hands it on.
+pub(super) fn hand_out<W: Sink>(replies: &mut Vec<u8>, output: &mut W) -> Result<(), LinesFault>
+    ensures ok { OnOk result (Appends (W.contents output.old) (W.contents output.new) replies.old.items) }
+    ensures out { OnOk result (W.is_handed_on output.new) }
+    ensures none { replies.new.items ≡ [] }
+    ensures capacity { vec_capacity replies.new ≡ vec_capacity replies.old }
+    ensures err { OnErr result (AppendsPrefix (W.contents output.old) (W.contents output.new) replies.old.items) }
+    ensures fault { IfErr result (λ fault. (fault ≡ LinesFault.Write) × W.may_fail) }
+{
+    write_out(replies, output)?;
+    match output.hand_on() {
+        Ok(()) => Ok(()),
+        Err(_) => Err(LinesFault::Write),
+    }
+}
+
+/// Answers a line that was read, and finishes its answer.
+pub(super) fn answer_line<G: Drop, T: PieceText, M: LineHandler<Going = G, Text = T>, W: Sink>(
+    machine: &mut M,
+    engine: &mut LineEngine<G, T>,
+    line: &LineBuffer,
+    ended: EndedBy,
+    replies: &mut Vec<u8>,
+    output: &mut W,
+) -> Result<(), LinesFault>
+    requires ready { M.ready }
+    requires few { (engine.old.counts.lines < engine.old.most) ⊎ ((ended ≡ EndedBy.Input) × (line.now.count ≡ 0)) }
+    requires reads { engine.old.stage ≡ Reading 0 }
+    requires made { engine.old.left ≡ [] }
+    requires short { line.now.count < ENDLESS }
+    requires capacity { MAX_PIECE_BYTES ≤ vec_capacity replies.old }
+    ensures ok { OnOk result ((start : Start M) (left leaves : Option (List ℕ)) (last : Bool) → Takes (so_far []) line.now left leaves (newline_of ended) → IsOver ended [] last → (last ≡ true → OnSome left (IsAtEnd leaves))
+        → Reads (by M.moves M.answers M.goes) start left (W.contents output.old) replies.old.items false machine.old engine.old
+        → Reads (by M.moves M.answers M.goes) start leaves (W.contents output.new) replies.new.items last machine.new engine.new) }
+    ensures settled { OnOk result ((engine.new.left ≡ []) × (engine.new.stage ≡ stage_after ended)) }
+    ensures err { OnErr result ((start : Start M) (left leaves : Option (List ℕ)) (last : Bool) → Takes (so_far []) line.now left leaves (newline_of ended) → IsOver ended [] last → (last ≡ true → OnSome left (IsAtEnd leaves))
+        → Reads (by M.moves M.answers M.goes) start left (W.contents output.old) replies.old.items false machine.old engine.old
+        → HasEnded (by M.moves M.answers M.goes) engine.old.most start leaves (W.contents output.new) machine.new (Err LinesFault.Write)) }
+    ensures fault { IfErr result (λ fault. (fault ≡ LinesFault.Write) × W.may_fail) }
+    ensures lines { OnOk result (engine.new.counts.lines ≡ engine.old.counts.lines + count_by ended line.now.count) }
+    ensures most { engine.new.most ≡ engine.old.most }
+    ensures grows { vec_capacity replies.old ≤ vec_capacity replies.new }
+    ensures kept { M.keeps machine.old machine.new }
+{
+    engine.take_line(machine, line, ended);
+    settle(machine, engine, replies, output)
+}
+
+/// Reads a line and answers it. What was counted where the input is at its end.
+pub(super) fn answer_next<
+    G: Drop,
+    T: PieceText,
+    M: LineHandler<Going = G, Text = T>,
+    S: Source,
+    W: Sink,
+>(
+    machine: &mut M,
+    engine: &mut LineEngine<G, T>,
+    line: &mut LineBuffer,
+    replies: &mut Vec<u8>,
+    input: &mut S,
+    output: &mut W,
+) -> Result<Option<Counts>, LinesFault>
+    requires ready { M.ready }
+    requires reads { engine.old.stage ≡ Reading 0 }
+    requires made { engine.old.left ≡ [] }
+    requires capacity { MAX_PIECE_BYTES ≤ vec_capacity replies.old }
+    ensures ends { (start : Start M) → Reads (by M.moves M.answers M.goes) start (S.left input.old) (W.contents output.old) replies.old.items false machine.old engine.old
+        → Goes (by M.moves M.answers M.goes) engine.old.most start (S.left input.new) (W.contents output.new) replies.new.items machine.new engine.new result }
+    ensures more { IfOk result (λ ended. ended ≡ None → GoesOn engine.old engine.new) }
+    ensures read { IfErr result (λ fault. fault ≡ LinesFault.Read → S.may_fail) }
+    ensures write { IfErr result (λ fault. fault ≡ LinesFault.Write → W.may_fail) }
+    ensures begun { IfErr result (λ fault. fault ≢ LinesFault.Memory) }
+    ensures out { EndsHanded result (W.is_handed_on output.new) }
+    ensures end { IfOk result (λ ended. ended ≢ None → S.may_end) }
+    ensures grows { vec_capacity replies.old ≤ vec_capacity replies.new }
+    ensures kept { M.keeps machine.old machine.new }
+{
+    match next_line(&*engine, line, input) {
+        Ok(LineEnd::Newline { more }) => {
+            answer_line(machine, engine, &*line, EndedBy::Newline, replies, output)?;
+            if !more {
+                hand_out(replies, output)?;
+            }
+            Ok(None)
+        }
+        Ok(LineEnd::EndOfInput) => {
+            answer_line(machine, engine, &*line, EndedBy::Input, replies, output)?;
+            hand_out(replies, output)?;
+            Ok(Some(engine.counts()))
+        }
+        Ok(LineEnd::Endless) => {
+            hand_out(replies, output)?;
+            Err(LinesFault::TooManyTurns)
+        }
+        Err(fault) => {
+            hand_out(replies, output)?;
+            Err(fault)
+        }
+    }
+}
