@@ -27,8 +27,8 @@ use Rattle.pn_protocol.specs.Command.Meaning.{CommandValue, adopt, copy, deliver
 use Rattle.pn_protocol.specs.Reply.Answers.{ShowsFound}
 use Rattle.pn_protocol.specs.Reply.Record.{get_data}
 use Rattle.pn_protocol.specs.Reply.Texts.{copy_reply}
-use Rattle.pn_serve.specs.declared.machine.line_handler.Answer.{Answer}
-use Rattle.pn_serve.specs.declared.machine.line_handler.Answer.TheVariants.{Done, Going as Begun}
+use Rattle.pn_serve.specs.declared.machine.line_answers.Answer.{Answer}
+use Rattle.pn_serve.specs.declared.machine.line_answers.Answer.TheVariants.{Done, Going as Begun}
 use Rattle.pn_serve.specs.declared.sessions.going.Going.{Going}
 use Rattle.pn_serve.specs.declared.sessions.going.Going.TheVariants.{Page, Keys, Copy}
 use Rattle.pn_serve.specs.Lines.Going.{answer_left}

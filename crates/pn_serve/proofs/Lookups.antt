@@ -25,8 +25,8 @@ use Rattle.pn_protocol.proofs.CommandLines.{too_long}
 use Rattle.pn_protocol.specs.Command.Lines.{is_too_long, lookup_at}
 use Rattle.pn_protocol.specs.Command.Meaning.{CommandValue, adopt, copy, deliver, get, lose, marks, notices, read, relayout, scan, tablets}
 use Rattle.pn_protocol.specs.Reply.Answers.{ShowsFound}
-use Rattle.pn_serve.specs.declared.machine.line_handler.Answer.{Answer}
-use Rattle.pn_serve.specs.declared.machine.line_handler.Answer.TheVariants.{Done, Going as Begun}
+use Rattle.pn_serve.specs.declared.machine.line_answers.Answer.{Answer}
+use Rattle.pn_serve.specs.declared.machine.line_answers.Answer.TheVariants.{Done, Going as Begun}
 use Rattle.pn_serve.specs.declared.sessions.going.Going.{Going}
 use Rattle.pn_serve.specs.declared.sessions.going.Going.TheVariants.{Page, Keys, Copy}
 use Rattle.pn_serve.specs.Lines.Going.{AnswersLast, AnswersWith}

@@ -1,8 +1,8 @@
 -- Lines that are answered at once, or by looks that are resumed.
 use Rattle.std.specs.Prelude.{ℕ, ◌+◌, List, [], ◌∷◌}
 use Rattle.pn_protocol.specs.declared.reply.Reply.{Reply}
-use Rattle.pn_serve.specs.declared.machine.line_handler.Answer.{Answer}
-use Rattle.pn_serve.specs.declared.machine.line_handler.Answer.TheVariants.{Done, Going}
+use Rattle.pn_serve.specs.declared.machine.line_answers.Answer.{Answer}
+use Rattle.pn_serve.specs.declared.machine.line_answers.Answer.TheVariants.{Done, Going}
 use Rattle.pn_serve.specs.declared.sessions.going.Going.{Going as GoingOn}
 use Rattle.pn_serve.specs.Session.Looking.{going_left}
 
