@@ -141,7 +141,7 @@ module _ {V G : Type 0} (handling : Handling V G) where
 
     -- what is gone on with has an answer
     pub Asked-going : IsPreorder handling.moves → (now : V) (g : G) (ended : EndedBy) (answer : AnswerValue G)
-        → ((was between : V) (line : List ℕ) → handling.goes was ended line between g → handling.moves between machine → AnswersBy handling.answers handling.goes was ended line now answer)
+        → ((was between : V) (line : List ℕ) → handling.goes was ended line between g → handling.moves between machine → AnswersBy handling was ended line now answer)
         → Stands handling start taken given ahead last machine (record run { stage = Going g ended }) → StandsAsked ended answer start taken given ahead last now run
     Asked-going steady now g ended answer goes is =
         let asked = is.stage.0 in

@@ -34,7 +34,7 @@ module _ {V G : Type 0} (handling : Handling V G) where
   module _ (start : V) (taken given ahead after : List ℕ) (last : Bool) (machine : V) (run : EngineValue G) where
     -- a line at hand was taken, and has this answer
     pub Asked-line : (now : V) (line : List ℕ) (ended : EndedBy) (answer : AnswerValue G) → IsPreorder handling.moves → IsLine line → IsOver ended after last → run.counts.lines + count_of ended line ≤ run.most
-        → AnswersBy handling.answers handling.goes machine ended line now answer → Stands handling start taken given ahead last machine (dropping 0 run)
+        → AnswersBy handling machine ended line now answer → Stands handling start taken given ahead last machine (dropping 0 run)
         → StandsAsked handling ended answer start (taken ++ (line ++ newline_of ended)) given after last now (with_lines (count_of ended line) (dropping 0 run))
     Asked-line now line ended answer steady is_line over few answered is =
         let reading = is.stage.0 in
@@ -131,7 +131,7 @@ module _ {V G : Type 0} (handling : Handling V G) where
 
       -- its end was taken, and it has this answer
       pub Asked-long : (now : V) (bytes : List ℕ) (ended : EndedBy) (answer : AnswerValue G) → IsPreorder handling.moves → IsUnbroken bytes → dropped + length bytes < ENDLESS → IsOver ended after last
-          → AnswersBy handling.answers handling.goes machine ended (is.rest ++ bytes) now answer → StandsAsked handling ended answer start (taken ++ (bytes ++ newline_of ended)) given after last now run
+          → AnswersBy handling machine ended (is.rest ++ bytes) now answer → StandsAsked handling ended answer start (taken ++ (bytes ++ newline_of ended)) given after last now run
       Asked-long now bytes ended answer steady unbroken short over answered =
           let reading = is.stage.0 in
           let long = length-append is.rest bytes in

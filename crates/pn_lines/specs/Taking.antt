@@ -5,7 +5,8 @@ use Rattle.pn_lines.specs.Answers.{AnswerValue, AnswersBy, done}
 use Rattle.pn_lines.specs.Engines.{EngineValue, after_answer}
 use Rattle.pn_lines.specs.Progress.{Advances}
 use Rattle.pn_lines.specs.Replies.{Replied}
-use Rattle.pn_lines.specs.Standing.{Handling, Stands}
+use Rattle.pn_lines.specs.Handling.{Handling}
+use Rattle.pn_lines.specs.Standing.{Stands}
 use Rattle.pn_lines.specs.declared.engine.TheConstants.{MAX_STEP_UNITS, UNIT_BYTES}
 use Rattle.pn_lines.specs.declared.handler.EndedBy.{EndedBy}
 
@@ -13,7 +14,7 @@ module _ {V G : Type 0} (handling : Handling V G) where
   -- a line was answered or begun, and the engine has the answer
   pub record Asks (ended : EndedBy) (line : List ℕ) (was now : V) (old new : EngineValue G) : Type 0 where
     pub answer : AnswerValue G
-    pub answered : AnswersBy handling.answers handling.goes was ended line now answer
+    pub answered : AnswersBy handling was ended line now answer
     pub has : new ≡ after_answer answer ended old
 
   -- a line that is too long was answered, whatever its bytes are, and the engine has the reply

@@ -1,11 +1,10 @@
 -- The line is answered.
 use Rattle.std.proofs.Common.{◌+◌, arith}
-use Rattle.pn_lines.specs.Standing.{by}
 use Rattle.pn_lines.proofs.Steps.{Takes-line}
 use Rattle.pn_lines.proofs.engine.LineEngine.ask_line.Goals as goal
 
 pub returns-clause-takes : goal.returns-clause-takes
 returns-clause-takes g c =
     let M = g.M.LineHandler in
-    Takes-line (by M.moves M.answers M.goes) M.left g.met.M.LineHandler.steady.0 c.args.bytes.now c.args.is_last c.args.machine.now c.args.self.now c.ask-units.new.machine c.ask-units.new.self c.args.at (c.cost_of.result + c.ask-units.result)
+    Takes-line M.handling M.left g.met.M.LineHandler.steady.0 c.args.bytes.now c.args.is_last c.args.machine.now c.args.self.now c.ask-units.new.machine c.ask-units.new.self c.args.at (c.cost_of.result + c.ask-units.result)
     c.requires.ended c.requires.short c.requires.few c.requires.made (rw c.count_lines.ensures at c.ask-units.ensures.asks) (omega (arith, c.cost_of.ensures.enough)) (omega (arith, c.cost_of.ensures.least, c.ask-units.ensures.few, c.requires.short))

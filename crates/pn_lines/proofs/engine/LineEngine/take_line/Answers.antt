@@ -31,6 +31,6 @@ returns-else-is_too_long-clause-asks g c = λ text is.
     let whole = c.bytes.ensures ∙ ap (λ (l : LineBufferValue). l.bytes) is ∙ kept_bytes-short text short in
     record {
       answer = asks.answer;
-      answered = subst (λ (l : List ℕ). AnswersBy M.answers M.goes c.args.machine.now c.args.ended l c.ask.new.machine asks.answer) whole asks.answered;
+      answered = subst (λ (l : List ℕ). AnswersBy M.handling c.args.machine.now c.args.ended l c.ask.new.machine asks.answer) whole asks.answered;
       has = asks.has ∙ ap (after_answer asks.answer c.args.ended) lines;
     }
