@@ -53,8 +53,7 @@ pub fn session<S: Source, W: Sink>(
 
 impl LineHandler for LiveReader {
     ghost use Rattle.pn_scan.specs.Prelude.{Stays};
-    ghost use Rattle.pn_serve.specs.Proofs.GivenUp.{reads_steadily};
-    ghost use Rattle.pn_serve.specs.Proofs.Knowing.{stays_preorder};
+    ghost use Rattle.pn_serve.specs.Proofs.GivenUp.{reads_steadily, stays_preorder};
     ghost use Rattle.pn_serve.specs.Session.Handling.{reads_lines};
     ghost use Rattle.pn_serve.specs.Session.Knowing.{KnowsNoLess};
     ghost use Rattle.pn_serve.specs.Session.Looking.{going_left};

@@ -165,9 +165,10 @@ impl<'a, R: Threads + Wait + Clock, C: StatsSource + Drop> ControlHandler<'a, R,
 
 impl<'a, R: Threads + Wait + Clock, C: StatsSource + Drop> LineHandler
     for ControlHandler<'a, R, C> {
-    ghost use Rattle.pn_serve.specs.Control.Ends.{controls};
-    ghost use Rattle.pn_serve.specs.Proofs.Knowing.{controls_steadily};
-    ghost use Rattle.pn_serve.specs.Session.Knowing.{KnowsNoLess};
+    ghost use Rattle.pn_serve.specs.Control.Handling.{HasClosed, controls};
+    ghost use Rattle.pn_serve.specs.Control.Lines.{AnswersControl, EndsControl, KeepsKnowing};
+    ghost use Rattle.pn_serve.specs.Lines.Handled.{Replies};
+    ghost use Rattle.pn_serve.specs.Proofs.Steady.{alone_steadily, controls_know};
     ghost use Rattle.pn_serve.specs.Session.Looking.{going_left};
     ghost use Rattle.std.specs.Prelude.{⊤};
 
@@ -181,7 +182,7 @@ impl<'a, R: Threads + Wait + Clock, C: StatsSource + Drop> LineHandler
 
     ghost left = { going_left };
 
-    ghost keeps = { λ old new. KnowsNoLess old.reader new.reader };
+    ghost keeps = { KeepsKnowing };
 
     fn answer(
         &mut self,
@@ -205,5 +206,5 @@ impl<'a, R: Threads + Wait + Clock, C: StatsSource + Drop> LineHandler
         self.has_closed()
     }
 
-    ghost steady = { controls_steadily };
+    ghost steady = { alone_steadily (Replies AnswersControl EndsControl) HasClosed KeepsKnowing controls_know };
 }

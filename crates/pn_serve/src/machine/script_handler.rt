@@ -98,10 +98,10 @@ impl<'a, R: Threads + Sync> ScriptHandler<'a, R> {
 impl<'a, R: Threads + Sync> LineHandler for ScriptHandler<'a, R> {
     ghost use Rattle.pn_scan.specs.Prelude.{Stays};
     ghost use Rattle.pn_lines.specs.Handling.{by};
-    ghost use Rattle.pn_serve.specs.Lines.Handled.{Replies, none_steadily};
+    ghost use Rattle.pn_serve.specs.Lines.Handled.{Replies};
     ghost use Rattle.pn_serve.specs.Machine.Answers.{Answers, Concludes};
+    ghost use Rattle.pn_serve.specs.Proofs.Steady.{alone_steadily, forgets_steadily};
     ghost use Rattle.pn_serve.specs.Session.Looking.{going_left};
-    ghost use Rattle.std.specs.Prelude.{⊤};
     ghost use Rattle.std.specs.Thread.{IsSync};
 
     type Going = Going;
@@ -115,7 +115,7 @@ impl<'a, R: Threads + Sync> LineHandler for ScriptHandler<'a, R> {
 
     ghost left = { going_left };
 
-    ghost keeps = { λ _ _. ⊤ };
+    ghost keeps = { λ _ _. Unit {0} };
 
     fn answer(
         &mut self,
@@ -135,5 +135,5 @@ impl<'a, R: Threads + Sync> LineHandler for ScriptHandler<'a, R> {
         answered(Answer::Done(Reply::Silent), 0)
     }
 
-    ghost steady = { none_steadily };
+    ghost steady = { alone_steadily (Replies Answers Concludes) (λ _. ⊥) (λ _ _. Unit {0}) forgets_steadily };
 }

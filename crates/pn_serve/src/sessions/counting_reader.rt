@@ -89,8 +89,7 @@ impl CountingReader {
 }
 
 impl LineHandler for CountingReader {
-    ghost use Rattle.pn_serve.specs.Proofs.GivenUp.{reads_steadily};
-    ghost use Rattle.pn_serve.specs.Proofs.Knowing.{knows_preorder};
+    ghost use Rattle.pn_serve.specs.Proofs.GivenUp.{knows_preorder, reads_steadily};
     ghost use Rattle.pn_serve.specs.Session.Handling.{reads_lines};
     ghost use Rattle.pn_serve.specs.Session.Knowing.{KnowsNoLess};
     ghost use Rattle.pn_serve.specs.Session.Looking.{going_left};
