@@ -148,14 +148,14 @@ module _ {V G : Type 0} (makes ends : V → List ℕ → V → Reply → Type 0)
     unfolding stopped_alone
     endless_alone is = Exceeded_bytes makes ends start script left written machine (stopped_alone (IsEndless MAX_LINES) is) (all_short is.lines is.answered.are_lines) is.is_so.1 is.is_so.0
 
-  module _ (open : (v : V) → closed v → ⊥) (start : Start V) (left written : Option (List ℕ)) where
+  module _ (unclosed : (v : V) → closed v → ⊥) (start : Start V) (left written : Option (List ℕ)) where
     ends_alone : (machine : V) (ended : Result Counts LinesFault) → engine.EndsBy alone MAX_LINES start left written machine ended → EndsBy makes ends start left written machine (run_ended ended)
     ends_alone machine (Ok counts) is = OnTold start.left _ _ (λ script ended. ended_alone start script left written machine counts ended) is
     ends_alone machine (Err fault.Read) is = OnTold start.left _ _ (λ script stopped. stopped_alone start script left written machine _ stopped) is
     ends_alone machine (Err fault.Write) is = OnTold start.left _ _ (λ script cut. cut_alone start script left written machine cut) is
     ends_alone machine (Err fault.TooManyLines) is = OnTold start.left _ _ (λ script stopped. full_alone start script left written machine stopped) is
     ends_alone machine (Err fault.EndlessLine) is = OnTold start.left _ _ (λ script stopped. endless_alone start script left written machine stopped) is
-    ends_alone machine (Err fault.Closed) is = OnTold start.left _ _ (λ script stopped. absurd (open machine stopped.is_so.1)) is
+    ends_alone machine (Err fault.Closed) is = OnTold start.left _ _ (λ script stopped. absurd (unclosed machine stopped.is_so.1)) is
 
     pub run_ends : (machine : V) (result : Result runs.Counts RunFault) → HasRun alone start left written machine result → EndsBy makes ends start left written machine result
     run_ends machine result is =

@@ -118,7 +118,7 @@ pub(crate) fn answer_lines<M: LineHandler, S: Source, W: Sink>(
     output: &mut W,
 ) -> Result<Counts, RunFault>
     requires ready { M.ready }
-    requires open { (state : M) → M.handling.closed state → ⊥ }
+    requires unclosed { (state : M) → M.handling.closed state → ⊥ }
     ensures ends { HasRun M.handling (start_at machine.old (S.left input.old) (W.contents output.old)) (S.left input.new) (W.contents output.new) machine.new result }
     ensures read { IsErrOf result RunFault.Read → S.may_fail }
     ensures write { IsErrOf result RunFault.Write → W.may_fail }
@@ -129,13 +129,7 @@ pub(crate) fn answer_lines<M: LineHandler, S: Source, W: Sink>(
     ensures end { OnOk result S.may_end }
     ensures begun { IfErr result (λ fault. fault ≢ RunFault.Memory) }
 {
-    end_run(pn_lines::answer_lines(
-        machine,
-        buffers,
-        MAX_LINES,
-        input,
-        output,
-    ))
+    end_run(pn_lines::answer_lines(machine, buffers, MAX_LINES, input, output))
 }
 
 // What a run ends with. Its handler is never closed.

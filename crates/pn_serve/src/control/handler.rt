@@ -198,7 +198,12 @@ impl<'a, R: Threads + Wait + Clock, C: StatsSource + Drop> LineHandler
     }
 
     // No line is resumed.
-    fn go_on(&mut self, _alloc: Global, _going: Going, _units: u32) -> Answered<Going, ReplyPieces> {
+    fn go_on(
+        &mut self,
+        _alloc: Global,
+        _going: Going,
+        _units: u32,
+    ) -> Answered<Going, ReplyPieces> {
         answered(Answer::Done(Reply::Silent), 0)
     }
 

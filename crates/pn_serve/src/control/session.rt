@@ -6,9 +6,9 @@ ghost use Rattle.pn_serve.specs.Control.Ends.{AnswersClient, ControlEnds, contro
 ghost use Rattle.pn_serve.specs.Lines.Waiting.{HandsOn};
 ghost use Rattle.pn_serve.specs.Session.Knowing.{KnowsNoLess};
 
+use crate::RunFault;
 use crate::control::handler::ControlHandler;
 use crate::control::mailboxes::ControlMailboxes;
-use crate::RunFault;
 use crate::script::MAX_LINES;
 use pn_join::NoMemory;
 use pn_line::{Sink, Source};
