@@ -1,6 +1,7 @@
 //! The handler of a control session's lines.
 
-ghost use Rattle.std.specs.Prelude.{◌≡◌};
+ghost use Rattle.std.specs.Prelude.{◌≡◌, ℕ, List};
+ghost use Rattle.pn_line.specs.Prelude.{kept_bytes};
 ghost use Rattle.pn_serve.specs.Control.Lines.{AnswersControl, EndsControl, after_step, at_rest, is_closed, reply_of};
 ghost use Rattle.pn_serve.specs.Session.Knowing.{KnowsNoLess};
 
@@ -112,9 +113,9 @@ impl<'a, R, C: Drop> ControlHandler<'a, R, C> {
 }
 
 impl<'a, R: Threads + Wait + Clock, C: StatsSource + Drop> ControlHandler<'a, R, C> {
-    // Answers a line with its newline.
+    // Answers a line with its newline, by its first bytes.
     fn answer_line(&mut self, alloc: Global, line: &[u8]) -> Reply
-        ensures answers { AnswersControl self.old line.now self.new result }
+        ensures answers { (text : List ℕ) → line.now ≡ kept_bytes text → AnswersControl self.old text self.new result }
         ensures knows { KnowsNoLess self.old.reader self.new.reader }
     {
         if self.has_closed() {
@@ -139,9 +140,9 @@ impl<'a, R: Threads + Wait + Clock, C: StatsSource + Drop> ControlHandler<'a, R,
         }
     }
 
-    // Answers the end of the input, after a part of a line.
+    // Answers the end of the input, after a part of a line, by its first bytes.
     fn answer_end(&mut self, alloc: Global, part: &[u8]) -> Reply
-        ensures ends { EndsControl self.old part.now self.new result }
+        ensures ends { (text : List ℕ) → part.now ≡ kept_bytes text → EndsControl self.old text self.new result }
         ensures knows { KnowsNoLess self.old.reader self.new.reader }
     {
         if self.has_closed() {

@@ -1,6 +1,7 @@
 //! The handler of a script's lines.
 
-ghost use Rattle.std.specs.Prelude.{◌≡◌, IfOk};
+ghost use Rattle.std.specs.Prelude.{◌≡◌, ℕ, List, IfOk};
+ghost use Rattle.pn_line.specs.Prelude.{kept_bytes};
 ghost use Rattle.pn_region.specs.Prelude.{new_region};
 ghost use Rattle.pn_serve.specs.Machine.Answers.{Answers, Concludes};
 ghost use Rattle.pn_serve.specs.Machine.Outcomes.{new_machine};
@@ -65,10 +66,10 @@ impl<'a, R: Threads + Sync> ScriptHandler<'a, R> {
         })
     }
 
-    // Answers a line with its newline.
+    // Answers a line with its newline, by its first bytes.
     fn answer_line(&mut self, alloc: Global, line: &[u8]) -> Reply
         requires ready { IsSync R.row }
-        ensures { Answers self.old line.now self.new result }
+        ensures { (text : List ℕ) → line.now ≡ kept_bytes text → Answers self.old text self.new result }
     {
         let waiting = self.announced.take();
         let region = &mut self.region;
@@ -84,10 +85,10 @@ impl<'a, R: Threads + Sync> ScriptHandler<'a, R> {
         reply
     }
 
-    // Answers the end of the input, after a part of a line.
+    // Answers the end of the input, after a part of a line, by its first bytes.
     fn answer_end(&mut self, alloc: Global, part: &[u8]) -> Reply
         requires ready { IsSync R.row }
-        ensures { Concludes self.old part.now self.new result }
+        ensures { (text : List ℕ) → part.now ≡ kept_bytes text → Concludes self.old text self.new result }
     {
         let announced = self.announced.take();
         let region = &mut self.region;
