@@ -9,7 +9,8 @@ use Rattle.pn_lines.specs.Engines.{EngineValue, after_answer, dropping, with_lin
 use Rattle.pn_lines.specs.Finding.{NewlineAt}
 use Rattle.pn_lines.specs.Moves.{IsPreorder}
 use Rattle.pn_lines.specs.Progress.{Advances}
-use Rattle.pn_lines.specs.Standing.{Handling, Stands, count_of}
+use Rattle.pn_lines.specs.Handling.{Handling}
+use Rattle.pn_lines.specs.Standing.{Stands, count_of}
 use Rattle.pn_lines.specs.Taking.{Asks, Refuses, Takes}
 use Rattle.pn_lines.specs.declared.engine.TheConstants.{MAX_STEP_UNITS, UNIT_BYTES}
 use Rattle.pn_lines.specs.declared.handler.EndedBy.{EndedBy}
