@@ -7,7 +7,7 @@ use Rattle.pn_lines.specs.Answers.{AnswerValue, AnswersBy, done, going}
 use Rattle.pn_lines.specs.Engines.{EngineValue, after_answer, with_refusal}
 use Rattle.pn_lines.specs.Moves.{IsPreorder}
 use Rattle.pn_lines.specs.Replies.{Replied, one_if, refusals_of, texts_of}
-use Rattle.pn_lines.specs.Handling.{Answers, Handling}
+use Rattle.pn_lines.specs.Handling.{Answers, GivesUp, Handling}
 use Rattle.pn_lines.specs.Standing.{AllAnswer, IsAsked, IsLine, Position, StageAt, Stands, StandsBy}
 use Rattle.pn_lines.specs.declared.engine.stage.LinesEnd.TheVariants as end
 use Rattle.pn_lines.specs.declared.engine.stage.Stage.{Stage}
@@ -176,6 +176,44 @@ module _ {V G : Type 0} (handling : Handling V G) where
             is.stage.1,
           );
         }
+
+    -- an answer that is given up has a reply
+    pub Stands-given_up : IsPreorder handling.moves → GivesUp handling → (g : G) (ended : EndedBy) → Stands handling start taken given ahead last machine (record run { stage = Going g ended })
+        → (replied : Replied) × Stands handling start taken given ahead last machine (after_answer (done replied) ended run)
+    Stands-given_up steady gives_up g ended is =
+        let asked = is.stage.0 in
+        let up = gives_up asked.first asked.between machine ended asked.line g asked.answered asked.goes_on in (
+          up.0,
+          Stands-answered ended (done up.0) is.stage.2
+              (record {
+                lines = is.lines;
+                rest = is.rest;
+                taken_is = is.taken_is;
+                are_lines = is.are_lines;
+                few = is.few;
+                replies = is.replies;
+                reached = is.reached;
+                made = is.made;
+                more = is.more;
+                texts = is.texts;
+                refused = is.refused;
+                stage = (
+                  record {
+                    line = asked.line;
+                    first = up.1.between;
+                    between = machine;
+                    rest_is = asked.rest_is;
+                    is_line = asked.is_line;
+                    moved = steady.goes_on is.reached asked.first up.1.between asked.moved up.1.moved;
+                    answered = up.1.answered;
+                    goes_on = steady.stays machine;
+                    counted = asked.counted;
+                    over = asked.over;
+                  },
+                  is.stage.1,
+                );
+              }),
+        )
 
     -- the handler moved
     moved_at : IsPreorder handling.moves → (now : V) → handling.moves machine now → (stage : Stage G) (lines : List (List ℕ)) (rest : List ℕ) (reached : V) (more : List Replied)

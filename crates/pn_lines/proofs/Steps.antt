@@ -25,6 +25,15 @@ module _ {V G : Type 0} (handling : Handling V G) where
   after_same (done replied) ended run = refl
   after_same (going g) ended run = refl
 
+  -- an answer counts no line
+  after_lines : (answer : AnswerValue G) (ended : EndedBy) (run : EngineValue G) → (after_answer answer ended run).counts.lines ≡ run.counts.lines
+  after_lines (done replied) ended run = refl
+  after_lines (going g) ended run = refl
+
+  counts_one : (part : List ℕ) → count_of Input part ≤ 1
+  counts_one [] = omega arith
+  counts_one (b ∷ part) = omega arith
+
   recast : (start : V) (taken took given ahead : List ℕ) (last : Bool) (machine : V) (run new : EngineValue G) → took ≡ taken → new ≡ run → Stands handling start taken given ahead last machine run
       → Stands handling start took given ahead last machine new
   recast start taken took given ahead last machine run new same is stands =
@@ -47,6 +56,7 @@ module _ {V G : Type 0} (handling : Handling V G) where
           within = omega (arith, newline.below);
           counted = enough;
           few = least;
+          lines = omega (arith, ap (λ (r : EngineValue G). r.counts.lines) has, after_lines asks.answer Newline (with_lines 1 (dropping 0 run)));
         }
 
     -- how many lines the last part counts for fits
@@ -82,6 +92,7 @@ module _ {V G : Type 0} (handling : Handling V G) where
           within = omega arith;
           counted = enough;
           few = least;
+          lines = omega (arith, ap (λ (r : EngineValue G). r.counts.lines) has, after_lines asks.answer Input (with_lines (count_of Input bytes) (dropping 0 run)), counts_one bytes);
         }
 
     -- the first bytes of a line that is too long
@@ -97,6 +108,7 @@ module _ {V G : Type 0} (handling : Handling V G) where
           within = long;
           counted = enough;
           few = least;
+          lines = omega (arith, ap (λ (r : EngineValue G). r.counts.lines) has);
         }
 
     -- the end of a line that was dropped
@@ -124,6 +136,7 @@ module _ {V G : Type 0} (handling : Handling V G) where
           within = omega (arith, long, newline.below);
           counted = enough;
           few = least;
+          lines = omega (arith, ap (λ (r : EngineValue G). r.counts.lines) refuses.has, after_lines (done refuses.replied) Newline run);
         }
 
     -- the end of the input in a line that was dropped
@@ -142,4 +155,5 @@ module _ {V G : Type 0} (handling : Handling V G) where
           within = omega arith;
           counted = omega arith;
           few = omega arith;
+          lines = omega (arith, ap (λ (r : EngineValue G). r.counts.lines) refuses.has, after_lines (done refuses.replied) Input run);
         }
