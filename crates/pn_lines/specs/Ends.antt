@@ -52,10 +52,6 @@ IsFull most left lines part = (length lines ≡ most) × (part ≡ []) × (left 
 abbrev pub IsEndless : ℕ → List (List ℕ) → List ℕ → Type 0
 IsEndless most lines part = (length lines < most) × (length part ≡ ENDLESS)
 
--- no part of the next line was read, since no further line is answered
-abbrev pub IsShut : Type 0 → List (List ℕ) → List ℕ → Type 0
-IsShut closed lines part = (part ≡ []) × closed
-
 module _ {V G : Type 0} (handling : Handling V G) where
   -- these lines of the input and then a part of the next were read, and the lines were answered
   pub record Answered (start : Start V) (input : List ℕ) (left : Option (List ℕ)) (lines : List (List ℕ)) (part : List ℕ) (replies : List Replied) (reached : V) : Type 0 where
@@ -106,7 +102,7 @@ module _ {V G : Type 0} (handling : Handling V G) where
   EndsBy most start left written machine (Err Write) = IfSome start.left (λ input. Cut start input left written machine)
   EndsBy most start left written machine (Err TooManyLines) = IfSome start.left (λ input. Stopped (IsFull most left) start input left written machine)
   EndsBy most start left written machine (Err EndlessLine) = IfSome start.left (λ input. Stopped (IsEndless most) start input left written machine)
-  EndsBy most start left written machine (Err Closed) = IfSome start.left (λ input. Stopped (IsShut (handling.closed machine)) start input left written machine)
+  EndsBy most start left written machine (Err Closed) = IfSome start.left (λ input. Stopped (λ lines part. part ≡ []) start input left written machine)
 
   -- it ended so, perhaps before the handler moved
   pub record HasEnded (most : ℕ) (start : Start V) (left written : Option (List ℕ)) (machine : V) (ended : Result Counts LinesFault) : Type 0 where

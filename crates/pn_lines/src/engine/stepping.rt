@@ -34,6 +34,7 @@ impl<G: Drop, T: PieceText> LineEngine<G, T> {
         ensures costs { Costs units result.units result.taken replies.old replies.new }
         ensures advances { Advances M.left result.units result.taken self.old self.new }
         ensures next { NextIs result.next units result.units replies.new self.new (drop result.taken bytes.now) is_last }
+        ensures lines { self.new.counts.lines ≤ self.old.counts.lines + units }
         ensures kept { M.keeps machine.old machine.new }
     {
         let mut taken = 0;
@@ -81,6 +82,7 @@ impl<G: Drop, T: PieceText> LineEngine<G, T> {
         ensures costs { Costs units (units_by result) (taken_by result) replies.old replies.new }
         ensures advances { Advances M.left (units_by result) (taken_by result) self.old self.new }
         ensures next { StepsTo result replies.new self.new bytes.now is_last }
+        ensures lines { self.new.counts.lines ≤ self.old.counts.lines + 1 }
         ensures kept { M.keeps machine.old machine.new }
     {
         if self.has_text() {

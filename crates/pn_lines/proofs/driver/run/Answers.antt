@@ -1,5 +1,5 @@
 -- Before the first line nothing was read or written.
-use Rattle.std.proofs.Common.{refl, ap}
+use Rattle.std.proofs.Common.{refl, ap, arith}
 use Rattle.pn_lines.specs.Engines.{EngineValue}
 use Rattle.pn_lines.proofs.Reading.{Reads-new}
 use Rattle.pn_lines.proofs.driver.run.Goals as goal
@@ -12,6 +12,9 @@ lines-init g c =
       stage = ap (λ (r : EngineValue g.row.G.Denot). r.stage) c.requires.new;
       made = ap (λ (r : EngineValue g.row.G.Denot). r.left) c.requires.new;
       most = refl;
+      few = omega (arith, ap (λ (r : EngineValue g.row.G.Denot). r.counts.lines) c.requires.new);
+      looks = omega (arith, ap (λ (r : EngineValue g.row.G.Denot). r.counts.lines) c.requires.new);
       room = c.requires.capacity;
+      grows = omega arith;
       kept = g.met.M.LineHandler.steady.1.stays c.args.machine.now;
     }

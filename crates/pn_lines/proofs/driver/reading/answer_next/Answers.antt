@@ -160,7 +160,7 @@ returns-in_ok-hand_out-in-Ok-Endless-clause-ends g c = λ start reads.
     let after = g.W.Sink.contents c.hand_out-in-Ok-Endless.new.output in
     let none = c.hand_out-in-Ok-Endless.ensures.none in
     let read = Reads-sent handling start left written after waited c.hand_out-in-Ok-Endless.new.replies.items false c.args.machine.now c.args.engine.now none c.in_ok-hand_out-in-Ok-Endless.ensures.ok reads in
-    Ends-exceeded handling start most left leaves after c.hand_out-in-Ok-Endless.new.replies.items c.args.machine.now c.args.engine.now c.next_line.new.line c.requires.reads (rw c.in-Ok-Endless.field-0-is at c.in-Ok-Endless.ensures.takes) none c.requires.made steady refl (rw c.in-Ok-Endless.field-0-is at c.in-Ok-Endless.ensures.stops) read
+    Ends-exceeded handling start most left leaves after c.hand_out-in-Ok-Endless.new.replies.items c.args.machine.now c.args.engine.now c.next_line.new.line c.requires.reads (rw c.in-Ok-Endless.field-0-is at c.in-Ok-Endless.ensures.takes) none c.requires.made c.limit_of.result steady refl c.limit_of.ensures.full c.limit_of.ensures.endless (rw c.in-Ok-Endless.field-0-is at c.in-Ok-Endless.ensures.stops) read
 
 pub returns-in_ok-hand_out-in-Err-clause-ends : goal.returns-in_ok-hand_out-in-Err-clause-ends
 returns-in_ok-hand_out-in-Err-clause-ends g c = λ start reads.

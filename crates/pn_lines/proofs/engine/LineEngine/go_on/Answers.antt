@@ -14,6 +14,8 @@ steps-init g c =
       within = omega arith;
       adds = Adds-none c.args.replies.now;
       costs = record { counted = omega arith; few = omega arith };
+      lines = omega arith;
+      few = omega arith;
       advances = Advances-none M.left c.args.self.now;
       kept = g.met.M.LineHandler.steady.1.stays c.args.machine.now;
     }
@@ -31,6 +33,8 @@ steps-preserved g c =
       within = omega (arith, was.within, step.within, length-drop c.steps.taken c.args.bytes.now);
       adds = Adds-more c.args.replies.now c.steps.replies c.step.new.replies was.adds step.adds;
       costs = record { counted = omega (arith, was.costs.counted, step.costs.counted); few = omega (arith, step.costs.few) };
+      lines = omega (arith, was.lines, step.lines, step.next);
+      few = omega (arith, was.lines, step.lines);
       advances = Advances-more M.left c.steps.used c.in-Went.spent c.steps.taken c.in-Went.more c.args.self.now c.steps.self c.step.new.self step.next was.advances step.advances;
       kept = g.met.M.LineHandler.steady.1.goes_on c.args.machine.now c.steps.machine c.step.new.machine was.kept step.kept;
     }

@@ -1,5 +1,5 @@
 -- Where the engine stood before the call it stands after each step, with what was taken and given; and all units are counted.
-use Rattle.std.proofs.Common.{◌-◌, ◌≤◌, ◌++◌, ℕ, List, drop, length, take}
+use Rattle.std.proofs.Common.{◌+◌, ◌-◌, ◌≤◌, ◌++◌, ℕ, List, drop, length, take}
 use Rattle.pn_lines.specs.Giving.{Adds}
 use Rattle.pn_lines.specs.Progress.{Advances, Costs}
 use Rattle.pn_lines.specs.Standing.{Stands}
@@ -12,6 +12,8 @@ invariant-steps g l = record {
   within : l.taken ≤ length l.bytes;
   adds : Adds l.initial.replies l.replies;
   costs : Costs l.units l.used l.taken l.initial.replies l.replies;
+  lines : l.self.counts.lines ≤ l.initial.self.counts.lines + l.used;
+  few : l.self.counts.lines ≤ l.initial.self.counts.lines + l.units;
   advances : Advances g.M.LineHandler.left l.used l.taken l.initial.self l.self;
   kept : g.M.LineHandler.keeps l.initial.machine l.machine;
 }
