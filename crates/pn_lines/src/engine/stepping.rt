@@ -1,6 +1,6 @@
 //! The calls of an engine, and their steps.
 
-ghost use Rattle.std.specs.Prelude.{◌≡◌, ◌≢◌, ◌≤◌, ◌<◌, ◌+◌, ◌*◌, ◌++◌, [], ℕ, Bool, List, drop, length, take};
+ghost use Rattle.std.specs.Prelude.{◌≡◌, ◌≢◌, ◌≤◌, ◌<◌, ◌+◌, ◌*◌, ◌++◌, [], ℕ, Bool, List, drop, length, min, take};
 ghost use Rattle.pn_lines.specs.Giving.{Adds, Gives};
 ghost use Rattle.pn_lines.specs.Progress.{Advances, Costs, NextIs, StepsTo, taken_by, units_by};
 ghost use Rattle.pn_lines.specs.Standing.{Stands};
@@ -34,7 +34,7 @@ impl<G: Drop, T: PieceText> LineEngine<G, T> {
         ensures costs { Costs units result.units result.taken replies.old replies.new }
         ensures advances { Advances M.left result.units result.taken self.old self.new }
         ensures next { NextIs result.next units result.units replies.new self.new (drop result.taken bytes.now) is_last }
-        ensures lines { self.new.counts.lines ≤ self.old.counts.lines + units }
+        ensures lines { self.new.counts.lines ≤ self.old.counts.lines + min units result.units }
         ensures kept { M.keeps machine.old machine.new }
     {
         let mut taken = 0;
