@@ -211,20 +211,20 @@ module _ (start : Start ControlState) (left written : Option (List ℕ)) (state 
 
 module _ (read write end closed : Type 0) where
   pub session_read : (ended : Result Counts LinesFault) → CanEnd read write end closed ended → IsErrOf (uncounted ended) Read → read
-  session_read (Ok counts) can is = cc
+  session_read (Ok counts) can is = absurd (cc)
   session_read (Err fault.Read) can is = can
-  session_read (Err fault.Write) can is = cc
-  session_read (Err fault.TooManyLines) can is = cc
-  session_read (Err fault.EndlessLine) can is = cc
-  session_read (Err fault.Closed) can is = cc
+  session_read (Err fault.Write) can is = absurd (cc)
+  session_read (Err fault.TooManyLines) can is = absurd (cc)
+  session_read (Err fault.EndlessLine) can is = absurd (cc)
+  session_read (Err fault.Closed) can is = absurd (cc)
 
   pub session_write : (ended : Result Counts LinesFault) → CanEnd read write end closed ended → IsErrOf (uncounted ended) Write → write
-  session_write (Ok counts) can is = cc
-  session_write (Err fault.Read) can is = cc
+  session_write (Ok counts) can is = absurd (cc)
+  session_write (Err fault.Read) can is = absurd (cc)
   session_write (Err fault.Write) can is = can
-  session_write (Err fault.TooManyLines) can is = cc
-  session_write (Err fault.EndlessLine) can is = cc
-  session_write (Err fault.Closed) can is = cc
+  session_write (Err fault.TooManyLines) can is = absurd (cc)
+  session_write (Err fault.EndlessLine) can is = absurd (cc)
+  session_write (Err fault.Closed) can is = absurd (cc)
 
 pub session_out : (handed_on : Type 0) (ended : Result Counts LinesFault) → engine.HandsOn ended handed_on → HandsOn (uncounted ended) handed_on
 session_out handed_on (Ok counts) out = out

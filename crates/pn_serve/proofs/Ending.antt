@@ -2,7 +2,7 @@
 use Rattle.std.proofs.Common.{◌≡◌, ◌≢◌, ◌⊎◌, ◌≤◌, ◌<◌, ◌+◌, ℕ, Bool, true, false, Option, Some, List, [], ◌∷◌, ◌++◌, length, All, inl, inr, refl, sym, ap, ◌∙◌, subst, arith, length-append}
 use Rattle.std.specs.Prelude.{Result, Ok, Err, IsErrOf, IfOk, IfErr, OnOk}
 use Rattle.std.specs.Io.KnownBytes.{Appends}
-use Rattle.std.proofs.lemmas.List.Elements.{All-nil, All-cons, All-append, All-map}
+use Rattle.std.proofs.lemmas.List.Elements.{All-nil, All-cons, All-append, All-weaker}
 use Rattle.pn_line.specs.Sent.{AppendsPrefix}
 use Rattle.pn_line.specs.Text.{last_line, lines_of}
 use Rattle.pn_lines.specs.Ends as engine
@@ -50,7 +50,7 @@ last_count [] = refl
 last_count (b ∷ part) = refl
 
 all_short : (lines : List (List ℕ)) → All IsLine lines → All IsShort lines
-all_short lines are = All-map IsLine IsShort lines (λ line is. is.short) are
+all_short lines are = All-weaker IsLine IsShort (λ line is. is.short) lines are
 
 short_part : (part : List ℕ) → IsLine part → All IsShort (last_line part)
 short_part [] is = All-nil IsShort
@@ -170,20 +170,20 @@ module _ {V W G : Type 0} (see : V → W) (makes ends : W → List ℕ → W →
 
 module _ (read write end closed : Type 0) where
   pub run_read : (ended : Result Counts LinesFault) → CanEnd read write end closed ended → IsErrOf (run_ended ended) Read → read
-  run_read (Ok counts) can is = cc
+  run_read (Ok counts) can is = absurd (cc)
   run_read (Err fault.Read) can is = can
-  run_read (Err fault.Write) can is = cc
-  run_read (Err fault.TooManyLines) can is = cc
-  run_read (Err fault.EndlessLine) can is = cc
-  run_read (Err fault.Closed) can is = cc
+  run_read (Err fault.Write) can is = absurd (cc)
+  run_read (Err fault.TooManyLines) can is = absurd (cc)
+  run_read (Err fault.EndlessLine) can is = absurd (cc)
+  run_read (Err fault.Closed) can is = absurd (cc)
 
   pub run_write : (ended : Result Counts LinesFault) → CanEnd read write end closed ended → IsErrOf (run_ended ended) Write → write
-  run_write (Ok counts) can is = cc
-  run_write (Err fault.Read) can is = cc
+  run_write (Ok counts) can is = absurd (cc)
+  run_write (Err fault.Read) can is = absurd (cc)
   run_write (Err fault.Write) can is = can
-  run_write (Err fault.TooManyLines) can is = cc
-  run_write (Err fault.EndlessLine) can is = cc
-  run_write (Err fault.Closed) can is = cc
+  run_write (Err fault.TooManyLines) can is = absurd (cc)
+  run_write (Err fault.EndlessLine) can is = absurd (cc)
+  run_write (Err fault.Closed) can is = absurd (cc)
 
   pub run_end : (ended : Result Counts LinesFault) → CanEnd read write end closed ended → OnOk (run_ended ended) end
   run_end (Ok counts) can = can
@@ -210,7 +210,7 @@ run_out handed_on (Err fault.EndlessLine) out = out
 run_out handed_on (Err fault.Closed) out = out
 
 -- out of memory is no end of a run
-pub run_begun : (ended : Result Counts LinesFault) → IfErr (run_ended ended) (λ fault. fault ≢ Memory)
+pub run_begun : (ended : Result Counts LinesFault) → IfErr (run_ended ended) (λ found. found ≢ Memory)
 run_begun (Ok counts) = tt
 run_begun (Err fault.Read) = λ is. cc
 run_begun (Err fault.Write) = λ is. cc
