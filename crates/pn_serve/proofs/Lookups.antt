@@ -173,7 +173,9 @@ when_false false is P Q holds = holds
 -- a list whose length was tested
 pub no_length : (text : List ℕ) → true ≡ (length text == 0) → text ≡ []
 no_length [] is = refl
-no_length (b ∷ text) is = absurd (cc)
+no_length (b ∷ text) is =
+    let other : (length (b ∷ text) == 0) ≡ false = grind (arith, nat_tests) in
+    let clash : true ≡ false = is ∙ other in absurd (cc)
 
 pub some_length : (text : List ℕ) → false ≡ (length text == 0) → text ≡ [] → ⊥
 some_length [] is none = cc

@@ -6,6 +6,7 @@ use Rattle.pn_scan.specs.Paging.{Stays}
 use Rattle.pn_serve.specs.Session.Alone.{alone_reads, reader_of}
 use Rattle.pn_serve.specs.declared.machine.line_answers.Answer.TheVariants.{Done}
 use Rattle.pn_protocol.specs.declared.reply.Reply.TheVariants.{Silent}
+use Rattle.pn_serve.specs.declared.sessions.alone_reader.AloneReader.{AloneReader}
 use Rattle.pn_serve.specs.declared.sessions.going.Going.{Going}
 use Rattle.pn_serve.proofs.Knowing.{answer_knows, knows_itself, stays_knows, stays_preorder}
 use Rattle.pn_serve.proofs.Lookups.{answers_by, answers_none, seen_alone, when_false, when_true}
@@ -21,7 +22,11 @@ pub returns-then-is_no_line-clause-kept : goal.returns-then-is_no_line-clause-ke
 returns-then-is_no_line-clause-kept c = (knows_itself _, refl)
 
 pub returns-clause-answers : goal.returns-clause-answers
-returns-clause-answers c text is = ?
+returns-clause-answers c text is =
+    let now : AloneReader = record { reader = record c.args.self.now.reader { now = c.answer_line.new.reader } } in
+    subst (λ (a : AnswerValue Going). AnswersBy alone_reads c.args.self.now c.args.ended text now a) (sym c.answered-2.ensures.answer)
+    (seen_alone reader_of c.args.self.now now c.args.ended text c.answer_line.result
+    (answers_by Stays stays_preorder c.args.self.now.reader.now c.answer_line.new.reader c.args.ended c.args.line.now text c.answer_line.result is (when_false _ c.if-is_no_line.false _ _ c.is_no_line.ensures) c.answer_line.ensures.answers))
 
 pub returns-clause-kept : goal.returns-clause-kept
-returns-clause-kept c = ?
+returns-clause-kept c = (answer_knows Stays stays_knows _ _ _ _ c.answer_line.ensures.answers, refl)
