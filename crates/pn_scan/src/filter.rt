@@ -1,26 +1,77 @@
 //! Which records a query shows.
 
-ghost use Rattle.std.specs.Prelude.{◌≡◌, true, map, option_map};
+ghost use Rattle.std.specs.Prelude.{◌≡◌, ◌≤◌, ◌&&◌, max, map, option_map};
 ghost use Rattle.std.specs.FinMap.{find};
 ghost use Rattle.std.specs.List.{list_all};
 ghost use Rattle.std.specs.Option.{option_copied};
 ghost use Rattle.pn_record.specs.Prelude.{bytes_cmp, shown_field, shown_value};
-ghost use Rattle.pn_tablet.specs.Prelude.{is_from as from_end, is_before as before_end};
+ghost use Rattle.pn_tablet.specs.Prelude.{is_from as from_end};
 ghost use Rattle.pn_scan.specs.Queries.{shown_condition};
 ghost use Rattle.pn_scan.specs.Conditions.{field_of as name_of, are_equal as equal_values, begins_with as has_prefix, comes_before as is_before_value, is_met as value_met, meets as one_met, shows as all_met};
-ghost use Rattle.pn_scan.specs.Shown.{has_shown as some_shown, is_shown as row_shown, is_after as after_end};
+ghost use Rattle.pn_scan.specs.Shown.{is_after as after_end};
+ghost use Rattle.pn_scan.specs.Works.{LooksTo};
 
+use crate::work::{content_work, text_bytes};
 use crate::{Condition, Query};
-use pn_record::{Body, Cell, Content, Key, Value};
+use pn_record::{Body, Content, Key, Value};
 
-/// Whether the query shows the record of a key, which is at least its `from` and below its `to`.
-#[tactic(auto, using(crate::proofs::Walking::within_ends))]
-pub(crate) fn is_shown(query: &Query, key: &Key, cell: &Cell) -> bool
-    requires from { from_end query.now.from key.now ≡ true }
-    requires to { before_end query.now.to key.now ≡ true }
-    ensures { result ≡ row_shown query.now (key.now, cell.now) }
+/// How much work a look is to do, and how much it did.
+#[derive(Clone, Copy, Debug, PartialEq, Eq)]
+pub(crate) struct Work {
+    pub(crate) most: usize,
+    pub(crate) done: usize,
+}
+
+/// How far a look at the contents of a record came.
+#[derive(Clone, Copy, Debug, PartialEq, Eq)]
+pub(crate) enum ContentsLook {
+    /// Whether one of them meets the conditions, and how much work is done.
+    Known(bool, usize),
+    /// Those before this index do not. The others are still to be looked at.
+    To(usize),
+}
+
+/// Looks at contents from an index on, until one meets the conditions, or before one that would be too much work, unless none was
+/// compared before.
+pub(crate) fn look_at(
+    conditions: &[Condition],
+    contents: &[Content],
+    from: usize,
+    work: Work,
+) -> ContentsLook
+    requires { work.done ≤ max work.most 1 }
+    ensures { LooksTo (map shown_condition conditions.now) contents.now from work result }
 {
-    is_after(query.after(), key) && has_shown(query.conditions(), cell)
+    let bytes = text_bytes(conditions);
+    let mut done = work.done;
+    for index in from..contents.len() {
+        let content = &contents[index];
+        let more = content_work(conditions, bytes, content);
+        if done > 1 && more > work.most.saturating_sub(done) {
+            return ContentsLook::To(index);
+        }
+        done += more;
+        if shows(conditions, content) {
+            return ContentsLook::Known(true, done);
+        }
+    }
+    ContentsLook::Known(false, done)
+}
+
+/// Whether the key is one that the query asks for, where it is below the query's `to`.
+pub(crate) fn is_asked(query: &Query, key: &Key) -> bool
+    ensures { result ≡ (from_end query.now.from key.now && after_end query.now.after key.now) }
+{
+    is_from(query.from(), key) && is_after(query.after(), key)
+}
+
+fn is_from(from: Option<&Key>, key: &Key) -> bool
+    ensures { result ≡ from_end (option_copied from.entry) key.now }
+{
+    match from {
+        None => true,
+        Some(from) => !(key < from),
+    }
 }
 
 fn is_after(after: Option<&Key>, key: &Key) -> bool
@@ -30,14 +81,6 @@ fn is_after(after: Option<&Key>, key: &Key) -> bool
         None => true,
         Some(after) => after < key,
     }
-}
-
-fn has_shown(conditions: &[Condition], cell: &Cell) -> bool
-    ensures { result ≡ some_shown (map shown_condition conditions.now) cell.now }
-{
-    cell.contents()
-        .iter()
-        .any(|content| shows(conditions, content))
 }
 
 fn shows(conditions: &[Condition], content: &Content) -> bool
