@@ -49,15 +49,18 @@ records_work conditions seen (row ∷ rows) = 1 + contents_work conditions (drop
 abbrev pub shows_from : List ConditionValue → ℕ → List ContentValue → Bool
 shows_from conditions seen contents = list_any (λ content. shows conditions content.0) (drop seen contents)
 
--- how far a look at contents came, which were looked at from an index on: it is known whether one meets the conditions, or those before another
--- index do not. What is counted is what was looked at, and at most the work that was to be done, or that of one content
-abbrev pub LooksTo : List ConditionValue → List ContentValue → ℕ → Work → ContentsLook → Type 0
-LooksTo conditions contents from work (Known shown done) =
-    (shown ≡ shows_from conditions from contents) × (done ≡ work.done + contents_work conditions (drop from contents)) × (done ≤ max work.most MAX_PART_WORK)
-LooksTo conditions contents from work (To end) =
-    (shows_from conditions end contents ≡ shows_from conditions from contents)
-    × (work.done + contents_work conditions (drop from contents) ≤ max work.most MAX_PART_WORK + contents_work conditions (drop end contents))
-    × (work.done ≤ 1 → from < end)
+-- how far a look came that began at an index, where `shows n` says whether what is from `n` on shows, and `counts n` what looking at it counts
+-- for: either that is known, or what is before another index does not show. No more work was done than there was to do, or than one content is
+abbrev pub LooksTo : (ℕ → Bool) → (ℕ → ℕ) → ℕ → Work → ContentsLook → Type 0
+LooksTo shows counts from work (Known shown done) =
+    (shown ≡ shows from) × (done ≡ work.done + counts from) × (done ≤ max work.most MAX_PART_WORK)
+LooksTo shows counts from work (To end) =
+    (shows end ≡ shows from) × (work.done + counts from ≤ max work.most MAX_PART_WORK + counts end) × (work.done ≤ 1 → from < end)
+
+-- one more was counted, which is not much: it was the first, or is within what there was to do. Or it was too much after the first
+abbrev pub AddsWork : Work → ℕ → Option ℕ → Type 0
+AddsWork work more None = 1 < work.done
+AddsWork work more (Some done) = (done ≡ work.done + more) × ((work.done ≤ 1) ⊎ (done ≤ work.most))
 
 -- how many whole units some work is, and one more for a rest, as far as that has 32 bits
 abbrev pub units_in : ℕ → ℕ

@@ -1,19 +1,20 @@
 //! Which records a query shows.
 
 ghost use Rattle.std.specs.Prelude.{◌≡◌, ◌≤◌, ◌&&◌, max, map, option_map};
-ghost use Rattle.std.specs.FinMap.{find};
+ghost use Rattle.std.specs.FinMap.{find, keys};
 ghost use Rattle.std.specs.List.{list_all};
 ghost use Rattle.std.specs.Option.{option_copied};
 ghost use Rattle.pn_record.specs.Prelude.{bytes_cmp, shown_field, shown_value};
-ghost use Rattle.pn_tablet.specs.Prelude.{is_from as from_end};
+ghost use Rattle.pn_tablet.specs.Prelude.{is_from as from_end, is_before as before_end};
 ghost use Rattle.pn_scan.specs.Queries.{shown_condition};
 ghost use Rattle.pn_scan.specs.Conditions.{field_of as name_of, are_equal as equal_values, begins_with as has_prefix, comes_before as is_before_value, is_met as value_met, meets as one_met, shows as all_met};
-ghost use Rattle.pn_scan.specs.Shown.{is_after as after_end};
-ghost use Rattle.pn_scan.specs.Works.{LooksTo};
+ghost use Rattle.pn_scan.specs.Shown.{is_after as after_end, is_shown_from};
+ghost use Rattle.pn_scan.specs.Works.{contents_work, shows_from, AddsWork, LooksTo};
+ghost use Rattle.pn_scan.specs.declared.work.TheConstants.{MAX_COMPARED};
 
 use crate::work::{content_work, text_bytes};
 use crate::{Condition, Query};
-use pn_record::{Body, Content, Key, Value};
+use pn_record::{Body, Cell, Content, Key, Value};
 
 /// How much work a look is to do, and how much it did.
 #[derive(Clone, Copy, Debug, PartialEq, Eq)]
@@ -25,41 +26,72 @@ pub(crate) struct Work {
 /// How far a look at the contents of a record came.
 #[derive(Clone, Copy, Debug, PartialEq, Eq)]
 pub(crate) enum ContentsLook {
-    /// Whether one of them meets the conditions, and how much work is done.
+    /// Whether one of them shows the record, and how much work is done.
     Known(bool, usize),
     /// Those before this index do not. The others are still to be looked at.
     To(usize),
 }
 
-/// Looks at contents from an index on, until one meets the conditions, or before one that would be too much work, unless none was
-/// compared before.
+impl Work {
+    // The work done with this much more; none where that is too much, unless nothing was compared before.
+    fn with(self, more: usize) -> Option<usize>
+        requires { more ≤ MAX_COMPARED + 1 }
+        ensures { AddsWork self more result }
+    {
+        if self.done > 1 && more > self.most.saturating_sub(self.done) {
+            return None;
+        }
+        Some(self.done.saturating_add(more))
+    }
+}
+
+/// Looks at the contents of a record from an index on, until one shows it. Its key is below the query's `to`.
 pub(crate) fn look_at(
+    query: &Query,
+    key: &Key,
+    cell: &Cell,
+    from: usize,
+    work: Work,
+) -> ContentsLook
+    requires to { before_end query.now.to key.now ≡ true }
+    requires few { work.done ≤ max work.most 1 }
+    ensures { LooksTo (λ n. is_shown_from query.now n (key.now, cell.now)) (λ n. contents_work query.now.conditions (drop n (keys cell.now.1))) from work result }
+{
+    match look_at_contents(query.conditions(), cell.contents(), from, work) {
+        ContentsLook::Known(true, done) => ContentsLook::Known(is_asked(query, key), done),
+        ContentsLook::Known(false, done) => ContentsLook::Known(false, done),
+        ContentsLook::To(end) => ContentsLook::To(end),
+    }
+}
+
+// Looks at contents until one meets the conditions, or before one that would be too much.
+fn look_at_contents(
     conditions: &[Condition],
     contents: &[Content],
     from: usize,
     work: Work,
 ) -> ContentsLook
     requires { work.done ≤ max work.most 1 }
-    ensures { LooksTo (map shown_condition conditions.now) contents.now from work result }
+    ensures { LooksTo (λ n. shows_from (map shown_condition conditions.now) n contents.now) (λ n. contents_work (map shown_condition conditions.now) (drop n contents.now)) from work result }
 {
     let bytes = text_bytes(conditions);
-    let mut done = work.done;
+    let mut now = work;
     for index in from..contents.len() {
         let content = &contents[index];
         let more = content_work(conditions, bytes, content);
-        if done > 1 && more > work.most.saturating_sub(done) {
+        let Some(done) = now.with(more) else {
             return ContentsLook::To(index);
-        }
-        done += more;
+        };
+        now = Work { most: work.most, done };
         if shows(conditions, content) {
             return ContentsLook::Known(true, done);
         }
     }
-    ContentsLook::Known(false, done)
+    ContentsLook::Known(false, now.done)
 }
 
-/// Whether the key is one that the query asks for, where it is below the query's `to`.
-pub(crate) fn is_asked(query: &Query, key: &Key) -> bool
+// Whether the key is one that the query asks for, where it is below the query's `to`.
+fn is_asked(query: &Query, key: &Key) -> bool
     ensures { result ≡ (from_end query.now.from key.now && after_end query.now.after key.now) }
 {
     is_from(query.from(), key) && is_after(query.after(), key)

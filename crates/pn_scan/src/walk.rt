@@ -1,11 +1,11 @@
 //! Looks into one tablet that are resumed.
 
-ghost use Rattle.std.specs.Prelude.{◌≡◌, ◌+◌, ◌<◌, ◌≤◌, ◌^◌, drop, length, max, IfOk};
+ghost use Rattle.std.specs.Prelude.{◌≡◌, ◌<◌, ◌≤◌, ◌^◌, drop, length, max, IfOk};
 ghost use Rattle.pn_scan.specs.Walking.{WalksTo};
 ghost use Rattle.pn_scan.specs.Parts.{part_at, walk_answer, left_in, part_left, LooksAtMost};
 ghost use Rattle.pn_scan.specs.declared.work.TheConstants.{MAX_PART_WORK};
 
-use crate::filter::{ContentsLook, Work, is_asked, look_at};
+use crate::filter::{ContentsLook, Work, look_at};
 use crate::part::row_of;
 use crate::{Query, Row};
 use pn_join::NoMemory;
@@ -52,19 +52,6 @@ pub struct PartWalk {
     room: usize,
 }
 
-impl Place {
-    // The place after the next record.
-    fn next(self) -> Place
-        requires { self.index + 1 < 2 ^ 64 }
-        ensures { result ≡ record { index = self.index + 1; seen = 0 } }
-    {
-        Place {
-            index: self.index + 1,
-            seen: 0,
-        }
-    }
-}
-
 impl Model for PartWalk {
     ghost use Rattle.std.specs.Prelude.{◌≤◌, drop, length};
     ghost use Rattle.pn_scan.specs.WalkValues.{PartWalkValue};
@@ -107,6 +94,7 @@ impl PartWalk {
             room,
         } = self;
         recall_len(&rest);
+        recall_seen(place);
         match walk_some(&rest, place, query, room, work.max(1), &mut rows)? {
             WalkOutcome::All(more, looked) => Ok(TabletRows::Done(rows, more, looked)),
             WalkOutcome::To(place) => Ok(TabletRows::Rest(PartWalk {
@@ -146,6 +134,13 @@ fn recall_len(cells: &Records)
     let _ = cells.len();
 }
 
+// Recalls for the prover that contents can be counted.
+fn recall_seen(place: Place)
+    ensures { place.seen < 2 ^ 64 }
+{
+    let _ = place.seen;
+}
+
 /// How far a walk over records came.
 #[derive(Clone, Copy, Debug, PartialEq, Eq)]
 pub(crate) enum WalkOutcome {
@@ -161,29 +156,29 @@ pub(crate) fn walk_some(
     from: Place,
     query: &Query,
     room: usize,
-    work: usize,
+    most: usize,
     rows: &mut Vec<Row>,
 ) -> Result<WalkOutcome, NoMemory>
     requires len { length cells.now < 2 ^ 64 }
     requires few { length rows.old.items ≤ room }
-    ensures { IfOk result (WalksTo query.now cells.now from work room rows.old.items rows.new.items) }
+    ensures { IfOk result (WalksTo query.now cells.now from most room rows.old.items rows.new.items) }
 {
-    let mut place = from;
-    let mut done = 0;
+    let mut index = from.index;
+    let mut seen = from.seen;
+    let mut done: usize = 0;
     for (key, cell) in cells.iter_from(from.index) {
-        if done >= work {
-            return Ok(WalkOutcome::To(place));
+        if done >= most {
+            return Ok(WalkOutcome::To(Place { index, seen }));
         }
         done += 1;
         if !is_before(query.to(), key) {
             return Ok(WalkOutcome::All(false, done));
         }
-        let most = Work { most: work, done };
-        match look_at(query.conditions(), cell.contents(), place.seen, most) {
-            ContentsLook::To(seen) => return Ok(WalkOutcome::To(Place { seen, ..place })),
-            ContentsLook::Known(shows, so_far) => {
+        match look_at(query, key, cell, seen, Work { most, done }) {
+            ContentsLook::To(seen) => return Ok(WalkOutcome::To(Place { index, seen })),
+            ContentsLook::Known(shown, so_far) => {
                 done = so_far;
-                if shows && is_asked(query, key) {
+                if shown {
                     if rows.len() == room {
                         return Ok(WalkOutcome::All(true, done));
                     }
@@ -191,7 +186,8 @@ pub(crate) fn walk_some(
                 }
             }
         }
-        place = place.next();
+        index = index.saturating_add(1);
+        seen = 0;
     }
     Ok(WalkOutcome::All(false, done))
 }
