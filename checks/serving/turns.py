@@ -51,7 +51,7 @@ def field_name(number: int) -> str:
     return f"{'f' * 62}{number:02}"
 
 
-def scan_of(first: str, end: str, conditions: list[list[object]]) -> bytes:
+def scan_of(first: str, end: str, conditions: list[list[str]]) -> bytes:
     """A scan of the keys from one to another."""
     return json.dumps({"do": "scan", "query": {"from": first, "to": end, "where": conditions}}).encode() + b"\n"
 
