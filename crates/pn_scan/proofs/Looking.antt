@@ -195,14 +195,8 @@ pub work_step : (q : QueryValue) (seen : ℕ) (e : List ℕ × CellValue) (es le
 work_step q seen e es left step = ap (λ (l : Entries). records_work q.conditions seen l) step
 
 -- the key is between the ends, and one content does
-pub asked_there : (a b c s : Bool) → b ≡ true → s ≡ true → (a && c) ≡ ((a && b && c) && s)
-asked_there true true true true p r = refl
-asked_there true true false true p r = refl
-asked_there false true c true p r = refl
-asked_there a false c s p r = cc
-asked_there a true c false p r = cc
-
-pub asked_none : (a s : Bool) → s ≡ false → false ≡ (a && s)
-asked_none true false r = refl
-asked_none false false r = refl
-asked_none a true r = cc
+pub asked_there : (a b c s t : Bool) → b ≡ true → s ≡ t → (a && c && s) ≡ ((a && b && c) && t)
+asked_there true true true s t p r = r
+asked_there true true false s t p r = refl
+asked_there false true c s t p r = refl
+asked_there a false c s t p r = cc

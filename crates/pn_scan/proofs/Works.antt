@@ -53,11 +53,6 @@ pub went_on : (from index done was : ℕ) → (from < index) ⊎ (done ≡ was) 
 went_on from index done was (inl less) some few = less
 went_on from index done was (inr same) some few = absurd (omega (arith, same, some, few))
 
--- what was added is within what there was to do, or was the first
-pub few_done : (most was more done : ℕ) → more ≤ 385 → done ≡ was + more → (was ≤ 1) ⊎ (done ≤ most) → done ≤ max most 386
-few_done most was more done few is (inl first) = omega (arith, few, is, first)
-few_done most was more done few is (inr within) = omega (arith, within)
-
 -- units are no more than the work and one
 pub units_few : (work : ℕ) → 32 * units_in work < work + 32
 units_few work = omega arith

@@ -7,8 +7,6 @@ use Rattle.pn_record.specs.Limits.{ContentValue, Field, FieldValue, number_value
 use Rattle.pn_scan.specs.Conditions.{shows}
 use Rattle.pn_scan.specs.Queries.{ConditionValue, has, eq, lt, gt, prefix}
 use Rattle.pn_scan.specs.declared.filter.ContentsLook.{ContentsLook}
-use Rattle.pn_scan.specs.declared.filter.ContentsLook.TheVariants.{Known, To}
-use Rattle.pn_scan.specs.declared.filter.Work.{Work}
 use Rattle.pn_scan.specs.declared.work.TheConstants.{COMPARED_BYTES, COMPARED_PAIRS, MAX_COMPARED, MAX_PART_WORK, UNIT_WORK}
 
 -- how many fields there are; a deletion has none
@@ -49,18 +47,16 @@ records_work conditions seen (row ∷ rows) = 1 + contents_work conditions (drop
 abbrev pub shows_from : List ConditionValue → ℕ → List ContentValue → Bool
 shows_from conditions seen contents = list_any (λ content. shows conditions content.0) (drop seen contents)
 
--- how far a look came that began at an index, where `shows n` says whether what is from `n` on shows, and `counts n` what looking at it counts
--- for: either that is known, or what is before another index does not show. No more work was done than there was to do, or than one content is
-abbrev pub LooksTo : (ℕ → Bool) → (ℕ → ℕ) → ℕ → Work → ContentsLook → Type 0
-LooksTo shows counts from work (Known shown done) =
-    (shown ≡ shows from) × (done ≡ work.done + counts from) × (done ≤ max work.most MAX_PART_WORK)
-LooksTo shows counts from work (To end) =
-    (shows end ≡ shows from) × (work.done + counts from ≤ max work.most MAX_PART_WORK + counts end) × (work.done ≤ 1 → from < end)
+-- a look that began at an index came to know whether what is from there on shows; what that counts for is counted
+abbrev pub Knows : (ℕ → Bool) → (ℕ → ℕ) → ℕ → ℕ → ℕ → ContentsLook → Type 0
+Knows shows counts from most done look =
+    (look.shows ≡ shows from) × (look.done ≡ done + counts from) × (look.done ≤ max most MAX_PART_WORK)
 
--- one more was counted, which is not much: it was the first, or is within what there was to do. Or it was too much after the first
-abbrev pub AddsWork : Work → ℕ → Option ℕ → Type 0
-AddsWork work more None = 1 < work.done
-AddsWork work more (Some done) = (done ≡ work.done + more) × ((work.done ≤ 1) ⊎ (done ≤ work.most))
+-- it stopped at an index, before which nothing shows; what was looked at counts no more than there was to do, or than one content. Where nothing
+-- was compared before, it is further
+abbrev pub Stops : (ℕ → Bool) → (ℕ → ℕ) → ℕ → ℕ → ℕ → ContentsLook → Type 0
+Stops shows counts from most done look =
+    (shows look.end ≡ shows from) × (done + counts from ≤ max most MAX_PART_WORK + counts look.end) × (done ≤ 1 → from < look.end)
 
 -- how many whole units some work is, and one more for a rest, as far as that has 32 bits
 abbrev pub units_in : ℕ → ℕ

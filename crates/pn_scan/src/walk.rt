@@ -5,7 +5,7 @@ ghost use Rattle.pn_scan.specs.Walking.{WalksTo};
 ghost use Rattle.pn_scan.specs.Parts.{part_at, walk_answer, left_in, part_left, LooksAtMost};
 ghost use Rattle.pn_scan.specs.declared.work.TheConstants.{MAX_PART_WORK};
 
-use crate::filter::{ContentsLook, Work, look_at};
+use crate::filter::look_at;
 use crate::part::row_of;
 use crate::{Query, Row};
 use pn_join::NoMemory;
@@ -174,20 +174,22 @@ pub(crate) fn walk_some(
         if !is_before(query.to(), key) {
             return Ok(WalkOutcome::All(false, done));
         }
-        match look_at(query, key, cell, seen, Work { most, done }) {
-            ContentsLook::To(seen) => return Ok(WalkOutcome::To(Place { index, seen })),
-            ContentsLook::Known(shown, so_far) => {
-                done = so_far;
-                if shown {
-                    if rows.len() == room {
-                        return Ok(WalkOutcome::All(true, done));
-                    }
-                    rows.push(row_of(key, cell)?)?;
-                }
-            }
+        let look = look_at(query, key, cell, seen, most, done);
+        let known = look.known;
+        if !known {
+            let seen = look.end;
+            return Ok(WalkOutcome::To(Place { index, seen }));
         }
         index = index.saturating_add(1);
         seen = 0;
+        done = look.done;
+        let shows = look.shows;
+        if shows {
+            if rows.len() == room {
+                return Ok(WalkOutcome::All(true, done));
+            }
+            rows.push(row_of(key, cell)?)?;
+        }
     }
     Ok(WalkOutcome::All(false, done))
 }

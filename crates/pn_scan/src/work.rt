@@ -28,6 +28,7 @@ pub(crate) const COMPARED_BYTES: usize = 512;
 pub(crate) fn content_work(conditions: &[Condition], bytes: usize, content: &Content) -> usize
     requires { bytes ≡ min (sum_by condition_bytes (map shown_condition conditions.now)) (2 ^ 64 - 1) }
     ensures work { result ≡ work_of_content (map shown_condition conditions.now) content.now.0 }
+    ensures some { 1 ≤ result }
     ensures few { result ≤ MAX_COMPARED + 1 }
 {
     let pairs = conditions.len().saturating_mul(count_fields(content));

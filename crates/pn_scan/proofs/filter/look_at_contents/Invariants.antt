@@ -8,9 +8,9 @@ abbrev pub invariant-loop-index : goal.invariant-loop-index
 invariant-loop-index l =
     let cs = map shown_condition l.conditions in
     record {
-      same : shows_from cs l.index l.contents ≡ shows_from cs l.from l.contents;
-      counted : l.work.done + contents_work cs (drop l.from l.contents) ≡ l.now.done + contents_work cs (drop l.index l.contents);
-      few : l.now.done ≤ max l.work.most 386;
-      most : l.now.most ≡ l.work.most;
-      further : (l.from < l.index) ⊎ (l.now.done ≡ l.work.done);
+      same : shows_from cs l.index l.contents ≡ shows_from cs l.fn.from l.contents;
+      counted : l.fn.done + contents_work cs (drop l.fn.from l.contents) ≡ l.now + contents_work cs (drop l.index l.contents);
+      few : l.now ≤ max l.fn.most 386;
+      since : l.fn.from ≤ l.index;
+      further : (l.fn.from < l.index) ⊎ (l.now ≡ l.fn.done);
     }

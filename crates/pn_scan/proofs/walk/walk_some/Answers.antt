@@ -1,5 +1,5 @@
 -- The walk ends where none is shown any more, where there is no room, or where the work is done.
-use Rattle.std.proofs.Common.{◌≡◌, ℕ, ◌+◌, ◌++◌, ◌∷◌, [], List, length, drop, max, true, false, inl, inr, refl, sym, ap, ◌∙◌, subst, arith}
+use Rattle.std.proofs.Common.{◌≡◌, ℕ, ◌+◌, ◌++◌, ◌∷◌, [], List, length, drop, max, true, false, inl, inr, refl, sym, ap, ◌∙◌, subst, rules, arith}
 use Rattle.std.proofs.lemmas.List.{length_push}
 use Rattle.pn_join.proofs.Rising.{Rising, Rising-from_sorted}
 use Rattle.pn_record.specs.CellMap.{Entries}
@@ -57,21 +57,22 @@ returns-then-not-is_before c =
     let found = all_found c.loop-key.rows.items all c.args.room none was.few in
     (found.0, found.1, omega arith)
 
-pub returns-in-To : goal.returns-in-To
-returns-in-To c =
+pub returns-then-not-known : goal.returns-then-not-known
+returns-then-not-known c =
     let query = c.args.query.now in
     let was = c.loop-key.invariant in
     let e : List ℕ × CellValue = (c.in-Some.key.now, c.in-Some.cell.now) in
     let steps = c.in-Some.ensures.steps in
-    let looked = rw c.in-To.is at c.look_at.ensures in
+    let stops = c.look_at-look.ensures.stopped c.if-not-known.true in
+    let end = c.look_at-look.result.end in
     let there : drop c.loop-key.index c.args.cells.now ≡ e ∷ c.next.new.self = sym was.left ∙ steps in
     let all : Entries = c.args.rows.now.items ++ place_rows query c.args.cells.now c.args.from in (
-      seen_step query c.loop-key.seen c.in-To.seen e c.next.new.self c.loop-key.key-iterator (drop c.loop-key.index c.args.cells.now) c.loop-key.rows.items all steps (sym was.left) looked.0 was.rows,
+      seen_step query c.loop-key.seen end e c.next.new.self c.loop-key.key-iterator (drop c.loop-key.index c.args.cells.now) c.loop-key.rows.items all steps (sym was.left) stops.0 was.rows,
       was.few,
-      omega (arith, was.work, looked.1, work_step query c.loop-key.seen e c.next.new.self _ steps, work_step query c.in-To.seen e c.next.new.self _ there),
+      omega (arith, was.work, stops.1, work_step query c.loop-key.seen e c.next.new.self _ steps, work_step query end e c.next.new.self _ there),
       stands_below c.loop-key.index c.args.cells.now e c.next.new.self (sym there),
       not_back _ _ _ _ _ was.further,
-      λ some. went_within c.args.from.index c.loop-key.index c.args.from.seen c.loop-key.seen c.loop-key.done c.in-To.seen (c.loop-key.done + 1) was.further refl looked.2,
+      λ some. went_within c.args.from.index c.loop-key.index c.args.from.seen c.loop-key.seen c.loop-key.done end (c.loop-key.done + 1) was.further refl stops.2,
     )
 
 pub returns-then-len-room : goal.returns-then-len-room
@@ -79,12 +80,12 @@ returns-then-len-room c =
     let query = c.args.query.now in
     let was = c.loop-key.invariant in
     let e : List ℕ × CellValue = (c.in-Some.key.now, c.in-Some.cell.now) in
-    let looked = rw c.in-Known.is at c.look_at.ensures in
+    let knows = c.look_at-look.ensures.known c.if-not-known.false in
     let all : Entries = c.args.rows.now.items ++ place_rows query c.args.cells.now c.args.from in
-    let shown : is_shown_from query c.loop-key.seen e ≡ true = sym looked.0 ∙ c.if-shown.true in
+    let shown : is_shown_from query c.loop-key.seen e ≡ true = sym knows.0 ∙ c.if-shows.true in
     let there = shown_there query c.loop-key.seen e c.next.new.self c.loop-key.key-iterator c.loop-key.rows.items all c.in-Some.ensures.steps shown was.rows in
     let found = more_found c.loop-key.rows.items e _ all c.args.room there (sym c.len.ensures ∙ c.if-len-room.true) in
-    (found.0, found.1, looked.2)
+    (found.0, found.1, knows.2)
 
 pub loop-key-preserved-in_ok-push : goal.loop-key-preserved-in_ok-push
 loop-key-preserved-in_ok-push c =
@@ -92,8 +93,8 @@ loop-key-preserved-in_ok-push c =
     let was = c.loop-key.invariant in
     let e : List ℕ × CellValue = (c.in-Some.key.now, c.in-Some.cell.now) in
     let steps = c.in-Some.ensures.steps in
-    let looked = rw c.in-Known.is at c.look_at.ensures in
-    let shown : is_shown_from query c.loop-key.seen e ≡ true = sym looked.0 ∙ c.if-shown.true in
+    let knows = c.look_at-look.ensures.known c.if-not-known.false in
+    let shown : is_shown_from query c.loop-key.seen e ≡ true = sym knows.0 ∙ c.if-shows.true in
     let pushed : c.push.new.self.items ≡ c.loop-key.rows.items ++ e ∷ [] = c.in_ok-push.ensures.items ∙ ap (λ (row : List ℕ × CellValue). c.loop-key.rows.items ++ row ∷ []) c.in_ok-row_of.ensures in
     let within = stands_below c.loop-key.index c.args.cells.now e c.next.new.self (sym steps ∙ was.left) in
     let one : c.loop-key.index + 1 ≡ c.saturating_add-index.result = omega (arith, within, c.requires.len, c.saturating_add-index.ensures) in
@@ -101,8 +102,8 @@ loop-key-preserved-in_ok-push c =
       rows = shown_step query c.loop-key.seen e c.next.new.self c.loop-key.key-iterator c.loop-key.rows.items c.push.new.self.items _ steps shown pushed was.rows;
       left = dropped_more c.loop-key.index c.args.cells.now e c.next.new.self (sym steps ∙ was.left) ∙ ap (λ n. drop n c.args.cells.now) one;
       few = omega (arith, was.few, c.if-len-room.false, c.len.ensures, length_push c.loop-key.rows.items e, ap (λ (l : Entries). length l) pushed);
-      most = looked.2;
-      work = omega (arith, was.work, looked.1, work_step query c.loop-key.seen e c.next.new.self _ steps);
+      most = knows.2;
+      work = omega (arith, was.work, knows.1, work_step query c.loop-key.seen e c.next.new.self _ steps);
       further = inr (omega (arith, not_back _ _ _ _ _ was.further, one));
       rising = (subst (λ (l : Entries). Rising bytes_cmp l) steps was.rising).1;
     }
@@ -113,16 +114,26 @@ loop-key-preserved c =
     let was = c.loop-key.invariant in
     let e : List ℕ × CellValue = (c.in-Some.key.now, c.in-Some.cell.now) in
     let steps = c.in-Some.ensures.steps in
-    let looked = rw c.in-Known.is at c.look_at.ensures in
-    let hidden : is_shown_from query c.loop-key.seen e ≡ false = sym looked.0 ∙ c.if-shown.false in
+    let knows = c.look_at-look.ensures.known c.if-not-known.false in
+    let hidden : is_shown_from query c.loop-key.seen e ≡ false = sym knows.0 ∙ c.if-shows.false in
     let within = stands_below c.loop-key.index c.args.cells.now e c.next.new.self (sym steps ∙ was.left) in
     let one : c.loop-key.index + 1 ≡ c.saturating_add-index.result = omega (arith, within, c.requires.len, c.saturating_add-index.ensures) in
     record {
       rows = hidden_step query c.loop-key.seen e c.next.new.self c.loop-key.key-iterator c.loop-key.rows.items _ steps hidden was.rows;
       left = dropped_more c.loop-key.index c.args.cells.now e c.next.new.self (sym steps ∙ was.left) ∙ ap (λ n. drop n c.args.cells.now) one;
       few = was.few;
-      most = looked.2;
-      work = omega (arith, was.work, looked.1, work_step query c.loop-key.seen e c.next.new.self _ steps);
+      most = knows.2;
+      work = omega (arith, was.work, knows.1, work_step query c.loop-key.seen e c.next.new.self _ steps);
       further = inr (omega (arith, not_back _ _ _ _ _ was.further, one));
       rising = (subst (λ (l : Entries). Rising bytes_cmp l) steps was.rising).1;
     }
+
+pub returns : goal.returns
+returns c =
+    let query = c.args.query.now in
+    let was = c.loop-key.invariant in
+    let none_left : c.loop-key.key-iterator ≡ [] = search rules in
+    let all : Entries = c.args.rows.now.items ++ place_rows query c.args.cells.now c.args.from in
+    let none = no_rows query c.loop-key.seen c.loop-key.key-iterator c.loop-key.rows.items all none_left was.rows in
+    let found = all_found c.loop-key.rows.items all c.args.room none was.few in
+    (found.0, found.1, was.most)

@@ -9,11 +9,11 @@ use Rattle.pn_scan.proofs.walk.walk_some.Given as goal
 
 abbrev pub invariant-loop-key : goal.invariant-loop-key
 invariant-loop-key l = record {
-  rows : l.rows.items ++ rows_from l.query l.seen l.key-iterator ≡ l.fn.rows.items ++ place_rows l.query l.cells l.from;
+  rows : l.rows.items ++ rows_from l.query l.seen l.key-iterator ≡ l.fn.rows.items ++ place_rows l.query l.cells l.fn.from;
   left : l.key-iterator ≡ drop l.index l.cells;
   few : length l.rows.items ≤ l.room;
   most : l.done ≤ max l.most 386;
-  work : place_work l.query l.cells l.from ≤ l.done + records_work l.query.conditions l.seen l.key-iterator;
-  further : ((l.index ≡ l.from.index) × (l.seen ≡ l.from.seen) × (l.done ≡ 0)) ⊎ (l.from.index < l.index);
+  work : place_work l.query l.cells l.fn.from ≤ l.done + records_work l.query.conditions l.seen l.key-iterator;
+  further : ((l.index ≡ l.fn.from.index) × (l.seen ≡ l.fn.from.seen) × (l.done ≡ 0)) ⊎ (l.fn.from.index < l.index);
   rising : Rising bytes_cmp l.key-iterator;
 }

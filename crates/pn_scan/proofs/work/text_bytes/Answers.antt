@@ -7,7 +7,7 @@ use Rattle.pn_scan.proofs.work.text_bytes.Goals as goal
 pub loop-condition-preserved : goal.loop-condition-preserved
 loop-condition-preserved c =
     let more = bytes_more shown_condition c.args.conditions.now c.loop-condition.condition-index c.condition-item.result c.condition-item.is (omega arith) in
-    omega (arith, more, c.bytes_of.ensures, c.saturating_add.ensures, c.loop-condition.invariant)
+    omega (arith, more, c.bytes_of.ensures, c.saturating_add-bytes.ensures, c.loop-condition.invariant)
 
 pub returns : goal.returns
 returns c =
