@@ -177,8 +177,10 @@ pub(crate) fn walk_some(
         let look = look_at(query, key, cell, seen, most, done);
         let known = look.known;
         if !known {
-            let seen = look.end;
-            return Ok(WalkOutcome::To(Place { index, seen }));
+            return Ok(WalkOutcome::To(Place {
+                index,
+                seen: look.end,
+            }));
         }
         index = index.saturating_add(1);
         seen = 0;

@@ -86,7 +86,8 @@ pub(crate) fn units_of(work: usize) -> u32
 
 /// How much work units are.
 pub(crate) fn work_of(units: u32) -> usize
-    ensures { result ≡ UNIT_WORK * units }
+    ensures work { result ≡ UNIT_WORK * units }
+    ensures few { result ≤ UNIT_WORK * (2 ^ 32 - 1) }
 {
     units as usize * UNIT_WORK
 }

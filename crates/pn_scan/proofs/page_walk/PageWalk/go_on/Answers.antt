@@ -1,5 +1,5 @@
 -- The look that is resumed comes to the same rows.
-use Rattle.std.proofs.Common.{◌<◌, [], ◌++◌, length, Option, Result, Err, refl, sym, ap, ◌∙◌, subst, arith}
+use Rattle.std.proofs.Common.{◌<◌, ◌*◌, [], ◌++◌, length, max, Option, Result, Err, refl, sym, ap, ◌∙◌, subst, arith}
 use Rattle.std.specs.Prelude.{IfSome}
 use Rattle.std.proofs.lemmas.Result.{err_from_is_err_and}
 use Rattle.pn_scan.specs.Paging.{work_left, rows_to_come, IsOnPage, PagesTo}
@@ -42,4 +42,4 @@ pub returns-in_ok-with_part-in-Some-clause-few : goal.returns-in_ok-with_part-in
 returns-in_ok-with_part-in-Some-clause-few g c =
     let next = c.in_ok-with_part-in-Some.ensures in
     let few = subst (λ n. LooksAtMost c.args.query.now n c.in-Some.part c.in_ok-part-in-Some.part) (sym c.max-most.ensures) c.in_ok-part-in-Some.ensures.few in
-    counted_on c.args.query.now c.max-most.result _ _ _ _ _ c.in-Some.part c.in_ok-part-in-Some.part (ap (work_left c.args.query.now) (sym (ap (λ (w : PageWalkValue). w.part) c.self.view_is) ∙ c.in-Some.is)) (omega (arith, c.max-most.ensures, c.work_of-work.ensures)) (omega (arith, c.max-most.ensures, c.work_of-work.ensures)) few next.part next.units
+    counted_on c.args.query.now c.max-most.result (32 * max c.args.units 64) _ _ _ _ c.in-Some.part c.in_ok-part-in-Some.part (ap (work_left c.args.query.now) (sym (ap (λ (w : PageWalkValue). w.part) c.self.view_is) ∙ c.in-Some.is)) (omega (arith, c.max-most.ensures, c.work_of-work.ensures.work)) (omega (arith, c.max-most.ensures, c.work_of-work.ensures.few)) few next.part next.units
