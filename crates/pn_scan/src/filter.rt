@@ -68,12 +68,13 @@ fn look_at_contents(
     let bytes = text_bytes(conditions);
     let mut now = done;
     for index in from..contents.len() {
-        let more = content_work(conditions, bytes, &contents[index]);
+        let content = &contents[index];
+        let more = content_work(conditions, bytes, content);
         if !is_allowed(most, now, more) {
             return look_to(false, false, index, now);
         }
         now = now.saturating_add(more);
-        if shows(conditions, &contents[index]) {
+        if shows(conditions, content) {
             return look_to(true, true, index, now);
         }
     }

@@ -177,10 +177,8 @@ pub(crate) fn walk_some(
         let look = look_at(query, key, cell, seen, most, done);
         let known = look.known;
         if !known {
-            return Ok(WalkOutcome::To(Place {
-                index,
-                seen: look.end,
-            }));
+            let seen = look.end;
+            return Ok(WalkOutcome::To(Place { index, seen }));
         }
         index = index.saturating_add(1);
         seen = 0;

@@ -54,4 +54,4 @@ returns-clause-known c = λ known.
     let cs = map shown_condition c.args.conditions.now in
     let xs = c.args.contents.now in
     let past : length xs ≤ c.loop-index.index = omega arith in
-    rw c.look_to.ensures (none_shows cs xs c.loop-index.index past ∙ was.same, omega (arith, was.counted, no_work cs xs c.loop-index.index past), was.few)
+    rw c.look_to-2.ensures (none_shows cs xs c.loop-index.index past ∙ was.same, omega (arith, was.counted, no_work cs xs c.loop-index.index past), was.few)

@@ -29,8 +29,8 @@ loop-key-init c =
       rising = subst (λ (es : Entries). Rising bytes_cmp es) (sym left) (rising_drop place.index cells (Rising-from_sorted bytes_cmp cells c.iter_from-key-items.ensures.table.rising));
     }
 
-pub look_at-requires-clause-to : goal.look_at-requires-clause-to
-look_at-requires-clause-to c = ap (λ end. is_before end c.in-Some.key.now) (sym c.to.ensures) ∙ sym c.is_before.ensures ∙ c.if-not-is_before.false
+pub look_at-look-requires-clause-to : goal.look_at-look-requires-clause-to
+look_at-look-requires-clause-to c = ap (λ end. is_before end c.in-Some.key.now) (sym c.to.ensures) ∙ sym c.is_before.ensures ∙ c.if-not-is_before.false
 
 pub returns-then-done-most : goal.returns-then-done-most
 returns-then-done-most c =
@@ -84,7 +84,8 @@ returns-then-len-room c =
     let all : Entries = c.args.rows.now.items ++ place_rows query c.args.cells.now c.args.from in
     let shown : is_shown_from query c.loop-key.seen e ≡ true = sym knows.0 ∙ c.if-shows.true in
     let there = shown_there query c.loop-key.seen e c.next.new.self c.loop-key.key-iterator c.loop-key.rows.items all c.in-Some.ensures.steps shown was.rows in
-    let found = more_found c.loop-key.rows.items e _ all c.args.room there (sym c.len.ensures ∙ c.if-len-room.true) in
+    let full : length c.loop-key.rows.items ≡ c.args.room = omega (arith, c.len.ensures, c.if-len-room.true) in
+    let found = more_found c.loop-key.rows.items e _ all c.args.room there full in
     (found.0, found.1, knows.2)
 
 pub loop-key-preserved-in_ok-push : goal.loop-key-preserved-in_ok-push
