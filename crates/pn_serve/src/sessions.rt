@@ -12,7 +12,6 @@ pub(crate) mod counting_reader;
 pub(crate) mod going;
 pub(crate) mod kinds;
 pub(crate) mod lookups;
-pub(crate) mod units;
 
 use crate::script::{MAX_LINES, answer_lines};
 use crate::sessions::alone_reader::AloneReader;

@@ -5,7 +5,6 @@ ghost use Rattle.std.specs.Prelude.{◌≡◌};
 use crate::machine::line_answers::{Answer, ReplyPieces, answered, is_no_line};
 use crate::sessions::going::Going;
 use crate::sessions::lookups::answer_line;
-use crate::sessions::units::{records_of, units_of};
 use pn_lines::{Answered, EndedBy, LineHandler};
 use pn_live::LiveReader;
 use pn_protocol::Reply;
@@ -57,8 +56,8 @@ impl LineHandler for AloneReader<'_> {
     }
 
     fn go_on(&mut self, alloc: Global, going: Going, units: u32) -> Answered<Going, ReplyPieces> {
-        let (answer, looked) = going.go_on(alloc, self.reader, records_of(units));
-        answered(answer, units_of(looked))
+        let (answer, used) = going.go_on(alloc, self.reader, units);
+        answered(answer, used)
     }
 
     ghost steady = { alone_reads_steadily };

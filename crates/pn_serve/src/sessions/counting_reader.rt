@@ -12,7 +12,6 @@ use crate::machine::line_answers::{
 use crate::sessions::going::Going;
 use crate::sessions::kinds::{NO_LINES, count_line};
 use crate::sessions::lookups::answer_with_kind;
-use crate::sessions::units::{records_of, units_of};
 use pn_lines::{Answered, EndedBy, LineHandler, LineReply, RefusesLong};
 use pn_live::LiveReader;
 use pn_protocol::{LineKind, LineKinds, Refusal, Reply};
@@ -122,8 +121,8 @@ impl LineHandler for CountingReader {
 
     fn go_on(&mut self, alloc: Global, going: Going, units: u32) -> Answered<Going, ReplyPieces> {
         let kind = going.kind();
-        let (answer, looked) = going.go_on(alloc, &mut self.reader, records_of(units));
-        answered(self.count(kind, answer), units_of(looked))
+        let (answer, used) = going.go_on(alloc, &mut self.reader, units);
+        answered(self.count(kind, answer), used)
     }
 
     ghost steady = { reads_steadily KnowsNoLess knows_steadily };

@@ -1,5 +1,5 @@
 -- A line that is looked up so far comes to its reply, or goes on.
-use Rattle.std.proofs.Common.{◌≤◌, ap, sym, subst, ◌∙◌}
+use Rattle.std.proofs.Common.{◌≤◌, ap, arith, sym, subst, ◌∙◌}
 use Rattle.pn_lines.specs.Answers.{AnswerValue, AnswersBy, answer_left}
 use Rattle.pn_live.specs.Readers.{LiveReaderValue}
 use Rattle.pn_serve.specs.Lines.Handled.{given_by}
@@ -7,7 +7,7 @@ use Rattle.pn_serve.specs.Session.Handling.{reads_lines}
 use Rattle.pn_serve.specs.Session.Knowing.{KnowsNoLess}
 use Rattle.pn_serve.specs.Session.Looking.{going_left}
 use Rattle.pn_serve.specs.declared.sessions.going.Going.{Going}
-use Rattle.pn_serve.proofs.Looked.{few_units, given_left, some_records}
+use Rattle.pn_serve.proofs.Looked.{given_left}
 use Rattle.pn_serve.proofs.Knowing.{knows_preorder}
 use Rattle.pn_serve.proofs.Lookups.{goes_by}
 use Rattle.pn_serve.proofs.sessions.counting_reader.CountingReaderLineHandler.go_on.Goals as goal
@@ -23,10 +23,10 @@ returns-clause-answers c =
 pub returns-clause-nearer : goal.returns-clause-nearer
 returns-clause-nearer c = λ some.
     subst (λ (a : AnswerValue Going). answer_left going_left a ≤ going_left c.args.going) (sym (c.answered.ensures.answer ∙ ap given_by c.count.ensures.same))
-    (given_left c.go_on-answer.result.0 c.args.going (c.go_on-answer.ensures.nearer (some_records c.args.units _ c.records_of.ensures some)))
+    (given_left c.go_on-answer.result.0 c.args.going (c.go_on-answer.ensures.nearer some))
 
 pub returns-clause-few : goal.returns-clause-few
-returns-clause-few c = few_units c.args.units _ _ _ _ c.records_of.ensures c.go_on-answer.ensures.few c.units_of.ensures c.answered.ensures.units
+returns-clause-few c = omega (arith, c.answered.ensures.units, c.go_on-answer.ensures.few)
 
 pub returns-clause-kept : goal.returns-clause-kept
 returns-clause-kept c = subst (λ (r : LiveReaderValue). KnowsNoLess c.args.self.now r) (sym c.count.ensures.kept) (subst (λ (r : LiveReaderValue). KnowsNoLess r c.go_on-answer.new.reader) c.self.view_is c.go_on-answer.ensures.knows)
