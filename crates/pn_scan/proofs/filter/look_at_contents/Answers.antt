@@ -23,7 +23,7 @@ returns-then-shows-clause-known c = λ known.
     let meets = sym c.shows.ensures ∙ c.if-shows.true in
     let work = work_shown cs xs i x c.index-contents-index.is within meets in
     let fits = c.is_allowed.ensures.yes c.if-not-is_allowed.false in
-    rw c.look_to.ensures (
+    rw c.look_to-then-shows.ensures (
       one_shows cs xs i x c.index-contents-index.is within meets ∙ was.same,
       omega (arith, c.saturating_add-now.ensures, fits, was.counted, work, c.content_work-more.ensures.work),
       omega (arith, c.saturating_add-now.ensures, fits),
