@@ -69,7 +69,7 @@ module _ {G : Type 0} where
   Advances-refused left units dropped taken Input answer run some any (inr (more, short, kind)) = cc
 
   -- a step after others
-  IsNearer-trans : (left : G → ℕ) (a b c : EngineValue G) → IsNearer left a b → IsNearer left b c → IsNearer left a c
+  pub IsNearer-trans : (left : G → ℕ) (a b c : EngineValue G) → IsNearer left a b → IsNearer left b c → IsNearer left a c
   IsNearer-trans left a b c (inl p) (inl q) = inl (omega (arith, p, q))
   IsNearer-trans left a b c (inl p) (inr (inl q)) = inl (omega (arith, p, q.0))
   IsNearer-trans left a b c (inl p) (inr (inr q)) = inl (omega (arith, p, q.0))

@@ -7,4 +7,6 @@ pub mod Standing
 pub mod Stepping
 pub mod Steps
 pub mod Taking
+pub mod Turning
 pub mod Windows
+pub mod Working

@@ -1,5 +1,5 @@
 -- What a turn does: which bytes come, are taken and go, and what it comes to.
-use Rattle.std.specs.Prelude.{◌≡◌, ◌⊎◌, ◌<◌, ◌≤◌, ℕ, ◌+◌, ◌*◌, List, [], ◌++◌, length, Option, Some}
+use Rattle.std.specs.Prelude.{◌≡◌, ◌⊎◌, ◌<◌, ◌≤◌, ℕ, ◌+◌, ◌*◌, List, [], ◌++◌, length, OnSome, Option, Some}
 use Rattle.std.specs.Io.KnownBytes.{Appends, Consumes, IsAtEnd}
 use Rattle.pn_lines.specs.Ends.{Start}
 use Rattle.pn_lines.specs.Engines.{EngineValue}
@@ -38,7 +38,7 @@ pub record Moves {V G : Type 0} (handling : Handling V G) (moved : Moved) (old n
   pub comes : Consumes old.left new.left moved.came
   pub goes : Appends old.written new.written moved.went
   pub unread : old.kept.unread ++ moved.came ≡ moved.took ++ new.kept.unread
-  pub ends : new.kept.source ≡ AtEnd → ((old.kept.source ≡ AtEnd) × (moved.came ≡ [])) ⊎ IsAtEnd new.left
+  pub ends : new.kept.source ≡ AtEnd → ((old.kept.source ≡ AtEnd) × (moved.came ≡ [])) ⊎ OnSome old.left (IsAtEnd new.left)
   pub stands : (start : V) (taken out : List ℕ) → Stands handling start taken (out ++ old.kept.replies) old.kept.unread (is_last old.kept.source) old.machine old.kept.engine
       → Stands handling start (taken ++ moved.took) ((out ++ moved.went) ++ new.kept.replies) new.kept.unread (is_last new.kept.source) new.machine new.kept.engine
 
@@ -52,13 +52,13 @@ pub record IsFew {G : Type 0} (moved : Moved) (old new : TurnValue G) : Type 0 w
   pub made : length moved.took + length moved.went + length new.replies ≤ length old.replies + most_made
 
 module _ {V G : Type 0} (handling : Handling V G) (left : G → ℕ) where
-  -- what some work does that is allowed so many units, and uses so many; where it is to go on at once, some bytes came, or units were
-  -- used, or none were allowed, or replies waited already
-  pub record Worked (allowed units : ℕ) (old new : Moment V G) (worked : Work) : Type 0 where
+  -- what some work does that is allowed so many units and uses so many, where at most so many bytes come; where it is to go on at once,
+  -- some bytes came, or units were used, or none were allowed, or replies waited already
+  pub record Worked (allowed units brings : ℕ) (old new : Moment V G) (worked : Work) : Type 0 where
     pub moved : Moved
     pub moves : Moves handling moved old new
     pub none : moved.went ≡ []
-    pub came : length moved.came ≤ READ_SIZE
+    pub came : length moved.came ≤ brings
     pub counted : length moved.took + length new.kept.replies ≤ length old.kept.replies + UNIT_BYTES * units
     pub still : units ≡ 0 → new.kept.engine ≡ old.kept.engine
     pub nearer : 0 < units → IsNearer left old.kept.engine new.kept.engine
@@ -69,7 +69,7 @@ module _ {V G : Type 0} (handling : Handling V G) (left : G → ℕ) where
   pub record WorkedIn (allowed most : ℕ) (old new : Moment V G) (worked : Work) : Type 0 where
     pub units : ℕ
     pub few : units ≤ most
-    pub by : Worked allowed units old new worked
+    pub by : Worked allowed units READ_SIZE old new worked
 
   -- what a turn does, and what is kept of it; one that is to go on at once has read a byte, or the engine has less left
   pub record Turned (old new : Moment V G) (outcome : TurnOutcome) : Type 0 where

@@ -114,7 +114,7 @@ fn work_on<G: Drop, T: PieceText, M: LineHandler<Going = G, Text = T>>(
 ) -> (Work, u32)
     requires ready { M.ready }
     requires few { units ≤ TURN_UNITS }
-    ensures works { (left written : Option (List ℕ)) → Worked (by M.moves M.answers M.goes) M.left units result.1
+    ensures works { (left written : Option (List ℕ)) → Worked (by M.moves M.answers M.goes) M.left units result.1 0
         (at left written machine.old (held_in engine.old buffers.old source)) (at left written machine.new (held_in engine.new buffers.new source)) result.0 }
     ensures spent { result.1 ≤ units + MAX_STEP_UNITS }
     ensures less { length buffers.new.input ≤ length buffers.old.input }
