@@ -8,7 +8,8 @@ use Rattle.pn_line.specs.Sent.{AppendsPrefix}
 use Rattle.pn_lines.specs.Driving.{Fails, SameLines, Writes}
 use Rattle.pn_lines.specs.Engines.{EngineValue}
 use Rattle.pn_lines.specs.Giving.{Gives}
-use Rattle.pn_lines.specs.Standing.{Handling, Stands, count_by, count_of}
+use Rattle.pn_lines.specs.Handling.{Handling}
+use Rattle.pn_lines.specs.Standing.{Stands, count_by, count_of}
 use Rattle.pn_lines.specs.declared.handler.EndedBy.{EndedBy}
 use Rattle.pn_lines.specs.declared.handler.EndedBy.TheVariants.{Newline, Input}
 use Rattle.pn_lines.proofs.Standing.{Stands-given}

@@ -10,12 +10,14 @@ use Rattle.pn_line.specs.Text.{text_of}
 use Rattle.pn_line.specs.declared.line_buffer.TheConstants.{ENDLESS, MAX_LINE_BYTES}
 use Rattle.pn_line.proofs.KnownLaws.{ReadsPart-from_takes}
 use Rattle.pn_lines.specs.Driving.{IsReading, Reads}
-use Rattle.pn_lines.specs.Ends.{Answered, Broken, Cut, Ended, Exceeded, HasEnded, Start}
+use Rattle.pn_lines.specs.Ends.{Answered, Cut, Ended, HasEnded, IsEndless, IsFull, Start, Stopped}
 use Rattle.pn_lines.specs.Engines.{EngineValue, stage_after}
 use Rattle.pn_lines.specs.Moves.{IsPreorder}
 use Rattle.pn_lines.specs.Replies.{Replied, refusals_of, texts_of}
-use Rattle.pn_lines.specs.Standing.{Handling, IsLine, StageAt}
-use Rattle.pn_lines.specs.declared.driver.LinesFault.TheVariants.{Read, TooManyTurns, Write}
+use Rattle.pn_lines.specs.Handling.{Handling}
+use Rattle.pn_lines.specs.Standing.{IsLine, StageAt}
+use Rattle.pn_lines.specs.declared.driver.LinesFault.{LinesFault}
+use Rattle.pn_lines.specs.declared.driver.LinesFault.TheVariants.{Closed, EndlessLine, Read, TooManyLines, Write}
 use Rattle.pn_lines.specs.declared.engine.stage.LinesEnd.TheVariants as end
 use Rattle.pn_lines.specs.declared.engine.stage.Stage.{Stage}
 use Rattle.pn_lines.specs.declared.engine.stage.Stage.TheVariants.{Reading, Going, Ended as HasStopped}
@@ -56,25 +58,29 @@ module _ {V G : Type 0} (handling : Handling V G) (start : Start V) where
 
   -- the sink failed where no answer is gone on with
   module _ (most : ℕ) (left written : Option (List ℕ)) (replies : List ℕ) (last : Bool) (machine : V) (run : EngineValue G) where
-    cut_at : (input : List ℕ) (is : IsReading handling start input left written replies last machine run) (stage : Stage G)
-        → StageAt handling stage run.counts.lines run.most run.left (record { lines = is.stands.lines; rest = is.stands.rest; ahead = []; last = last; reached = is.stands.reached; now = machine }) is.stands.more → (IsGoing stage → run.left ≢ [])
+    cut_between : (input : List ℕ) (is : IsReading handling start input left written replies last machine run) → handling.moves is.stands.reached machine → IsUnbroken is.stands.rest → is.stands.more ≡ []
         → (reached : V) × handling.moves reached machine × Cut handling start input left written reached
-    cut_at input is (Reading dropped) at some = (
+    cut_between input is moved unbroken more = (
       is.stands.reached,
-      at.0.moved,
+      moved,
       record {
         lines = is.stands.lines;
         part = is.stands.rest;
         replies = is.stands.replies;
         reached = is.stands.reached;
-        answered = record { read = read_to input left written replies is.stands.rest is.rest last machine run left is at.0.unbroken refl is.left_is; are_lines = is.stands.are_lines; made = is.stands.made };
+        answered = record { read = read_to input left written replies is.stands.rest is.rest last machine run left is unbroken refl is.left_is; are_lines = is.stands.are_lines; made = is.stands.made };
         last = [];
         ended = inl (refl, refl);
-        prefix = record { sent = is.out; back = replies ++ run.left; appends = is.wrote; whole = gave input left written replies last machine run is [] at.1 };
+        prefix = record { sent = is.out; back = replies ++ run.left; appends = is.wrote; whole = gave input left written replies last machine run is [] more };
       },
     )
-    cut_at input is (Going g ended) at some = absurd (some tt at.2)
-    cut_at input is (HasStopped end.Input) at some =
+
+    cut_at : (input : List ℕ) (is : IsReading handling start input left written replies last machine run) (stage : Stage G) → IsPreorder handling.moves
+        → StageAt handling stage run.counts.lines run.most run.left (record { lines = is.stands.lines; rest = is.stands.rest; ahead = []; last = last; reached = is.stands.reached; now = machine }) is.stands.more → (IsGoing stage → run.left ≢ [])
+        → (reached : V) × handling.moves reached machine × Cut handling start input left written reached
+    cut_at input is (Reading dropped) steady at some = cut_between input is at.0.moved at.0.unbroken at.1
+    cut_at input is (Going g ended) steady at some = absurd (some tt at.2)
+    cut_at input is (HasStopped end.Input) steady at some =
         let asked = at.1 in
         let part : is.stands.rest ≡ asked.line = asked.rest_is ∙ append-nil asked.line in (
           asked.between,
@@ -90,26 +96,15 @@ module _ {V G : Type 0} (handling : Handling V G) (start : Start V) where
             prefix = record { sent = is.out; back = replies ++ run.left; appends = is.wrote; whole = gave input left written replies last machine run is (at.0 ∷ []) at.2 ∙ ap (λ (l : List ℕ). texts_of is.stands.replies ++ l) (append-nil at.0.text) };
           },
         )
-    cut_at input is (HasStopped end.TooManyTurns) at some = (
-      is.stands.reached,
-      at.0.moved,
-      record {
-        lines = is.stands.lines;
-        part = is.stands.rest;
-        replies = is.stands.replies;
-        reached = is.stands.reached;
-        answered = record { read = read_to input left written replies is.stands.rest is.rest last machine run left is at.0.unbroken refl is.left_is; are_lines = is.stands.are_lines; made = is.stands.made };
-        last = [];
-        ended = inl (refl, refl);
-        prefix = record { sent = is.out; back = replies ++ run.left; appends = is.wrote; whole = gave input left written replies last machine run is [] at.1 };
-      },
-    )
+    cut_at input is (HasStopped end.Closed) steady at some = cut_between input is (steady.goes_on is.stands.reached at.0.stopped machine at.0.moved at.0.goes_on) at.0.unbroken at.1
+    cut_at input is (HasStopped end.TooManyLines) steady at some = cut_between input is (steady.goes_on is.stands.reached at.0.stopped machine at.0.moved at.0.goes_on) at.0.unbroken at.1
+    cut_at input is (HasStopped end.EndlessLine) steady at some = cut_between input is (steady.goes_on is.stands.reached at.0.stopped machine at.0.moved at.0.goes_on) at.0.unbroken at.1
 
     -- it ends by that
     cut_by : (known : Option (List ℕ)) → start.left ≡ known → IsPreorder handling.moves → (IsGoing run.stage → run.left ≢ []) → IfSome known (λ input. IsReading handling start input left written replies last machine run) → HasEnded handling most start left written machine (Err Write)
     cut_by None told steady some reads = record { reached = machine; moved = steady.stays machine; ends_by = subst (λ (l : Option (List ℕ)). IfSome l (λ input. Cut handling start input left written machine)) (sym told) tt }
     cut_by (Some input) told steady some is =
-        let ends = cut_at input is run.stage is.stands.stage some in
+        let ends = cut_at input is run.stage steady is.stands.stage some in
         record { reached = ends.0; moved = ends.1; ends_by = subst (λ (l : Option (List ℕ)). IfSome l (λ (bytes : List ℕ). Cut handling start bytes left written ends.0)) (sym told) ends.2 }
 
     pub Ends-cut : IsPreorder handling.moves → run.left ≢ [] → Reads handling start left written replies last machine run → HasEnded handling most start left written machine (Err Write)
@@ -185,61 +180,58 @@ module _ {V G : Type 0} (handling : Handling V G) (start : Start V) where
           let all : is.out ≡ texts_of is.stands.replies = sym (append-nil is.out) ∙ ap (λ (l : List ℕ). is.out ++ l) (sym (ap (λ (l : List ℕ). l ++ run.left) none ∙ made)) ∙ whole ∙ append-nil (texts_of is.stands.replies) in
           subst (λ (l : List ℕ). Appends start.written written l) all is.wrote
 
-      broken_by : (known : Option (List ℕ)) → start.left ≡ known → IsPreorder handling.moves → IfSome known (λ input. IsReading handling start input left written replies false machine run) → HasEnded handling most start leaves written machine (Err Read)
-      broken_by None told steady reads = record { reached = machine; moved = steady.stays machine; ends_by = subst (λ (l : Option (List ℕ)). IfSome l (λ input. Broken handling start input leaves written machine)) (sym told) tt }
-      broken_by (Some input) told steady is =
-          let has = has_part input is in
-          record {
-            reached = is.stands.reached;
-            moved = (at_line input is).0.moved;
-            ends_by = subst (λ (l : Option (List ℕ)). IfSome l (λ (bytes : List ℕ). Broken handling start bytes leaves written is.stands.reached)) (sym told)
-                (record { lines = is.stands.lines; part = has.part; replies = is.stands.replies; answered = answered_at input is has; wrote = wrote_all input is });
-          }
+      stopped_by : (so : List (List ℕ) → List ℕ → Type 0) (known : Option (List ℕ)) → start.left ≡ known → IsPreorder handling.moves
+          → ((input : List ℕ) (is : IsReading handling start input left written replies false machine run) (has : HasPart input left leaves is.stands.lines is.rest line) → so is.stands.lines has.part)
+          → IfSome known (λ input. IsReading handling start input left written replies false machine run) → (reached : V) × handling.moves reached machine × IfSome start.left (λ (input : List ℕ). Stopped handling so start input leaves written reached)
+      stopped_by so None told steady is_so reads = (machine, steady.stays machine, subst (λ (l : Option (List ℕ)). IfSome l (λ (input : List ℕ). Stopped handling so start input leaves written machine)) (sym told) tt)
+      stopped_by so (Some input) told steady is_so is =
+          let has = has_part input is in (
+            is.stands.reached,
+            (at_line input is).0.moved,
+            subst (λ (l : Option (List ℕ)). IfSome l (λ (bytes : List ℕ). Stopped handling so start bytes leaves written is.stands.reached)) (sym told)
+                (record { lines = is.stands.lines; part = has.part; replies = is.stands.replies; answered = answered_at input is has; is_so = is_so input is has; wrote = wrote_all input is }),
+          )
 
       -- the source failed
       pub Ends-broken : IsPreorder handling.moves → Reads handling start left written replies false machine run → HasEnded handling most start leaves written machine (Err Read)
-      Ends-broken steady reads = broken_by start.left refl steady reads
+      Ends-broken steady reads =
+          let ends = stopped_by (λ (lines : List (List ℕ)) (part : List ℕ). Unit {0}) start.left refl steady (λ input is has. tt) reads in
+          record { reached = ends.0; moved = ends.1; ends_by = ends.2 }
 
-      bound_at : (input : List ℕ) (is : IsReading handling start input left written replies false machine run) (has : HasPart input left leaves is.stands.lines is.rest line) → ((run.counts.lines < run.most) × (line.count ≡ ENDLESS)) ⊎ ((run.most ≤ run.counts.lines) × (line.count ≡ 0) × IfSome left (λ rest. rest ≢ []))
-          → ((length is.stands.lines ≡ run.most) × (has.part ≡ []) × (leaves ≢ Some [])) ⊎ ((length is.stands.lines < run.most) × (length has.part ≡ ENDLESS))
-      bound_at input is has (inl endless) =
-          let counted = count_at input is in
+      -- no line was read
+      pub Ends-shut : IsPreorder handling.moves → line.count ≡ 0 → Reads handling start left written replies false machine run → HasEnded handling most start leaves written machine (Err Closed)
+      Ends-shut steady nothing reads =
+          let ends = stopped_by (λ (lines : List (List ℕ)) (part : List ℕ). part ≡ []) start.left refl steady (λ input is has. no_length has.part (omega (arith, nothing, ap (λ (l : LineBufferValue). l.count) has.line_is))) reads in
+          record { reached = ends.0; moved = ends.1; ends_by = ends.2 }
+
+      endless_at : most ≡ run.most → (run.counts.lines < run.most) × (line.count ≡ ENDLESS) → (input : List ℕ) (is : IsReading handling start input left written replies false machine run) (has : HasPart input left leaves is.stands.lines is.rest line)
+          → IsEndless most is.stands.lines has.part
+      endless_at same endless input is has =
           let count : line.count ≡ length has.part = ap (λ (l : LineBufferValue). l.count) has.line_is in
-          inr (omega (arith, counted, endless.0), sym count ∙ endless.1)
-      bound_at input is has (inr full) =
-          let counted = count_at input is in
+          (omega (arith, count_at input is, endless.0, same), sym count ∙ endless.1)
+
+      full_at : most ≡ run.most → (run.most ≤ run.counts.lines) × (line.count ≡ 0) × IfSome left (λ rest. rest ≢ []) → (input : List ℕ) (is : IsReading handling start input left written replies false machine run) (has : HasPart input left leaves is.stands.lines is.rest line)
+          → IsFull most leaves is.stands.lines has.part
+      full_at same full input is has =
           let count : line.count ≡ length has.part = ap (λ (l : LineBufferValue). l.count) has.line_is in
           let none : has.part ≡ [] = no_length has.part (omega (arith, count, full.1)) in
           let some : is.rest ≢ [] = subst (λ (l : Option (List ℕ)). IfSome l (λ (rest : List ℕ). rest ≢ [])) is.left_is full.2 in
           let all : is.rest ≡ has.more = has.split ∙ ap (λ (l : List ℕ). l ++ has.more) none in
-          inl (omega (arith, counted, full.0, is.stands.few), none, λ empty. some (all ∙ emptied has.more (sym has.leaves_is ∙ empty)))
+          (omega (arith, count_at input is, full.0, is.stands.few, same), none, λ empty. some (all ∙ emptied has.more (sym has.leaves_is ∙ empty)))
         where
           emptied : (more : List ℕ) → Some more ≡ Some [] → more ≡ []
-          emptied more same = cc
-
-      exceeded_by : (known : Option (List ℕ)) → start.left ≡ known → IsPreorder handling.moves → most ≡ run.most → ((run.counts.lines < run.most) × (line.count ≡ ENDLESS)) ⊎ ((run.most ≤ run.counts.lines) × (line.count ≡ 0) × IfSome left (λ rest. rest ≢ []))
-          → IfSome known (λ input. IsReading handling start input left written replies false machine run) → HasEnded handling most start leaves written machine (Err TooManyTurns)
-      exceeded_by None told steady same stops reads = record { reached = machine; moved = steady.stays machine; ends_by = subst (λ (l : Option (List ℕ)). IfSome l (λ input. Exceeded handling most start input leaves written machine)) (sym told) tt }
-      exceeded_by (Some input) told steady same stops is =
-          let has = has_part input is in
-          record {
-            reached = is.stands.reached;
-            moved = (at_line input is).0.moved;
-            ends_by = subst (λ (l : Option (List ℕ)). IfSome l (λ (bytes : List ℕ). Exceeded handling most start bytes leaves written is.stands.reached)) (sym told)
-                (record {
-                  lines = is.stands.lines;
-                  part = has.part;
-                  replies = is.stands.replies;
-                  answered = answered_at input is has;
-                  bound = subst (λ (n : ℕ). ((length is.stands.lines ≡ n) × (has.part ≡ []) × (leaves ≢ Some [])) ⊎ ((length is.stands.lines < n) × (length has.part ≡ ENDLESS))) (sym same) (bound_at input is has stops);
-                  wrote = wrote_all input is;
-                });
-          }
+          emptied more is_none = cc
 
       -- there are more lines than may be answered, or a line has no end
-      pub Ends-exceeded : IsPreorder handling.moves → most ≡ run.most → ((run.counts.lines < run.most) × (line.count ≡ ENDLESS)) ⊎ ((run.most ≤ run.counts.lines) × (line.count ≡ 0) × IfSome left (λ rest. rest ≢ []))
-          → Reads handling start left written replies false machine run → HasEnded handling most start leaves written machine (Err TooManyTurns)
-      Ends-exceeded steady same stops reads = exceeded_by start.left refl steady same stops reads
+      pub Ends-exceeded : (fault : LinesFault) → IsPreorder handling.moves → most ≡ run.most → (run.most ≤ run.counts.lines → fault ≡ TooManyLines) → (run.counts.lines < run.most → fault ≡ EndlessLine)
+          → ((run.counts.lines < run.most) × (line.count ≡ ENDLESS)) ⊎ ((run.most ≤ run.counts.lines) × (line.count ≡ 0) × IfSome left (λ rest. rest ≢ []))
+          → Reads handling start left written replies false machine run → HasEnded handling most start leaves written machine (Err fault)
+      Ends-exceeded fault steady same many long (inl endless) reads =
+          let ends = stopped_by (IsEndless most) start.left refl steady (endless_at same endless) reads in
+          subst (λ (f : LinesFault). HasEnded handling most start leaves written machine (Err f)) (sym (long endless.0)) (record { reached = ends.0; moved = ends.1; ends_by = ends.2 })
+      Ends-exceeded fault steady same many long (inr full) reads =
+          let ends = stopped_by (IsFull most leaves) start.left refl steady (full_at same full) reads in
+          subst (λ (f : LinesFault). HasEnded handling most start leaves written machine (Err f)) (sym (many full.0)) (record { reached = ends.0; moved = ends.1; ends_by = ends.2 })
 
   -- the whole input was read and answered, and all was written
   module _ (most : ℕ) (left written : Option (List ℕ)) (replies : List ℕ) (machine : V) (run : EngineValue G) (over : run.stage ≡ HasStopped end.Input) (none : replies ≡ []) (made : run.left ≡ []) (same : most ≡ run.most) where
@@ -269,6 +261,7 @@ module _ {V G : Type 0} (handling : Handling V G) (start : Start V) where
                 refused_are = omega (arith, is.stands.refused, refused);
                 few = omega (arith, same, is.stands.few);
                 at_end = is.left_is ∙ ap (λ (l : List ℕ). Some l) (is.at_end refl);
+                is_line = asked.is_line;
               });
         }
 

@@ -6,7 +6,8 @@ use Rattle.pn_line.specs.Text.{text_of}
 use Rattle.pn_line.proofs.TextLaws.{text_of-cons, text_of-nil}
 use Rattle.pn_lines.specs.Engines.{EngineValue}
 use Rattle.pn_lines.specs.Replies.{Replied, texts_of}
-use Rattle.pn_lines.specs.Standing.{AllAnswer, Answers, Handling, IsLine, StageAt, Stands}
+use Rattle.pn_lines.specs.Handling.{Answers, Handling}
+use Rattle.pn_lines.specs.Standing.{AllAnswer, IsLine, StageAt, Stands}
 use Rattle.pn_lines.specs.declared.engine.stage.LinesEnd.TheVariants as end
 use Rattle.pn_lines.specs.declared.engine.stage.Stage.{Stage}
 use Rattle.pn_lines.specs.declared.engine.stage.Stage.TheVariants.{Ended}

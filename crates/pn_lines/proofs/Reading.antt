@@ -15,7 +15,8 @@ use Rattle.pn_lines.specs.Ends.{Start, start_at}
 use Rattle.pn_lines.specs.Engines.{EngineValue, dropping, new_engine, stage_after, with_lines}
 use Rattle.pn_lines.specs.Moves.{IsPreorder}
 use Rattle.pn_lines.specs.Progress.{going_left}
-use Rattle.pn_lines.specs.Standing.{Handling, IsLine, IsOver, Stands, count_of, newline_of}
+use Rattle.pn_lines.specs.Handling.{Handling}
+use Rattle.pn_lines.specs.Standing.{IsLine, IsOver, Stands, count_of, newline_of}
 use Rattle.pn_lines.specs.Taking.{Asks}
 use Rattle.pn_lines.specs.declared.engine.stage.LinesEnd.TheVariants as end
 use Rattle.pn_lines.specs.declared.engine.stage.Stage.{Stage}
@@ -41,12 +42,17 @@ Takes-kept left leaves kept = record {
   source = Consumes-kept left left leaves [] (Consumes-nil left) kept;
 }
 
+pub Takes-same : (left : Option (List ℕ)) → Takes (so_far []) (so_far []) left left []
+Takes-same left = record { taken = []; unbroken = All-nil (λ (b : ℕ). b ≢ 10); line = sym (with_bytes-nil (so_far [])); source = Consumes-nil left }
+
 -- once the last part is answered, no more is taken
 pub after_all : {G : Type 0} (left : G → ℕ) (ended : EndedBy) (stage : Stage G) → IsAfter ended stage → going_left left stage ≡ 0 → stage ≡ stage_after ended
 after_all left ended (Reading dropped) is none = cc
 after_all left ended (Going g of) is none = absurd (omega (arith, none))
 after_all left ended (HasStopped end.Input) is none = cc
-after_all left ended (HasStopped end.TooManyTurns) is none = absurd is
+after_all left ended (HasStopped end.Closed) is none = absurd is
+after_all left ended (HasStopped end.TooManyLines) is none = absurd is
+after_all left ended (HasStopped end.EndlessLine) is none = absurd is
 
 ends_here : (left leaves : Option (List ℕ)) (rest more : List ℕ) → left ≡ Some rest → leaves ≡ Some more → OnSome left (IsAtEnd leaves) → more ≡ []
 ends_here left leaves rest more is leaves_is closing =

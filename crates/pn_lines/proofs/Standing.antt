@@ -7,7 +7,8 @@ use Rattle.pn_lines.specs.Answers.{AnswerValue, AnswersBy, done, going}
 use Rattle.pn_lines.specs.Engines.{EngineValue, after_answer, with_refusal}
 use Rattle.pn_lines.specs.Moves.{IsPreorder}
 use Rattle.pn_lines.specs.Replies.{Replied, one_if, refusals_of, texts_of}
-use Rattle.pn_lines.specs.Standing.{AllAnswer, Answers, Handling, IsAsked, IsLine, Position, StageAt, Stands, StandsBy}
+use Rattle.pn_lines.specs.Handling.{Answers, GivesUp, Handling}
+use Rattle.pn_lines.specs.Standing.{AllAnswer, IsAsked, IsLine, Position, StageAt, Stands, StandsBy}
 use Rattle.pn_lines.specs.declared.engine.stage.LinesEnd.TheVariants as end
 use Rattle.pn_lines.specs.declared.engine.stage.Stage.{Stage}
 use Rattle.pn_lines.specs.declared.engine.stage.Stage.TheVariants.{Reading, Going, Ended}
@@ -43,7 +44,9 @@ module _ {V G : Type 0} (handling : Handling V G) where
   given_at (Reading dropped) count most left more at replies less is = is
   given_at (Going g ended) count most left more at replies less is = (is.0, is.1, no_length more (omega (arith, less, ap length is.2)))
   given_at (Ended end.Input) count most left more at replies less is = is
-  given_at (Ended end.TooManyTurns) count most left more at replies less is = is
+  given_at (Ended end.Closed) count most left more at replies less is = is
+  given_at (Ended end.TooManyLines) count most left more at replies less is = is
+  given_at (Ended end.EndlessLine) count most left more at replies less is = is
 
   -- text that was to be made was given
   pub Stands-given : (start : V) (taken given gave ahead left : List ℕ) (last : Bool) (machine : V) (run : EngineValue G) → gave ++ left ≡ given ++ run.left → length left ≤ length run.left → Stands handling start taken given ahead last machine run
@@ -141,7 +144,7 @@ module _ {V G : Type 0} (handling : Handling V G) where
 
     -- what is gone on with has an answer
     pub Asked-going : IsPreorder handling.moves → (now : V) (g : G) (ended : EndedBy) (answer : AnswerValue G)
-        → ((was between : V) (line : List ℕ) → handling.goes was ended line between g → handling.moves between machine → AnswersBy handling.answers handling.goes was ended line now answer)
+        → ((was between : V) (line : List ℕ) → handling.goes was ended line between g → handling.moves between machine → AnswersBy handling was ended line now answer)
         → Stands handling start taken given ahead last machine (record run { stage = Going g ended }) → StandsAsked ended answer start taken given ahead last now run
     Asked-going steady now g ended answer goes is =
         let asked = is.stage.0 in
@@ -174,6 +177,44 @@ module _ {V G : Type 0} (handling : Handling V G) where
           );
         }
 
+    -- an answer that is given up has a reply
+    pub Stands-given_up : IsPreorder handling.moves → GivesUp handling → (g : G) (ended : EndedBy) → Stands handling start taken given ahead last machine (record run { stage = Going g ended })
+        → (replied : Replied) × Stands handling start taken given ahead last machine (after_answer (done replied) ended run)
+    Stands-given_up steady gives_up g ended is =
+        let asked = is.stage.0 in
+        let up = gives_up asked.first asked.between machine ended asked.line g asked.answered asked.goes_on in (
+          up.0,
+          Stands-answered ended (done up.0) is.stage.2
+              (record {
+                lines = is.lines;
+                rest = is.rest;
+                taken_is = is.taken_is;
+                are_lines = is.are_lines;
+                few = is.few;
+                replies = is.replies;
+                reached = is.reached;
+                made = is.made;
+                more = is.more;
+                texts = is.texts;
+                refused = is.refused;
+                stage = (
+                  record {
+                    line = asked.line;
+                    first = up.1.between;
+                    between = machine;
+                    rest_is = asked.rest_is;
+                    is_line = asked.is_line;
+                    moved = steady.goes_on is.reached asked.first up.1.between asked.moved up.1.moved;
+                    answered = up.1.answered;
+                    goes_on = steady.stays machine;
+                    counted = asked.counted;
+                    over = asked.over;
+                  },
+                  is.stage.1,
+                );
+              }),
+        )
+
     -- the handler moved
     moved_at : IsPreorder handling.moves → (now : V) → handling.moves machine now → (stage : Stage G) (lines : List (List ℕ)) (rest : List ℕ) (reached : V) (more : List Replied)
         → StageAt handling stage run.counts.lines run.most run.left (record { lines = lines; rest = rest; ahead = ahead; last = last; reached = reached; now = machine }) more
@@ -184,8 +225,12 @@ module _ {V G : Type 0} (handling : Handling V G) where
         (record { line = is.0.line; first = is.0.first; between = is.0.between; rest_is = is.0.rest_is; is_line = is.0.is_line; moved = is.0.moved; answered = is.0.answered; goes_on = steady.goes_on is.0.between machine now is.0.goes_on moves; counted = is.0.counted; over = is.0.over }, is.1, is.2)
     moved_at steady now moves (Ended end.Input) lines rest reached more is =
         (is.0, record { line = is.1.line; first = is.1.first; between = is.1.between; rest_is = is.1.rest_is; is_line = is.1.is_line; moved = is.1.moved; answered = is.1.answered; goes_on = steady.goes_on is.1.between machine now is.1.goes_on moves; counted = is.1.counted; over = is.1.over }, is.2)
-    moved_at steady now moves (Ended end.TooManyTurns) lines rest reached more is =
-        (record { moved = steady.goes_on reached machine now is.0.moved moves; unbroken = is.0.unbroken; bound = is.0.bound }, is.1)
+    moved_at steady now moves (Ended end.Closed) lines rest reached more is =
+        (record { stopped = is.0.stopped; moved = is.0.moved; is_so = is.0.is_so; goes_on = steady.goes_on is.0.stopped machine now is.0.goes_on moves; unbroken = is.0.unbroken }, is.1)
+    moved_at steady now moves (Ended end.TooManyLines) lines rest reached more is =
+        (record { stopped = is.0.stopped; moved = is.0.moved; is_so = is.0.is_so; goes_on = steady.goes_on is.0.stopped machine now is.0.goes_on moves; unbroken = is.0.unbroken }, is.1)
+    moved_at steady now moves (Ended end.EndlessLine) lines rest reached more is =
+        (record { stopped = is.0.stopped; moved = is.0.moved; is_so = is.0.is_so; goes_on = steady.goes_on is.0.stopped machine now is.0.goes_on moves; unbroken = is.0.unbroken }, is.1)
 
     pub Stands-moved : IsPreorder handling.moves → (now : V) → handling.moves machine now → Stands handling start taken given ahead last machine run → Stands handling start taken given ahead last now run
     Stands-moved steady now moves is = record {

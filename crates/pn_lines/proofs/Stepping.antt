@@ -6,7 +6,8 @@ use Rattle.std.specs.declared.alloc.Global.{Global}
 use Rattle.pn_lines.specs.Engines.{EngineValue, dropping}
 use Rattle.pn_lines.specs.Giving.{Adds, Gives}
 use Rattle.pn_lines.specs.Progress.{Advances, NextIs}
-use Rattle.pn_lines.specs.Standing.{Handling, Stands}
+use Rattle.pn_lines.specs.Handling.{Handling}
+use Rattle.pn_lines.specs.Standing.{Stands}
 use Rattle.pn_lines.specs.declared.engine.Next.{Next}
 use Rattle.pn_lines.specs.declared.engine.Next.TheVariants as next
 use Rattle.pn_lines.specs.declared.engine.stage.Stage.{Stage}

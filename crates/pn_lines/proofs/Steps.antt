@@ -9,7 +9,8 @@ use Rattle.pn_lines.specs.Engines.{EngineValue, after_answer, dropping, with_lin
 use Rattle.pn_lines.specs.Finding.{NewlineAt}
 use Rattle.pn_lines.specs.Moves.{IsPreorder}
 use Rattle.pn_lines.specs.Progress.{Advances}
-use Rattle.pn_lines.specs.Standing.{Handling, Stands, count_of}
+use Rattle.pn_lines.specs.Handling.{Handling}
+use Rattle.pn_lines.specs.Standing.{Stands, count_of}
 use Rattle.pn_lines.specs.Taking.{Asks, Refuses, Takes}
 use Rattle.pn_lines.specs.declared.engine.TheConstants.{MAX_STEP_UNITS, UNIT_BYTES}
 use Rattle.pn_lines.specs.declared.handler.EndedBy.{EndedBy}
@@ -23,6 +24,15 @@ module _ {V G : Type 0} (handling : Handling V G) where
   pub after_same : (answer : AnswerValue G) (ended : EndedBy) (run : EngineValue G) → after_answer answer ended run ≡ after_answer answer ended (dropping 0 run)
   after_same (done replied) ended run = refl
   after_same (going g) ended run = refl
+
+  -- an answer counts no line
+  after_lines : (answer : AnswerValue G) (ended : EndedBy) (run : EngineValue G) → (after_answer answer ended run).counts.lines ≡ run.counts.lines
+  after_lines (done replied) ended run = refl
+  after_lines (going g) ended run = refl
+
+  counts_one : (part : List ℕ) → count_of Input part ≤ 1
+  counts_one [] = omega arith
+  counts_one (b ∷ part) = omega arith
 
   recast : (start : V) (taken took given ahead : List ℕ) (last : Bool) (machine : V) (run new : EngineValue G) → took ≡ taken → new ≡ run → Stands handling start taken given ahead last machine run
       → Stands handling start took given ahead last machine new
@@ -46,6 +56,7 @@ module _ {V G : Type 0} (handling : Handling V G) where
           within = omega (arith, newline.below);
           counted = enough;
           few = least;
+          lines = omega (arith, ap (λ (r : EngineValue G). r.counts.lines) has, after_lines asks.answer Newline (with_lines 1 (dropping 0 run)));
         }
 
     -- how many lines the last part counts for fits
@@ -81,6 +92,7 @@ module _ {V G : Type 0} (handling : Handling V G) where
           within = omega arith;
           counted = enough;
           few = least;
+          lines = omega (arith, ap (λ (r : EngineValue G). r.counts.lines) has, after_lines asks.answer Input (with_lines (count_of Input bytes) (dropping 0 run)), counts_one bytes);
         }
 
     -- the first bytes of a line that is too long
@@ -96,6 +108,7 @@ module _ {V G : Type 0} (handling : Handling V G) where
           within = long;
           counted = enough;
           few = least;
+          lines = omega (arith, ap (λ (r : EngineValue G). r.counts.lines) has);
         }
 
     -- the end of a line that was dropped
@@ -123,6 +136,7 @@ module _ {V G : Type 0} (handling : Handling V G) where
           within = omega (arith, long, newline.below);
           counted = enough;
           few = least;
+          lines = omega (arith, ap (λ (r : EngineValue G). r.counts.lines) refuses.has, after_lines (done refuses.replied) Newline run);
         }
 
     -- the end of the input in a line that was dropped
@@ -141,4 +155,5 @@ module _ {V G : Type 0} (handling : Handling V G) where
           within = omega arith;
           counted = omega arith;
           few = omega arith;
+          lines = omega (arith, ap (λ (r : EngineValue G). r.counts.lines) refuses.has, after_lines (done refuses.replied) Input run);
         }

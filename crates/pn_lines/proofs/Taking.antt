@@ -7,7 +7,8 @@ use Rattle.pn_line.specs.Text.{text_of}
 use Rattle.pn_lines.specs.Answers.{AnswerValue, AnswersBy}
 use Rattle.pn_lines.specs.Engines.{EngineValue, dropping, with_lines}
 use Rattle.pn_lines.specs.Moves.{IsPreorder}
-use Rattle.pn_lines.specs.Standing.{Handling, IsLine, IsOver, Stands, count_of, newline_of}
+use Rattle.pn_lines.specs.Handling.{Handling}
+use Rattle.pn_lines.specs.Standing.{IsLine, IsOver, Stands, count_of, newline_of}
 use Rattle.pn_lines.specs.declared.engine.stage.LinesEnd.TheVariants as end
 use Rattle.pn_lines.specs.declared.engine.stage.Stage.TheVariants.{Ended}
 use Rattle.pn_lines.specs.declared.handler.EndedBy.{EndedBy}
@@ -34,7 +35,7 @@ module _ {V G : Type 0} (handling : Handling V G) where
   module _ (start : V) (taken given ahead after : List ℕ) (last : Bool) (machine : V) (run : EngineValue G) where
     -- a line at hand was taken, and has this answer
     pub Asked-line : (now : V) (line : List ℕ) (ended : EndedBy) (answer : AnswerValue G) → IsPreorder handling.moves → IsLine line → IsOver ended after last → run.counts.lines + count_of ended line ≤ run.most
-        → AnswersBy handling.answers handling.goes machine ended line now answer → Stands handling start taken given ahead last machine (dropping 0 run)
+        → AnswersBy handling machine ended line now answer → Stands handling start taken given ahead last machine (dropping 0 run)
         → StandsAsked handling ended answer start (taken ++ (line ++ newline_of ended)) given after last now (with_lines (count_of ended line) (dropping 0 run))
     Asked-line now line ended answer steady is_line over few answered is =
         let reading = is.stage.0 in
@@ -98,8 +99,8 @@ module _ {V G : Type 0} (handling : Handling V G) where
         }
 
     -- as many lines were answered as may be, and there is more
-    pub Stands-full : ahead ≢ [] → run.most ≤ run.counts.lines → Stands handling start taken given ahead last machine (dropping 0 run) → Stands handling start taken given ahead last machine (record run { stage = Ended end.TooManyTurns })
-    Stands-full some full is =
+    pub Stands-full : IsPreorder handling.moves → ahead ≢ [] → run.most ≤ run.counts.lines → Stands handling start taken given ahead last machine (dropping 0 run) → Stands handling start taken given ahead last machine (record run { stage = Ended end.TooManyLines })
+    Stands-full steady some full is =
         let reading = is.stage.0 in
         let counted : run.counts.lines ≡ length is.lines = ⊎_elim (λ (none : (0 ≡ 0) × (run.counts.lines ≡ length is.lines)). none.1) (λ (some : (MAX_LINE_BYTES < 0) × (0 < ENDLESS) × (run.counts.lines ≡ length is.lines + 1)). absurd (omega (arith, some.0))) reading.counted in
         record {
@@ -116,9 +117,39 @@ module _ {V G : Type 0} (handling : Handling V G) where
           refused = is.refused;
           stage = (
             record {
+              stopped = machine;
               moved = reading.moved;
+              is_so = (omega (arith, counted, full, is.few), no_length is.rest (omega (arith, reading.dropped_is)), some);
+              goes_on = steady.stays machine;
               unbroken = reading.unbroken;
-              bound = inl (omega (arith, counted, full, is.few), no_length is.rest (omega (arith, reading.dropped_is)), some);
+            },
+            is.stage.1,
+          );
+        }
+
+    -- the handler answers no further line
+    pub Stands-shut : IsPreorder handling.moves → handling.closed machine → Stands handling start taken given ahead last machine (dropping 0 run) → Stands handling start taken given ahead last machine (record run { stage = Ended end.Closed })
+    Stands-shut steady closed is =
+        let reading = is.stage.0 in
+        record {
+          lines = is.lines;
+          rest = is.rest;
+          taken_is = is.taken_is;
+          are_lines = is.are_lines;
+          few = is.few;
+          replies = is.replies;
+          reached = is.reached;
+          made = is.made;
+          more = is.more;
+          texts = is.texts;
+          refused = is.refused;
+          stage = (
+            record {
+              stopped = machine;
+              moved = reading.moved;
+              is_so = (no_length is.rest (omega (arith, reading.dropped_is)), closed);
+              goes_on = steady.stays machine;
+              unbroken = reading.unbroken;
             },
             is.stage.1,
           );
@@ -131,7 +162,7 @@ module _ {V G : Type 0} (handling : Handling V G) where
 
       -- its end was taken, and it has this answer
       pub Asked-long : (now : V) (bytes : List ℕ) (ended : EndedBy) (answer : AnswerValue G) → IsPreorder handling.moves → IsUnbroken bytes → dropped + length bytes < ENDLESS → IsOver ended after last
-          → AnswersBy handling.answers handling.goes machine ended (is.rest ++ bytes) now answer → StandsAsked handling ended answer start (taken ++ (bytes ++ newline_of ended)) given after last now run
+          → AnswersBy handling machine ended (is.rest ++ bytes) now answer → StandsAsked handling ended answer start (taken ++ (bytes ++ newline_of ended)) given after last now run
       Asked-long now bytes ended answer steady unbroken short over answered =
           let reading = is.stage.0 in
           let long = length-append is.rest bytes in
@@ -195,9 +226,9 @@ module _ {V G : Type 0} (handling : Handling V G) where
           }
 
       -- it has no end
-      pub Stands-endless : (bytes : List ℕ) → IsUnbroken bytes → ENDLESS ≤ dropped + length bytes → dropped + length bytes ≤ max dropped ENDLESS
-          → Stands handling start (taken ++ bytes) given after last machine (record run { stage = Ended end.TooManyTurns })
-      Stands-endless bytes unbroken long most =
+      pub Stands-endless : IsPreorder handling.moves → (bytes : List ℕ) → IsUnbroken bytes → ENDLESS ≤ dropped + length bytes → dropped + length bytes ≤ max dropped ENDLESS
+          → Stands handling start (taken ++ bytes) given after last machine (record run { stage = Ended end.EndlessLine })
+      Stands-endless steady bytes unbroken long most =
           let reading = is.stage.0 in
           let all = length-append is.rest bytes in
           let was = counted_long in
@@ -215,9 +246,11 @@ module _ {V G : Type 0} (handling : Handling V G) where
             refused = is.refused;
             stage = (
               record {
+                stopped = machine;
                 moved = reading.moved;
+                is_so = (omega (arith, was.2, is.few), omega (arith, all, reading.dropped_is, long, most, was.1));
+                goes_on = steady.stays machine;
                 unbroken = All-append (λ (b : ℕ). b ≢ 10) is.rest bytes reading.unbroken unbroken;
-                bound = inr (omega (arith, was.2, is.few), omega (arith, all, reading.dropped_is, long, most, was.1));
               },
               is.stage.1,
             );

@@ -5,7 +5,8 @@ use Rattle.std.proofs.KnownBytes.{Appends-nil, Appends-trans, Consumes-nil, Cons
 use Rattle.pn_lines.specs.Engines.{EngineValue}
 use Rattle.pn_lines.specs.Progress.{IsPartAt}
 use Rattle.pn_lines.specs.Replies.{Replied}
-use Rattle.pn_lines.specs.Standing.{Handling, StageAt, Stands}
+use Rattle.pn_lines.specs.Handling.{Handling}
+use Rattle.pn_lines.specs.Standing.{StageAt, Stands}
 use Rattle.pn_lines.specs.TurnStates.{TurnValue, is_last}
 use Rattle.pn_lines.specs.Turns.{Moment, Moved, Moves, at}
 use Rattle.pn_lines.specs.declared.engine.stage.Stage.{Stage}

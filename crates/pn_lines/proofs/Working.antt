@@ -1,11 +1,12 @@
 -- What the work of a turn does, and the turn.
-use Rattle.std.proofs.Common.{◌≡◌, ◌≢◌, ◌⊎◌, ◌+◌, ◌-◌, ◌*◌, ◌<◌, ◌≤◌, ℕ, zero, suc, true≢false, Option, OnSome, List, [], ◌++◌, length, take, drop, Vec, vec_capacity, inl, inr, refl, sym, ap, ◌∙◌, subst, arith, append-nil, length-append, length-take-le, ⊎_elim}
+use Rattle.std.proofs.Common.{◌≡◌, ◌≢◌, ◌⊎◌, ◌+◌, ◌-◌, ◌*◌, ◌<◌, ◌≤◌, ℕ, zero, suc, true≢false, Option, OnSome, List, [], ◌++◌, length, take, drop, Vec, vec_capacity, min, inl, inr, refl, sym, ap, ◌∙◌, subst, arith, append-nil, length-append, length-take-le, ⊎_elim}
 use Rattle.std.specs.Io.KnownBytes.{IsAtEnd}
 use Rattle.std.specs.declared.alloc.Global.{Global}
 use Rattle.pn_lines.specs.Engines.{EngineValue}
 use Rattle.pn_lines.specs.Giving.{Adds}
 use Rattle.pn_lines.specs.Progress.{Advances, Costs, IsNearer, IsPartAt, NextIs}
-use Rattle.pn_lines.specs.Standing.{Handling, Stands}
+use Rattle.pn_lines.specs.Handling.{Handling}
+use Rattle.pn_lines.specs.Standing.{Stands}
 use Rattle.pn_lines.specs.TurnStates.{Comes, IsKept, IsStored, Rests, TakesFirst, TurnValue, WantsInput, Works, is_last, next_work, outcome_of}
 use Rattle.pn_lines.specs.Turns.{Moment, Turned, Worked, WorkedIn, at}
 use Rattle.pn_lines.specs.declared.engine.Next.{Next}
@@ -110,14 +111,15 @@ module _ {V G : Type 0} (handling : Handling V G) (left : G → ℕ) where
   pub Worked-took : (allowed units n : ℕ) (known written : Option (List ℕ)) (was now : V) (old new : EngineValue G) (bytes ahead : List ℕ) (replies waits : Vec ℕ Global) (state : SourceState) (found : Next)
       → MAX_PIECE_BYTES ≤ vec_capacity replies → ahead ≡ drop n bytes → n ≤ length bytes
       → ((start : V) (taken out : List ℕ) → Stands handling start taken (out ++ replies.items) bytes (is_last state) was old → Stands handling start (taken ++ take n bytes) (out ++ waits.items) (drop n bytes) (is_last state) now new)
-      → Adds replies waits → Costs allowed units n replies waits → Advances left units n old new → NextIs found allowed units waits new (drop n bytes) (is_last state)
+      → Adds replies waits → Costs allowed units n replies waits → Advances left units n old new → new.counts.lines ≤ old.counts.lines + min allowed units → NextIs found allowed units waits new (drop n bytes) (is_last state)
       → Worked handling left allowed units 0 (at known written was (record { engine = old; unread = bytes; replies = replies.items; source = state })) (at known written now (record { engine = new; unread = ahead; replies = waits.items; source = state })) (next_work found state)
-  Worked-took allowed units n known written was now old new bytes ahead replies waits state found room same within stands adds costs advances is = record {
+  Worked-took allowed units n known written was now old new bytes ahead replies waits state found room same within stands adds costs advances lines is = record {
     moved = only_took (take n bytes);
     moves = Moves-took handling known written was now old new bytes ahead n replies.items waits.items state same stands;
     none = refl;
     came = omega arith;
     counted = omega (arith, costs.counted, length-take-le n bytes within, replies.ok.0, waits.ok.0);
+    lines = lines;
     still = advances.still;
     nearer = advances.nearer;
     works = works_next found state allowed units waits new ahead (drop n bytes) waits.items same is;
@@ -140,6 +142,7 @@ module _ {V G : Type 0} (handling : Handling V G) (left : G → ℕ) where
           none = is.none;
           came = omega (arith, long, comes.few, is.came);
           counted = is.counted;
+          lines = is.lines;
           still = is.still;
           nearer = is.nearer;
           works = works;
@@ -158,6 +161,7 @@ module _ {V G : Type 0} (handling : Handling V G) (left : G → ℕ) where
       none = refl;
       came = comes.few;
       counted = omega arith;
+      lines = omega arith;
       still = λ none. refl;
       nearer = λ some. absurd (omega (arith, some));
       works = works;
@@ -176,6 +180,7 @@ module _ {V G : Type 0} (handling : Handling V G) (left : G → ℕ) where
         none = both_none first.moved.went second.moved.went first.none second.none;
         came = omega (arith, came, first.came, second.came);
         counted = omega (arith, took, first.counted, second.counted);
+        lines = omega (arith, is, first.lines, second.lines);
         still = λ none. second.still (omega (arith, none)) ∙ first.still (omega (arith, none));
         nearer = nearer_two left units more a.kept.engine b.kept.engine c.kept.engine first.still first.nearer second.still second.nearer;
         works = second.works;
@@ -198,7 +203,7 @@ module _ {V G : Type 0} (handling : Handling V G) (left : G → ℕ) where
         reached = record held { replies = waits };
         moves = Moves-then handling by.moved (only_went takes.sent) old (at leaves old.written now held) (at leaves after now (record held { replies = waits })) by.moves
             (Moves-went handling leaves old.written after now held takes.sent waits takes.appends takes.split);
-        few = record { came = omega (arith, came, by.came); made = omega (arith, took_is, went, ap length by.none, sent_is, by.counted, works.few) };
+        few = record { came = omega (arith, came, by.came); made = omega (arith, took_is, went, ap length by.none, sent_is, by.counted, works.few); lines = omega (arith, by.lines) };
         rests = ⊎_elim
             (λ (same : result ≡ outcome_of worked took). subst (λ (o : TurnOutcome). Rests (record held { replies = waits }) o) (sym same) (rests_of worked took held waits by.works all some))
             (λ (full : (result ≡ outcome.Failed fault.Memory) × ((held.unread ≢ []) ⊎ (waits ≢ []))). subst (λ (o : TurnOutcome). Rests (record held { replies = waits }) o) (sym full.0) full.1)
@@ -230,7 +235,7 @@ module _ {V G : Type 0} (handling : Handling V G) (left : G → ℕ) where
         reached = is.reached;
         moves = Moves-then handling (only_went takes.sent) is.moved old (at old.left between old.machine (record old.kept { replies = waits })) (at new.left new.written new.machine is.reached)
             (Moves-went handling old.left old.written between old.machine old.kept takes.sent waits takes.appends takes.split) is.moves;
-        few = record { came = is.few.came; made = omega (arith, went, sent_is, is.few.made) };
+        few = record { came = is.few.came; made = omega (arith, went, sent_is, is.few.made); lines = is.few.lines };
         rests = is.rests;
         nearer = is.nearer;
         kept = is.kept;
@@ -243,7 +248,7 @@ module _ {V G : Type 0} (handling : Handling V G) (left : G → ℕ) where
     moved = only_went takes.sent;
     reached = record old.kept { replies = waits };
     moves = Moves-went handling old.left old.written after old.machine old.kept takes.sent waits takes.appends takes.split;
-    few = record { came = omega arith; made = omega (arith, ap length takes.split ∙ length-append takes.sent waits) };
+    few = record { came = omega arith; made = omega (arith, ap length takes.split ∙ length-append takes.sent waits); lines = omega arith };
     rests = rests;
     nearer = λ turn. absurd (stops turn);
     kept = IsKept-same result (record old.kept { replies = waits });

@@ -1,5 +1,6 @@
 -- Answers to lines: at once, or gone on with.
 use Rattle.std.specs.Prelude.{ℕ, ◌+◌, List}
+use Rattle.pn_lines.specs.Handling.{Handling}
 use Rattle.pn_lines.specs.Replies.{Replied}
 use Rattle.pn_lines.specs.declared.handler.Answer.{Answer}
 use Rattle.pn_lines.specs.declared.handler.Answer.TheVariants.{Done, Going}
@@ -22,10 +23,10 @@ module _ {T : Type 0} (unmade : T → List ℕ) where
   answer_of (Done reply) = done (reply_of reply)
   answer_of (Going g) = going g
 
--- by a handler's relations to lines that are answered and to lines that are begun: the line is one or the other
-abbrev pub AnswersBy : {V G : Type 0} → (V → EndedBy → List ℕ → V → Replied → Type 0) → (V → EndedBy → List ℕ → V → G → Type 0) → V → EndedBy → List ℕ → V → AnswerValue G → Type 0
-AnswersBy answers goes was ended line now (done replied) = answers was ended line now replied
-AnswersBy answers goes was ended line now (going g) = goes was ended line now g
+-- a line was answered, or begun
+abbrev pub AnswersBy : {V G : Type 0} → Handling V G → V → EndedBy → List ℕ → V → AnswerValue G → Type 0
+AnswersBy handling was ended line now (done replied) = handling.answers was ended line now replied
+AnswersBy handling was ended line now (going g) = handling.goes was ended line now g
 
 -- how much of an answer is left, by how much is left of what is gone on with
 abbrev pub answer_left : {G : Type 0} → (G → ℕ) → AnswerValue G → ℕ

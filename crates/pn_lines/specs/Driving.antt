@@ -5,11 +5,11 @@ use Rattle.pn_line.specs.Line.{LineBufferValue}
 use Rattle.pn_line.specs.declared.line_buffer.TheConstants.{ENDLESS}
 use Rattle.pn_line.specs.declared.reading.LineEnd.{LineEnd}
 use Rattle.pn_line.specs.declared.reading.LineEnd.TheVariants as ends
-use Rattle.pn_lines.specs.Ends.{HasEnded, Start}
+use Rattle.pn_lines.specs.Ends.{CanEnd, HandsOn, HasEnded, Start, looks_left}
 use Rattle.pn_lines.specs.Engines.{EngineValue}
-use Rattle.pn_lines.specs.Standing.{Handling, Stands}
+use Rattle.pn_lines.specs.Handling.{Handling}
+use Rattle.pn_lines.specs.Standing.{Stands}
 use Rattle.pn_lines.specs.declared.driver.LinesFault.{LinesFault}
-use Rattle.pn_lines.specs.declared.driver.LinesFault.TheVariants.{Memory, Read, TooManyTurns, Write}
 use Rattle.pn_lines.specs.declared.engine.Counts.{Counts}
 use Rattle.pn_lines.specs.declared.engine.stage.LinesEnd.TheVariants as end
 use Rattle.pn_lines.specs.declared.engine.stage.Stage.{Stage}
@@ -62,18 +62,36 @@ pub record GoesOn {G : Type 0} (old new : EngineValue G) : Type 0 where
 -- where it has ended, all that was written was handed on
 abbrev pub EndsHanded : Result (Option Counts) LinesFault → Type 0 → Type 0
 EndsHanded (Ok None) handed_on = Unit {0}
-EndsHanded (Ok (Some counts)) handed_on = handed_on
-EndsHanded (Err Read) handed_on = handed_on
-EndsHanded (Err TooManyTurns) handed_on = handed_on
-EndsHanded (Err Write) handed_on = Unit {0}
-EndsHanded (Err Memory) handed_on = Unit {0}
+EndsHanded (Ok (Some counts)) handed_on = HandsOn (Ok counts) handed_on
+EndsHanded (Err fault) handed_on = HandsOn (Err fault) handed_on
+
+-- where it has ended, it may; and no more lines were counted than may be answered
+abbrev pub CanGo : Type 0 → Type 0 → Type 0 → ℕ → Result (Option Counts) LinesFault → Type 0
+CanGo read write end most (Ok None) = Unit {0}
+CanGo read write end most (Ok (Some counts)) = end × (counts.lines ≤ most)
+CanGo read write end most (Err fault) = CanEnd read write end ⊥ (Err fault)
+
+-- the most looks at a source that are left where it goes on
+abbrev pub looks_after : {G : Type 0} → EngineValue G → Result (Option Counts) LinesFault → ℕ
+looks_after run (Ok None) = looks_left run.counts.lines run.most
+looks_after run (Ok (Some counts)) = 0
+looks_after run (Err fault) = 0
+
+-- the most looks that are left once a line was read
+abbrev pub looks_unless : {G : Type 0} → Result LineEnd LinesFault → EngineValue G → ℕ
+looks_unless (Ok (ends.Newline more)) run = looks_left (run.counts.lines + 1) run.most
+looks_unless (Ok ends.EndOfInput) run = 0
+looks_unless (Ok ends.Endless) run = 0
+looks_unless (Err fault) run = 0
 
 -- a line that ended so has its answer, or it is gone on with
 abbrev pub IsAfter : {G : Type 0} → EndedBy → Stage G → Type 0
 IsAfter ended (Reading dropped) = (ended ≡ Newline) × (dropped ≡ 0)
 IsAfter ended (Going g of) = of ≡ ended
 IsAfter ended (Ended end.Input) = ended ≡ Input
-IsAfter ended (Ended end.TooManyTurns) = ⊥
+IsAfter ended (Ended end.Closed) = ⊥
+IsAfter ended (Ended end.TooManyLines) = ⊥
+IsAfter ended (Ended end.EndlessLine) = ⊥
 
 -- lines are counted, and bounded, as before
 pub record SameLines {G : Type 0} (old new : EngineValue G) : Type 0 where

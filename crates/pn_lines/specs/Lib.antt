@@ -4,6 +4,7 @@ pub mod Ends
 pub mod Engines
 pub mod Finding
 pub mod Giving
+pub mod Handling
 pub mod Moves
 pub mod Progress
 pub mod Replies

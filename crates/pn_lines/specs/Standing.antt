@@ -5,6 +5,7 @@ use Rattle.pn_line.specs.Text.{text_of}
 use Rattle.pn_line.specs.declared.line_buffer.TheConstants.{ENDLESS, MAX_LINE_BYTES}
 use Rattle.pn_lines.specs.Answers.{AnswerValue, AnswersBy, done, going}
 use Rattle.pn_lines.specs.Engines.{EngineValue}
+use Rattle.pn_lines.specs.Handling.{Answers, Handling}
 use Rattle.pn_lines.specs.Replies.{Replied, refusals_of, texts_of}
 use Rattle.pn_lines.specs.declared.engine.stage.LinesEnd.TheVariants as end
 use Rattle.pn_lines.specs.declared.engine.stage.Stage.{Stage}
@@ -39,16 +40,6 @@ abbrev pub IsOver : EndedBy → List ℕ → Bool → Type 0
 IsOver Newline ahead last = Unit {0}
 IsOver Input ahead last = (ahead ≡ []) × (last ≡ true)
 
--- a handler as an engine uses it
-pub record Handling (V G : Type 0) : Type 1 where
-  pub moves : V → V → Type 0
-  pub answers : V → EndedBy → List ℕ → V → Replied → Type 0
-  pub goes : V → EndedBy → List ℕ → V → G → Type 0
-
--- a handler's relations
-abbrev pub by : {V G : Type 0} → (V → V → Type 0) → (V → EndedBy → List ℕ → V → Replied → Type 0) → (V → EndedBy → List ℕ → V → G → Type 0) → Handling V G
-by moves answers goes = record { moves = moves; answers = answers; goes = goes }
-
 -- the lines that were answered, what was taken after them, what is at hand and whether that is the last, and the handler after
 -- the lines and now
 pub record Position (V : Type 0) : Type 0 where
@@ -60,16 +51,10 @@ pub record Position (V : Type 0) : Type 0 where
   pub now : V
 
 module _ {V G : Type 0} (handling : Handling V G) where
-  -- a line was answered, after what came between
-  pub record Answers (was : V) (ended : EndedBy) (line : List ℕ) (now : V) (replied : Replied) : Type 0 where
-    pub between : V
-    pub moved : handling.moves was between
-    pub answered : handling.answers between ended line now replied
-
   -- lines with their newlines were answered one after another
   abbrev pub AllAnswer : V → List (List ℕ) → List Replied → V → Type 0
   AllAnswer was [] [] now = now ≡ was
-  AllAnswer was (line ∷ lines) (replied ∷ replies) now = (between : V) × Answers was Newline line between replied × AllAnswer between lines replies now
+  AllAnswer was (line ∷ lines) (replied ∷ replies) now = (between : V) × Answers handling was Newline line between replied × AllAnswer between lines replies now
   AllAnswer was _ _ now = ⊥
 
   -- lines are read; of the next, if it is too long, this number of bytes was dropped
@@ -87,23 +72,27 @@ module _ {V G : Type 0} (handling : Handling V G) where
     pub rest_is : at.rest ≡ line ++ newline_of ended
     pub is_line : IsLine line
     pub moved : handling.moves at.reached first
-    pub answered : AnswersBy handling.answers handling.goes first ended line between answer
+    pub answered : AnswersBy handling first ended line between answer
     pub goes_on : handling.moves between at.now
     pub counted : count ≡ length at.lines + count_of ended line
     pub over : IsOver ended at.ahead at.last
 
-  -- no more is read: as many lines were answered as may be and there is more, or a line has no end
-  pub record IsStopped (most : ℕ) (at : Position V) : Type 0 where
-    pub moved : handling.moves at.reached at.now
+  -- no more was read since the handler was so
+  pub record IsStopped (so : V → Type 0) (at : Position V) : Type 0 where
+    pub stopped : V
+    pub moved : handling.moves at.reached stopped
+    pub is_so : so stopped
+    pub goes_on : handling.moves stopped at.now
     pub unbroken : IsUnbroken at.rest
-    pub bound : ((length at.lines ≡ most) × (at.rest ≡ []) × (at.ahead ≢ [])) ⊎ ((length at.lines < most) × (length at.rest ≡ ENDLESS))
 
   -- what is so at a stage, by the text that is still to be made, and the replies that came after those to the lines
   abbrev pub StageAt : Stage G → ℕ → ℕ → List ℕ → Position V → List Replied → Type 0
   StageAt (Reading dropped) count most left at more = IsReading dropped count at × (more ≡ [])
   StageAt (Going g ended) count most left at more = IsAsked ended (going g) count at × (more ≡ []) × (left ≡ [])
   StageAt (Ended end.Input) count most left at more = (replied : Replied) × IsAsked Input (done replied) count at × (more ≡ replied ∷ [])
-  StageAt (Ended end.TooManyTurns) count most left at more = IsStopped most at × (more ≡ [])
+  StageAt (Ended end.Closed) count most left at more = IsStopped (λ stopped. (at.rest ≡ []) × handling.closed stopped) at × (more ≡ [])
+  StageAt (Ended end.TooManyLines) count most left at more = IsStopped (λ _. (length at.lines ≡ most) × (at.rest ≡ []) × (at.ahead ≢ [])) at × (more ≡ [])
+  StageAt (Ended end.EndlessLine) count most left at more = IsStopped (λ _. (length at.lines < most) × (length at.rest ≡ ENDLESS)) at × (more ≡ [])
 
   -- lines were taken, and then the rest; the replies to the lines, and some after them, were given or are still to be made
   pub record StandsBy (is_at : Position V → List Replied → Type 0) (start : V) (taken given ahead : List ℕ) (last : Bool) (machine : V) (run : EngineValue G) : Type 0 where

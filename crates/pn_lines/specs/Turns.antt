@@ -1,10 +1,11 @@
 -- What a turn does: which bytes come, are taken and go, and what it comes to.
-use Rattle.std.specs.Prelude.{◌≡◌, ◌⊎◌, ◌<◌, ◌≤◌, ℕ, ◌+◌, ◌*◌, List, [], ◌++◌, length, OnSome, Option, Some}
+use Rattle.std.specs.Prelude.{◌≡◌, ◌⊎◌, ◌<◌, ◌≤◌, ℕ, ◌+◌, ◌*◌, List, [], ◌++◌, length, min, OnSome, Option, Some}
 use Rattle.std.specs.Io.KnownBytes.{Appends, Consumes, IsAtEnd}
 use Rattle.pn_lines.specs.Ends.{Start}
 use Rattle.pn_lines.specs.Engines.{EngineValue}
 use Rattle.pn_lines.specs.Progress.{IsNearer}
-use Rattle.pn_lines.specs.Standing.{Handling, Stands}
+use Rattle.pn_lines.specs.Handling.{Handling}
+use Rattle.pn_lines.specs.Standing.{Stands}
 use Rattle.pn_lines.specs.TurnStates.{IsKept, Rests, TurnValue, Works, is_last}
 use Rattle.pn_lines.specs.declared.engine.TheConstants.{MAX_STEP_UNITS, UNIT_BYTES}
 use Rattle.pn_lines.specs.declared.turns.Pause.TheVariants.{Turn}
@@ -46,10 +47,11 @@ pub record Moves {V G : Type 0} (handling : Handling V G) (moved : Moved) (old n
 abbrev pub most_made : ℕ
 most_made = UNIT_BYTES * (TURN_UNITS + 2 * MAX_STEP_UNITS)
 
--- few bytes come, are taken, and go or wait
+-- few bytes come, are taken, and go or wait, and few lines are taken
 pub record IsFew {G : Type 0} (moved : Moved) (old new : TurnValue G) : Type 0 where
   pub came : length moved.came ≤ READ_SIZE
   pub made : length moved.took + length moved.went + length new.replies ≤ length old.replies + most_made
+  pub lines : new.engine.counts.lines ≤ old.engine.counts.lines + TURN_UNITS
 
 module _ {V G : Type 0} (handling : Handling V G) (left : G → ℕ) where
   -- what some work does that is allowed so many units and uses so many, where at most so many bytes come; where it is to go on at once,
@@ -60,6 +62,7 @@ module _ {V G : Type 0} (handling : Handling V G) (left : G → ℕ) where
     pub none : moved.went ≡ []
     pub came : length moved.came ≤ brings
     pub counted : length moved.took + length new.kept.replies ≤ length old.kept.replies + UNIT_BYTES * units
+    pub lines : new.kept.engine.counts.lines ≤ old.kept.engine.counts.lines + min allowed units
     pub still : units ≡ 0 → new.kept.engine ≡ old.kept.engine
     pub nearer : 0 < units → IsNearer left old.kept.engine new.kept.engine
     pub works : Works new.kept worked

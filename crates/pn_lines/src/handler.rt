@@ -1,6 +1,7 @@
 //! What answers lines.
 
-ghost use Rattle.std.specs.Prelude.{◌≡◌, ◌<◌, ◌≤◌, ℕ, List, max, length};
+ghost use Rattle.std.specs.Prelude.{◌≡◌, ◌<◌, ◌≤◌, ℕ, List, max, length, IsTrue};
+ghost use Rattle.pn_line.specs.Prelude.{kept_bytes};
 ghost use Rattle.pn_line.specs.declared.line_buffer.TheConstants.{MAX_LINE_BYTES};
 ghost use Rattle.pn_lines.specs.Answers.{AnswersBy, answer_left, answer_of, done, reply_of};
 ghost use Rattle.pn_lines.specs.Moves.{IsPreorder};
@@ -45,8 +46,7 @@ pub struct Answered<G, T> {
 
 /// Answers lines one after another.
 pub trait LineHandler {
-    ghost use Rattle.pn_lines.specs.Replies.{Replied};
-    ghost use Rattle.pn_lines.specs.declared.handler.EndedBy.{EndedBy};
+    ghost use Rattle.pn_lines.specs.Handling.{GivesUp, Handling};
 
     /// What it goes on with.
     type Going: Drop;
@@ -57,14 +57,8 @@ pub trait LineHandler {
     // What must hold of its type parameters.
     ghost ready: { Type 0 };
 
-    // What may become of it between two units of its work.
-    ghost moves: { Self → Self → Type 0 };
-
-    // Relates the state before, what ended the line, the line, the state after and the reply.
-    ghost answers: { Self → EndedBy → List ℕ → Self → Replied → Type 0 };
-
-    // Relates the state before, what ended the line, the line that was begun, the state now, and what is to be gone on with.
-    ghost goes: { Self → EndedBy → List ℕ → Self → Self.Going → Type 0 };
+    // How it answers and begins lines, what may become of it in between, and when it answers no further line.
+    ghost handling: { Handling Self Self.Going };
 
     // How much is left of what is gone on with.
     ghost left: { Self.Going → ℕ };
@@ -72,7 +66,14 @@ pub trait LineHandler {
     // What is never lost of it.
     ghost keeps: { Self → Self → Type 0 };
 
-    /// Answers a line, which is not too long, or begins to.
+    /// Whether it answers no further line. It is asked before each line is read.
+    fn is_closed(&self) -> bool
+        ensures { IsTrue result → handling.closed self.now }
+    {
+        false
+    }
+
+    /// Answers a line, or begins to. If it is too long, these are its first bytes.
     fn answer(
         &mut self,
         alloc: Global,
@@ -80,14 +81,8 @@ pub trait LineHandler {
         ended: EndedBy,
     ) -> Answered<Self::Going, Self::Text>
         requires ready { ready }
-        ensures answers { AnswersBy answers goes self.old ended line.now self.new (answer_of Self.Text.unmade result.answer) }
+        ensures answers { (text : List ℕ) → line.now ≡ kept_bytes text → AnswersBy handling self.old ended text self.new (answer_of Self.Text.unmade result.answer) }
         ensures few { result.units ≤ MAX_ANSWER_UNITS }
-        ensures kept { keeps self.old self.new };
-
-    /// Answers a line that is too long. Its bytes were not kept.
-    fn refuse_long(&mut self, ended: EndedBy) -> LineReply<Self::Text>
-        requires ready { ready }
-        ensures answers { (line : List ℕ) → MAX_LINE_BYTES < length line → answers self.old ended line self.new (reply_of Self.Text.unmade result) }
         ensures kept { keeps self.old self.new };
 
     /// Goes on with an answer for this number of units, or for few.
@@ -98,12 +93,21 @@ pub trait LineHandler {
         units: u32,
     ) -> Answered<Self::Going, Self::Text>
         requires ready { ready }
-        ensures answers { (was between : Self) (ended : EndedBy) (line : List ℕ) → goes was ended line between going → moves between self.old
-            → AnswersBy answers goes was ended line self.new (answer_of Self.Text.unmade result.answer) }
+        ensures answers { (was between : Self) (ended : EndedBy) (line : List ℕ) → handling.goes was ended line between going → handling.moves between self.old
+            → AnswersBy handling was ended line self.new (answer_of Self.Text.unmade result.answer) }
         ensures nearer { 0 < units → answer_left left (answer_of Self.Text.unmade result.answer) ≤ left going }
         ensures few { result.units ≤ max units MAX_ANSWER_UNITS }
         ensures kept { keeps self.old self.new };
 
-    // What may become of it twice may become of it once, and nothing too; so it is with what is kept.
-    ghost steady: { IsPreorder moves × IsPreorder keeps };
+    // What may become of it twice may become of it once, and nothing too; so it is with what is kept. An answer may be given up.
+    ghost steady: { IsPreorder handling.moves × IsPreorder keeps × GivesUp handling };
+}
+
+/// Answers lines, and refuses those that are too long, of which it sees no byte.
+pub trait RefusesLong: LineHandler {
+    /// Answers a line that is too long.
+    fn refuse_long(&mut self, ended: EndedBy) -> LineReply<Self::Text>
+        requires ready { Self.ready }
+        ensures answers { (line : List ℕ) → MAX_LINE_BYTES < length line → Self.handling.answers self.old ended line self.new (reply_of Self.Text.unmade result) }
+        ensures kept { Self.keeps self.old self.new };
 }

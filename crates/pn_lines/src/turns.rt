@@ -1,7 +1,6 @@
 //! The driver that takes turns: it reads what is at hand, has lines answered, writes what is taken, and never waits.
 
 ghost use Rattle.std.specs.Prelude.{◌≡◌, ◌⊎◌, []};
-ghost use Rattle.pn_lines.specs.Standing.{by};
 ghost use Rattle.pn_lines.specs.TurnStates.{new_turns, outcome_of as comes_to};
 ghost use Rattle.pn_lines.specs.Turns.{Turned, at};
 
@@ -13,7 +12,7 @@ mod working;
 
 use crate::engine::stage::LinesEnd;
 use crate::engine::{Counts, LineEngine};
-use crate::handler::LineHandler;
+use crate::handler::RefusesLong;
 use crate::piece_text::PieceText;
 use crate::turns::sending::{Sent, send};
 use crate::turns::working::{Work, take_lines};
@@ -118,7 +117,7 @@ impl<G: Drop, T: PieceText> LineTurns<G, T> {
     /// bounded number of units of work.
     ///
     /// Where the sink leaves replies nothing is read and nothing is answered.
-    pub fn turn<M: LineHandler<Going = G, Text = T>, R: Input, W: Sink>(
+    pub fn turn<M: RefusesLong<Going = G, Text = T>, R: Input, W: Sink>(
         &mut self,
         buffers: &mut TurnBuffers,
         machine: &mut M,
@@ -126,7 +125,7 @@ impl<G: Drop, T: PieceText> LineTurns<G, T> {
         output: &mut W,
     ) -> TurnOutcome
         requires ready { M.ready }
-        ensures turns { Turned (by M.moves M.answers M.goes) M.left (at (R.remaining input.old) (W.contents output.old) machine.old self.old)
+        ensures turns { Turned M.handling M.left (at (R.remaining input.old) (W.contents output.old) machine.old self.old)
             (at (R.remaining input.new) (W.contents output.new) machine.new self.new) result }
         ensures read_fault { self.new.source ≡ SourceState.Failed → (self.old.source ≡ SourceState.Failed) ⊎ R.has_failed input.new }
         ensures write_fault { result ≡ TurnOutcome.Failed TurnFault.Write → W.has_failed output.new }
@@ -140,7 +139,7 @@ impl<G: Drop, T: PieceText> LineTurns<G, T> {
     }
 
     // Works, and writes what is taken of the replies.
-    fn work_and_send<M: LineHandler<Going = G, Text = T>, R: Input, W: Sink>(
+    fn work_and_send<M: RefusesLong<Going = G, Text = T>, R: Input, W: Sink>(
         &mut self,
         buffers: &mut TurnBuffers,
         machine: &mut M,
@@ -149,7 +148,7 @@ impl<G: Drop, T: PieceText> LineTurns<G, T> {
     ) -> TurnOutcome
         requires ready { M.ready }
         requires none { self.old.replies ≡ [] }
-        ensures turns { Turned (by M.moves M.answers M.goes) M.left (at (R.remaining input.old) (W.contents output.old) machine.old self.old)
+        ensures turns { Turned M.handling M.left (at (R.remaining input.old) (W.contents output.old) machine.old self.old)
             (at (R.remaining input.new) (W.contents output.new) machine.new self.new) result }
         ensures read_fault { self.new.source ≡ SourceState.Failed → (self.old.source ≡ SourceState.Failed) ⊎ R.has_failed input.new }
         ensures write_fault { result ≡ TurnOutcome.Failed TurnFault.Write → W.has_failed output.new }

@@ -6,10 +6,10 @@ ghost use Rattle.pn_line.specs.LineEnd.{newline_taken};
 ghost use Rattle.pn_line.specs.Prelude.{AppendsPrefix, so_far};
 ghost use Rattle.pn_line.specs.Reads.{Takes};
 ghost use Rattle.pn_line.specs.declared.line_buffer.TheConstants.{ENDLESS};
-ghost use Rattle.pn_lines.specs.Driving.{EndsHanded, Goes, GoesOn, Reads, Stops};
-ghost use Rattle.pn_lines.specs.Ends.{HasEnded, Start};
+ghost use Rattle.pn_lines.specs.Driving.{CanGo, EndsHanded, Goes, GoesOn, Reads, Stops, looks_after, looks_unless};
+ghost use Rattle.pn_lines.specs.Ends.{CanEnd, HandsOn, HasEnded, Start, looks_left};
 ghost use Rattle.pn_lines.specs.Engines.{stage_after};
-ghost use Rattle.pn_lines.specs.Standing.{IsOver, by, count_by, newline_of};
+ghost use Rattle.pn_lines.specs.Standing.{IsOver, count_by, newline_of};
 ghost use Rattle.pn_lines.specs.declared.engine.stage.Stage.TheVariants.{Reading};
 ghost use Rattle.pn_lines.specs.declared.piece_text.TheConstants.{MAX_PIECE_BYTES};
 
@@ -33,6 +33,7 @@ pub(super) fn next_line<G: Drop, T: PieceText, S: Source>(
     ensures end_comes { IfOk result (λ end. end ≡ LineEnd.EndOfInput → S.may_end) }
     ensures fault { IfErr result (λ fault. (fault ≡ LinesFault.Read) × S.may_fail) }
     ensures kept { OnErr result (Takes (so_far []) line.new (S.left input.old) (S.left input.new) []) }
+    ensures looks { S.looks input.new + looks_unless result engine.now ≤ S.looks input.old + looks_left engine.now.counts.lines engine.now.most }
 {
     line.start();
     if engine.is_full() {
@@ -80,12 +81,12 @@ pub(super) fn answer_line<G: Drop, T: PieceText, M: LineHandler<Going = G, Text 
     requires short { line.now.count < ENDLESS }
     requires capacity { MAX_PIECE_BYTES ≤ vec_capacity replies.old }
     ensures ok { OnOk result ((start : Start M) (left leaves : Option (List ℕ)) (last : Bool) → Takes (so_far []) line.now left leaves (newline_of ended) → IsOver ended [] last → (last ≡ true → OnSome left (IsAtEnd leaves))
-        → Reads (by M.moves M.answers M.goes) start left (W.contents output.old) replies.old.items false machine.old engine.old
-        → Reads (by M.moves M.answers M.goes) start leaves (W.contents output.new) replies.new.items last machine.new engine.new) }
+        → Reads M.handling start left (W.contents output.old) replies.old.items false machine.old engine.old
+        → Reads M.handling start leaves (W.contents output.new) replies.new.items last machine.new engine.new) }
     ensures settled { OnOk result ((engine.new.left ≡ []) × (engine.new.stage ≡ stage_after ended)) }
     ensures err { OnErr result ((start : Start M) (left leaves : Option (List ℕ)) (last : Bool) → Takes (so_far []) line.now left leaves (newline_of ended) → IsOver ended [] last → (last ≡ true → OnSome left (IsAtEnd leaves))
-        → Reads (by M.moves M.answers M.goes) start left (W.contents output.old) replies.old.items false machine.old engine.old
-        → HasEnded (by M.moves M.answers M.goes) engine.old.most start leaves (W.contents output.new) machine.new (Err LinesFault.Write)) }
+        → Reads M.handling start left (W.contents output.old) replies.old.items false machine.old engine.old
+        → HasEnded M.handling engine.old.most start leaves (W.contents output.new) machine.new (Err LinesFault.Write)) }
     ensures fault { IfErr result (λ fault. (fault ≡ LinesFault.Write) × W.may_fail) }
     ensures lines { OnOk result (engine.new.counts.lines ≡ engine.old.counts.lines + count_by ended line.now.count) }
     ensures most { engine.new.most ≡ engine.old.most }
@@ -94,6 +95,40 @@ pub(super) fn answer_line<G: Drop, T: PieceText, M: LineHandler<Going = G, Text 
 {
     engine.take_line(machine, line, ended);
     settle(machine, engine, replies, output)
+}
+
+/// Ends between two lines, once what waits is written. How it ended.
+pub(super) fn close<G: Drop, T: PieceText, M: LineHandler<Going = G, Text = T>, S: Source, W: Sink>(
+    _machine: &M,
+    _engine: &LineEngine<G, T>,
+    replies: &mut Vec<u8>,
+    _input: &S,
+    output: &mut W,
+) -> LinesFault
+    requires closed { M.handling.closed _machine.now }
+    requires reads { _engine.now.stage ≡ Reading 0 }
+    requires made { _engine.now.left ≡ [] }
+    ensures ends { (start : Start M) → Reads M.handling start (S.left _input.now) (W.contents output.old) replies.old.items false _machine.now _engine.now
+        → HasEnded M.handling _engine.now.most start (S.left _input.now) (W.contents output.new) _machine.now (Err result) }
+    ensures can { CanEnd ⊥ W.may_fail ⊥ (M.handling.closed _machine.now) (Err result) }
+    ensures out { HandsOn (Err result) (W.is_handed_on output.new) }
+    ensures capacity { vec_capacity replies.new ≡ vec_capacity replies.old }
+{
+    match hand_out(replies, output) {
+        Ok(()) => LinesFault::Closed,
+        Err(fault) => fault,
+    }
+}
+
+// Why no line was read: as many were answered as may be, or this one has no end.
+fn limit_of<G: Drop, T: PieceText>(engine: &LineEngine<G, T>) -> LinesFault
+    ensures full { engine.now.most ≤ engine.now.counts.lines → result ≡ LinesFault.TooManyLines }
+    ensures endless { engine.now.counts.lines < engine.now.most → result ≡ LinesFault.EndlessLine }
+{
+    if engine.is_full() {
+        return LinesFault::TooManyLines;
+    }
+    LinesFault::EndlessLine
 }
 
 /// Reads a line and answers it. What was counted where the input is at its end.
@@ -115,14 +150,13 @@ pub(super) fn answer_next<
     requires reads { engine.old.stage ≡ Reading 0 }
     requires made { engine.old.left ≡ [] }
     requires capacity { MAX_PIECE_BYTES ≤ vec_capacity replies.old }
-    ensures ends { (start : Start M) → Reads (by M.moves M.answers M.goes) start (S.left input.old) (W.contents output.old) replies.old.items false machine.old engine.old
-        → Goes (by M.moves M.answers M.goes) engine.old.most start (S.left input.new) (W.contents output.new) replies.new.items machine.new engine.new result }
+    requires few { engine.old.counts.lines ≤ engine.old.most }
+    ensures ends { (start : Start M) → Reads M.handling start (S.left input.old) (W.contents output.old) replies.old.items false machine.old engine.old
+        → Goes M.handling engine.old.most start (S.left input.new) (W.contents output.new) replies.new.items machine.new engine.new result }
     ensures more { IfOk result (λ ended. ended ≡ None → GoesOn engine.old engine.new) }
-    ensures read { IfErr result (λ fault. fault ≡ LinesFault.Read → S.may_fail) }
-    ensures write { IfErr result (λ fault. fault ≡ LinesFault.Write → W.may_fail) }
-    ensures begun { IfErr result (λ fault. fault ≢ LinesFault.Memory) }
+    ensures can { CanGo S.may_fail W.may_fail S.may_end engine.old.most result }
     ensures out { EndsHanded result (W.is_handed_on output.new) }
-    ensures end { IfOk result (λ ended. ended ≢ None → S.may_end) }
+    ensures looks { S.looks input.new + looks_after engine.new result ≤ S.looks input.old + looks_left engine.old.counts.lines engine.old.most }
     ensures grows { vec_capacity replies.old ≤ vec_capacity replies.new }
     ensures kept { M.keeps machine.old machine.new }
 {
@@ -141,7 +175,7 @@ pub(super) fn answer_next<
         }
         Ok(LineEnd::Endless) => {
             hand_out(replies, output)?;
-            Err(LinesFault::TooManyTurns)
+            Err(limit_of(&*engine))
         }
         Err(fault) => {
             hand_out(replies, output)?;

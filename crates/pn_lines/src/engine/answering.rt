@@ -1,11 +1,11 @@
 //! How an engine has lines answered.
 
 ghost use Rattle.std.specs.Prelude.{◌≤◌, ◌<◌, ◌+◌, ◌⊎◌, ◌≡◌, [], ℕ, Bool, IsFalse, IsTrue, List};
-ghost use Rattle.pn_line.specs.Prelude.{so_far};
+ghost use Rattle.pn_line.specs.Prelude.{kept_bytes, so_far};
 ghost use Rattle.pn_lines.specs.Driving.{IsAfter, SameLines};
 ghost use Rattle.pn_lines.specs.Engines.{with_lines};
 ghost use Rattle.pn_lines.specs.Progress.{Advances, going_left};
-ghost use Rattle.pn_lines.specs.Standing.{Stands, by, count_by, count_of};
+ghost use Rattle.pn_lines.specs.Standing.{Stands, count_by, count_of};
 ghost use Rattle.pn_lines.specs.Taking.{Asks, Refuses};
 ghost use Rattle.pn_lines.specs.declared.engine.TheConstants.{MAX_STEP_UNITS};
 ghost use Rattle.pn_lines.specs.declared.engine.stage.Stage.TheVariants.{Going};
@@ -14,7 +14,7 @@ ghost use Rattle.pn_lines.specs.declared.handler.TheConstants.{MAX_ANSWER_UNITS}
 
 use crate::engine::LineEngine;
 use crate::engine::stage::Stage;
-use crate::handler::{Answer, Answered, EndedBy, LineHandler};
+use crate::handler::{Answer, Answered, EndedBy, LineHandler, RefusesLong};
 use crate::piece_text::PieceText;
 use pn_line::LineBuffer;
 
@@ -28,18 +28,14 @@ impl<G: Drop, T: PieceText> LineEngine<G, T> {
     )
         requires ready { M.ready }
         requires few { (self.old.counts.lines < self.old.most) ⊎ ((ended ≡ EndedBy.Input) × (line.now.count ≡ 0)) }
-        ensures asks { (text : List ℕ) → line.now ≡ so_far text → Asks (by M.moves M.answers M.goes) ended text machine.old machine.new (with_lines (count_of ended text) self.old) self.new }
+        ensures asks { (text : List ℕ) → line.now ≡ so_far text → Asks M.handling ended text machine.old machine.new (with_lines (count_of ended text) self.old) self.new }
         ensures after { IsAfter ended self.new.stage }
         ensures lines { self.new.counts.lines ≡ self.old.counts.lines + count_by ended line.now.count }
         ensures most { self.new.most ≡ self.old.most }
         ensures kept { M.keeps machine.old machine.new }
     {
         self.count_lines(lines_in(line, ended));
-        if line.is_too_long() {
-            self.refuse_long(machine, ended);
-        } else {
-            self.ask(machine, line.bytes(), ended);
-        }
+        self.ask(machine, line.bytes(), ended);
     }
 
     /// Has a line answered, or begun. How many units that took.
@@ -50,7 +46,7 @@ impl<G: Drop, T: PieceText> LineEngine<G, T> {
         ended: EndedBy,
     ) -> u32
         requires ready { M.ready }
-        ensures asks { Asks (by M.moves M.answers M.goes) ended line.now machine.old machine.new self.old self.new }
+        ensures asks { (text : List ℕ) → line.now ≡ kept_bytes text → Asks M.handling ended text machine.old machine.new self.old self.new }
         ensures few { result ≤ MAX_ANSWER_UNITS }
         ensures after { IsAfter ended self.new.stage }
         ensures same { SameLines self.old self.new }
@@ -62,13 +58,13 @@ impl<G: Drop, T: PieceText> LineEngine<G, T> {
     }
 
     /// Has a line answered that is too long.
-    pub(super) fn refuse_long<M: LineHandler<Going = G, Text = T>>(
+    pub(super) fn refuse_long<M: RefusesLong<Going = G, Text = T>>(
         &mut self,
         machine: &mut M,
         ended: EndedBy,
     )
         requires ready { M.ready }
-        ensures refuses { Refuses (by M.moves M.answers M.goes) ended machine.old machine.new self.old self.new }
+        ensures refuses { Refuses M.handling ended machine.old machine.new self.old self.new }
         ensures after { IsAfter ended self.new.stage }
         ensures same { SameLines self.old self.new }
         ensures kept { M.keeps machine.old machine.new }
@@ -86,8 +82,8 @@ impl<G: Drop, T: PieceText> LineEngine<G, T> {
         requires ready { M.ready }
         requires some { 0 < units }
         requires made { self.old.left ≡ [] }
-        ensures stands { (start : M) (taken given ahead : List ℕ) (last : Bool) → Stands (by M.moves M.answers M.goes) start taken given ahead last machine.old self.old
-            → Stands (by M.moves M.answers M.goes) start taken given ahead last machine.new self.new }
+        ensures stands { (start : M) (taken given ahead : List ℕ) (last : Bool) → Stands M.handling start taken given ahead last machine.old self.old
+            → Stands M.handling start taken given ahead last machine.new self.new }
         ensures nearer { IsTrue result → going_left M.left self.new.stage < going_left M.left self.old.stage }
         ensures none { IsFalse result → (self.new ≡ self.old) × (going_left M.left self.old.stage ≡ 0) }
         ensures after { (ended : EndedBy) → IsAfter ended self.old.stage → IsAfter ended self.new.stage }
@@ -117,8 +113,8 @@ impl<G: Drop, T: PieceText> LineEngine<G, T> {
         requires ready { M.ready }
         requires some { 0 < units }
         requires made { self.old.left ≡ [] }
-        ensures stands { (start : M) (taken given ahead : List ℕ) (last : Bool) → Stands (by M.moves M.answers M.goes) start taken given ahead last machine.old (record self.old { stage = Going going ended })
-            → Stands (by M.moves M.answers M.goes) start taken given ahead last machine.new self.new }
+        ensures stands { (start : M) (taken given ahead : List ℕ) (last : Bool) → Stands M.handling start taken given ahead last machine.old (record self.old { stage = Going going ended })
+            → Stands M.handling start taken given ahead last machine.new self.new }
         ensures advances { Advances M.left result 0 (record self.old { stage = Going going ended }) self.new }
         ensures nearer { going_left M.left self.new.stage < M.left going + 1 }
         ensures after { IsAfter ended self.new.stage }

@@ -6,20 +6,19 @@ ghost use Rattle.pn_line.specs.declared.line_buffer.TheConstants.{ENDLESS, MAX_K
 ghost use Rattle.pn_line.specs.Reads.{IsUnbroken};
 ghost use Rattle.pn_lines.specs.Engines.{dropping};
 ghost use Rattle.pn_lines.specs.Progress.{StepsTo, taken_by, units_by};
-ghost use Rattle.pn_lines.specs.Standing.{by};
 ghost use Rattle.pn_lines.specs.Taking.{Takes};
 
 use crate::engine::reading::cost_of;
 use crate::engine::stage::{LinesEnd, Stage};
 use crate::engine::{LineEngine, Next, Step};
 use crate::finding::find_newline;
-use crate::handler::{EndedBy, LineHandler};
+use crate::handler::{EndedBy, LineHandler, RefusesLong};
 use crate::piece_text::PieceText;
 use pn_line::{ENDLESS, MAX_KEPT_BYTES};
 
 impl<G: Drop, T: PieceText> LineEngine<G, T> {
     /// Drops more of a line that is too long, and has it refused at its end.
-    pub(super) fn drop_line<M: LineHandler<Going = G, Text = T>>(
+    pub(super) fn drop_line<M: RefusesLong<Going = G, Text = T>>(
         &mut self,
         machine: &mut M,
         dropped: usize,
@@ -29,7 +28,7 @@ impl<G: Drop, T: PieceText> LineEngine<G, T> {
         requires ready { M.ready }
         requires some { 0 < dropped }
         requires made { self.old.left ≡ [] }
-        ensures takes { Takes (by M.moves M.answers M.goes) M.left bytes.now is_last machine.old machine.new (dropping dropped self.old) self.new (taken_by result) (units_by result) }
+        ensures takes { Takes M.handling M.left bytes.now is_last machine.old machine.new (dropping dropped self.old) self.new (taken_by result) (units_by result) }
         ensures next { (replies : Vec ℕ Global) → StepsTo result replies self.new bytes.now is_last }
         ensures kept { M.keeps machine.old machine.new }
     {
@@ -76,13 +75,13 @@ impl<G: Drop, T: PieceText> LineEngine<G, T> {
         requires short { dropped + count ≤ max dropped ENDLESS }
         requires any { (0 < count) ⊎ (ENDLESS ≤ dropped) }
         requires unbroken { IsUnbroken (take count bytes.now) }
-        ensures takes { Takes (by M.moves M.answers M.goes) M.left bytes.now is_last _machine.now _machine.now (dropping dropped self.old) self.new (taken_by result) (units_by result) }
+        ensures takes { Takes M.handling M.left bytes.now is_last _machine.now _machine.now (dropping dropped self.old) self.new (taken_by result) (units_by result) }
         ensures some { 0 < units_by result }
     {
         if dropped + count < ENDLESS {
             self.set_stage(Stage::Reading(dropped + count));
         } else {
-            self.set_stage(Stage::Ended(LinesEnd::TooManyTurns));
+            self.set_stage(Stage::Ended(LinesEnd::EndlessLine));
         }
         Step::Went {
             taken: count,

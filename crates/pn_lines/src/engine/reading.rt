@@ -7,7 +7,7 @@ ghost use Rattle.pn_line.specs.declared.line_buffer.TheConstants.{MAX_LINE_BYTES
 ghost use Rattle.pn_lines.specs.Engines.{dropping};
 ghost use Rattle.pn_lines.specs.Finding.{FindsLine, NewlineAt};
 ghost use Rattle.pn_lines.specs.Progress.{StepsTo, taken_by, units_by};
-ghost use Rattle.pn_lines.specs.Standing.{by, count_of as counted};
+ghost use Rattle.pn_lines.specs.Standing.{count_of as counted};
 ghost use Rattle.pn_lines.specs.Taking.{Takes};
 ghost use Rattle.pn_lines.specs.declared.engine.stage.Stage.TheVariants.{Reading};
 ghost use Rattle.pn_lines.specs.declared.engine.TheConstants.{UNIT_BYTES};
@@ -20,7 +20,7 @@ use crate::piece_text::PieceText;
 use pn_line::MAX_KEPT_BYTES;
 
 impl<G: Drop, T: PieceText> LineEngine<G, T> {
-    /// Takes the first line at hand, if it is whole, too long, or the last.
+    /// Takes the first line at hand, if it is whole, too long, or the last, unless no further line is answered.
     pub(super) fn read_line<M: LineHandler<Going = G, Text = T>>(
         &mut self,
         machine: &mut M,
@@ -30,12 +30,16 @@ impl<G: Drop, T: PieceText> LineEngine<G, T> {
         requires ready { M.ready }
         requires reads { self.old.stage ≡ Reading 0 }
         requires made { self.old.left ≡ [] }
-        ensures takes { Takes (by M.moves M.answers M.goes) M.left bytes.now is_last machine.old machine.new (dropping 0 self.old) self.new (taken_by result) (units_by result) }
+        ensures takes { Takes M.handling M.left bytes.now is_last machine.old machine.new (dropping 0 self.old) self.new (taken_by result) (units_by result) }
         ensures next { (replies : Vec ℕ Global) → StepsTo result replies self.new bytes.now is_last }
         ensures kept { M.keeps machine.old machine.new }
     {
+        if machine.is_closed() {
+            self.set_stage(Stage::Ended(LinesEnd::Closed));
+            return Step::Went { taken: 0, units: 1 };
+        }
         if self.is_full() && !bytes.is_empty() {
-            self.set_stage(Stage::Ended(LinesEnd::TooManyTurns));
+            self.set_stage(Stage::Ended(LinesEnd::TooManyLines));
             return Step::Went { taken: 0, units: 1 };
         }
         match find_line(bytes, is_last) {
@@ -59,7 +63,7 @@ impl<G: Drop, T: PieceText> LineEngine<G, T> {
         requires ended { NewlineAt bytes.now at }
         requires short { at ≤ MAX_LINE_BYTES }
         requires few { self.old.counts.lines < self.old.most }
-        ensures takes { Takes (by M.moves M.answers M.goes) M.left bytes.now is_last machine.old machine.new (dropping 0 self.old) self.new (taken_by result) (units_by result) }
+        ensures takes { Takes M.handling M.left bytes.now is_last machine.old machine.new (dropping 0 self.old) self.new (taken_by result) (units_by result) }
         ensures some { 0 < units_by result }
         ensures kept { M.keeps machine.old machine.new }
     {
@@ -84,7 +88,7 @@ impl<G: Drop, T: PieceText> LineEngine<G, T> {
         requires unbroken { IsUnbroken bytes.now }
         requires short { length bytes.now ≤ MAX_LINE_BYTES }
         requires few { (self.old.counts.lines < self.old.most) ⊎ (bytes.now ≡ []) }
-        ensures takes { Takes (by M.moves M.answers M.goes) M.left bytes.now is_last machine.old machine.new (dropping 0 self.old) self.new (taken_by result) (units_by result) }
+        ensures takes { Takes M.handling M.left bytes.now is_last machine.old machine.new (dropping 0 self.old) self.new (taken_by result) (units_by result) }
         ensures some { 0 < units_by result }
         ensures kept { M.keeps machine.old machine.new }
     {
@@ -105,7 +109,7 @@ impl<G: Drop, T: PieceText> LineEngine<G, T> {
     ) -> Step
         requires long { FindsLine bytes.now is_last Found.Long }
         requires few { self.old.counts.lines < self.old.most }
-        ensures takes { Takes (by M.moves M.answers M.goes) M.left bytes.now is_last _machine.now _machine.now (dropping 0 self.old) self.new (taken_by result) (units_by result) }
+        ensures takes { Takes M.handling M.left bytes.now is_last _machine.now _machine.now (dropping 0 self.old) self.new (taken_by result) (units_by result) }
         ensures some { 0 < units_by result }
     {
         self.count_lines(1);

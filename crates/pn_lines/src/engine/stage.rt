@@ -18,6 +18,10 @@ pub(crate) enum Stage<G> {
 pub enum LinesEnd {
     /// With the input. All lines were answered.
     Input,
-    /// There are more lines than may be answered, or a line has no end. All lines before were answered.
-    TooManyTurns,
+    /// With the handler, which answers no further line. All lines before were answered.
+    Closed,
+    /// There are more lines than may be answered. As many were.
+    TooManyLines,
+    /// A line has no end. All lines before were answered.
+    EndlessLine,
 }

@@ -1,15 +1,15 @@
 //! The calls of an engine, and their steps.
 
-ghost use Rattle.std.specs.Prelude.{◌≡◌, ◌≢◌, ◌≤◌, ◌<◌, ◌+◌, ◌*◌, ◌++◌, [], ℕ, Bool, List, drop, length, take};
+ghost use Rattle.std.specs.Prelude.{◌≡◌, ◌≢◌, ◌≤◌, ◌<◌, ◌+◌, ◌*◌, ◌++◌, [], ℕ, Bool, List, drop, length, min, take};
 ghost use Rattle.pn_lines.specs.Giving.{Adds, Gives};
 ghost use Rattle.pn_lines.specs.Progress.{Advances, Costs, NextIs, StepsTo, taken_by, units_by};
-ghost use Rattle.pn_lines.specs.Standing.{Stands, by};
+ghost use Rattle.pn_lines.specs.Standing.{Stands};
 ghost use Rattle.pn_lines.specs.declared.engine.TheConstants.{MAX_CALL_UNITS};
 
 use crate::engine::reading::cost_of;
 use crate::engine::stage::Stage;
 use crate::engine::{LineEngine, Next, Progress, Step};
-use crate::handler::LineHandler;
+use crate::handler::{LineHandler, RefusesLong};
 use crate::piece_text::{MAX_PIECE_BYTES, PieceText};
 
 impl<G: Drop, T: PieceText> LineEngine<G, T> {
@@ -17,7 +17,7 @@ impl<G: Drop, T: PieceText> LineEngine<G, T> {
     /// while there is room. Where the input is at its end, its last part is answered too.
     ///
     /// What is at hand and is not taken is to be given again, with what came after it.
-    pub fn go_on<M: LineHandler<Going = G, Text = T>>(
+    pub fn go_on<M: RefusesLong<Going = G, Text = T>>(
         &mut self,
         machine: &mut M,
         bytes: &[u8],
@@ -27,13 +27,14 @@ impl<G: Drop, T: PieceText> LineEngine<G, T> {
     ) -> Progress
         requires ready { M.ready }
         requires few { units ≤ MAX_CALL_UNITS }
-        ensures stands { (start : M) (taken out : List ℕ) → Stands (by M.moves M.answers M.goes) start taken (out ++ replies.old.items) bytes.now is_last machine.old self.old
-            → Stands (by M.moves M.answers M.goes) start (taken ++ take result.taken bytes.now) (out ++ replies.new.items) (drop result.taken bytes.now) is_last machine.new self.new }
+        ensures stands { (start : M) (taken out : List ℕ) → Stands M.handling start taken (out ++ replies.old.items) bytes.now is_last machine.old self.old
+            → Stands M.handling start (taken ++ take result.taken bytes.now) (out ++ replies.new.items) (drop result.taken bytes.now) is_last machine.new self.new }
         ensures within { result.taken ≤ length bytes.now }
         ensures adds { Adds replies.old replies.new }
         ensures costs { Costs units result.units result.taken replies.old replies.new }
         ensures advances { Advances M.left result.units result.taken self.old self.new }
         ensures next { NextIs result.next units result.units replies.new self.new (drop result.taken bytes.now) is_last }
+        ensures lines { self.new.counts.lines ≤ self.old.counts.lines + min units result.units }
         ensures kept { M.keeps machine.old machine.new }
     {
         let mut taken = 0;
@@ -64,7 +65,7 @@ impl<G: Drop, T: PieceText> LineEngine<G, T> {
     }
 
     // Makes text, takes a line, or goes on with an answer.
-    fn step<M: LineHandler<Going = G, Text = T>>(
+    fn step<M: RefusesLong<Going = G, Text = T>>(
         &mut self,
         machine: &mut M,
         bytes: &[u8],
@@ -74,13 +75,14 @@ impl<G: Drop, T: PieceText> LineEngine<G, T> {
     ) -> Step
         requires ready { M.ready }
         requires some { 0 < units }
-        ensures stands { (start : M) (taken out : List ℕ) → Stands (by M.moves M.answers M.goes) start taken (out ++ replies.old.items) bytes.now is_last machine.old self.old
-            → Stands (by M.moves M.answers M.goes) start (taken ++ take (taken_by result) bytes.now) (out ++ replies.new.items) (drop (taken_by result) bytes.now) is_last machine.new self.new }
+        ensures stands { (start : M) (taken out : List ℕ) → Stands M.handling start taken (out ++ replies.old.items) bytes.now is_last machine.old self.old
+            → Stands M.handling start (taken ++ take (taken_by result) bytes.now) (out ++ replies.new.items) (drop (taken_by result) bytes.now) is_last machine.new self.new }
         ensures within { taken_by result ≤ length bytes.now }
         ensures adds { Adds replies.old replies.new }
         ensures costs { Costs units (units_by result) (taken_by result) replies.old replies.new }
         ensures advances { Advances M.left (units_by result) (taken_by result) self.old self.new }
         ensures next { StepsTo result replies.new self.new bytes.now is_last }
+        ensures lines { self.new.counts.lines ≤ self.old.counts.lines + 1 }
         ensures kept { M.keeps machine.old machine.new }
     {
         if self.has_text() {

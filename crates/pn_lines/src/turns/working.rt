@@ -1,7 +1,6 @@
 //! The work of a turn: lines are taken that are at hand, and more is read once where none is.
 
 ghost use Rattle.std.specs.Prelude.{◌≡◌, ◌≤◌, ◌+◌, ◌*◌, ◌⊎◌, ℕ, List, Option, length};
-ghost use Rattle.pn_lines.specs.Standing.{by};
 ghost use Rattle.pn_lines.specs.TurnStates.{Works, held_in, is_last as last_at, next_work};
 ghost use Rattle.pn_lines.specs.Turns.{Worked, WorkedIn, at};
 ghost use Rattle.pn_lines.specs.declared.engine.TheConstants.{MAX_STEP_UNITS};
@@ -9,7 +8,7 @@ ghost use Rattle.pn_lines.specs.declared.turns.buffers.TheConstants.{MAX_UNREAD}
 
 use crate::engine::stage::LinesEnd;
 use crate::engine::{LineEngine, Next};
-use crate::handler::LineHandler;
+use crate::handler::RefusesLong;
 use crate::piece_text::PieceText;
 use crate::turns::SourceState;
 use crate::turns::buffers::{Came, TurnBuffers};
@@ -33,7 +32,7 @@ pub(crate) enum Work {
 }
 
 /// Takes lines that are at hand, and reads once where no whole line is.
-pub(super) fn take_lines<G: Drop, T: PieceText, M: LineHandler<Going = G, Text = T>, R: Input>(
+pub(super) fn take_lines<G: Drop, T: PieceText, M: RefusesLong<Going = G, Text = T>, R: Input>(
     engine: &mut LineEngine<G, T>,
     source: &mut SourceState,
     buffers: &mut TurnBuffers,
@@ -42,7 +41,7 @@ pub(super) fn take_lines<G: Drop, T: PieceText, M: LineHandler<Going = G, Text =
 ) -> Work
     requires ready { M.ready }
     requires few { length buffers.old.input ≤ MAX_UNREAD }
-    ensures works { (written : Option (List ℕ)) → WorkedIn (by M.moves M.answers M.goes) M.left TURN_UNITS (TURN_UNITS + 2 * MAX_STEP_UNITS)
+    ensures works { (written : Option (List ℕ)) → WorkedIn M.handling M.left TURN_UNITS (TURN_UNITS + 2 * MAX_STEP_UNITS)
         (at (R.remaining input.old) written machine.old (held_in engine.old buffers.old source.old)) (at (R.remaining input.new) written machine.new (held_in engine.new buffers.new source.new)) result }
     ensures few { length buffers.new.input ≤ MAX_UNREAD }
     ensures failed { source.new ≡ SourceState.Failed → (source.old ≡ SourceState.Failed) ⊎ R.has_failed input.new }
@@ -59,7 +58,7 @@ pub(super) fn take_lines<G: Drop, T: PieceText, M: LineHandler<Going = G, Text =
 }
 
 // Reads once where no whole line is at hand, and takes lines.
-fn read_on<G: Drop, T: PieceText, M: LineHandler<Going = G, Text = T>, R: Input>(
+fn read_on<G: Drop, T: PieceText, M: RefusesLong<Going = G, Text = T>, R: Input>(
     engine: &mut LineEngine<G, T>,
     source: &mut SourceState,
     buffers: &mut TurnBuffers,
@@ -70,7 +69,7 @@ fn read_on<G: Drop, T: PieceText, M: LineHandler<Going = G, Text = T>, R: Input>
     requires ready { M.ready }
     requires few { units ≤ TURN_UNITS }
     requires wants { Works (held_in engine.old buffers.old source.old) Work.Input }
-    ensures works { (written : Option (List ℕ)) → WorkedIn (by M.moves M.answers M.goes) M.left units (units + MAX_STEP_UNITS)
+    ensures works { (written : Option (List ℕ)) → WorkedIn M.handling M.left units (units + MAX_STEP_UNITS)
         (at (R.remaining input.old) written machine.old (held_in engine.old buffers.old source.old)) (at (R.remaining input.new) written machine.new (held_in engine.new buffers.new source.new)) result }
     ensures few { length buffers.new.input ≤ MAX_UNREAD }
     ensures failed { source.new ≡ SourceState.Failed → R.has_failed input.new }
@@ -105,7 +104,7 @@ fn turn_unless(is_all: bool, worked: Work) -> Work
 }
 
 // Takes lines that are at hand. How many units that took.
-fn work_on<G: Drop, T: PieceText, M: LineHandler<Going = G, Text = T>>(
+fn work_on<G: Drop, T: PieceText, M: RefusesLong<Going = G, Text = T>>(
     engine: &mut LineEngine<G, T>,
     source: SourceState,
     buffers: &mut TurnBuffers,
@@ -114,7 +113,7 @@ fn work_on<G: Drop, T: PieceText, M: LineHandler<Going = G, Text = T>>(
 ) -> (Work, u32)
     requires ready { M.ready }
     requires few { units ≤ TURN_UNITS }
-    ensures works { (left written : Option (List ℕ)) → Worked (by M.moves M.answers M.goes) M.left units result.1 0
+    ensures works { (left written : Option (List ℕ)) → Worked M.handling M.left units result.1 0
         (at left written machine.old (held_in engine.old buffers.old source)) (at left written machine.new (held_in engine.new buffers.new source)) result.0 }
     ensures spent { result.1 ≤ units + MAX_STEP_UNITS }
     ensures less { length buffers.new.input ≤ length buffers.old.input }

@@ -1,6 +1,5 @@
 -- The line is read and answered, and its text is written as far as there is no room for it.
 use Rattle.std.proofs.lemmas.Result.{on_err_weaker, on_ok_weaker}
-use Rattle.pn_lines.specs.Standing.{by}
 use Rattle.pn_lines.proofs.Ending.{Ends-cut}
 use Rattle.pn_lines.proofs.Reading.{Reads-line, Reads-writes, after_all}
 use Rattle.pn_lines.proofs.driver.reading.answer_line.Goals as goal
@@ -8,7 +7,7 @@ use Rattle.pn_lines.proofs.driver.reading.answer_line.Goals as goal
 pub returns-clause-ok : goal.returns-clause-ok
 returns-clause-ok g c =
     let M = g.M.LineHandler in
-    let handling = by M.moves M.answers M.goes in
+    let handling = M.handling in
     let before = g.W.Sink.contents c.args.output.now in
     let after = g.W.Sink.contents c.settle.new.output in
     on_ok_weaker c.settle.result
@@ -24,7 +23,7 @@ returns-clause-settled g c =
 pub returns-clause-err : goal.returns-clause-err
 returns-clause-err g c =
     let M = g.M.LineHandler in
-    let handling = by M.moves M.answers M.goes in
+    let handling = M.handling in
     let before = g.W.Sink.contents c.args.output.now in
     let after = g.W.Sink.contents c.settle.new.output in
     on_err_weaker c.settle.result

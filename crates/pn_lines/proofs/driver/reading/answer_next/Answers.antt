@@ -3,7 +3,6 @@ use Rattle.std.proofs.Common.{true, false, refl, sym}
 use Rattle.std.proofs.lemmas.Result.{err_from_is_err_and}
 use Rattle.std.specs.Prelude.{OnSome}
 use Rattle.std.specs.Io.KnownBytes.{IsAtEnd}
-use Rattle.pn_lines.specs.Standing.{by}
 use Rattle.pn_lines.specs.declared.handler.EndedBy.TheVariants.{Newline, Input}
 use Rattle.pn_lines.proofs.Ending.{Ends-all, Ends-broken, Ends-cut_read, Ends-cut_settled, Ends-exceeded}
 use Rattle.pn_lines.proofs.Reading.{Reads-cut, Reads-sent, not_last}
@@ -12,7 +11,7 @@ use Rattle.pn_lines.proofs.driver.reading.answer_next.Goals as goal
 pub returns-in_err-answer_line-in-Ok-Newline-clause-ends : goal.returns-in_err-answer_line-in-Ok-Newline-clause-ends
 returns-in_err-answer_line-in-Ok-Newline-clause-ends g c = λ start reads.
     let M = g.M.LineHandler in
-    let handling = by M.moves M.answers M.goes in
+    let handling = M.handling in
     let steady = g.met.M.LineHandler.steady.0 in
     let left = g.S.Source.left c.args.input.now in
     let leaves = g.S.Source.left c.next_line.new.input in
@@ -25,7 +24,7 @@ returns-in_err-answer_line-in-Ok-Newline-clause-ends g c = λ start reads.
 pub returns-in_err-hand_out-in-Ok-Newline-clause-ends : goal.returns-in_err-hand_out-in-Ok-Newline-clause-ends
 returns-in_err-hand_out-in-Ok-Newline-clause-ends g c = λ start reads.
     let M = g.M.LineHandler in
-    let handling = by M.moves M.answers M.goes in
+    let handling = M.handling in
     let steady = g.met.M.LineHandler.steady.0 in
     let left = g.S.Source.left c.args.input.now in
     let leaves = g.S.Source.left c.next_line.new.input in
@@ -43,7 +42,7 @@ returns-in_err-hand_out-in-Ok-Newline-clause-ends g c = λ start reads.
 pub returns-in_err-answer_line-in-Ok-EndOfInput-clause-ends : goal.returns-in_err-answer_line-in-Ok-EndOfInput-clause-ends
 returns-in_err-answer_line-in-Ok-EndOfInput-clause-ends g c = λ start reads.
     let M = g.M.LineHandler in
-    let handling = by M.moves M.answers M.goes in
+    let handling = M.handling in
     let steady = g.met.M.LineHandler.steady.0 in
     let left = g.S.Source.left c.args.input.now in
     let leaves = g.S.Source.left c.next_line.new.input in
@@ -56,7 +55,7 @@ returns-in_err-answer_line-in-Ok-EndOfInput-clause-ends g c = λ start reads.
 pub returns-in_err-hand_out-in-Ok-EndOfInput-clause-ends : goal.returns-in_err-hand_out-in-Ok-EndOfInput-clause-ends
 returns-in_err-hand_out-in-Ok-EndOfInput-clause-ends g c = λ start reads.
     let M = g.M.LineHandler in
-    let handling = by M.moves M.answers M.goes in
+    let handling = M.handling in
     let steady = g.met.M.LineHandler.steady.0 in
     let left = g.S.Source.left c.args.input.now in
     let leaves = g.S.Source.left c.next_line.new.input in
@@ -74,7 +73,7 @@ returns-in_err-hand_out-in-Ok-EndOfInput-clause-ends g c = λ start reads.
 pub returns-in_err-hand_out-in-Ok-Endless-clause-ends : goal.returns-in_err-hand_out-in-Ok-Endless-clause-ends
 returns-in_err-hand_out-in-Ok-Endless-clause-ends g c = λ start reads.
     let M = g.M.LineHandler in
-    let handling = by M.moves M.answers M.goes in
+    let handling = M.handling in
     let steady = g.met.M.LineHandler.steady.0 in
     let left = g.S.Source.left c.args.input.now in
     let leaves = g.S.Source.left c.next_line.new.input in
@@ -90,7 +89,7 @@ returns-in_err-hand_out-in-Ok-Endless-clause-ends g c = λ start reads.
 pub returns-in_err-hand_out-in-Err-clause-ends : goal.returns-in_err-hand_out-in-Err-clause-ends
 returns-in_err-hand_out-in-Err-clause-ends g c = λ start reads.
     let M = g.M.LineHandler in
-    let handling = by M.moves M.answers M.goes in
+    let handling = M.handling in
     let steady = g.met.M.LineHandler.steady.0 in
     let left = g.S.Source.left c.args.input.now in
     let leaves = g.S.Source.left c.next_line.new.input in
@@ -106,7 +105,7 @@ returns-in_err-hand_out-in-Err-clause-ends g c = λ start reads.
 pub returns-in_ok-hand_out-in-Ok-Newline-clause-ends : goal.returns-in_ok-hand_out-in-Ok-Newline-clause-ends
 returns-in_ok-hand_out-in-Ok-Newline-clause-ends g c = λ start reads.
     let M = g.M.LineHandler in
-    let handling = by M.moves M.answers M.goes in
+    let handling = M.handling in
     let steady = g.met.M.LineHandler.steady.0 in
     let left = g.S.Source.left c.args.input.now in
     let leaves = g.S.Source.left c.next_line.new.input in
@@ -119,7 +118,7 @@ returns-in_ok-hand_out-in-Ok-Newline-clause-ends g c = λ start reads.
 pub returns-else-not-more-clause-ends : goal.returns-else-not-more-clause-ends
 returns-else-not-more-clause-ends g c = λ start reads.
     let M = g.M.LineHandler in
-    let handling = by M.moves M.answers M.goes in
+    let handling = M.handling in
     let steady = g.met.M.LineHandler.steady.0 in
     let left = g.S.Source.left c.args.input.now in
     let leaves = g.S.Source.left c.next_line.new.input in
@@ -131,7 +130,7 @@ returns-else-not-more-clause-ends g c = λ start reads.
 pub returns-in_ok-hand_out-in-Ok-EndOfInput-clause-ends : goal.returns-in_ok-hand_out-in-Ok-EndOfInput-clause-ends
 returns-in_ok-hand_out-in-Ok-EndOfInput-clause-ends g c = λ start reads.
     let M = g.M.LineHandler in
-    let handling = by M.moves M.answers M.goes in
+    let handling = M.handling in
     let steady = g.met.M.LineHandler.steady.0 in
     let left = g.S.Source.left c.args.input.now in
     let leaves = g.S.Source.left c.next_line.new.input in
@@ -151,7 +150,7 @@ returns-in_ok-hand_out-in-Ok-EndOfInput-clause-ends g c = λ start reads.
 pub returns-in_ok-hand_out-in-Ok-Endless-clause-ends : goal.returns-in_ok-hand_out-in-Ok-Endless-clause-ends
 returns-in_ok-hand_out-in-Ok-Endless-clause-ends g c = λ start reads.
     let M = g.M.LineHandler in
-    let handling = by M.moves M.answers M.goes in
+    let handling = M.handling in
     let steady = g.met.M.LineHandler.steady.0 in
     let left = g.S.Source.left c.args.input.now in
     let leaves = g.S.Source.left c.next_line.new.input in
@@ -161,12 +160,12 @@ returns-in_ok-hand_out-in-Ok-Endless-clause-ends g c = λ start reads.
     let after = g.W.Sink.contents c.hand_out-in-Ok-Endless.new.output in
     let none = c.hand_out-in-Ok-Endless.ensures.none in
     let read = Reads-sent handling start left written after waited c.hand_out-in-Ok-Endless.new.replies.items false c.args.machine.now c.args.engine.now none c.in_ok-hand_out-in-Ok-Endless.ensures.ok reads in
-    Ends-exceeded handling start most left leaves after c.hand_out-in-Ok-Endless.new.replies.items c.args.machine.now c.args.engine.now c.next_line.new.line c.requires.reads (rw c.in-Ok-Endless.field-0-is at c.in-Ok-Endless.ensures.takes) none c.requires.made steady refl (rw c.in-Ok-Endless.field-0-is at c.in-Ok-Endless.ensures.stops) read
+    Ends-exceeded handling start most left leaves after c.hand_out-in-Ok-Endless.new.replies.items c.args.machine.now c.args.engine.now c.next_line.new.line c.requires.reads (rw c.in-Ok-Endless.field-0-is at c.in-Ok-Endless.ensures.takes) none c.requires.made c.limit_of.result steady refl c.limit_of.ensures.full c.limit_of.ensures.endless (rw c.in-Ok-Endless.field-0-is at c.in-Ok-Endless.ensures.stops) read
 
 pub returns-in_ok-hand_out-in-Err-clause-ends : goal.returns-in_ok-hand_out-in-Err-clause-ends
 returns-in_ok-hand_out-in-Err-clause-ends g c = λ start reads.
     let M = g.M.LineHandler in
-    let handling = by M.moves M.answers M.goes in
+    let handling = M.handling in
     let steady = g.met.M.LineHandler.steady.0 in
     let left = g.S.Source.left c.args.input.now in
     let leaves = g.S.Source.left c.next_line.new.input in

@@ -2,14 +2,13 @@
 use Rattle.std.proofs.Common.{sym, subst, arith}
 use Rattle.pn_lines.specs.Driving.{Fails, IsAfter}
 use Rattle.pn_lines.specs.Engines.{EngineValue}
-use Rattle.pn_lines.specs.Standing.{by}
 use Rattle.pn_lines.proofs.Driving.{Fails-then, SameLines-left, SameLines-trans, Writes-then, Writes-went, on_fault}
 use Rattle.pn_lines.proofs.driver.settling.settle.Goals as goal
 
 pub returns-in_err-write_text-clause-err : goal.returns-in_err-write_text-clause-err
 returns-in_err-write_text-clause-err g c =
     let M = g.M.LineHandler in
-    let handling = by M.moves M.answers M.goes in
+    let handling = M.handling in
     let first = g.W.Sink.contents c.args.output.now in
     let before = g.W.Sink.contents c.answers.output in
     let after = g.W.Sink.contents c.write_text.new.output in
@@ -23,7 +22,7 @@ returns-in_err-write_text-clause-after g c = λ ended is.
 pub returns-then-not-resume-clause-ok : goal.returns-then-not-resume-clause-ok
 returns-then-not-resume-clause-ok g c =
     let M = g.M.LineHandler in
-    let handling = by M.moves M.answers M.goes in
+    let handling = M.handling in
     let first = g.W.Sink.contents c.args.output.now in
     let before = g.W.Sink.contents c.answers.output in
     let after = g.W.Sink.contents c.write_text.new.output in
@@ -38,7 +37,7 @@ returns-then-not-resume-clause-after g c = λ ended is.
 pub answers-preserved : goal.answers-preserved
 answers-preserved g c =
     let M = g.M.LineHandler in
-    let handling = by M.moves M.answers M.goes in
+    let handling = M.handling in
     let first = g.W.Sink.contents c.args.output.now in
     let before = g.W.Sink.contents c.answers.output in
     let after = g.W.Sink.contents c.write_text.new.output in

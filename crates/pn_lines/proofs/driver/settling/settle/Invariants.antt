@@ -2,13 +2,12 @@
 use Rattle.std.proofs.Common.{◌≤◌, vec_capacity}
 use Rattle.pn_lines.specs.Driving.{IsAfter, SameLines, Writes}
 use Rattle.pn_lines.specs.Progress.{going_left}
-use Rattle.pn_lines.specs.Standing.{by}
 use Rattle.pn_lines.specs.declared.handler.EndedBy.{EndedBy}
 use Rattle.pn_lines.proofs.driver.settling.settle.Given as goal
 
 abbrev pub invariant-answers : goal.invariant-answers
 invariant-answers g l = record {
-  writes : Writes (by g.M.LineHandler.moves g.M.LineHandler.answers g.M.LineHandler.goes) (g.W.Sink.contents l.initial.output) (g.W.Sink.contents l.output) l.initial.replies.items l.replies.items l.initial.machine l.machine l.initial.engine l.engine;
+  writes : Writes g.M.LineHandler.handling (g.W.Sink.contents l.initial.output) (g.W.Sink.contents l.output) l.initial.replies.items l.replies.items l.initial.machine l.machine l.initial.engine l.engine;
   after : (ended : EndedBy) → IsAfter ended l.initial.engine.stage → IsAfter ended l.engine.stage;
   same : SameLines l.initial.engine l.engine;
   grows : vec_capacity l.initial.replies ≤ vec_capacity l.replies;

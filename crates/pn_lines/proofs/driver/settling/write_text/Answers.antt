@@ -2,14 +2,13 @@
 use Rattle.std.proofs.Common.{ap, ◌∙◌, arith, append-nil}
 use Rattle.pn_lines.specs.Driving.{Fails}
 use Rattle.pn_lines.specs.Engines.{EngineValue}
-use Rattle.pn_lines.specs.Standing.{by}
 use Rattle.pn_lines.proofs.Driving.{Fails-sent, Writes-gave, Writes-sent, Writes-then, on_fault}
 use Rattle.pn_lines.proofs.driver.settling.write_text.Goals as goal
 
 pub returns-in_err-make_room-clause-err : goal.returns-in_err-make_room-clause-err
 returns-in_err-make_room-clause-err g c =
     let M = g.M.LineHandler in
-    let handling = by M.moves M.answers M.goes in
+    let handling = M.handling in
     let before = g.W.Sink.contents c.args.output.now in
     let after = g.W.Sink.contents c.make_room.new.output in
     let machine = c.args._machine.now in
@@ -20,7 +19,7 @@ returns-in_err-make_room-clause-err g c =
 pub pieces-preserved : goal.pieces-preserved
 pieces-preserved g c =
     let M = g.M.LineHandler in
-    let handling = by M.moves M.answers M.goes in
+    let handling = M.handling in
     let first = g.W.Sink.contents c.args.output.now in
     let before = g.W.Sink.contents c.pieces.output in
     let after = g.W.Sink.contents c.make_room.new.output in

@@ -1,13 +1,12 @@
 -- The answer is gone on with.
 use Rattle.pn_lines.specs.Answers.{answer_of}
-use Rattle.pn_lines.specs.Standing.{by}
 use Rattle.pn_lines.proofs.Standing.{Asked-going, Stands-answered}
 use Rattle.pn_lines.proofs.engine.LineEngine.look_on.Goals as goal
 
 pub returns-clause-stands : goal.returns-clause-stands
 returns-clause-stands g c = λ start taken given ahead last is.
     let M = g.M.LineHandler in
-    let handling = by M.moves M.answers M.goes in
+    let handling = M.handling in
     let answer = answer_of g.T.PieceText.unmade c.go_on-answer.result.answer in
     let asked = Asked-going handling start taken given ahead last c.args.machine.now c.args.self.now g.met.M.LineHandler.steady.0 c.go_on-answer.new.self c.args.going c.args.ended answer
     (λ was between line. c.go_on-answer.ensures.answers was between c.args.ended line) is in
