@@ -1,5 +1,6 @@
 pub mod Driving
 pub mod Ending
+pub mod Following
 pub mod Left
 pub mod Pieces
 pub mod Reading
