@@ -2,8 +2,8 @@
 
 ghost use Rattle.std.specs.Prelude.{◌≡◌, ◌≢◌, ◌+◌, ◌≤◌, ◌<◌, ◌⊎◌, [], ℕ, Bool, List, false, true, Err, None, Option, IfErr, IfOk, OnErr, OnOk, OnSome, vec_capacity};
 ghost use Rattle.std.specs.Io.KnownBytes.{Appends, IsAtEnd};
-ghost use Rattle.pn_line.specs.LineEnd.{newline_taken};
-ghost use Rattle.pn_line.specs.Prelude.{AppendsPrefix, so_far};
+ghost use Rattle.pn_line.specs.LineEnd.{HasNext, newline_taken};
+ghost use Rattle.pn_line.specs.Prelude.{AppendsPrefix, HasShown, so_far};
 ghost use Rattle.pn_line.specs.Reads.{Takes};
 ghost use Rattle.pn_line.specs.declared.line_buffer.TheConstants.{ENDLESS};
 ghost use Rattle.pn_lines.specs.Driving.{CanGo, EndsHanded, Goes, GoesOn, Reads, Stops, looks_after, looks_unless};
@@ -29,8 +29,8 @@ pub(super) fn next_line<G: Drop, T: PieceText, S: Source>(
     ensures takes { IfOk result (λ end. Takes (so_far []) line.new (S.left input.old) (S.left input.new) (newline_taken end)) }
     ensures stops { IfOk result (λ end. Stops end engine.now.counts.lines engine.now.most (S.left input.old) line.new) }
     ensures below { IfOk result (λ end. end ≢ LineEnd.Endless → line.new.count < ENDLESS) }
-    ensures end { IfOk result (λ end. end ≡ LineEnd.EndOfInput → OnSome (S.left input.old) (IsAtEnd (S.left input.new))) }
-    ensures end_comes { IfOk result (λ end. end ≡ LineEnd.EndOfInput → S.may_end) }
+    ensures end { IfOk result (λ end. end ≡ LineEnd.EndOfInput → S.may_end × OnSome (S.left input.old) (IsAtEnd (S.left input.new))) }
+    ensures more { IfOk result (λ end. OnSome (S.left input.old) (HasNext end (S.left input.new))) }
     ensures fault { IfErr result (λ fault. (fault ≡ LinesFault.Read) × S.may_fail) }
     ensures kept { OnErr result (Takes (so_far []) line.new (S.left input.old) (S.left input.new) []) }
     ensures looks { S.looks input.new + looks_unless result engine.now ≤ S.looks input.old + looks_left engine.now.counts.lines engine.now.most }
@@ -131,7 +131,8 @@ fn limit_of<G: Drop, T: PieceText>(engine: &LineEngine<G, T>) -> LinesFault
     LinesFault::EndlessLine
 }
 
-/// Reads a line and answers it. What was counted where the input is at its end.
+/// Reads a line and answers it. What was counted where the input is at its end. Where it goes on, the source has shown more, or no reply
+/// waits.
 pub(super) fn answer_next<
     G: Drop,
     T: PieceText,
@@ -156,6 +157,8 @@ pub(super) fn answer_next<
     ensures more { IfOk result (λ ended. ended ≡ None → GoesOn engine.old engine.new) }
     ensures can { CanGo S.may_fail W.may_fail S.may_end engine.old.most result }
     ensures out { EndsHanded result (W.is_handed_on output.new) }
+    ensures waits { IfOk result (λ ended. ended ≡ None → OnSome (S.left input.old) (HasShown true (S.left input.new))
+        ⊎ ((replies.new.items ≡ []) × W.is_handed_on output.new)) }
     ensures looks { S.looks input.new + looks_after engine.new result ≤ S.looks input.old + looks_left engine.old.counts.lines engine.old.most }
     ensures grows { vec_capacity replies.old ≤ vec_capacity replies.new }
     ensures kept { M.keeps machine.old machine.new }

@@ -50,7 +50,7 @@ returns-in_err-answer_line-in-Ok-EndOfInput-clause-ends g c = λ start reads.
     let waited = c.args.replies.now.items in
     let most = c.args.engine.now.most in
     let p = err_from_is_err_and c.from_residual-in_err-answer_line-in-Ok-EndOfInput.result c.from_residual-in_err-answer_line-in-Ok-EndOfInput.ensures.1 in
-    rw (p.1, p.2, c.in_err-answer_line-in-Ok-EndOfInput.ensures.fault.0) (c.in_err-answer_line-in-Ok-EndOfInput.ensures.err start left leaves true (rw c.in-Ok-EndOfInput.field-0-is at c.in-Ok-EndOfInput.ensures.takes) (refl, refl) (λ same. c.in-Ok-EndOfInput.ensures.end c.in-Ok-EndOfInput.field-0-is) reads)
+    rw (p.1, p.2, c.in_err-answer_line-in-Ok-EndOfInput.ensures.fault.0) (c.in_err-answer_line-in-Ok-EndOfInput.ensures.err start left leaves true (rw c.in-Ok-EndOfInput.field-0-is at c.in-Ok-EndOfInput.ensures.takes) (refl, refl) (λ same. (c.in-Ok-EndOfInput.ensures.end c.in-Ok-EndOfInput.field-0-is).1) reads)
 
 pub returns-in_err-hand_out-in-Ok-EndOfInput-clause-ends : goal.returns-in_err-hand_out-in-Ok-EndOfInput-clause-ends
 returns-in_err-hand_out-in-Ok-EndOfInput-clause-ends g c = λ start reads.
@@ -62,7 +62,7 @@ returns-in_err-hand_out-in-Ok-EndOfInput-clause-ends g c = λ start reads.
     let written = g.W.Sink.contents c.args.output.now in
     let waited = c.args.replies.now.items in
     let most = c.args.engine.now.most in
-    let read = c.in_ok-answer_line-in-Ok-EndOfInput.ensures.ok start left leaves true (rw c.in-Ok-EndOfInput.field-0-is at c.in-Ok-EndOfInput.ensures.takes) (refl, refl) (λ same. c.in-Ok-EndOfInput.ensures.end c.in-Ok-EndOfInput.field-0-is) reads in
+    let read = c.in_ok-answer_line-in-Ok-EndOfInput.ensures.ok start left leaves true (rw c.in-Ok-EndOfInput.field-0-is at c.in-Ok-EndOfInput.ensures.takes) (refl, refl) (λ same. (c.in-Ok-EndOfInput.ensures.end c.in-Ok-EndOfInput.field-0-is).1) reads in
     let p = err_from_is_err_and c.from_residual-in_err-hand_out-in-Ok-EndOfInput.result c.from_residual-in_err-hand_out-in-Ok-EndOfInput.ensures.1 in
     let before = g.W.Sink.contents c.answer_line-in-Ok-EndOfInput.new.output in
     let after = g.W.Sink.contents c.hand_out-in-Ok-EndOfInput.new.output in
@@ -137,7 +137,7 @@ returns-in_ok-hand_out-in-Ok-EndOfInput-clause-ends g c = λ start reads.
     let written = g.W.Sink.contents c.args.output.now in
     let waited = c.args.replies.now.items in
     let most = c.args.engine.now.most in
-    let read = c.in_ok-answer_line-in-Ok-EndOfInput.ensures.ok start left leaves true (rw c.in-Ok-EndOfInput.field-0-is at c.in-Ok-EndOfInput.ensures.takes) (refl, refl) (λ same. c.in-Ok-EndOfInput.ensures.end c.in-Ok-EndOfInput.field-0-is) reads in
+    let read = c.in_ok-answer_line-in-Ok-EndOfInput.ensures.ok start left leaves true (rw c.in-Ok-EndOfInput.field-0-is at c.in-Ok-EndOfInput.ensures.takes) (refl, refl) (λ same. (c.in-Ok-EndOfInput.ensures.end c.in-Ok-EndOfInput.field-0-is).1) reads in
     let after = g.W.Sink.contents c.hand_out-in-Ok-EndOfInput.new.output in
     let machine = c.answer_line-in-Ok-EndOfInput.new.machine in
     let run = c.answer_line-in-Ok-EndOfInput.new.engine in
