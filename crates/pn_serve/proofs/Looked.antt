@@ -2,7 +2,6 @@
 use Rattle.std.proofs.Common.{◌≡◌, ◌≤◌, ◌+◌, ◌*◌, ◌-◌, ◌^◌, ◌<◌, ℕ, Bool, true, false, List, length, max, min, refl, sym, ap, ◌∙◌, subst, inl, inr, arith}
 use Rattle.std.specs.Prelude.{Result, Ok, Err, IfOk, IfErr}
 use Rattle.pn_join.specs.declared.memory.NoMemory.{NoMemory}
-use Rattle.pn_line.specs.Line.{LineBufferValue}
 use Rattle.pn_live.specs.Getting.{GetWalkValue}
 use Rattle.pn_live.specs.declared.reader.TheConstants.{ENTRY_RECORDS}
 use Rattle.pn_scan.specs.Paging.{CountsRecords}
@@ -15,18 +14,12 @@ use Rattle.pn_tablet.specs.CopyCounts.{CountsOn}
 use Rattle.pn_tablet.specs.CopyMaking.{CopyCountValue}
 use Rattle.pn_tablet.specs.declared.copy_count.CopyStep.{CopyStep}
 use Rattle.pn_tablet.specs.declared.copy_count.CopyStep.TheVariants as copies
-use Rattle.pn_serve.specs.declared.machine.line_handler.Answer.{Answer}
-use Rattle.pn_serve.specs.declared.machine.line_handler.Answer.TheVariants.{Done, Going as Begun}
-use Rattle.pn_serve.specs.declared.script.Counts.{Counts}
-use Rattle.pn_serve.specs.declared.script.line_loop.state.Stage.{Stage}
-use Rattle.pn_serve.specs.declared.script.line_loop.state.Stage.TheVariants.{Reading, Looking, Ending}
+use Rattle.pn_serve.specs.declared.machine.line_answers.Answer.{Answer}
+use Rattle.pn_serve.specs.declared.machine.line_answers.Answer.TheVariants.{Done, Going as Begun}
 use Rattle.pn_serve.specs.declared.sessions.going.Going.{Going}
 use Rattle.pn_serve.specs.declared.sessions.going.Going.TheVariants.{Page, Keys, Copy}
 use Rattle.pn_serve.specs.declared.sessions.going.TheConstants.{RECORDS_OF_KEY}
-use Rattle.pn_serve.specs.Lines.Bounds.{CountsStages, IsLookingAt, TakesStage}
 use Rattle.pn_serve.specs.Lines.Going.{answer_left}
-use Rattle.pn_serve.specs.Lines.States.{LineLoopValue, LineStateValue, with_looked}
-use Rattle.pn_serve.specs.Lines.Taking.{stage_after}
 use Rattle.pn_serve.specs.Session.Looking.{CopyAnswer, CountsLooks, CountsStep, PageAnswer}
 
 -- a page looked at no more records than it may
@@ -65,27 +58,3 @@ copy_counted count records step (Done reply) to shows = tt
 copy_counted count records (Ok (copies.Done text)) (Begun going) to shows = absurd shows
 copy_counted count records (Ok (copies.Next more)) (Begun going) to is = subst (λ (g : Going). CountsLooks (Begun g) (Copy count) records) (sym is) (omega (arith, to.1))
 copy_counted count records (Err fault) (Begun going) to shows = absurd shows
-
--- a loop that has looked at more records is as it was but for these
-pub looked_mid : (line : LineBufferValue) (replies : List ℕ) (was now : LineStateValue) (looked : ℕ) (old new : LineLoopValue) → now ≡ record was { looked = looked } → (let r : LineLoopValue = record { line = line; replies = replies; state = was } in r) ≡ old
-    → new.state.looked ≡ now.looked → (let r : LineLoopValue = record { line = line; replies = replies; state = now } in r) ≡ with_looked old new.state.looked
-looked_mid line replies was now looked old new counted view same =
-    ap (λ (s : LineStateValue). let r : LineLoopValue = record { line = line; replies = replies; state = s } in r) (subst (λ (s : LineStateValue). s ≡ record was { looked = s.looked }) (sym counted) refl)
-    ∙ ap (λ (r : LineLoopValue). with_looked r now.looked) view
-    ∙ ap (λ (n : ℕ). with_looked old n) (sym same)
-
--- ---- stages
-
-pub taken_reply : (last : Bool) (counts : Counts) (stage : Stage) → stage ≡ stage_after last counts → IsLookingAt stage → ⊥
-taken_reply true counts stage is looking = subst IsLookingAt is looking
-taken_reply false counts stage is looking = subst IsLookingAt is looking
-
-pub same_look : (one other : Going) → Looking one ≡ Looking other → one ≡ other
-same_look one other is = cc
-
--- what an answer leaves to be resumed is counted
-pub counts_on : (answer : Answer) (going : Going) (stage : Stage) (looked was now : ℕ) → TakesStage answer stage → CountsLooks answer going looked → now ≡ min (was + looked) (2 ^ 64 - 1) → CountsStages going stage was now
-counts_on answer going Reading looked was now takes counts is = tt
-counts_on answer going (Ending ended) looked was now takes counts is = tt
-counts_on (Done reply) going (Looking next) looked was now takes counts is = absurd (takes tt)
-counts_on (Begun other) going (Looking next) looked was now takes counts is = (looked, subst (λ (g : Going). CountsLooks (Begun g) going looked) (sym (same_look next other takes)) counts, is)

@@ -1,5 +1,6 @@
 -- Sessions.
 pub mod Counting
+pub mod Handling
 pub mod Knowing
 pub mod Lines
 pub mod Looking

@@ -11,17 +11,18 @@ pub(crate) mod counting_reader;
 pub(crate) mod going;
 pub(crate) mod kinds;
 pub(crate) mod lookups;
+pub(crate) mod units;
 
-use crate::machine::line_handler::{Answer, LineHandler};
-use crate::machine::skipping::{RefusesSkipped, refuse_line};
-use crate::script::line_loop::LineLoop;
+use crate::machine::line_answers::{Answer, ReplyPieces, answered, is_no_line, line_reply};
 use crate::script::{MAX_LINES, answer_lines};
 use crate::sessions::going::Going;
 use crate::sessions::lookups::answer_line;
+use crate::sessions::units::{records_of, units_of};
 use crate::{Counts, RunFault};
-use pn_line::{LineBuffer, Sink, Source};
+use pn_line::{Sink, Source};
+use pn_lines::{Answered, EndedBy, LineBuffers, LineHandler, LineReply, RefusesLong};
 use pn_live::LiveReader;
-use pn_protocol::Reply;
+use pn_protocol::{Refusal, Reply};
 use std::alloc::Global;
 
 /// Answers each line of a session with one reply, before it waits for more input. Commands other than `read`, `get`,
@@ -44,60 +45,55 @@ pub fn session<S: Source, W: Sink>(
     ensures end { OnOk result S.may_end }
     ensures unread { IsErrOf result RunFault.Memory → S.looks input.new ≡ S.looks input.old }
 {
-    let Ok(mut lines) = LineLoop::new(alloc) else {
+    let Ok(mut buffers) = LineBuffers::new(alloc) else {
         return Err(RunFault::Memory);
     };
-    answer_lines(reader, &mut lines, input, output)
+    answer_lines(reader, &mut buffers, input, output)
 }
 
 impl LineHandler for LiveReader {
     ghost use Rattle.pn_scan.specs.Prelude.{Stays};
-    ghost use Rattle.pn_serve.specs.Session.Knowing.{IsSteady, KnowsNoLess};
-    ghost use Rattle.pn_serve.specs.Session.Lines.{AnswersLine, EndsLines};
-    ghost use Rattle.pn_serve.specs.Session.Looking.{LooksFor, LooksForLast};
+    ghost use Rattle.pn_serve.specs.Proofs.GivenUp.{reads_steadily, stays_preorder};
+    ghost use Rattle.pn_serve.specs.Session.Handling.{reads_lines};
+    ghost use Rattle.pn_serve.specs.Session.Knowing.{KnowsNoLess};
+    ghost use Rattle.pn_serve.specs.Session.Looking.{going_left};
     ghost use Rattle.std.specs.Prelude.{⊤};
+
+    type Going = Going;
+
+    type Text = ReplyPieces;
 
     ghost ready = { ⊤ };
 
     // A session has its reader alone.
-    ghost moves = { Stays };
+    ghost handling = { reads_lines Stays };
 
-    ghost makes = { AnswersLine Stays };
+    ghost left = { going_left };
 
-    ghost ends = { EndsLines Stays };
+    ghost keeps = { KnowsNoLess };
 
-    ghost goes = { LooksFor Stays };
-
-    ghost goes_last = { LooksForLast Stays };
-
-    ghost reader = { λ reader. reader };
-
-    fn answer(&mut self, alloc: Global, line: &LineBuffer) -> Answer {
-        answer_line(alloc, self, line.bytes())
-    }
-
-    fn answer_end(&mut self, alloc: Global, part: &LineBuffer) -> Answer {
-        if part.is_empty() {
-            return Answer::Done(Reply::Silent);
+    fn answer(
+        &mut self,
+        alloc: Global,
+        line: &[u8],
+        ended: EndedBy,
+    ) -> Answered<Going, ReplyPieces> {
+        if is_no_line(line, ended) {
+            return answered(Answer::Done(Reply::Silent), 0);
         }
-        answer_line(alloc, self, part.bytes())
+        answered(answer_line(alloc, self, line), 1)
     }
 
-    fn go_on(&mut self, alloc: Global, going: Going, records: usize) -> (Answer, usize) {
-        going.go_on(alloc, self, records)
+    fn go_on(&mut self, alloc: Global, going: Going, units: u32) -> Answered<Going, ReplyPieces> {
+        let (answer, looked) = going.go_on(alloc, self, records_of(units));
+        answered(answer, units_of(looked))
     }
 
-    fn recall_moves(&self) {}
-
-    fn recall_refused(&self, _going: &Going) {}
-
-    fn shorten(&self, reply: Reply) -> Reply {
-        reply.or_memory()
-    }
+    ghost steady = { reads_steadily Stays stays_preorder };
 }
 
-impl RefusesSkipped for LiveReader {
-    fn refuse_skipped(&mut self, is_too_long: bool) -> Reply {
-        refuse_line(is_too_long)
+impl RefusesLong for LiveReader {
+    fn refuse_long(&mut self, _ended: EndedBy) -> LineReply<ReplyPieces> {
+        line_reply(Reply::Refused(Refusal::TooLong))
     }
 }

@@ -26,8 +26,8 @@ use Rattle.pn_tablet.specs.Layouts.{Bounds}
 use Rattle.pn_tablet.specs.Tablets.{TabletStateValue}
 use Rattle.pn_tablet.specs.declared.copy_count.CopyStep.{CopyStep}
 use Rattle.pn_tablet.specs.declared.copy_count.CopyStep.TheVariants as copies
-use Rattle.pn_serve.specs.declared.machine.line_handler.Answer.{Answer}
-use Rattle.pn_serve.specs.declared.machine.line_handler.Answer.TheVariants.{Done, Going as Begun}
+use Rattle.pn_serve.specs.declared.machine.line_answers.Answer.{Answer}
+use Rattle.pn_serve.specs.declared.machine.line_answers.Answer.TheVariants.{Done, Going as Begun}
 use Rattle.pn_serve.specs.declared.sessions.going.Going.{Going}
 use Rattle.pn_serve.specs.declared.sessions.going.Going.TheVariants.{Page, Keys, Copy}
 use Rattle.pn_serve.specs.declared.sessions.going.TheConstants.{RECORDS_OF_KEY}

@@ -15,7 +15,7 @@ ghost use Rattle.pn_tablet.specs.CopyCounts.{CountsOn};
 ghost use Rattle.pn_tablet.specs.CopyMaking.{CopyCountValue};
 ghost use Rattle.pn_tablet.specs.Layouts.{Bounds};
 
-use crate::machine::line_handler::Answer;
+use crate::machine::line_answers::Answer;
 use pn_join::NoMemory;
 use pn_live::{GetWalk, LiveReader};
 use pn_protocol::{CommandFault, LineKind, Refusal, Reply, answer_get, answer_scan, refuse};

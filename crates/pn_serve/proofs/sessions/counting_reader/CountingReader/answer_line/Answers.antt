@@ -1,12 +1,12 @@
 -- What a reader that is alone answers, one that is shared answers too.
 use Rattle.std.proofs.Common.{sym, subst}
 use Rattle.pn_live.specs.Readers.{LiveReaderValue}
-use Rattle.pn_serve.specs.declared.machine.line_handler.Answer.{Answer}
+use Rattle.pn_serve.specs.declared.machine.line_answers.Answer.{Answer}
 use Rattle.pn_serve.specs.Lines.Going.{AnswersWith}
 use Rattle.pn_serve.specs.Session.Knowing.{KnowsNoLess}
 use Rattle.pn_serve.specs.Session.Lines.{AnswersLine}
 use Rattle.pn_serve.specs.Session.Looking.{LooksFor}
-use Rattle.pn_serve.proofs.Knowing.{knows_preorder}
+use Rattle.pn_serve.specs.Proofs.GivenUp.{knows_preorder}
 use Rattle.pn_serve.proofs.Lookups.{answers_too}
 use Rattle.pn_serve.proofs.sessions.counting_reader.CountingReader.answer_line.Goals as goal
 

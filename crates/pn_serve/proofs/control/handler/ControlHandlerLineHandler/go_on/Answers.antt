@@ -1,6 +1,0 @@
--- No line is resumed, so nothing is looked at.
-use Rattle.pn_serve.proofs.Knowing.{knows_itself}
-use Rattle.pn_serve.proofs.control.handler.ControlHandlerLineHandler.go_on.Goals as goal
-
-pub returns-clause-knows : goal.returns-clause-knows
-returns-clause-knows g c = knows_itself _

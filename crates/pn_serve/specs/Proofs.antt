@@ -1,0 +1,3 @@
+-- Proofs of what traits promise of handlers.
+pub mod GivenUp
+pub mod Steady
