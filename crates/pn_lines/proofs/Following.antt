@@ -4,18 +4,21 @@ use Rattle.std.specs.Prelude.{Ok}
 use Rattle.std.specs.Io.KnownBytes.{Appends, Consumes, IsAtEnd}
 use Rattle.std.proofs.KnownBytes.{Appends-nil, Appends-trans}
 use Rattle.pn_lines.specs.Driving.{IsReading}
-use Rattle.pn_lines.specs.Ends.{HasEnded, Start, start_at}
+use Rattle.pn_lines.specs.Ends.{Ended as HasAnswered, HasEnded, Start, start_at}
 use Rattle.pn_lines.specs.Engines.{EngineValue}
 use Rattle.pn_lines.specs.Handling.{Handling}
 use Rattle.pn_lines.specs.Moves.{IsPreorder}
 use Rattle.pn_lines.specs.Standing.{StageAt, Stands}
-use Rattle.pn_lines.specs.TurnStates.{TurnValue, is_last, new_turns}
-use Rattle.pn_lines.specs.Turns.{Follows, Moment, Moved, Moves, at}
+use Rattle.pn_lines.specs.TurnStates.{IsKept, Rests, TurnValue, is_last, new_turns}
+use Rattle.pn_lines.specs.Turns.{Finishes, Follows, Moment, Moved, Moves, Turned, at}
 use Rattle.pn_lines.specs.declared.engine.stage.LinesEnd.TheVariants as end
 use Rattle.pn_lines.specs.declared.engine.stage.Stage.{Stage}
 use Rattle.pn_lines.specs.declared.engine.stage.Stage.TheVariants.{Ended}
+use Rattle.pn_lines.specs.declared.turns.Pause.{Pause}
 use Rattle.pn_lines.specs.declared.turns.SourceState.{SourceState}
 use Rattle.pn_lines.specs.declared.turns.SourceState.TheVariants.{Open, AtEnd, Failed}
+use Rattle.pn_lines.specs.declared.turns.TurnOutcome.{TurnOutcome}
+use Rattle.pn_lines.specs.declared.turns.TurnOutcome.TheVariants.{Goes, Ended as Over, Failed as Broken}
 use Rattle.pn_lines.proofs.Ending.{Ends-all}
 use Rattle.pn_lines.proofs.Pieces.{IsDetermined, same_given}
 use Rattle.pn_lines.proofs.Reading.{Stands-new}
@@ -57,6 +60,11 @@ module _ {V G : Type 0} (handling : Handling V G) (steady : IsPreorder handling.
     at_end = λ ended. absurd (not_ended ended);
     stands = Stands-new handling steady machine most;
   }
+
+  pub Follows-begun : (machine : V) (left written : Option (List ℕ)) (kept : TurnValue G) → kept ≡ new_turns kept.engine.most → IfSome left (λ (bytes : List ℕ). Follows handling (start_at machine left written) bytes (at left written machine kept))
+  Follows-begun machine None written kept new = tt
+  Follows-begun machine (Some input) written kept new =
+      subst (λ (k : TurnValue G). Follows handling (start_at machine (Some input) written) input (at (Some input) written machine k)) (sym new) (Follows-new machine input written kept.engine.most)
 
   module _ (start : Start V) (input : List ℕ) where
     -- a turn
@@ -134,3 +142,45 @@ module _ {V G : Type 0} (handling : Handling V G) (steady : IsPreorder handling.
       (subst (λ (l : List ℕ). Stands handling also.machine l (two.out ++ other.kept.replies) other.kept.unread (is_last other.kept.source) other.machine other.kept.engine) (all_taken also input other ended nothing done two) two.stands) in
       let given = same_given handling determined start.machine input (one.out ++ now.kept.replies) (two.out ++ other.kept.replies) now.kept.unread other.kept.unread (is_last now.kept.source) (is_last other.kept.source) now.machine other.machine now.kept.engine other.kept.engine over ended made done first second in
       sym (append-nil one.out) ∙ ap (λ (l : List ℕ). one.out ++ l) (sym none) ∙ given ∙ ap (λ (l : List ℕ). two.out ++ l) nothing ∙ append-nil two.out
+
+-- what holds of known bytes leads to what holds of them then
+if_known : (known : Option (List ℕ)) (P Q : List ℕ → Type 0) → ((bytes : List ℕ) → P bytes → Q bytes) → IfSome known P → IfSome known Q
+if_known None P Q then is = tt
+if_known (Some bytes) P Q then is = then bytes is
+
+kept_engine : {G : Type 0} (outcome : TurnOutcome) (reached kept : TurnValue G) → IsKept outcome reached kept → kept.engine ≡ reached.engine
+kept_engine (Goes pause) reached kept is = ap (λ (k : TurnValue _). k.engine) is
+kept_engine (Over end) reached kept is = is.0
+kept_engine (Broken fault) reached kept is = is.0
+
+module _ {V G : Type 0} (handling : Handling V G) (left : G → ℕ) (steady : IsPreorder handling.moves) (start : Start V) where
+  -- a turn after which it goes on
+  pub Follows-going : (known : Option (List ℕ)) (old new : Moment V G) (pause : Pause) → Turned handling left old new (Goes pause) → IfSome known (λ (bytes : List ℕ). Follows handling start bytes old)
+      → IfSome known (λ (bytes : List ℕ). Follows handling start bytes new)
+  Follows-going known old new pause turned is =
+      if_known known (λ (bytes : List ℕ). Follows handling start bytes old) (λ (bytes : List ℕ). Follows handling start bytes new)
+      (λ bytes follows. subst (λ (k : TurnValue G). Follows handling start bytes (record new { kept = k })) (sym turned.kept) (Follows-turn handling steady start bytes turned.moved old (at new.left new.written new.machine turned.reached) turned.moves follows)) is
+
+  -- a turn after which it does not
+  pub Follows-finished : (old new : Moment V G) (outcome : TurnOutcome) → Turned handling left old new outcome → IfSome start.left (λ (bytes : List ℕ). Follows handling start bytes old)
+      → Finishes handling start new.left new.written new.machine new.kept.engine outcome
+  Follows-finished old new outcome turned is =
+      if_known start.left (λ (bytes : List ℕ). Follows handling start bytes old)
+      (λ (bytes : List ℕ). (reached : TurnValue G) × Rests reached outcome × (new.kept.engine ≡ reached.engine) × Follows handling start bytes (at new.left new.written new.machine reached))
+      (λ bytes follows. (turned.reached, turned.rests, kept_engine outcome turned.reached new.kept turned.kept, Follows-turn handling steady start bytes turned.moved old (at new.left new.written new.machine turned.reached) turned.moves follows)) is
+
+  -- the same where all was answered
+  ended_by : (known : Option (List ℕ)) → start.left ≡ known → (new : Moment V G)
+      → IfSome known (λ (bytes : List ℕ). (reached : TurnValue G) × Rests reached (Over end.Input) × (new.kept.engine ≡ reached.engine) × Follows handling start bytes (at new.left new.written new.machine reached))
+      → HasEnded handling new.kept.engine.most start new.left new.written new.machine (Ok new.kept.engine.counts)
+  ended_by None told new is = record {
+    reached = new.machine;
+    moved = steady.stays new.machine;
+    ends_by = subst (λ (l : Option (List ℕ)). IfSome l (λ (bytes : List ℕ). HasAnswered handling new.kept.engine.most start bytes new.left new.written new.machine new.kept.engine.counts)) (sym told) tt;
+  }
+  ended_by (Some bytes) told new is =
+      subst (λ (e : EngineValue G). HasEnded handling e.most start new.left new.written new.machine (Ok e.counts)) (sym is.2)
+      (Follows-ended handling steady start bytes (at new.left new.written new.machine is.0) is.1.1.0 is.1.0 is.1.1.1 is.3 is.0.engine.most told refl)
+
+  pub Follows-over : (new : Moment V G) → Finishes handling start new.left new.written new.machine new.kept.engine (Over end.Input) → HasEnded handling new.kept.engine.most start new.left new.written new.machine (Ok new.kept.engine.counts)
+  Follows-over new is = ended_by start.left refl new is

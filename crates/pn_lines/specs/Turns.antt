@@ -1,5 +1,5 @@
 -- What a turn does: which bytes come, are taken and go, and what it comes to.
-use Rattle.std.specs.Prelude.{◌≡◌, ◌⊎◌, ◌<◌, ◌≤◌, ℕ, ◌+◌, ◌*◌, List, [], ◌++◌, length, min, OnSome, Option, Some}
+use Rattle.std.specs.Prelude.{◌≡◌, ◌⊎◌, ◌<◌, ◌≤◌, ℕ, ◌+◌, ◌*◌, List, [], ◌++◌, length, min, IfSome, OnSome, Option, Some}
 use Rattle.std.specs.Io.KnownBytes.{Appends, Consumes, IsAtEnd}
 use Rattle.pn_lines.specs.Ends.{Start}
 use Rattle.pn_lines.specs.Engines.{EngineValue}
@@ -94,3 +94,7 @@ pub record Follows {V G : Type 0} (handling : Handling V G) (start : Start V) (i
   pub wrote : Appends start.written now.written out
   pub at_end : now.kept.source ≡ AtEnd → rest ≡ []
   pub stands : Stands handling start.machine taken (out ++ now.kept.replies) now.kept.unread (is_last now.kept.source) now.machine now.kept.engine
+
+-- a known input was answered in turns, until it ended so with its engine here
+abbrev pub Finishes : {V G : Type 0} → Handling V G → Start V → Option (List ℕ) → Option (List ℕ) → V → EngineValue G → TurnOutcome → Type 0
+Finishes handling start left written machine engine outcome = IfSome start.left (λ input. (reached : TurnValue _) × Rests reached outcome × (engine ≡ reached.engine) × Follows handling start input (at left written machine reached))

@@ -20,5 +20,5 @@ pub use handler::{
 pub use piece_text::{MAX_PIECE_BYTES, PieceText};
 pub use turns::{
     Input, LineTurns, MAX_UNREAD, Pause, READ_SIZE, SourceState, TURN_UNITS, TurnBuffers, TurnFault,
-    TurnOutcome, is_wait,
+    TurnOutcome, answer_in_turns, is_wait,
 };

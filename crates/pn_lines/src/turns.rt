@@ -7,6 +7,7 @@ ghost use Rattle.pn_lines.specs.Turns.{Turned, at};
 mod buffers;
 mod input;
 mod keeping;
+mod laws;
 mod sending;
 mod working;
 
@@ -22,6 +23,7 @@ use std::marker::Model;
 
 pub use buffers::{MAX_UNREAD, TurnBuffers};
 pub use input::{Input, READ_SIZE, is_wait};
+pub use laws::answer_in_turns;
 pub use working::TURN_UNITS;
 
 /// Whether more input may come.
