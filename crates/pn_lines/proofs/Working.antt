@@ -1,5 +1,5 @@
 -- What the work of a turn does, and the turn.
-use Rattle.std.proofs.Common.{◌≡◌, ◌≢◌, ◌⊎◌, ◌+◌, ◌-◌, ◌*◌, ◌<◌, ◌≤◌, ℕ, zero, suc, true≢false, Option, OnSome, List, [], ◌++◌, length, take, drop, Vec, vec_capacity, min, inl, inr, refl, sym, ap, ◌∙◌, subst, arith, append-nil, length-append, length-take-le, ⊎_elim}
+use Rattle.std.proofs.Common.{◌≡◌, ◌≢◌, ◌⊎◌, ◌+◌, ◌-◌, ◌*◌, ◌<◌, ◌≤◌, ℕ, zero, suc, Bool, true≢false, Option, None, Some, OnSome, List, [], ◌++◌, length, take, drop, Vec, vec_capacity, min, inl, inr, refl, sym, ap, ◌∙◌, subst, arith, append-nil, length-append, length-take-le, ⊎_elim}
 use Rattle.std.specs.Io.KnownBytes.{IsAtEnd}
 use Rattle.std.specs.declared.alloc.Global.{Global}
 use Rattle.pn_lines.specs.Engines.{EngineValue}
@@ -7,7 +7,7 @@ use Rattle.pn_lines.specs.Giving.{Adds}
 use Rattle.pn_lines.specs.Progress.{Advances, Costs, IsNearer, IsPartAt, NextIs}
 use Rattle.pn_lines.specs.Handling.{Handling}
 use Rattle.pn_lines.specs.Standing.{Stands}
-use Rattle.pn_lines.specs.TurnStates.{Comes, IsKept, IsStored, Rests, TakesFirst, TurnValue, WantsInput, Works, is_last, next_work, outcome_of}
+use Rattle.pn_lines.specs.TurnStates.{BufferValue, Comes, IsKept, IsStored, Rests, TakesFirst, TurnValue, WantsInput, Works, held_in, is_last, next_work, outcome_of}
 use Rattle.pn_lines.specs.Turns.{Moment, Turned, Worked, WorkedIn, at}
 use Rattle.pn_lines.specs.declared.engine.Next.{Next}
 use Rattle.pn_lines.specs.declared.engine.Next.TheVariants as next
@@ -20,6 +20,7 @@ use Rattle.pn_lines.specs.declared.turns.TurnFault.TheVariants as fault
 use Rattle.pn_lines.specs.declared.turns.TurnOutcome.{TurnOutcome}
 use Rattle.pn_lines.specs.declared.turns.TurnOutcome.TheVariants as outcome
 use Rattle.pn_lines.specs.declared.turns.buffers.Came.{Came}
+use Rattle.pn_lines.specs.declared.turns.buffers.Came.TheVariants as came
 use Rattle.pn_lines.specs.declared.turns.input.TheConstants.{READ_SIZE}
 use Rattle.pn_lines.specs.declared.turns.sending.Sent.{Sent}
 use Rattle.pn_lines.specs.declared.turns.sending.Sent.TheVariants as sent
@@ -41,6 +42,16 @@ used_turn (suc allowed) units came waited few = inr (inl (omega (arith, few)))
 used_more : (units : ℕ) (came allowed waited made : ℕ) → 0 < made → made ≤ waited + UNIT_BYTES * units → IsUsed came units allowed waited
 used_more zero came allowed waited made some counted = inr (inr (inr (omega (arith, some, counted))))
 used_more (suc units) came allowed waited made some counted = inr (inl (omega arith))
+
+not_ended : source.Open ≡ source.AtEnd → ⊥
+not_ended ended = cc
+
+not_failed : source.Failed ≡ source.AtEnd → ⊥
+not_failed ended = cc
+
+on_known : (known : Option (List ℕ)) (P : Type 0) → P → OnSome known P
+on_known None P holds = tt
+on_known (Some bytes) P holds = holds
 
 module _ {G : Type 0} where
   works_next : (found : Next) (state : SourceState) (allowed units : ℕ) (waits : Vec ℕ Global) (new : EngineValue G) (ahead rest replies : List ℕ) → ahead ≡ rest → NextIs found allowed units waits new rest (is_last state)
@@ -126,13 +137,27 @@ module _ {V G : Type 0} (handling : Handling V G) (left : G → ℕ) where
     used = used_next found state allowed units n replies waits new (drop n bytes) room adds costs is;
   }
 
-  module _ (known leaves written : Option (List ℕ)) (was : V) (run : EngineValue G) (old new replies : List ℕ) (state now : SourceState) (found : Came) (comes : Comes known leaves old new found) (wants : IsPartAt run.stage old)
-      (ends : now ≡ source.AtEnd → ((state ≡ source.AtEnd) × (comes.bytes ≡ [])) ⊎ OnSome known (IsAtEnd leaves)) where
+  -- the same in the buffers of a thread
+  pub Worked-call : (allowed units n : ℕ) (known written : Option (List ℕ)) (was now : V) (old new : EngineValue G) (bytes ahead : List ℕ) (replies waits : Vec ℕ Global) (before : BufferValue) (state : SourceState) (last : Bool) (found : Next) (worked : Work)
+      → record { input = bytes; replies = replies.items } ≡ before → last ≡ is_last state → worked ≡ next_work found state → MAX_PIECE_BYTES ≤ vec_capacity replies → ahead ≡ drop n bytes → n ≤ length bytes
+      → ((start : V) (taken out : List ℕ) → Stands handling start taken (out ++ replies.items) bytes last was old → Stands handling start (taken ++ take n bytes) (out ++ waits.items) (drop n bytes) last now new)
+      → Adds replies waits → Costs allowed units n replies waits → Advances left units n old new → new.counts.lines ≤ old.counts.lines + min allowed units → NextIs found allowed units waits new (drop n bytes) last
+      → Worked handling left allowed units 0 (at known written was (held_in old before state)) (at known written now (held_in new (record { input = ahead; replies = waits.items }) state)) worked
+  Worked-call allowed units n known written was now old new bytes ahead replies waits before state last found worked held closes comes room same within stands adds costs advances lines is =
+      subst (λ (b : BufferValue). Worked handling left allowed units 0 (at known written was (held_in old b state)) (at known written now (held_in new (record { input = ahead; replies = waits.items }) state)) worked) held
+      (subst (λ (w : Work). Worked handling left allowed units 0 (at known written was (held_in old (record { input = bytes; replies = replies.items }) state)) (at known written now (held_in new (record { input = ahead; replies = waits.items }) state)) w) (sym comes)
+      (Worked-took allowed units n known written was now old new bytes ahead replies waits state found room same within
+      (subst (λ (b : Bool). (start : V) (taken out : List ℕ) → Stands handling start taken (out ++ replies.items) bytes b was old → Stands handling start (taken ++ take n bytes) (out ++ waits.items) (drop n bytes) b now new) closes stands)
+      adds costs advances lines (subst (λ (b : Bool). NextIs found allowed units waits new (drop n bytes) b) closes is)))
+
+  module _ (known leaves written : Option (List ℕ)) (was : V) (run : EngineValue G) (old new replies waits : List ℕ) (state now : SourceState) (found : Came) (comes : Comes known leaves old new found) (same : waits ≡ replies)
+      (wants : IsPartAt run.stage old) (ends : now ≡ source.AtEnd → ((state ≡ source.AtEnd) × (comes.bytes ≡ [])) ⊎ OnSome known (IsAtEnd leaves)) where
     -- a read, and then a call of the engine
-    pub Worked-read : (allowed units : ℕ) (after : Moment V G) (worked result : Work) → Worked handling left allowed units 0 (at leaves written was (record { engine = run; unread = new; replies = replies; source = now })) after worked
+    pub Worked-read : (allowed units : ℕ) (after : Moment V G) (worked result : Work) → Worked handling left allowed units 0 (at leaves written was (record { engine = run; unread = new; replies = waits; source = now })) after worked
         → Works after.kept result → (result ≡ work.Turn → (0 < length comes.bytes) ⊎ (worked ≡ work.Turn))
         → Worked handling left allowed units READ_SIZE (at known written was (record { engine = run; unread = old; replies = replies; source = state })) after result
-    Worked-read allowed units after worked result is works turns =
+    Worked-read allowed units after worked result called works turns =
+        let is = subst (λ (l : List ℕ). Worked handling left allowed units 0 (at leaves written was (record { engine = run; unread = new; replies = l; source = now })) after worked) same called in
         let long = length-append comes.bytes is.moved.came in
         record {
           moved = then_moved (only_came comes.bytes) is.moved;
@@ -153,9 +178,9 @@ module _ {V G : Type 0} (handling : Handling V G) (left : G → ℕ) where
         }
 
     -- a read that brought nothing
-    pub Worked-waits : (allowed : ℕ) (result : Work) → Works (record { engine = run; unread = new; replies = replies; source = now }) result → result ≢ work.Turn
+    waits_here : (allowed : ℕ) (result : Work) → Works (record { engine = run; unread = new; replies = replies; source = now }) result → result ≢ work.Turn
         → Worked handling left allowed 0 READ_SIZE (at known written was (record { engine = run; unread = old; replies = replies; source = state })) (at leaves written was (record { engine = run; unread = new; replies = replies; source = now })) result
-    Worked-waits allowed result works waits = record {
+    waits_here allowed result works idle = record {
       moved = only_came comes.bytes;
       moves = Moves-came handling known leaves written was run old new comes.bytes replies state now comes.consumes comes.new_is wants ends;
       none = refl;
@@ -165,8 +190,59 @@ module _ {V G : Type 0} (handling : Handling V G) (left : G → ℕ) where
       still = λ none. refl;
       nearer = λ some. absurd (omega (arith, some));
       works = works;
-      used = λ turn. absurd (waits turn);
+      used = λ turn. absurd (idle turn);
     }
+
+    pub Worked-waits : (allowed : ℕ) (result : Work) → Works (record { engine = run; unread = new; replies = replies; source = now }) result → result ≢ work.Turn
+        → WorkedIn handling left allowed (allowed + MAX_STEP_UNITS) (at known written was (record { engine = run; unread = old; replies = replies; source = state })) (at leaves written was (record { engine = run; unread = new; replies = waits; source = now })) result
+    Worked-waits allowed result works idle = record {
+      units = 0;
+      few = omega arith;
+      by = subst (λ (l : List ℕ). Worked handling left allowed 0 READ_SIZE (at known written was (record { engine = run; unread = old; replies = replies; source = state })) (at leaves written was (record { engine = run; unread = new; replies = l; source = now })) result) (sym same)
+          (waits_here allowed result works idle);
+    }
+
+  -- by what was found
+  module _ (known leaves written : Option (List ℕ)) (was : V) (run : EngineValue G) (old new replies waits : List ℕ) (same : waits ≡ replies) (part : IsPartAt run.stage old) (made : run.left ≡ []) where
+    pub Worked-came : (is_all : Bool) (allowed units : ℕ) (after : Moment V G) (worked result : Work) → Comes known leaves old new (came.Input is_all) → units ≤ allowed + MAX_STEP_UNITS
+        → Worked handling left allowed units 0 (at leaves written was (record { engine = run; unread = new; replies = waits; source = source.Open })) after worked → (result ≡ worked) ⊎ (result ≡ work.Turn)
+        → WorkedIn handling left allowed (allowed + MAX_STEP_UNITS) (at known written was (record { engine = run; unread = old; replies = replies; source = source.Open })) after result
+    Worked-came is_all allowed units after worked result comes few is either = record {
+      units = units;
+      few = few;
+      by = Worked-read known leaves written was run old new replies waits source.Open source.Open (came.Input is_all) comes same part (λ ended. absurd (not_ended ended)) allowed units after worked result is
+          (⊎_elim (λ (one : result ≡ worked). subst (λ (w : Work). Works after.kept w) (sym one) is.works) (λ (turn : result ≡ work.Turn). subst (λ (w : Work). Works after.kept w) (sym turn) tt) either) (λ turn. inl comes.by);
+    }
+
+    pub Worked-ended : (state : SourceState) (allowed units : ℕ) (after : Moment V G) (worked : Work) → Comes known leaves old new came.End → units ≤ allowed + MAX_STEP_UNITS
+        → Worked handling left allowed units 0 (at leaves written was (record { engine = run; unread = new; replies = waits; source = source.AtEnd })) after worked
+        → WorkedIn handling left allowed (allowed + MAX_STEP_UNITS) (at known written was (record { engine = run; unread = old; replies = replies; source = state })) after worked
+    Worked-ended state allowed units after worked comes few is = record {
+      units = units;
+      few = few;
+      by = Worked-read known leaves written was run old new replies waits state source.AtEnd came.End comes same part (λ ended. inr (on_known known (IsAtEnd leaves) comes.by.1)) allowed units after worked worked is is.works (λ turn. inr turn);
+    }
+
+    nothing_came : (bytes : List ℕ) → new ≡ old ++ bytes → bytes ≡ [] → IsPartAt run.stage new
+    nothing_came bytes is none = subst (λ (l : List ℕ). IsPartAt run.stage l) (sym (is ∙ ap (λ (l : List ℕ). old ++ l) none ∙ append-nil old)) part
+
+    pub Worked-nothing : (allowed : ℕ) → Comes known leaves old new came.Nothing
+        → WorkedIn handling left allowed (allowed + MAX_STEP_UNITS) (at known written was (record { engine = run; unread = old; replies = replies; source = source.Open })) (at leaves written was (record { engine = run; unread = new; replies = waits; source = source.Open })) work.Input
+    Worked-nothing allowed comes =
+        Worked-waits known leaves written was run old new replies waits source.Open source.Open came.Nothing comes same part (λ ended. absurd (not_ended ended)) allowed work.Input (refl, nothing_came comes.bytes comes.new_is comes.by, made) (λ turn. cc)
+
+    pub Worked-failed : (state : SourceState) (allowed : ℕ) → Comes known leaves old new came.Fault
+        → WorkedIn handling left allowed (allowed + MAX_STEP_UNITS) (at known written was (record { engine = run; unread = old; replies = replies; source = state })) (at leaves written was (record { engine = run; unread = new; replies = waits; source = source.Failed })) work.Failed
+    Worked-failed state allowed comes =
+        Worked-waits known leaves written was run old new replies waits state source.Failed came.Fault comes same part (λ ended. absurd (not_failed ended)) allowed work.Failed (refl, nothing_came comes.bytes comes.new_is comes.by, made) (λ turn. cc)
+
+  -- one call alone
+  pub Worked-once : (allowed units : ℕ) (old new : Moment V G) (worked : Work) → units ≤ allowed + MAX_STEP_UNITS → Worked handling left allowed units 0 old new worked → WorkedIn handling left allowed (allowed + 2 * MAX_STEP_UNITS) old new worked
+  Worked-once allowed units old new worked few is = record {
+    units = units;
+    few = omega (arith, few);
+    by = record { moved = is.moved; moves = is.moves; none = is.none; came = omega (arith, is.came); counted = is.counted; lines = is.lines; still = is.still; nearer = is.nearer; works = is.works; used = is.used };
+  }
 
   -- one call, and then more work
   pub Worked-then : (allowed rest units more : ℕ) (a b c : Moment V G) (one two : Work) → rest ≡ allowed - units → Worked handling left allowed units 0 a b one → Worked handling left rest more READ_SIZE b c two
