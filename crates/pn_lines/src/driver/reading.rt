@@ -45,8 +45,18 @@ pub(super) fn next_line<G: Drop, T: PieceText, S: Source>(
     }
     match read_line(line, input) {
         Ok(end) => Ok(end),
-        Err(_) => Err(LinesFault::Read),
+        Err(_) => {
+            recall_ends(&*line);
+            Err(LinesFault::Read)
+        }
     }
+}
+
+// No more bytes of a line are read than one without end has.
+fn recall_ends(line: &LineBuffer)
+    ensures { line.now.count ≤ ENDLESS }
+{
+    let _count = line.len();
 }
 
 /// Writes what waits, and hands it on.

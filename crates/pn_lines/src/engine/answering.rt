@@ -20,7 +20,7 @@ use pn_line::LineBuffer;
 
 impl<G: Drop, T: PieceText> LineEngine<G, T> {
     /// Takes a line that was read to its end, and has it answered or begun.
-    pub fn take_line<M: LineHandler<Going = G, Text = T>>(
+    pub(crate) fn take_line<M: LineHandler<Going = G, Text = T>>(
         &mut self,
         machine: &mut M,
         line: &LineBuffer,
@@ -74,7 +74,7 @@ impl<G: Drop, T: PieceText> LineEngine<G, T> {
     }
 
     /// Goes on with an answer that was begun. False where none was.
-    pub fn resume<M: LineHandler<Going = G, Text = T>>(
+    pub(crate) fn resume<M: LineHandler<Going = G, Text = T>>(
         &mut self,
         machine: &mut M,
         units: u32,

@@ -41,7 +41,7 @@ impl<G: Drop, T: PieceText> LineEngine<G, T> {
     }
 
     /// Whether as many lines were taken as may be.
-    pub fn is_full(&self) -> bool
+    pub(crate) fn is_full(&self) -> bool
         ensures { IsTrue result ↔ (self.now.most ≤ self.now.counts.lines) }
     {
         self.counts.lines >= self.most
@@ -67,7 +67,7 @@ impl<G: Drop, T: PieceText> LineEngine<G, T> {
     }
 
     /// Whether text of a reply is still to be made.
-    pub fn has_text(&self) -> bool
+    pub(crate) fn has_text(&self) -> bool
         ensures some { IsTrue result → self.now.left ≢ [] }
         ensures none { IsFalse result → self.now.left ≡ [] }
     {
@@ -78,7 +78,7 @@ impl<G: Drop, T: PieceText> LineEngine<G, T> {
     }
 
     /// Makes text while there is room for a piece, of a block and less than a piece at most.
-    pub fn make_text(&mut self, replies: &mut Vec<u8>)
+    pub(crate) fn make_text(&mut self, replies: &mut Vec<u8>)
         ensures gives { Gives self.old.left self.new.left replies.old replies.new }
         ensures others { self.new ≡ record self.old { left = self.new.left } }
         ensures few { vec_len replies.new < vec_len replies.old + BLOCK_BYTES + MAX_PIECE_BYTES }
