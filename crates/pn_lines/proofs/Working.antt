@@ -138,12 +138,14 @@ module _ {V G : Type 0} (handling : Handling V G) (left : G → ℕ) where
   }
 
   -- the same in the buffers of a thread
-  pub Worked-call : (allowed units n : ℕ) (known written : Option (List ℕ)) (was now : V) (old new : EngineValue G) (bytes ahead : List ℕ) (replies waits : Vec ℕ Global) (before : BufferValue) (state : SourceState) (last : Bool) (found : Next) (worked : Work)
-      → record { input = bytes; replies = replies.items } ≡ before → last ≡ is_last state → worked ≡ next_work found state → MAX_PIECE_BYTES ≤ vec_capacity replies → ahead ≡ drop n bytes → n ≤ length bytes
+  pub Worked-call : (allowed units n : ℕ) (known written : Option (List ℕ)) (was now : V) (old new : EngineValue G) (bytes items ahead : List ℕ) (replies waits : Vec ℕ Global) (before : BufferValue) (state : SourceState) (last : Bool) (found : Next) (worked : Work)
+      → bytes ≡ items → record { input = items; replies = replies.items } ≡ before → last ≡ is_last state → worked ≡ next_work found state → MAX_PIECE_BYTES ≤ vec_capacity replies → ahead ≡ drop n items → n ≤ length bytes
       → ((start : V) (taken out : List ℕ) → Stands handling start taken (out ++ replies.items) bytes last was old → Stands handling start (taken ++ take n bytes) (out ++ waits.items) (drop n bytes) last now new)
       → Adds replies waits → Costs allowed units n replies waits → Advances left units n old new → new.counts.lines ≤ old.counts.lines + min allowed units → NextIs found allowed units waits new (drop n bytes) last
       → Worked handling left allowed units 0 (at known written was (held_in old before state)) (at known written now (held_in new (record { input = ahead; replies = waits.items }) state)) worked
-  Worked-call allowed units n known written was now old new bytes ahead replies waits before state last found worked held closes comes room same within stands adds costs advances lines is =
+  Worked-call allowed units n known written was now old new bytes items ahead replies waits before state last found worked shown whole closes comes room rest within stands adds costs advances lines is =
+      let held : record { input = bytes; replies = replies.items } ≡ before = ap (λ (l : List ℕ). record { input = l; replies = replies.items }) shown ∙ whole in
+      let same : ahead ≡ drop n bytes = rest ∙ ap (λ (l : List ℕ). drop n l) (sym shown) in
       subst (λ (b : BufferValue). Worked handling left allowed units 0 (at known written was (held_in old b state)) (at known written now (held_in new (record { input = ahead; replies = waits.items }) state)) worked) held
       (subst (λ (w : Work). Worked handling left allowed units 0 (at known written was (held_in old (record { input = bytes; replies = replies.items }) state)) (at known written now (held_in new (record { input = ahead; replies = waits.items }) state)) w) (sym comes)
       (Worked-took allowed units n known written was now old new bytes ahead replies waits state found room same within
@@ -204,13 +206,13 @@ module _ {V G : Type 0} (handling : Handling V G) (left : G → ℕ) where
 
   -- by what was found
   module _ (known leaves written : Option (List ℕ)) (was : V) (run : EngineValue G) (old new replies waits : List ℕ) (same : waits ≡ replies) (part : IsPartAt run.stage old) (made : run.left ≡ []) where
-    pub Worked-came : (is_all : Bool) (allowed units : ℕ) (after : Moment V G) (worked result : Work) → Comes known leaves old new (came.Input is_all) → units ≤ allowed + MAX_STEP_UNITS
-        → Worked handling left allowed units 0 (at leaves written was (record { engine = run; unread = new; replies = waits; source = source.Open })) after worked → (result ≡ worked) ⊎ (result ≡ work.Turn)
-        → WorkedIn handling left allowed (allowed + MAX_STEP_UNITS) (at known written was (record { engine = run; unread = old; replies = replies; source = source.Open })) after result
-    Worked-came is_all allowed units after worked result comes few is either = record {
+    pub Worked-came : (state : SourceState) → state ≡ source.Open → (is_all : Bool) (allowed units : ℕ) (after : Moment V G) (worked result : Work) → Comes known leaves old new (came.Input is_all) → units ≤ allowed + MAX_STEP_UNITS
+        → Worked handling left allowed units 0 (at leaves written was (record { engine = run; unread = new; replies = waits; source = state })) after worked → (result ≡ worked) ⊎ (result ≡ work.Turn)
+        → WorkedIn handling left allowed (allowed + MAX_STEP_UNITS) (at known written was (record { engine = run; unread = old; replies = replies; source = state })) after result
+    Worked-came state opened is_all allowed units after worked result comes few is either = record {
       units = units;
       few = few;
-      by = Worked-read known leaves written was run old new replies waits source.Open source.Open (came.Input is_all) comes same part (λ ended. absurd (not_ended ended)) allowed units after worked result is
+      by = Worked-read known leaves written was run old new replies waits state state (came.Input is_all) comes same part (λ ended. absurd (not_ended (sym opened ∙ ended))) allowed units after worked result is
           (⊎_elim (λ (one : result ≡ worked). subst (λ (w : Work). Works after.kept w) (sym one) is.works) (λ (turn : result ≡ work.Turn). subst (λ (w : Work). Works after.kept w) (sym turn) tt) either) (λ turn. inl comes.by);
     }
 
@@ -226,10 +228,10 @@ module _ {V G : Type 0} (handling : Handling V G) (left : G → ℕ) where
     nothing_came : (bytes : List ℕ) → new ≡ old ++ bytes → bytes ≡ [] → IsPartAt run.stage new
     nothing_came bytes is none = subst (λ (l : List ℕ). IsPartAt run.stage l) (sym (is ∙ ap (λ (l : List ℕ). old ++ l) none ∙ append-nil old)) part
 
-    pub Worked-nothing : (allowed : ℕ) → Comes known leaves old new came.Nothing
-        → WorkedIn handling left allowed (allowed + MAX_STEP_UNITS) (at known written was (record { engine = run; unread = old; replies = replies; source = source.Open })) (at leaves written was (record { engine = run; unread = new; replies = waits; source = source.Open })) work.Input
-    Worked-nothing allowed comes =
-        Worked-waits known leaves written was run old new replies waits source.Open source.Open came.Nothing comes same part (λ ended. absurd (not_ended ended)) allowed work.Input (refl, nothing_came comes.bytes comes.new_is comes.by, made) (λ turn. cc)
+    pub Worked-nothing : (state : SourceState) → state ≡ source.Open → (allowed : ℕ) → Comes known leaves old new came.Nothing
+        → WorkedIn handling left allowed (allowed + MAX_STEP_UNITS) (at known written was (record { engine = run; unread = old; replies = replies; source = state })) (at leaves written was (record { engine = run; unread = new; replies = waits; source = state })) work.Input
+    Worked-nothing state opened allowed comes =
+        Worked-waits known leaves written was run old new replies waits state state came.Nothing comes same part (λ ended. absurd (not_ended (sym opened ∙ ended))) allowed work.Input (opened, nothing_came comes.bytes comes.new_is comes.by, made) (λ turn. cc)
 
     pub Worked-failed : (state : SourceState) (allowed : ℕ) → Comes known leaves old new came.Fault
         → WorkedIn handling left allowed (allowed + MAX_STEP_UNITS) (at known written was (record { engine = run; unread = old; replies = replies; source = state })) (at leaves written was (record { engine = run; unread = new; replies = waits; source = source.Failed })) work.Failed
@@ -263,6 +265,14 @@ module _ {V G : Type 0} (handling : Handling V G) (left : G → ℕ) where
         used = λ turn.
             used_two allowed rest units more (length (first.moved.came ++ second.moved.came)) (length second.moved.came) (length a.kept.replies) (length b.kept.replies) (length first.moved.took) is first.counted (omega (arith, came)) (second.used turn);
       }
+
+  pub Worked-joined : (allowed units rest : ℕ) (a b c : Moment V G) (one two : Work) → units ≤ allowed + MAX_STEP_UNITS → rest ≡ allowed - units → Worked handling left allowed units 0 a b one → WorkedIn handling left rest (rest + MAX_STEP_UNITS) b c two
+      → WorkedIn handling left allowed (allowed + 2 * MAX_STEP_UNITS) a c two
+  Worked-joined allowed units rest a b c one two few is first second = record {
+    units = units + second.units;
+    few = omega (arith, few, is, second.few);
+    by = Worked-then allowed rest units second.units a b c one two is first second.by;
+  }
 
   -- the work of a turn, and what its sink took
   pub Turned-worked : (old : Moment V G) (leaves after : Option (List ℕ)) (now : V) (held kept : TurnValue G) (waits : List ℕ) (worked : Work) (took : Sent) (result : TurnOutcome) → old.kept.replies ≡ []
