@@ -148,6 +148,9 @@ if_known : (known : Option (List ℕ)) (P Q : List ℕ → Type 0) → ((bytes :
 if_known None P Q then is = tt
 if_known (Some bytes) P Q then is = then bytes is
 
+pub some_is : {A : Type 0} (x y : A) → Some x ≡ Some y → x ≡ y
+some_is x y is = cc
+
 kept_engine : {G : Type 0} (outcome : TurnOutcome) (reached kept : TurnValue G) → IsKept outcome reached kept → kept.engine ≡ reached.engine
 kept_engine (Goes pause) reached kept is = ap (λ (k : TurnValue _). k.engine) is
 kept_engine (Over end) reached kept is = is.0
@@ -182,5 +185,6 @@ module _ {V G : Type 0} (handling : Handling V G) (left : G → ℕ) (steady : I
       subst (λ (e : EngineValue G). HasEnded handling e.most start new.left new.written new.machine (Ok e.counts)) (sym is.2)
       (Follows-ended handling steady start bytes (at new.left new.written new.machine is.0) is.1.1.0 is.1.0 is.1.1.1 is.3 is.0.engine.most told refl)
 
-  pub Follows-over : (new : Moment V G) → Finishes handling start new.left new.written new.machine new.kept.engine (Over end.Input) → HasEnded handling new.kept.engine.most start new.left new.written new.machine (Ok new.kept.engine.counts)
-  Follows-over new is = ended_by start.left refl new is
+  pub Follows-over : (new : Moment V G) (outcome : TurnOutcome) → outcome ≡ Over end.Input → Finishes handling start new.left new.written new.machine new.kept.engine outcome
+      → HasEnded handling new.kept.engine.most start new.left new.written new.machine (Ok new.kept.engine.counts)
+  Follows-over new outcome over is = ended_by start.left refl new (subst (λ (o : TurnOutcome). Finishes handling start new.left new.written new.machine new.kept.engine o) over is)

@@ -43,6 +43,24 @@ used_more : (units : ℕ) (came allowed waited made : ℕ) → 0 < made → made
 used_more zero came allowed waited made some counted = inr (inr (inr (omega (arith, some, counted))))
 used_more (suc units) came allowed waited made some counted = inr (inl (omega arith))
 
+used_two : (allowed rest units more came also waited waits made : ℕ) → rest ≡ allowed - units → made + waits ≤ waited + UNIT_BYTES * units → also ≤ came → IsUsed also more rest waits → IsUsed came (units + more) allowed waited
+used_two allowed rest units more came also waited waits made is counted few (inl some) = inl (omega (arith, some, few))
+used_two allowed rest units more came also waited waits made is counted few (inr (inl some)) = inr (inl (omega (arith, some)))
+used_two allowed rest units more came also waited waits made is counted few (inr (inr (inl none))) = used_turn allowed (units + more) came waited (omega (arith, is, none))
+used_two allowed rest units more came also waited waits made is counted few (inr (inr (inr some))) = used_more (units + more) came allowed waited waits some (omega (arith, counted))
+
+worked_turn : (worked : Work) (took : Sent) → outcome_of worked took ≡ outcome.Goes pause.Turn → worked ≡ work.Turn
+worked_turn work.Turn took is = refl
+worked_turn work.Input sent.All is = cc
+worked_turn (work.Ended end) sent.All is = cc
+worked_turn work.Failed sent.All is = cc
+worked_turn work.Input sent.Waits is = cc
+worked_turn (work.Ended end) sent.Waits is = cc
+worked_turn work.Failed sent.Waits is = cc
+worked_turn work.Input sent.Fails is = cc
+worked_turn (work.Ended end) sent.Fails is = cc
+worked_turn work.Failed sent.Fails is = cc
+
 not_ended : source.Open ≡ source.AtEnd → ⊥
 not_ended ended = cc
 
@@ -56,9 +74,9 @@ on_known (Some bytes) P holds = holds
 module _ {G : Type 0} where
   works_next : (found : Next) (state : SourceState) (allowed units : ℕ) (waits : Vec ℕ Global) (new : EngineValue G) (ahead rest replies : List ℕ) → ahead ≡ rest → NextIs found allowed units waits new rest (is_last state)
       → Works (record { engine = new; unread = ahead; replies = replies; source = state }) (next_work found state)
-  works_next next.Input source.Open allowed units waits new ahead rest replies same is = (refl, subst (λ (l : List ℕ). IsPartAt new.stage l) (sym same) is.0, is.1)
+  works_next next.Input source.Open allowed units waits new ahead rest replies same is = (refl, (subst (λ (l : List ℕ). IsPartAt new.stage l) (sym same) is.0, is.1))
   works_next next.Input source.AtEnd allowed units waits new ahead rest replies same is = absurd (true≢false is.2)
-  works_next next.Input source.Failed allowed units waits new ahead rest replies same is = (refl, subst (λ (l : List ℕ). IsPartAt new.stage l) (sym same) is.0, is.1)
+  works_next next.Input source.Failed allowed units waits new ahead rest replies same is = (refl, (subst (λ (l : List ℕ). IsPartAt new.stage l) (sym same) is.0, is.1))
   works_next next.Room state allowed units waits new ahead rest replies same is = tt
   works_next next.Turn state allowed units waits new ahead rest replies same is = tt
   works_next (next.End end) state allowed units waits new ahead rest replies same is = is
@@ -79,12 +97,6 @@ module _ {G : Type 0} where
   nearer_two left (suc units) zero a b c still nearer same closer some = subst (λ (r : EngineValue G). IsNearer left a r) (sym (same refl)) (nearer (omega arith))
   nearer_two left (suc units) (suc more) a b c still nearer same closer some = IsNearer-trans left a b c (nearer (omega arith)) (closer (omega arith))
 
-  used_two : (allowed rest units more came also waited waits made : ℕ) → rest ≡ allowed - units → made + waits ≤ waited + UNIT_BYTES * units → also ≤ came → IsUsed also more rest waits → IsUsed came (units + more) allowed waited
-  used_two allowed rest units more came also waited waits made is counted few (inl some) = inl (omega (arith, some, few))
-  used_two allowed rest units more came also waited waits made is counted few (inr (inl some)) = inr (inl (omega (arith, some)))
-  used_two allowed rest units more came also waited waits made is counted few (inr (inr (inl none))) = used_turn allowed (units + more) came waited (omega (arith, is, none))
-  used_two allowed rest units more came also waited waits made is counted few (inr (inr (inr some))) = used_more (units + more) came allowed waited waits some (omega (arith, counted))
-
   -- the rest of the outcomes
   rests_of : (worked : Work) (took : Sent) (held : TurnValue G) (waits : List ℕ) → Works held worked → (took ≡ sent.All → waits ≡ []) → (took ≡ sent.Waits → waits ≢ []) → Rests (record held { replies = waits }) (outcome_of worked took)
   rests_of work.Turn sent.All held waits works all some = all refl
@@ -99,18 +111,6 @@ module _ {G : Type 0} where
   rests_of work.Input sent.Fails held waits works all some = tt
   rests_of (work.Ended end) sent.Fails held waits works all some = tt
   rests_of work.Failed sent.Fails held waits works all some = tt
-
-  worked_turn : (worked : Work) (took : Sent) → outcome_of worked took ≡ outcome.Goes pause.Turn → worked ≡ work.Turn
-  worked_turn work.Turn took is = refl
-  worked_turn work.Input sent.All is = cc
-  worked_turn (work.Ended end) sent.All is = cc
-  worked_turn work.Failed sent.All is = cc
-  worked_turn work.Input sent.Waits is = cc
-  worked_turn (work.Ended end) sent.Waits is = cc
-  worked_turn work.Failed sent.Waits is = cc
-  worked_turn work.Input sent.Fails is = cc
-  worked_turn (work.Ended end) sent.Fails is = cc
-  worked_turn work.Failed sent.Fails is = cc
 
   IsKept-same : (outcome : TurnOutcome) (kept : TurnValue G) → IsKept outcome kept kept
   IsKept-same (outcome.Goes pause) kept = refl
@@ -231,12 +231,12 @@ module _ {V G : Type 0} (handling : Handling V G) (left : G → ℕ) where
     pub Worked-nothing : (state : SourceState) → state ≡ source.Open → (allowed : ℕ) → Comes known leaves old new came.Nothing
         → WorkedIn handling left allowed (allowed + MAX_STEP_UNITS) (at known written was (record { engine = run; unread = old; replies = replies; source = state })) (at leaves written was (record { engine = run; unread = new; replies = waits; source = state })) work.Input
     Worked-nothing state opened allowed comes =
-        Worked-waits known leaves written was run old new replies waits state state came.Nothing comes same part (λ ended. absurd (not_ended (sym opened ∙ ended))) allowed work.Input (opened, nothing_came comes.bytes comes.new_is comes.by, made) (λ turn. cc)
+        Worked-waits known leaves written was run old new replies waits state state came.Nothing comes same part (λ ended. absurd (not_ended (sym opened ∙ ended))) allowed work.Input (opened, (nothing_came comes.bytes comes.new_is comes.by, made)) (λ turn. cc)
 
     pub Worked-failed : (state : SourceState) (allowed : ℕ) → Comes known leaves old new came.Fault
         → WorkedIn handling left allowed (allowed + MAX_STEP_UNITS) (at known written was (record { engine = run; unread = old; replies = replies; source = state })) (at leaves written was (record { engine = run; unread = new; replies = waits; source = source.Failed })) work.Failed
     Worked-failed state allowed comes =
-        Worked-waits known leaves written was run old new replies waits state source.Failed came.Fault comes same part (λ ended. absurd (not_failed ended)) allowed work.Failed (refl, nothing_came comes.bytes comes.new_is comes.by, made) (λ turn. cc)
+        Worked-waits known leaves written was run old new replies waits state source.Failed came.Fault comes same part (λ ended. absurd (not_failed ended)) allowed work.Failed (refl, (nothing_came comes.bytes comes.new_is comes.by, made)) (λ turn. cc)
 
   -- one call alone
   pub Worked-once : (allowed units : ℕ) (old new : Moment V G) (worked : Work) → units ≤ allowed + MAX_STEP_UNITS → Worked handling left allowed units 0 old new worked → WorkedIn handling left allowed (allowed + 2 * MAX_STEP_UNITS) old new worked

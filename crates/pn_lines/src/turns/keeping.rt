@@ -15,6 +15,7 @@ impl<G: Drop, T: PieceText> LineTurns<G, T> {
         requires { self.old.replies ≡ [] }
         ensures held { held_in self.new.engine buffers.new self.new.source ≡ self.old }
         ensures none { self.new ≡ record self.old { unread = [] } }
+        ensures few { length buffers.new.input ≤ MAX_UNREAD }
     {
         buffers.load(&self.unread);
         self.unread = Vec::new(self.alloc);
