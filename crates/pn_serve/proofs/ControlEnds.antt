@@ -148,27 +148,27 @@ module _ (start : Start ControlState) (script : List ℕ) (left written : Option
   some_of : (so : List (List ℕ) → List ℕ → Type 0) (is : Stopped controls so since before.read.rest leaves wrote now) → is.part ≡ [] → AnsweredSome start script leaves wrote now
   unfolding stopped_alone
   some_of so is none =
-      let broken = stopped_alone AnswersControl EndsControl (λ _ _ _ _ _. ⊥) HasClosed since before.read.rest leaves wrote now so is in
+      let broken = stopped_alone (λ state. state) AnswersControl EndsControl (λ _ _ _ _ _. ⊥) HasClosed since before.read.rest leaves wrote now so is in
       some_on start script since before leaves wrote now record { lines = broken.lines; read = whole_lines none broken.read; replies = broken.replies; made = broken.made; wrote = broken.wrote }
 
   -- the line after them has no end
   endless_of : Stopped controls (IsEndless MAX_LINES) since before.read.rest leaves wrote now → Endless start script leaves wrote now
   unfolding broken_on stopped_alone
   endless_of is = record {
-    broken = broken_on start script since before leaves wrote now (stopped_alone AnswersControl EndsControl (λ _ _ _ _ _. ⊥) HasClosed since before.read.rest leaves wrote now (IsEndless MAX_LINES) is);
+    broken = broken_on start script since before leaves wrote now (stopped_alone (λ state. state) AnswersControl EndsControl (λ _ _ _ _ _. ⊥) HasClosed since before.read.rest leaves wrote now (IsEndless MAX_LINES) is);
     long = is.is_so.1;
   }
 
   -- where the session ends with its run
   ends_of : (ended : Result Counts LinesFault) → ended ≢ Err fault.TooManyLines → engine.EndsBy controls MAX_LINES since leaves wrote now ended → EndsIn start script leaves wrote now (uncounted ended)
   ends_of (Ok counts) other is =
-      inl (all_on start script since before leaves wrote now (counts_of counts) (ended_alone AnswersControl EndsControl (λ _ _ _ _ _. ⊥) HasClosed since before.read.rest leaves wrote now counts
+      inl (all_on start script since before leaves wrote now (counts_of counts) (ended_alone (λ state. state) AnswersControl EndsControl (λ _ _ _ _ _. ⊥) HasClosed since before.read.rest leaves wrote now counts
       (of_known left before.read.rest (λ (s : List ℕ). engine.Ended controls MAX_LINES since s leaves wrote now counts) before.read.left_is is)))
   ends_of (Err fault.Read) other is =
-      broken_on start script since before leaves wrote now (stopped_alone AnswersControl EndsControl (λ _ _ _ _ _. ⊥) HasClosed since before.read.rest leaves wrote now (λ lines part. Unit {0})
+      broken_on start script since before leaves wrote now (stopped_alone (λ state. state) AnswersControl EndsControl (λ _ _ _ _ _. ⊥) HasClosed since before.read.rest leaves wrote now (λ lines part. Unit {0})
       (of_known left before.read.rest (λ (s : List ℕ). Stopped controls (λ lines part. Unit {0}) since s leaves wrote now) before.read.left_is is))
   ends_of (Err fault.Write) other is =
-      cut_on start script since before leaves wrote now (cut_alone AnswersControl EndsControl (λ _ _ _ _ _. ⊥) HasClosed since before.read.rest leaves wrote now
+      cut_on start script since before leaves wrote now (cut_alone (λ state. state) AnswersControl EndsControl (λ _ _ _ _ _. ⊥) HasClosed since before.read.rest leaves wrote now
       (of_known left before.read.rest (λ (s : List ℕ). engine.Cut controls since s leaves wrote now) before.read.left_is is))
   ends_of (Err fault.TooManyLines) other is = absurd (other refl)
   ends_of (Err fault.EndlessLine) other is = endless_of (of_known left before.read.rest (λ (s : List ℕ). Stopped controls (IsEndless MAX_LINES) since s leaves wrote now) before.read.left_is is)
@@ -211,20 +211,20 @@ module _ (start : Start ControlState) (left written : Option (List ℕ)) (state 
 
 module _ (read write end closed : Type 0) where
   pub session_read : (ended : Result Counts LinesFault) → CanEnd read write end closed ended → IsErrOf (uncounted ended) Read → read
-  session_read (Ok counts) can is = cc
+  session_read (Ok counts) can is = absurd (cc)
   session_read (Err fault.Read) can is = can
-  session_read (Err fault.Write) can is = cc
-  session_read (Err fault.TooManyLines) can is = cc
-  session_read (Err fault.EndlessLine) can is = cc
-  session_read (Err fault.Closed) can is = cc
+  session_read (Err fault.Write) can is = absurd (cc)
+  session_read (Err fault.TooManyLines) can is = absurd (cc)
+  session_read (Err fault.EndlessLine) can is = absurd (cc)
+  session_read (Err fault.Closed) can is = absurd (cc)
 
   pub session_write : (ended : Result Counts LinesFault) → CanEnd read write end closed ended → IsErrOf (uncounted ended) Write → write
-  session_write (Ok counts) can is = cc
-  session_write (Err fault.Read) can is = cc
+  session_write (Ok counts) can is = absurd (cc)
+  session_write (Err fault.Read) can is = absurd (cc)
   session_write (Err fault.Write) can is = can
-  session_write (Err fault.TooManyLines) can is = cc
-  session_write (Err fault.EndlessLine) can is = cc
-  session_write (Err fault.Closed) can is = cc
+  session_write (Err fault.TooManyLines) can is = absurd (cc)
+  session_write (Err fault.EndlessLine) can is = absurd (cc)
+  session_write (Err fault.Closed) can is = absurd (cc)
 
 pub session_out : (handed_on : Type 0) (ended : Result Counts LinesFault) → engine.HandsOn ended handed_on → HandsOn (uncounted ended) handed_on
 session_out handed_on (Ok counts) out = out

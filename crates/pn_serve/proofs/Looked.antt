@@ -1,5 +1,5 @@
 -- How many records a step looks at.
-use Rattle.std.proofs.Common.{◌≡◌, ◌≤◌, ◌+◌, ◌*◌, ◌-◌, ◌^◌, ◌<◌, ℕ, Bool, true, false, List, length, max, min, refl, sym, ap, ◌∙◌, subst, inl, inr, arith}
+use Rattle.std.proofs.Common.{◌≡◌, ◌≤◌, ◌+◌, ◌*◌, ◌/◌, ◌-◌, ◌^◌, ◌<◌, ℕ, List, length, max, min, refl, sym, ap, ◌∙◌, subst, inl, inr, arith}
 use Rattle.std.specs.Prelude.{Result, Ok, Err, IfOk, IfErr}
 use Rattle.pn_join.specs.declared.memory.NoMemory.{NoMemory}
 use Rattle.pn_live.specs.Getting.{GetWalkValue}
@@ -19,8 +19,11 @@ use Rattle.pn_serve.specs.declared.machine.line_answers.Answer.TheVariants.{Done
 use Rattle.pn_serve.specs.declared.sessions.going.Going.{Going}
 use Rattle.pn_serve.specs.declared.sessions.going.Going.TheVariants.{Page, Keys, Copy}
 use Rattle.pn_serve.specs.declared.sessions.going.TheConstants.{RECORDS_OF_KEY}
+use Rattle.pn_lines.specs.Answers.{answer_left as engine_left}
 use Rattle.pn_serve.specs.Lines.Going.{answer_left}
-use Rattle.pn_serve.specs.Session.Looking.{CopyAnswer, CountsLooks, CountsStep, PageAnswer}
+use Rattle.pn_serve.specs.Lines.Handled.{given_by}
+use Rattle.pn_serve.specs.Session.Looking.{CopyAnswer, CountsLooks, CountsStep, PageAnswer, going_left}
+use Rattle.pn_serve.specs.declared.sessions.units.TheConstants.{UNIT_RECORDS}
 
 -- a page looked at no more records than it may
 pub page_few : (records looked : ℕ) (old : PageWalkValue) (step : Result PageStep ScanFault) → CountsStep records step looked → IfOk step (CountsRecords (max records 1024) (max (max records 1024) ENTRY_RECORDS) old) → looked ≤ max records ENTRY_RECORDS
@@ -58,3 +61,18 @@ copy_counted count records step (Done reply) to shows = tt
 copy_counted count records (Ok (copies.Done text)) (Begun going) to shows = absurd shows
 copy_counted count records (Ok (copies.Next more)) (Begun going) to is = subst (λ (g : Going). CountsLooks (Begun g) (Copy count) records) (sym is) (omega (arith, to.1))
 copy_counted count records (Err fault) (Begun going) to shows = absurd shows
+
+-- ---- looks in units of work
+
+-- records that may be looked at in some units
+pub some_records : (units records : ℕ) → records ≡ UNIT_RECORDS * units → 0 < units → 0 < records
+some_records units records is some = omega (arith, is, some)
+
+-- no more units were used than were allowed, or than the few of an entry
+pub few_units : (units records looked used result : ℕ) → records ≡ UNIT_RECORDS * units → looked ≤ max records ENTRY_RECORDS → used ≡ min (looked / UNIT_RECORDS) (2 ^ 32 - 1) → result ≡ used → result ≤ max units 64
+few_units units records looked used result is few counted same = omega (arith, is, few, counted, same)
+
+-- an answer leaves as much of a look as the engine is told
+pub given_left : (answer : Answer) (going : Going) → answer_left answer ≤ going_left going → engine_left going_left (given_by answer) ≤ going_left going
+given_left (Done reply) going less = less
+given_left (Begun next) going less = less

@@ -1,4 +1,5 @@
 -- Sessions.
+pub mod Alone
 pub mod Counting
 pub mod Handling
 pub mod Knowing

@@ -3,7 +3,7 @@
 ghost use Rattle.std.specs.Prelude.{◌≡◌, ◌≢◌, ◌+◌, ◌≤◌, IfOk, IfErr, OnOk, IsErrOf};
 ghost use Rattle.pn_lines.specs.Ends.{start_at};
 ghost use Rattle.pn_region.specs.Prelude.{new_region};
-ghost use Rattle.pn_serve.specs.declared.script.RunFault.TheVariants.{Write, Memory};
+ghost use Rattle.pn_serve.specs.declared.script.RunFault.TheVariants.{Memory};
 ghost use Rattle.pn_serve.specs.Lines.Running.{HasRun, run_ended};
 ghost use Rattle.pn_serve.specs.Lines.Waiting.{HandsOn, looks_of_input};
 ghost use Rattle.pn_serve.specs.Machine.Outcomes.{new_machine};

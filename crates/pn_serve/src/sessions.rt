@@ -7,22 +7,19 @@ ghost use Rattle.pn_serve.specs.Lines.Waiting.{HandsOn, looks_of_input};
 ghost use Rattle.pn_serve.specs.Session.Knowing.{KnowsNoLess};
 ghost use Rattle.pn_serve.specs.Session.Lines.{AnswersLine, EndsLines, session_start};
 
+pub(crate) mod alone_reader;
 pub(crate) mod counting_reader;
 pub(crate) mod going;
 pub(crate) mod kinds;
 pub(crate) mod lookups;
 pub(crate) mod units;
 
-use crate::machine::line_answers::{Answer, ReplyPieces, answered, is_no_line, line_reply};
 use crate::script::{MAX_LINES, answer_lines};
-use crate::sessions::going::Going;
-use crate::sessions::lookups::answer_line;
-use crate::sessions::units::{records_of, units_of};
+use crate::sessions::alone_reader::AloneReader;
 use crate::{Counts, RunFault};
 use pn_line::{Sink, Source};
-use pn_lines::{Answered, EndedBy, LineBuffers, LineHandler, LineReply, RefusesLong};
+use pn_lines::LineBuffers;
 use pn_live::LiveReader;
-use pn_protocol::{Refusal, Reply};
 use std::alloc::Global;
 
 /// Answers each line of a session with one reply, before it waits for more input. Commands other than `read`, `get`,
@@ -48,52 +45,5 @@ pub fn session<S: Source, W: Sink>(
     let Ok(mut buffers) = LineBuffers::new(alloc) else {
         return Err(RunFault::Memory);
     };
-    answer_lines(reader, &mut buffers, input, output)
-}
-
-impl LineHandler for LiveReader {
-    ghost use Rattle.pn_scan.specs.Prelude.{Stays};
-    ghost use Rattle.pn_serve.specs.Proofs.GivenUp.{reads_steadily, stays_preorder};
-    ghost use Rattle.pn_serve.specs.Session.Handling.{reads_lines};
-    ghost use Rattle.pn_serve.specs.Session.Knowing.{KnowsNoLess};
-    ghost use Rattle.pn_serve.specs.Session.Looking.{going_left};
-    ghost use Rattle.std.specs.Prelude.{⊤};
-
-    type Going = Going;
-
-    type Text = ReplyPieces;
-
-    ghost ready = { ⊤ };
-
-    // A session has its reader alone.
-    ghost handling = { reads_lines Stays };
-
-    ghost left = { going_left };
-
-    ghost keeps = { KnowsNoLess };
-
-    fn answer(
-        &mut self,
-        alloc: Global,
-        line: &[u8],
-        ended: EndedBy,
-    ) -> Answered<Going, ReplyPieces> {
-        if is_no_line(line, ended) {
-            return answered(Answer::Done(Reply::Silent), 0);
-        }
-        answered(answer_line(alloc, self, line), 1)
-    }
-
-    fn go_on(&mut self, alloc: Global, going: Going, units: u32) -> Answered<Going, ReplyPieces> {
-        let (answer, looked) = going.go_on(alloc, self, records_of(units));
-        answered(answer, units_of(looked))
-    }
-
-    ghost steady = { reads_steadily Stays stays_preorder };
-}
-
-impl RefusesLong for LiveReader {
-    fn refuse_long(&mut self, _ended: EndedBy) -> LineReply<ReplyPieces> {
-        line_reply(Reply::Refused(Refusal::TooLong))
-    }
+    answer_lines(&mut AloneReader::new(reader), &mut buffers, input, output)
 }

@@ -29,12 +29,14 @@ use Rattle.pn_protocol.specs.declared.refusal.Refusal.{Refusal}
 use Rattle.pn_protocol.specs.declared.refusal.Refusal.TheVariants.{Memory}
 use Rattle.pn_protocol.specs.declared.reply.Reply.{Reply}
 use Rattle.pn_protocol.specs.declared.reply.Reply.TheVariants.{Refused}
-use Rattle.pn_serve.specs.Lines.Handled.{by_end, replied_of}
-use Rattle.pn_serve.specs.Proofs.Steady.{knows_itself, knows_on, knows_steadily}
-use Rattle.pn_serve.specs.Session.Handling.{reads_lines}
+use Rattle.pn_serve.specs.Lines.Handled.{Replies, by_end, replied_of}
+use Rattle.pn_serve.specs.Proofs.Steady.{knows_itself, knows_on, knows_steadily, stays_steadily}
+use Rattle.pn_serve.specs.Session.Alone.{KeepsReader, alone_reads, reader_of}
+use Rattle.pn_serve.specs.Session.Handling.{reads_by, reads_lines}
 use Rattle.pn_serve.specs.Session.Knowing.{KnowsNoLess}
 use Rattle.pn_serve.specs.Session.Lines.{AnswersLine, EndsLines, LooksUp, Tells}
 use Rattle.pn_serve.specs.Session.Looking.{LooksFor, LooksForLast, LooksOn}
+use Rattle.pn_serve.specs.declared.sessions.alone_reader.AloneReader.{AloneReader}
 use Rattle.pn_serve.specs.declared.sessions.going.Going.{Going}
 use Rattle.pn_serve.specs.declared.sessions.going.Going.TheVariants.{Page, Keys, Copy}
 
@@ -148,3 +150,19 @@ knows_preorder = record { stays = knows_itself; goes_on = knows_on }
 -- and one that is alone stays as it is
 pub stays_preorder : {V : Type 0} → IsPreorder {V = V} Stays
 stays_preorder {V} = record { stays = λ v. refl; goes_on = λ a b c first second. second ∙ first }
+
+-- a handler that has its reader alone
+module _ {V : Type 0} (see : V → LiveReaderValue) where
+  answered_alone : (was now : V) (ended : EndedBy) (text : List ℕ) → (replied : Replied) × Answers (reads_lines Stays) (see was) ended text (see now) replied → (replied : Replied) × Answers (reads_by see) was ended text now replied
+  answered_alone was now ended text (replied, is) =
+      (replied, record { between = was; moved = refl; answered = subst (λ (reader : LiveReaderValue). Replies (AnswersLine Stays) (EndsLines Stays) reader ended text (see now) replied) is.moved is.answered })
+
+  alone_given_up : GivesUp (reads_by see)
+  alone_given_up was between now ended text going looks moved = answered_alone was now ended text (given_up Stays stays_preorder (see was) (see between) (see now) (ap see moved) ended text going looks)
+
+pub alone_reads_steadily : lines.IsPreorder {V = AloneReader} Stays × lines.IsPreorder KeepsReader × GivesUp alone_reads
+alone_reads_steadily = (
+  stays_steadily,
+  record { stays = λ alone. (knows_itself alone.reader.now, refl); goes_on = λ a b c first second. (knows_on a.reader.now b.reader.now c.reader.now first.0 second.0, second.1 ∙ first.1) },
+  alone_given_up reader_of,
+)

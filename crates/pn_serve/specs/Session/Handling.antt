@@ -1,7 +1,7 @@
 -- A session's reader as the engine for lines uses it.
 use Rattle.pn_lines.specs.Handling.{Handling, by}
 use Rattle.pn_live.specs.Readers.{LiveReaderValue}
-use Rattle.pn_scan.specs.Paging.{Moving}
+use Rattle.pn_scan.specs.Paging.{Moving, Stays}
 use Rattle.pn_serve.specs.Lines.Handled.{Replies, by_end}
 use Rattle.pn_serve.specs.Session.Lines.{AnswersLine, EndsLines}
 use Rattle.pn_serve.specs.Session.Looking.{LooksFor, LooksForLast}
@@ -10,3 +10,9 @@ use Rattle.pn_serve.specs.declared.sessions.going.Going.{Going}
 -- it answers lines, or looks for their replies, by what may become of it between two looks; further lines are always answered
 abbrev pub reads_lines : Moving LiveReaderValue → Handling LiveReaderValue Going
 reads_lines moves = by moves (Replies (AnswersLine moves) (EndsLines moves)) (by_end (LooksFor moves) (LooksForLast moves)) (λ _. ⊥)
+
+-- the same by the reader of a handler that is alone
+abbrev pub reads_by : {V : Type 0} → (V → LiveReaderValue) → Handling V Going
+reads_by see =
+    by Stays (λ was ended text now replied. Replies (AnswersLine Stays) (EndsLines Stays) (see was) ended text (see now) replied)
+    (λ was ended text now going. by_end (LooksFor Stays) (LooksForLast Stays) (see was) ended text (see now) going) (λ _. ⊥)

@@ -3,6 +3,7 @@
 ghost use Rattle.std.specs.Prelude.{◌≡◌, ℕ, List};
 ghost use Rattle.pn_line.specs.Prelude.{kept_bytes};
 ghost use Rattle.pn_serve.specs.Control.Lines.{AnswersControl, EndsControl, after_step, at_rest, is_closed, reply_of};
+ghost use Rattle.pn_serve.specs.Lines.Handled.{by_end};
 ghost use Rattle.pn_serve.specs.Session.Knowing.{KnowsNoLess};
 
 use crate::control::session::{ControlSession, StatsSource};
@@ -113,6 +114,17 @@ impl<'a, R, C: Drop> ControlHandler<'a, R, C> {
 }
 
 impl<'a, R: Threads + Wait + Clock, C: StatsSource + Drop> ControlHandler<'a, R, C> {
+    // Answers a line, or the end of the input, by its first bytes.
+    fn reply_to(&mut self, alloc: Global, line: &[u8], ended: EndedBy) -> Reply
+        ensures answers { (text : List ℕ) → line.now ≡ kept_bytes text → by_end AnswersControl EndsControl self.old ended text self.new result }
+        ensures knows { KnowsNoLess self.old.reader self.new.reader }
+    {
+        match ended {
+            EndedBy::Newline => self.answer_line(alloc, line),
+            EndedBy::Input => self.answer_end(alloc, line),
+        }
+    }
+
     // Answers a line with its newline, by its first bytes.
     fn answer_line(&mut self, alloc: Global, line: &[u8]) -> Reply
         ensures answers { (text : List ℕ) → line.now ≡ kept_bytes text → AnswersControl self.old text self.new result }
@@ -191,11 +203,7 @@ impl<'a, R: Threads + Wait + Clock, C: StatsSource + Drop> LineHandler
         line: &[u8],
         ended: EndedBy,
     ) -> Answered<Going, ReplyPieces> {
-        let reply = match ended {
-            EndedBy::Newline => self.answer_line(alloc, line),
-            EndedBy::Input => self.answer_end(alloc, line),
-        };
-        answered(Answer::Done(reply), 1)
+        answered(Answer::Done(self.reply_to(alloc, line, ended)), 1)
     }
 
     // No line is resumed.

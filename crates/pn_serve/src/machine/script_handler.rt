@@ -3,6 +3,7 @@
 ghost use Rattle.std.specs.Prelude.{◌≡◌, ℕ, List, IfOk};
 ghost use Rattle.pn_line.specs.Prelude.{kept_bytes};
 ghost use Rattle.pn_region.specs.Prelude.{new_region};
+ghost use Rattle.pn_serve.specs.Lines.Handled.{by_end};
 ghost use Rattle.pn_serve.specs.Machine.Answers.{Answers, Concludes};
 ghost use Rattle.pn_serve.specs.Machine.Outcomes.{new_machine};
 ghost use Rattle.std.specs.Thread.{IsSync};
@@ -66,6 +67,17 @@ impl<'a, R: Threads + Sync> ScriptHandler<'a, R> {
         })
     }
 
+    // Answers a line, or the end of the input, by its first bytes.
+    fn reply_to(&mut self, alloc: Global, line: &[u8], ended: EndedBy) -> Reply
+        requires ready { IsSync R.row }
+        ensures { (text : List ℕ) → line.now ≡ kept_bytes text → by_end Answers Concludes self.old ended text self.new result }
+    {
+        match ended {
+            EndedBy::Newline => self.answer_line(alloc, line),
+            EndedBy::Input => self.answer_end(alloc, line),
+        }
+    }
+
     // Answers a line with its newline, by its first bytes.
     fn answer_line(&mut self, alloc: Global, line: &[u8]) -> Reply
         requires ready { IsSync R.row }
@@ -124,11 +136,7 @@ impl<'a, R: Threads + Sync> LineHandler for ScriptHandler<'a, R> {
         line: &[u8],
         ended: EndedBy,
     ) -> Answered<Going, ReplyPieces> {
-        let reply = match ended {
-            EndedBy::Newline => self.answer_line(alloc, line),
-            EndedBy::Input => self.answer_end(alloc, line),
-        };
-        answered(Answer::Done(reply), 1)
+        answered(Answer::Done(self.reply_to(alloc, line, ended)), 1)
     }
 
     // No line is resumed.
