@@ -17,13 +17,12 @@ use crate::handler::RefusesLong;
 use crate::piece_text::PieceText;
 use crate::turns::sending::{Sent, send};
 use crate::turns::working::{Work, take_lines};
-use pn_line::Sink;
-use std::alloc::Global;
-use std::marker::Model;
-
 pub use buffers::{MAX_UNREAD, TurnBuffers};
 pub use input::{Input, READ_SIZE, is_wait};
 pub use laws::answer_in_turns;
+use pn_line::Sink;
+use std::alloc::Global;
+use std::marker::Model;
 pub use working::TURN_UNITS;
 
 /// Whether more input may come.

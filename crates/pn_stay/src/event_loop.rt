@@ -228,12 +228,7 @@ impl EventLoop {
     }
 
     // Gives each connection that is ready one turn, while the thread is to answer.
-    fn take_turns<R: Wait>(
-        &mut self,
-        rt: &R,
-        mailbox: &SocketMailbox,
-        reader: &mut CountingReader,
-    )
+    fn take_turns<R: Wait>(&mut self, rt: &R, mailbox: &SocketMailbox, reader: &mut CountingReader)
         ensures knows { KnowsNoLess reader.old reader.new }
     {
         let spare = mem::replace(&mut self.spare, Vec::new(self.alloc));

@@ -37,7 +37,14 @@ pub fn every_way_of_coming_and_going<G: Drop, T: PieceText, M: RefusesLong<Going
     let mut lines = LineTurns::new(alloc, MAX_LINES);
     let mut input = ScriptedSource::new(pieces);
     let mut output = ScriptedSink::new(alloc, takes);
-    let ended = answer_in_turns(&mut lines, &mut buffers, machine, &mut input, &mut output, turns);
+    let ended = answer_in_turns(
+        &mut lines,
+        &mut buffers,
+        machine,
+        &mut input,
+        &mut output,
+        turns,
+    );
     Ok(AnsweredInTurns {
         ended,
         lines: lines.counts().lines,

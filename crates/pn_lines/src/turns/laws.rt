@@ -15,7 +15,13 @@ use pn_line::Sink;
 
 /// Answers the lines of an input that has its handler alone, until it ends or all `turns` are over. It ends as the driver ends
 /// that waits. None where the turns were over.
-pub fn answer_in_turns<G: Drop, T: PieceText, M: RefusesLong<Going = G, Text = T>, R: Input, W: Sink>(
+pub fn answer_in_turns<
+    G: Drop,
+    T: PieceText,
+    M: RefusesLong<Going = G, Text = T>,
+    R: Input,
+    W: Sink,
+>(
     lines: &mut LineTurns<G, T>,
     buffers: &mut TurnBuffers,
     machine: &mut M,
