@@ -22,7 +22,8 @@ module _ {V G : Type 0} (handling : Handling V G) where
   pub record Writes (before after : Option (List ℕ)) (waited waits : List ℕ) (was now : V) (old new : EngineValue G) : Type 0 where
     pub sent : List ℕ
     pub appends : Appends before after sent
-    pub stands : (start : V) (taken out ahead : List ℕ) (last : Bool) → Stands handling start taken (out ++ waited) ahead last was old → Stands handling start taken ((out ++ sent) ++ waits) ahead last now new
+    pub stands : (start : V) (taken out ahead : List ℕ) (last : Bool) → Stands handling start taken (out ++ waited) ahead last was old
+        → Stands handling start taken ((out ++ sent) ++ waits) ahead last now new
 
   -- the same where the sink failed, before all text was made or with none left to be made
   pub record Fails (before after : Option (List ℕ)) (waited : List ℕ) (was now : V) (old new : EngineValue G) : Type 0 where
@@ -31,7 +32,8 @@ module _ {V G : Type 0} (handling : Handling V G) where
     pub some : new.left ≢ []
 
   -- of a known input these bytes were taken, and the rest is left; what was written and waits is what the engine gave
-  pub record IsReading (start : Start V) (input : List ℕ) (left written : Option (List ℕ)) (replies : List ℕ) (last : Bool) (machine : V) (run : EngineValue G) : Type 0 where
+  pub record IsReading (start : Start V) (input : List ℕ) (left written : Option (List ℕ)) (replies : List ℕ)
+      (last : Bool) (machine : V) (run : EngineValue G) : Type 0 where
     pub taken : List ℕ
     pub rest : List ℕ
     pub out : List ℕ
@@ -46,7 +48,8 @@ module _ {V G : Type 0} (handling : Handling V G) where
   Reads start left written replies last machine run = IfSome start.left (λ input. IsReading start input left written replies last machine run)
 
   -- after a line the driver goes on, or has ended
-  abbrev pub Goes : ℕ → Start V → Option (List ℕ) → Option (List ℕ) → List ℕ → V → EngineValue G → Result (Option Counts) LinesFault → Type 0
+  abbrev pub Goes : ℕ → Start V → Option (List ℕ) → Option (List ℕ) → List ℕ → V → EngineValue G
+      → Result (Option Counts) LinesFault → Type 0
   Goes most start left written replies machine run (Ok None) = Reads start left written replies false machine run
   Goes most start left written replies machine run (Ok (Some counts)) = HasEnded handling most start left written machine (Ok counts)
   Goes most start left written replies machine run (Err fault) = HasEnded handling most start left written machine (Err fault)
@@ -102,4 +105,5 @@ pub record SameLines {G : Type 0} (old new : EngineValue G) : Type 0 where
 abbrev pub Stops : LineEnd → ℕ → ℕ → Option (List ℕ) → LineBufferValue → Type 0
 Stops (ends.Newline more) count most left line = count < most
 Stops ends.EndOfInput count most left line = (count < most) ⊎ (line.count ≡ 0)
-Stops ends.Endless count most left line = ((count < most) × (line.count ≡ ENDLESS)) ⊎ ((most ≤ count) × (line.count ≡ 0) × IfSome left (λ rest. rest ≢ []))
+Stops ends.Endless count most left line = ((count < most) × (line.count ≡ ENDLESS))
+    ⊎ ((most ≤ count) × (line.count ≡ 0) × IfSome left (λ rest. rest ≢ []))

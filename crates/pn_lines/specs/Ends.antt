@@ -54,7 +54,8 @@ IsEndless most lines part = (length lines < most) × (length part ≡ ENDLESS)
 
 module _ {V G : Type 0} (handling : Handling V G) where
   -- these lines of the input and then a part of the next were read, and the lines were answered
-  pub record Answered (start : Start V) (input : List ℕ) (left : Option (List ℕ)) (lines : List (List ℕ)) (part : List ℕ) (replies : List Replied) (reached : V) : Type 0 where
+  pub record Answered (start : Start V) (input : List ℕ) (left : Option (List ℕ))
+      (lines : List (List ℕ)) (part : List ℕ) (replies : List Replied) (reached : V) : Type 0 where
     pub read : PartRead input left lines part
     pub are_lines : All IsLine lines
     pub made : AllAnswer handling start.machine lines replies reached
@@ -76,7 +77,8 @@ module _ {V G : Type 0} (handling : Handling V G) where
     pub is_line : IsLine part
 
   -- it stopped where this is so of the lines that were read and of the part: the replies to the lines were written
-  pub record Stopped (so : List (List ℕ) → List ℕ → Type 0) (start : Start V) (input : List ℕ) (left written : Option (List ℕ)) (machine : V) : Type 0 where
+  pub record Stopped (so : List (List ℕ) → List ℕ → Type 0) (start : Start V) (input : List ℕ)
+      (left written : Option (List ℕ)) (machine : V) : Type 0 where
     pub lines : List (List ℕ)
     pub part : List ℕ
     pub replies : List Replied
@@ -92,7 +94,8 @@ module _ {V G : Type 0} (handling : Handling V G) where
     pub reached : V
     pub answered : Answered start input left lines part replies reached
     pub last : List ℕ
-    pub ended : ((machine ≡ reached) × (last ≡ [])) ⊎ ((left ≡ Some []) × ((replied : Replied) × (last ≡ replied.text) × Answers handling reached Input part machine replied))
+    pub ended : ((machine ≡ reached) × (last ≡ []))
+        ⊎ ((left ≡ Some []) × ((replied : Replied) × (last ≡ replied.text) × Answers handling reached Input part machine replied))
     pub prefix : AppendsPrefix start.written written (texts_of replies ++ last)
 
   -- where it ended, by what it answered

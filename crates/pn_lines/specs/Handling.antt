@@ -12,7 +12,8 @@ pub record Handling (V G : Type 0) : Type 1 where
   pub closed : V → Type 0
 
 -- a handler's relations
-abbrev pub by : {V G : Type 0} → (V → V → Type 0) → (V → EndedBy → List ℕ → V → Replied → Type 0) → (V → EndedBy → List ℕ → V → G → Type 0) → (V → Type 0) → Handling V G
+abbrev pub by : {V G : Type 0} → (V → V → Type 0) → (V → EndedBy → List ℕ → V → Replied → Type 0)
+    → (V → EndedBy → List ℕ → V → G → Type 0) → (V → Type 0) → Handling V G
 by moves answers goes closed = record { moves = moves; answers = answers; goes = goes; closed = closed }
 
 module _ {V G : Type 0} (handling : Handling V G) where
@@ -24,4 +25,5 @@ module _ {V G : Type 0} (handling : Handling V G) where
 
   -- an answer that is given up leaves its line with a reply
   abbrev pub GivesUp : Type 0
-  GivesUp = (was between now : V) (ended : EndedBy) (line : List ℕ) (going : G) → handling.goes was ended line between going → handling.moves between now → (replied : Replied) × Answers was ended line now replied
+  GivesUp = (was between now : V) (ended : EndedBy) (line : List ℕ) (going : G)
+      → handling.goes was ended line between going → handling.moves between now → (replied : Replied) × Answers was ended line now replied

@@ -1,5 +1,5 @@
 -- Where an engine stands: what it took of an input and gave of replies since it began.
-use Rattle.std.specs.Prelude.{◌≡◌, ◌≢◌, ◌⊎◌, ◌<◌, ◌≤◌, ℕ, zero, suc, ◌+◌, ◌-◌, ◌^◌, min, Bool, true, List, [], ◌∷◌, ◌++◌, length, All}
+use Rattle.std.specs.Prelude.{◌≡◌, ◌≢◌, ◌⊎◌, ◌<◌, ◌≤◌, ℕ, zero, suc, ◌+◌, ◌-◌, ◌^◌, min, Bool, true, List, [], ◌∷◌, ◌++◌, length, take, drop, All}
 use Rattle.pn_line.specs.Reads.{IsUnbroken}
 use Rattle.pn_line.specs.Text.{text_of}
 use Rattle.pn_line.specs.declared.line_buffer.TheConstants.{ENDLESS, MAX_LINE_BYTES}
@@ -54,7 +54,8 @@ module _ {V G : Type 0} (handling : Handling V G) where
   -- lines with their newlines were answered one after another
   abbrev pub AllAnswer : V → List (List ℕ) → List Replied → V → Type 0
   AllAnswer was [] [] now = now ≡ was
-  AllAnswer was (line ∷ lines) (replied ∷ replies) now = (between : V) × Answers handling was Newline line between replied × AllAnswer between lines replies now
+  AllAnswer was (line ∷ lines) (replied ∷ replies) now =
+      (between : V) × Answers handling was Newline line between replied × AllAnswer between lines replies now
   AllAnswer was _ _ now = ⊥
 
   -- lines are read; of the next, if it is too long, this number of bytes was dropped
@@ -91,11 +92,13 @@ module _ {V G : Type 0} (handling : Handling V G) where
   StageAt (Going g ended) count most left at more = IsAsked ended (going g) count at × (more ≡ []) × (left ≡ [])
   StageAt (Ended end.Input) count most left at more = (replied : Replied) × IsAsked Input (done replied) count at × (more ≡ replied ∷ [])
   StageAt (Ended end.Closed) count most left at more = IsStopped (λ stopped. (at.rest ≡ []) × handling.closed stopped) at × (more ≡ [])
-  StageAt (Ended end.TooManyLines) count most left at more = IsStopped (λ _. (length at.lines ≡ most) × (at.rest ≡ []) × (at.ahead ≢ [])) at × (more ≡ [])
+  StageAt (Ended end.TooManyLines) count most left at more =
+      IsStopped (λ _. (length at.lines ≡ most) × (at.rest ≡ []) × (at.ahead ≢ [])) at × (more ≡ [])
   StageAt (Ended end.EndlessLine) count most left at more = IsStopped (λ _. (length at.lines < most) × (length at.rest ≡ ENDLESS)) at × (more ≡ [])
 
   -- lines were taken, and then the rest; the replies to the lines, and some after them, were given or are still to be made
-  pub record StandsBy (is_at : Position V → List Replied → Type 0) (start : V) (taken given ahead : List ℕ) (last : Bool) (machine : V) (run : EngineValue G) : Type 0 where
+  pub record StandsBy (is_at : Position V → List Replied → Type 0) (start : V) (taken given ahead : List ℕ) (last : Bool)
+      (machine : V) (run : EngineValue G) : Type 0 where
     pub lines : List (List ℕ)
     pub rest : List ℕ
     pub taken_is : taken ≡ text_of lines ++ rest
@@ -111,3 +114,13 @@ module _ {V G : Type 0} (handling : Handling V G) where
 
   abbrev pub Stands : V → List ℕ → List ℕ → List ℕ → Bool → V → EngineValue G → Type 0
   Stands start taken given ahead last machine run = StandsBy (StageAt run.stage run.counts.lines run.most run.left) start taken given ahead last machine run
+
+  -- nothing was taken or given, and where the engine stood before it stands after
+  abbrev pub StandsStill : V → EngineValue G → V → EngineValue G → Type 0
+  StandsStill was old now new = (start : V) (taken given ahead : List ℕ) (last : Bool) → Stands start taken given ahead last was old
+      → Stands start taken given ahead last now new
+
+  -- where the engine stood with what waited, it stands with what waits, once so many of the bytes at hand were taken
+  abbrev pub StandsAfter : List ℕ → Bool → V → EngineValue G → List ℕ → ℕ → V → EngineValue G → List ℕ → Type 0
+  StandsAfter bytes last was old waited n now new waits = (start : V) (taken out : List ℕ) → Stands start taken (out ++ waited) bytes last was old
+      → Stands start (taken ++ take n bytes) (out ++ waits) (drop n bytes) last now new

@@ -25,7 +25,8 @@ module _ {V G : Type 0} (handling : Handling V G) where
 
   -- where the engine stood before it stands after; what was taken was at hand and is counted; less is left; at most one line was taken
   pub record Takes (left : G → ℕ) (bytes : List ℕ) (last : Bool) (was now : V) (old new : EngineValue G) (taken units : ℕ) : Type 0 where
-    pub stands : (start : V) (before given : List ℕ) → Stands handling start before given bytes last was old → Stands handling start (before ++ take taken bytes) given (drop taken bytes) last now new
+    pub stands : (start : V) (before given : List ℕ) → Stands handling start before given bytes last was old
+        → Stands handling start (before ++ take taken bytes) given (drop taken bytes) last now new
     pub advances : Advances left units taken old new
     pub within : taken ≤ length bytes
     pub counted : taken ≤ UNIT_BYTES * units

@@ -81,7 +81,8 @@ pub trait LineHandler {
         ended: EndedBy,
     ) -> Answered<Self::Going, Self::Text>
         requires ready { ready }
-        ensures answers { (text : List ℕ) → line.now ≡ kept_bytes text → AnswersBy handling self.old ended text self.new (answer_of Self.Text.unmade result.answer) }
+        ensures answers { (text : List ℕ) → line.now ≡ kept_bytes text
+            → AnswersBy handling self.old ended text self.new (answer_of Self.Text.unmade result.answer) }
         ensures few { result.units ≤ MAX_ANSWER_UNITS }
         ensures kept { keeps self.old self.new };
 
@@ -93,8 +94,8 @@ pub trait LineHandler {
         units: u32,
     ) -> Answered<Self::Going, Self::Text>
         requires ready { ready }
-        ensures answers { (was between : Self) (ended : EndedBy) (line : List ℕ) → handling.goes was ended line between going → handling.moves between self.old
-            → AnswersBy handling was ended line self.new (answer_of Self.Text.unmade result.answer) }
+        ensures answers { (was between : Self) (ended : EndedBy) (line : List ℕ) → handling.goes was ended line between going
+            → handling.moves between self.old → AnswersBy handling was ended line self.new (answer_of Self.Text.unmade result.answer) }
         ensures nearer { 0 < units → answer_left left (answer_of Self.Text.unmade result.answer) ≤ left going }
         ensures few { result.units ≤ max units MAX_ANSWER_UNITS }
         ensures kept { keeps self.old self.new };
@@ -108,6 +109,7 @@ pub trait RefusesLong: LineHandler {
     /// Answers a line that is too long.
     fn refuse_long(&mut self, ended: EndedBy) -> LineReply<Self::Text>
         requires ready { Self.ready }
-        ensures answers { (line : List ℕ) → MAX_LINE_BYTES < length line → Self.handling.answers self.old ended line self.new (reply_of Self.Text.unmade result) }
+        ensures answers { (line : List ℕ) → MAX_LINE_BYTES < length line
+            → Self.handling.answers self.old ended line self.new (reply_of Self.Text.unmade result) }
         ensures kept { Self.keeps self.old self.new };
 }

@@ -109,7 +109,12 @@ impl LineHandler for Spelling {
         }
     }
 
-    ghost steady = { (record { stays = λ _. tt; goes_on = λ _ _ _ _ _. tt }, record { stays = λ _. tt; goes_on = λ _ _ _ _ _. tt }, λ was between now ended line going begun moved. (record { text = []; refused = false }, record { between = was; moved = tt; answered = tt })) };
+    ghost steady = { (
+      record { stays = λ _. tt; goes_on = λ _ _ _ _ _. tt },
+      record { stays = λ _. tt; goes_on = λ _ _ _ _ _. tt },
+      λ was between now ended line going begun moved.
+          (record { text = []; refused = false }, record { between = was; moved = tt; answered = tt }),
+    ) };
 }
 
 impl RefusesLong for Spelling {

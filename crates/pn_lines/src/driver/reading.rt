@@ -1,6 +1,7 @@
 //! How a driver reads lines, and ends.
 
-ghost use Rattle.std.specs.Prelude.{◌≡◌, ◌≢◌, ◌+◌, ◌≤◌, ◌<◌, ◌⊎◌, [], ℕ, Bool, List, false, true, Err, None, Option, IfErr, IfOk, OnErr, OnOk, OnSome, vec_capacity};
+ghost use Rattle.std.specs.Prelude.{◌≡◌, ◌≢◌, ◌+◌, ◌≤◌, ◌<◌, ◌⊎◌, [], ℕ, Bool, List, false, true};
+ghost use Rattle.std.specs.Prelude.{Err, None, Option, IfErr, IfOk, OnErr, OnOk, OnSome, vec_capacity};
 ghost use Rattle.std.specs.Io.KnownBytes.{Appends, IsAtEnd};
 ghost use Rattle.pn_line.specs.LineEnd.{HasNext, newline_taken};
 ghost use Rattle.pn_line.specs.Prelude.{AppendsPrefix, HasShown, so_far};
@@ -90,11 +91,13 @@ pub(super) fn answer_line<G: Drop, T: PieceText, M: LineHandler<Going = G, Text 
     requires made { engine.old.left ≡ [] }
     requires short { line.now.count < ENDLESS }
     requires capacity { MAX_PIECE_BYTES ≤ vec_capacity replies.old }
-    ensures ok { OnOk result ((start : Start M) (left leaves : Option (List ℕ)) (last : Bool) → Takes (so_far []) line.now left leaves (newline_of ended) → IsOver ended [] last → (last ≡ true → OnSome left (IsAtEnd leaves))
+    ensures ok { OnOk result ((start : Start M) (left leaves : Option (List ℕ)) (last : Bool) → Takes (so_far []) line.now left leaves (newline_of ended)
+        → IsOver ended [] last → (last ≡ true → OnSome left (IsAtEnd leaves))
         → Reads M.handling start left (W.contents output.old) replies.old.items false machine.old engine.old
         → Reads M.handling start leaves (W.contents output.new) replies.new.items last machine.new engine.new) }
     ensures settled { OnOk result ((engine.new.left ≡ []) × (engine.new.stage ≡ stage_after ended)) }
-    ensures err { OnErr result ((start : Start M) (left leaves : Option (List ℕ)) (last : Bool) → Takes (so_far []) line.now left leaves (newline_of ended) → IsOver ended [] last → (last ≡ true → OnSome left (IsAtEnd leaves))
+    ensures err { OnErr result ((start : Start M) (left leaves : Option (List ℕ)) (last : Bool) → Takes (so_far []) line.now left leaves (newline_of ended)
+        → IsOver ended [] last → (last ≡ true → OnSome left (IsAtEnd leaves))
         → Reads M.handling start left (W.contents output.old) replies.old.items false machine.old engine.old
         → HasEnded M.handling engine.old.most start leaves (W.contents output.new) machine.new (Err LinesFault.Write)) }
     ensures fault { IfErr result (λ fault. (fault ≡ LinesFault.Write) × W.may_fail) }

@@ -23,9 +23,11 @@ pub(super) fn settle<G: Drop, T: PieceText, M: LineHandler<Going = G, Text = T>,
 ) -> Result<(), LinesFault>
     requires ready { M.ready }
     requires capacity { MAX_PIECE_BYTES ≤ vec_capacity replies.old }
-    ensures ok { OnOk result (Writes M.handling (W.contents output.old) (W.contents output.new) replies.old.items replies.new.items machine.old machine.new engine.old engine.new) }
+    ensures ok { OnOk result (Writes M.handling (W.contents output.old) (W.contents output.new) replies.old.items replies.new.items
+        machine.old machine.new engine.old engine.new) }
     ensures made { OnOk result ((engine.new.left ≡ []) × (going_left M.left engine.new.stage ≡ 0)) }
-    ensures err { OnErr result (Fails M.handling (W.contents output.old) (W.contents output.new) replies.old.items machine.old machine.new engine.old engine.new) }
+    ensures err { OnErr result (Fails M.handling (W.contents output.old) (W.contents output.new) replies.old.items
+        machine.old machine.new engine.old engine.new) }
     ensures fault { IfErr result (λ fault. (fault ≡ LinesFault.Write) × W.may_fail) }
     ensures after { (ended : EndedBy) → IsAfter ended engine.old.stage → IsAfter ended engine.new.stage }
     ensures same { SameLines engine.old engine.new }
@@ -48,9 +50,11 @@ fn write_text<G: Drop, T: PieceText, M: LineHandler<Going = G, Text = T>, W: Sin
     output: &mut W,
 ) -> Result<(), LinesFault>
     requires capacity { MAX_PIECE_BYTES ≤ vec_capacity replies.old }
-    ensures ok { OnOk result (Writes M.handling (W.contents output.old) (W.contents output.new) replies.old.items replies.new.items _machine.now _machine.now engine.old engine.new) }
+    ensures ok { OnOk result (Writes M.handling (W.contents output.old) (W.contents output.new) replies.old.items replies.new.items
+        _machine.now _machine.now engine.old engine.new) }
     ensures made { OnOk result (engine.new.left ≡ []) }
-    ensures err { OnErr result (Fails M.handling (W.contents output.old) (W.contents output.new) replies.old.items _machine.now _machine.now engine.old engine.new) }
+    ensures err { OnErr result (Fails M.handling (W.contents output.old) (W.contents output.new) replies.old.items
+        _machine.now _machine.now engine.old engine.new) }
     ensures fault { IfErr result (λ fault. (fault ≡ LinesFault.Write) × W.may_fail) }
     ensures others { engine.new ≡ record engine.old { left = engine.new.left } }
     ensures grows { vec_capacity replies.old ≤ vec_capacity replies.new }

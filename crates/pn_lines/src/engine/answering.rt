@@ -5,7 +5,7 @@ ghost use Rattle.pn_line.specs.Prelude.{kept_bytes, so_far};
 ghost use Rattle.pn_lines.specs.Driving.{IsAfter, SameLines};
 ghost use Rattle.pn_lines.specs.Engines.{with_lines};
 ghost use Rattle.pn_lines.specs.Progress.{Advances, going_left};
-ghost use Rattle.pn_lines.specs.Standing.{Stands, count_by, count_of};
+ghost use Rattle.pn_lines.specs.Standing.{StandsStill, count_by, count_of};
 ghost use Rattle.pn_lines.specs.Taking.{Asks, Refuses};
 ghost use Rattle.pn_lines.specs.declared.engine.TheConstants.{MAX_STEP_UNITS};
 ghost use Rattle.pn_lines.specs.declared.engine.stage.Stage.TheVariants.{Going};
@@ -28,7 +28,8 @@ impl<G: Drop, T: PieceText> LineEngine<G, T> {
     )
         requires ready { M.ready }
         requires few { (self.old.counts.lines < self.old.most) ⊎ ((ended ≡ EndedBy.Input) × (line.now.count ≡ 0)) }
-        ensures asks { (text : List ℕ) → line.now ≡ so_far text → Asks M.handling ended text machine.old machine.new (with_lines (count_of ended text) self.old) self.new }
+        ensures asks { (text : List ℕ) → line.now ≡ so_far text
+            → Asks M.handling ended text machine.old machine.new (with_lines (count_of ended text) self.old) self.new }
         ensures after { IsAfter ended self.new.stage }
         ensures lines { self.new.counts.lines ≡ self.old.counts.lines + count_by ended line.now.count }
         ensures most { self.new.most ≡ self.old.most }
@@ -82,8 +83,7 @@ impl<G: Drop, T: PieceText> LineEngine<G, T> {
         requires ready { M.ready }
         requires some { 0 < units }
         requires made { self.old.left ≡ [] }
-        ensures stands { (start : M) (taken given ahead : List ℕ) (last : Bool) → Stands M.handling start taken given ahead last machine.old self.old
-            → Stands M.handling start taken given ahead last machine.new self.new }
+        ensures stands { StandsStill M.handling machine.old self.old machine.new self.new }
         ensures nearer { IsTrue result → going_left M.left self.new.stage < going_left M.left self.old.stage }
         ensures none { IsFalse result → (self.new ≡ self.old) × (going_left M.left self.old.stage ≡ 0) }
         ensures after { (ended : EndedBy) → IsAfter ended self.old.stage → IsAfter ended self.new.stage }
@@ -113,8 +113,7 @@ impl<G: Drop, T: PieceText> LineEngine<G, T> {
         requires ready { M.ready }
         requires some { 0 < units }
         requires made { self.old.left ≡ [] }
-        ensures stands { (start : M) (taken given ahead : List ℕ) (last : Bool) → Stands M.handling start taken given ahead last machine.old (record self.old { stage = Going going ended })
-            → Stands M.handling start taken given ahead last machine.new self.new }
+        ensures stands { StandsStill M.handling machine.old (record self.old { stage = Going going ended }) machine.new self.new }
         ensures advances { Advances M.left result 0 (record self.old { stage = Going going ended }) self.new }
         ensures nearer { going_left M.left self.new.stage < M.left going + 1 }
         ensures after { IsAfter ended self.new.stage }

@@ -28,7 +28,8 @@ impl<G: Drop, T: PieceText> LineEngine<G, T> {
         requires ready { M.ready }
         requires some { 0 < dropped }
         requires made { self.old.left ≡ [] }
-        ensures takes { Takes M.handling M.left bytes.now is_last machine.old machine.new (dropping dropped self.old) self.new (taken_by result) (units_by result) }
+        ensures takes { Takes M.handling M.left bytes.now is_last machine.old machine.new (dropping dropped self.old) self.new
+            (taken_by result) (units_by result) }
         ensures next { (replies : Vec ℕ Global) → StepsTo result replies self.new bytes.now is_last }
         ensures kept { M.keeps machine.old machine.new }
     {
@@ -75,7 +76,8 @@ impl<G: Drop, T: PieceText> LineEngine<G, T> {
         requires short { dropped + count ≤ max dropped ENDLESS }
         requires any { (0 < count) ⊎ (ENDLESS ≤ dropped) }
         requires unbroken { IsUnbroken (take count bytes.now) }
-        ensures takes { Takes M.handling M.left bytes.now is_last _machine.now _machine.now (dropping dropped self.old) self.new (taken_by result) (units_by result) }
+        ensures takes { Takes M.handling M.left bytes.now is_last _machine.now _machine.now (dropping dropped self.old) self.new
+            (taken_by result) (units_by result) }
         ensures some { 0 < units_by result }
     {
         if dropped + count < ENDLESS {

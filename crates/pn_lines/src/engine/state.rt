@@ -1,6 +1,7 @@
 //! How the parts of an engine's state change.
 
-ghost use Rattle.std.specs.Prelude.{◌≡◌, ◌≢◌, ◌+◌, ◌≤◌, ◌<◌, ◌↔◌, ◌-◌, ◌^◌, IsFalse, IsTrue, [], length, max, min, vec_len, vec_capacity};
+ghost use Rattle.std.specs.Prelude.{◌≡◌, ◌≢◌, ◌+◌, ◌≤◌, ◌<◌, ◌↔◌, ◌-◌, ◌^◌};
+ghost use Rattle.std.specs.Prelude.{IsFalse, IsTrue, [], length, max, min, vec_len, vec_capacity};
 ghost use Rattle.pn_lines.specs.Answers.{answer_of};
 ghost use Rattle.pn_lines.specs.Engines.{after_answer, dropping, stage_after as next_stage, with_lines};
 ghost use Rattle.pn_lines.specs.Giving.{Gives};
@@ -82,7 +83,8 @@ impl<G: Drop, T: PieceText> LineEngine<G, T> {
         ensures gives { Gives self.old.left self.new.left replies.old replies.new }
         ensures others { self.new ≡ record self.old { left = self.new.left } }
         ensures few { vec_len replies.new < vec_len replies.old + BLOCK_BYTES + MAX_PIECE_BYTES }
-        ensures some { vec_len replies.old + MAX_PIECE_BYTES ≤ vec_capacity replies.old → self.old.left ≢ [] → length self.new.left < length self.old.left }
+        ensures some { vec_len replies.old + MAX_PIECE_BYTES ≤ vec_capacity replies.old → self.old.left ≢ []
+            → length self.new.left < length self.old.left }
     {
         let Some(text) = &mut self.text else { return };
         fill(text, replies);
@@ -113,7 +115,8 @@ fn stage_after<G>(ended: EndedBy) -> Stage<G>
 fn fill<T: PieceText>(text: &mut T, replies: &mut Vec<u8>)
     ensures gives { Gives (T.unmade text.old) (T.unmade text.new) replies.old replies.new }
     ensures few { vec_len replies.new < vec_len replies.old + BLOCK_BYTES + MAX_PIECE_BYTES }
-    ensures some { vec_len replies.old + MAX_PIECE_BYTES ≤ vec_capacity replies.old → T.unmade text.old ≢ [] → length (T.unmade text.new) < length (T.unmade text.old) }
+    ensures some { vec_len replies.old + MAX_PIECE_BYTES ≤ vec_capacity replies.old → T.unmade text.old ≢ []
+        → length (T.unmade text.new) < length (T.unmade text.old) }
 {
     let before = replies.len();
     'pieces: while !text.is_made() {

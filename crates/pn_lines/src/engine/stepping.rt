@@ -3,7 +3,7 @@
 ghost use Rattle.std.specs.Prelude.{◌≡◌, ◌≢◌, ◌≤◌, ◌<◌, ◌+◌, ◌*◌, ◌++◌, [], ℕ, Bool, List, drop, length, min, take};
 ghost use Rattle.pn_lines.specs.Giving.{Adds, Gives};
 ghost use Rattle.pn_lines.specs.Progress.{Advances, Costs, NextIs, StepsTo, taken_by, units_by};
-ghost use Rattle.pn_lines.specs.Standing.{Stands};
+ghost use Rattle.pn_lines.specs.Standing.{StandsAfter};
 ghost use Rattle.pn_lines.specs.declared.engine.TheConstants.{MAX_CALL_UNITS};
 
 use crate::engine::reading::cost_of;
@@ -27,8 +27,7 @@ impl<G: Drop, T: PieceText> LineEngine<G, T> {
     ) -> Progress
         requires ready { M.ready }
         requires few { units ≤ MAX_CALL_UNITS }
-        ensures stands { (start : M) (taken out : List ℕ) → Stands M.handling start taken (out ++ replies.old.items) bytes.now is_last machine.old self.old
-            → Stands M.handling start (taken ++ take result.taken bytes.now) (out ++ replies.new.items) (drop result.taken bytes.now) is_last machine.new self.new }
+        ensures stands { StandsAfter M.handling bytes.now is_last machine.old self.old replies.old.items result.taken machine.new self.new replies.new.items }
         ensures within { result.taken ≤ length bytes.now }
         ensures adds { Adds replies.old replies.new }
         ensures costs { Costs units result.units result.taken replies.old replies.new }
@@ -75,8 +74,8 @@ impl<G: Drop, T: PieceText> LineEngine<G, T> {
     ) -> Step
         requires ready { M.ready }
         requires some { 0 < units }
-        ensures stands { (start : M) (taken out : List ℕ) → Stands M.handling start taken (out ++ replies.old.items) bytes.now is_last machine.old self.old
-            → Stands M.handling start (taken ++ take (taken_by result) bytes.now) (out ++ replies.new.items) (drop (taken_by result) bytes.now) is_last machine.new self.new }
+        ensures stands { StandsAfter M.handling bytes.now is_last machine.old self.old replies.old.items
+            (taken_by result) machine.new self.new replies.new.items }
         ensures within { taken_by result ≤ length bytes.now }
         ensures adds { Adds replies.old replies.new }
         ensures costs { Costs units (units_by result) (taken_by result) replies.old replies.new }
