@@ -12,7 +12,7 @@ use Rattle.pn_line.proofs.LinesReadLaws.{LinesRead-none}
 use Rattle.pn_line.proofs.SentLaws.{AppendsPrefix-after}
 use Rattle.pn_line.proofs.TextLaws.{text_of-append}
 use Rattle.pn_lines.specs.Ends as engine
-use Rattle.pn_lines.specs.Ends.{CanEnd, HasEnded, IsEndless, IsFull, IsShut, Start, Stopped, start_at}
+use Rattle.pn_lines.specs.Ends.{CanEnd, HasEnded, IsEndless, IsFull, Start, Stopped, start_at}
 use Rattle.pn_lines.specs.declared.driver.LinesFault.{LinesFault}
 use Rattle.pn_lines.specs.declared.driver.LinesFault.TheVariants as fault
 use Rattle.pn_lines.specs.declared.engine.Counts.{Counts}
@@ -160,27 +160,27 @@ module _ (start : Start ControlState) (script : List ℕ) (left written : Option
   }
 
   -- where the session ends with its run
-  ends_of : (ended : Result Counts LinesFault) → ended ≢ Err fault.TooManyLines → engine.EndsBy controls MAX_LINES since leaves wrote now ended → EndsIn start script leaves wrote now (uncounted ended)
-  ends_of (Ok counts) other is =
+  ends_of : (ended : Result Counts LinesFault) → ended ≢ Err fault.TooManyLines → (ended ≡ Err fault.Closed → HasClosed now) → engine.EndsBy controls MAX_LINES since leaves wrote now ended → EndsIn start script leaves wrote now (uncounted ended)
+  ends_of (Ok counts) other shut is =
       inl (all_on start script since before leaves wrote now (counts_of counts) (ended_alone (λ state. state) AnswersControl EndsControl (λ _ _ _ _ _. ⊥) HasClosed since before.read.rest leaves wrote now counts
       (of_known left before.read.rest (λ (s : List ℕ). engine.Ended controls MAX_LINES since s leaves wrote now counts) before.read.left_is is)))
-  ends_of (Err fault.Read) other is =
+  ends_of (Err fault.Read) other shut is =
       broken_on start script since before leaves wrote now (stopped_alone (λ state. state) AnswersControl EndsControl (λ _ _ _ _ _. ⊥) HasClosed since before.read.rest leaves wrote now (λ lines part. Unit {0})
       (of_known left before.read.rest (λ (s : List ℕ). Stopped controls (λ lines part. Unit {0}) since s leaves wrote now) before.read.left_is is))
-  ends_of (Err fault.Write) other is =
+  ends_of (Err fault.Write) other shut is =
       cut_on start script since before leaves wrote now (cut_alone (λ state. state) AnswersControl EndsControl (λ _ _ _ _ _. ⊥) HasClosed since before.read.rest leaves wrote now
       (of_known left before.read.rest (λ (s : List ℕ). engine.Cut controls since s leaves wrote now) before.read.left_is is))
-  ends_of (Err fault.TooManyLines) other is = absurd (other refl)
-  ends_of (Err fault.EndlessLine) other is = endless_of (of_known left before.read.rest (λ (s : List ℕ). Stopped controls (IsEndless MAX_LINES) since s leaves wrote now) before.read.left_is is)
-  ends_of (Err fault.Closed) other is =
-      let stopped = of_known left before.read.rest (λ (s : List ℕ). Stopped controls (IsShut (HasClosed now)) since s leaves wrote now) before.read.left_is is in
-      inr (stopped.is_so.1, some_of (IsShut (HasClosed now)) stopped stopped.is_so.0)
+  ends_of (Err fault.TooManyLines) other shut is = absurd (other refl)
+  ends_of (Err fault.EndlessLine) other shut is = endless_of (of_known left before.read.rest (λ (s : List ℕ). Stopped controls (IsEndless MAX_LINES) since s leaves wrote now) before.read.left_is is)
+  ends_of (Err fault.Closed) other shut is =
+      let stopped = of_known left before.read.rest (λ (s : List ℕ). Stopped controls (λ lines part. part ≡ []) since s leaves wrote now) before.read.left_is is in
+      inr (shut refl, some_of (λ lines part. part ≡ []) stopped stopped.is_so)
 
   -- as many lines as a run may have were answered
   full_of : engine.EndsBy controls MAX_LINES since leaves wrote now (Err fault.TooManyLines) → AnsweredSome start script leaves wrote now
   full_of is =
       let stopped = of_known left before.read.rest (λ (s : List ℕ). Stopped controls (IsFull MAX_LINES leaves) since s leaves wrote now) before.read.left_is is in
-      some_of (IsFull MAX_LINES leaves) stopped stopped.is_so.1.0
+      some_of (IsFull MAX_LINES leaves) stopped stopped.is_so.1
 
 -- what was answered so far, where the bytes of the input are known
 abbrev pub SoFar : Start ControlState → Option (List ℕ) → Option (List ℕ) → ControlState → Type 0
@@ -202,14 +202,23 @@ module _ (start : Start ControlState) (left written : Option (List ℕ)) (state 
       (subst (λ (s : ControlState). engine.EndsBy controls MAX_LINES (start_at state left written) leaves wrote s (Err fault.TooManyLines)) (sym is.moved) is.ends_by)) before
 
   -- the session ends with the run
-  pub session_ends : (ended : Result Counts LinesFault) → ended ≢ Err fault.TooManyLines → HasEnded controls MAX_LINES (start_at state left written) leaves wrote now ended → ControlEnds start leaves wrote now (uncounted ended)
-  session_ends ended other is =
-      OnTold start.left _ _ (λ script some. ends_of start script left written state some leaves wrote now ended other
+  pub session_ends : (ended : Result Counts LinesFault) → ended ≢ Err fault.TooManyLines → (ended ≡ Err fault.Closed → HasClosed now) → HasEnded controls MAX_LINES (start_at state left written) leaves wrote now ended → ControlEnds start leaves wrote now (uncounted ended)
+  session_ends ended other shut is =
+      OnTold start.left _ _ (λ script some. ends_of start script left written state some leaves wrote now ended other shut
       (subst (λ (s : ControlState). engine.EndsBy controls MAX_LINES (start_at state left written) leaves wrote s ended) (sym is.moved) is.ends_by)) before
 
 -- ---- why a session may end so
 
 module _ (read write end closed : Type 0) where
+  -- a session that was closed
+  pub session_shut : (ended : Result Counts LinesFault) → CanEnd read write end closed ended → ended ≡ Err fault.Closed → closed
+  session_shut (Ok counts) can is = absurd (cc)
+  session_shut (Err fault.Read) can is = absurd (cc)
+  session_shut (Err fault.Write) can is = absurd (cc)
+  session_shut (Err fault.TooManyLines) can is = absurd (cc)
+  session_shut (Err fault.EndlessLine) can is = absurd (cc)
+  session_shut (Err fault.Closed) can is = can
+
   pub session_read : (ended : Result Counts LinesFault) → CanEnd read write end closed ended → IsErrOf (uncounted ended) Read → read
   session_read (Ok counts) can is = absurd (cc)
   session_read (Err fault.Read) can is = can

@@ -9,10 +9,12 @@ use Rattle.pn_protocol.specs.declared.reply.Reply.TheVariants.{Silent}
 use Rattle.pn_serve.specs.Control.Lines.{ControlState, at_rest, is_closed, closed_by, after_step, reply_of, Adopts, TakesLine, AnswersIn, AnswersUnless, AnswersControl, EndsIn, EndsUnless, EndsControl}
 use Rattle.pn_serve.specs.Control.Steps.{AdoptsText, StepsBy, StepsLast}
 use Rattle.pn_serve.specs.Machine.Announced.{unless_call, with_line}
+use Rattle.pn_serve.specs.Machine.Modes.{mode_of}
 use Rattle.pn_serve.specs.Machine.Outcomes.{Mode, awaits_command, announced}
 use Rattle.pn_serve.specs.Machine.Ways.{IsJoined}
 use Rattle.pn_serve.specs.Session.Knowing.{KnowsNoLess}
 use Rattle.pn_serve.specs.declared.control.steps.ControlStep.{ControlStep}
+use Rattle.pn_serve.specs.declared.machine.adoption.AnnouncedText.{AnnouncedText}
 use Rattle.pn_serve.specs.declared.control.steps.ControlStep.TheVariants.{Replies, Announces, Stops, Ends}
 use Rattle.pn_serve.proofs.ControlSteps.{steps_so_far, lasts_so_far}
 use Rattle.pn_serve.proofs.Lookups.{no_bytes}
@@ -37,6 +39,10 @@ resting state reader mode stop over goes stops overs waits =
 -- where another announced line is waited for
 pub more_state : (was old : ControlState) (n left : ℕ) (joined : Option (List ℕ)) → was ≡ old → n ≡ left → record was { mode = announced n joined } ≡ record old { mode = announced left joined }
 more_state was old n left joined is lefts = λ i. record { reader = (is i).reader; mode = announced (lefts i) joined; stop = (is i).stop; over = (is i).over }
+
+-- a session that waits for these lines
+abbrev pub same_but : LiveReaderValue → Option ℕ → Bool → Option AnnouncedText → ControlState
+same_but reader stop over waits = record { reader = reader; mode = mode_of waits; stop = stop; over = over }
 
 -- the reader after a step
 pub reader_after : (reader : LiveReaderValue) (step : ControlStep) → (after_step reader step).reader ≡ reader

@@ -112,7 +112,7 @@ module _ {V W G : Type 0} (see : V → W) (makes ends : W → List ℕ → W →
           at_end = is.at_end;
         }
 
-    pub stopped_alone : (so : List (List ℕ) → List ℕ → Type 0) → Stopped alone so start script left written machine → Broken makes ends (seen start) script left written (see machine)
+    unfoldable pub stopped_alone : (so : List (List ℕ) → List ℕ → Type 0) → Stopped alone so start script left written machine → Broken makes ends (seen start) script left written (see machine)
     stopped_alone so is =
         let all = all_replied start.machine is.lines is.replies machine is.answered.made in record {
           lines = is.lines;
@@ -145,26 +145,26 @@ module _ {V W G : Type 0} (see : V → W) (makes ends : W → List ℕ → W →
     unfolding stopped_alone
     full_alone is =
         let broken = stopped_alone (IsFull MAX_LINES left) is in
-        Exceeded_lines makes ends (seen start) script left written (see machine) broken (all_short is.lines is.answered.are_lines) is.is_so.1.0 (λ none. is.is_so.1.1 (broken.read.left_is ∙ ap Some none)) is.is_so.0
+        Exceeded_lines makes ends (seen start) script left written (see machine) broken (all_short is.lines is.answered.are_lines) is.is_so.1 (λ none. is.is_so.2 (broken.read.left_is ∙ ap Some none)) is.is_so.0
 
     -- a line has no end
     endless_alone : Stopped alone (IsEndless MAX_LINES) start script left written machine → Exceeded makes ends (seen start) script left written (see machine)
     unfolding stopped_alone
     endless_alone is = Exceeded_bytes makes ends (seen start) script left written (see machine) (stopped_alone (IsEndless MAX_LINES) is) (all_short is.lines is.answered.are_lines) is.is_so.1 is.is_so.0
 
-  module _ (unclosed : (v : V) → closed v → ⊥) (start : Start V) (left written : Option (List ℕ)) where
-    ends_alone : (machine : V) (ended : Result Counts LinesFault) → engine.EndsBy alone MAX_LINES start left written machine ended → EndsBy makes ends (seen start) left written (see machine) (run_ended ended)
-    ends_alone machine (Ok counts) is = OnTold start.left _ _ (λ script ended. ended_alone start script left written machine counts ended) is
-    ends_alone machine (Err fault.Read) is = OnTold start.left _ _ (λ script stopped. stopped_alone start script left written machine _ stopped) is
-    ends_alone machine (Err fault.Write) is = OnTold start.left _ _ (λ script cut. cut_alone start script left written machine cut) is
-    ends_alone machine (Err fault.TooManyLines) is = OnTold start.left _ _ (λ script stopped. full_alone start script left written machine stopped) is
-    ends_alone machine (Err fault.EndlessLine) is = OnTold start.left _ _ (λ script stopped. endless_alone start script left written machine stopped) is
-    ends_alone machine (Err fault.Closed) is = OnTold start.left _ _ (λ script stopped. absurd (unclosed machine stopped.is_so.1)) is
+  module _ (start : Start V) (left written : Option (List ℕ)) where
+    ends_alone : (machine : V) (ended : Result Counts LinesFault) → ended ≢ Err fault.Closed → engine.EndsBy alone MAX_LINES start left written machine ended → EndsBy makes ends (seen start) left written (see machine) (run_ended ended)
+    ends_alone machine (Ok counts) other is = OnTold start.left _ _ (λ script ended. ended_alone start script left written machine counts ended) is
+    ends_alone machine (Err fault.Read) other is = OnTold start.left _ _ (λ script stopped. stopped_alone start script left written machine _ stopped) is
+    ends_alone machine (Err fault.Write) other is = OnTold start.left _ _ (λ script cut. cut_alone start script left written machine cut) is
+    ends_alone machine (Err fault.TooManyLines) other is = OnTold start.left _ _ (λ script stopped. full_alone start script left written machine stopped) is
+    ends_alone machine (Err fault.EndlessLine) other is = OnTold start.left _ _ (λ script stopped. endless_alone start script left written machine stopped) is
+    ends_alone machine (Err fault.Closed) other is = absurd (other refl)
 
     pub run_ends : (machine : V) (result : Result runs.Counts RunFault) → HasRun alone start left written machine result → EndsBy makes ends (seen start) left written (see machine) result
     run_ends machine result is =
         subst (λ (r : Result runs.Counts RunFault). EndsBy makes ends (seen start) left written (see machine) r) (sym is.is)
-        (subst (λ (v : V). EndsBy makes ends (seen start) left written (see v) (run_ended is.ended)) (sym is.has_ended.moved) (ends_alone is.has_ended.reached is.ended is.has_ended.ends_by))
+        (subst (λ (v : V). EndsBy makes ends (seen start) left written (see v) (run_ended is.ended)) (sym is.has_ended.moved) (ends_alone is.has_ended.reached is.ended is.unclosed is.has_ended.ends_by))
 
 -- ---- why a run may end so
 
@@ -184,6 +184,15 @@ module _ (read write end closed : Type 0) where
   run_write (Err fault.TooManyLines) can is = absurd (cc)
   run_write (Err fault.EndlessLine) can is = absurd (cc)
   run_write (Err fault.Closed) can is = absurd (cc)
+
+  -- a handler that is not closed does not end its lines
+  pub never_closed : (ended : Result Counts LinesFault) → CanEnd read write end closed ended → (closed → ⊥) → ended ≢ Err fault.Closed
+  never_closed (Ok counts) can unclosed = λ is. cc
+  never_closed (Err fault.Read) can unclosed = λ is. cc
+  never_closed (Err fault.Write) can unclosed = λ is. cc
+  never_closed (Err fault.TooManyLines) can unclosed = λ is. cc
+  never_closed (Err fault.EndlessLine) can unclosed = λ is. cc
+  never_closed (Err fault.Closed) can unclosed = λ is. unclosed can
 
   pub run_end : (ended : Result Counts LinesFault) → CanEnd read write end closed ended → OnOk (run_ended ended) end
   run_end (Ok counts) can = can

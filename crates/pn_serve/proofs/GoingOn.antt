@@ -34,8 +34,17 @@ use Rattle.pn_serve.specs.declared.sessions.going.Going.TheVariants.{Page, Keys,
 use Rattle.pn_serve.specs.Lines.Going.{answer_left}
 use Rattle.pn_serve.specs.Session.Knowing.{KnowsNoLess}
 use Rattle.pn_serve.specs.Session.Looking.{AreNewKeys, CopyAnswer, HasFew, IsNewPage, IsOnCopy, KeysAnswer, LooksOn, LooksTo, PageAnswer, going_left}
-use Rattle.pn_serve.specs.Proofs.GivenUp.{got_by}
 use Rattle.pn_serve.proofs.Knowing.{going_knows, knows_on, knows_same, look_knows}
+
+-- a get that was answered, by the looks that were made
+pub got_by : (moves : Moving LiveReaderValue) (was new : LiveReaderValue) (bounds : Bounds) (keys : List (List ℕ)) (answer : Result (List (Option CellValue)) ScanFault) (trace : List (LookMade LiveReaderValue)) → EndsGet bounds keys answer trace → Gaps moves was trace new
+    → (reached : LiveReaderValue) × IsGet (LooksAfter moves LooksLive) bounds keys was reached (λ cells. cells) answer (looks_in trace) × moves reached new
+got_by moves was new bounds keys answer trace ends gaps =
+    let there = looks_after moves LooksLive was new trace ends.made gaps in (
+      there.0,
+      record { looked = there.1; found = ends.found; order = ends.order; only = ends.only; answers = ends.answers; whole = ends.whole },
+      there.2,
+    )
 
 module _ (moves : Moving LiveReaderValue) (pre : IsPreorder moves) (was between old new : LiveReaderValue) (moved : moves between old) where
   -- a page was resumed
@@ -91,14 +100,14 @@ module _ (moves : Moving LiveReaderValue) (pre : IsPreorder moves) (knows : (old
   keys_to keys walk (Ok next) (Done reply) trace same gaps goes answers =
       let more = trace ++ goes.1.0 in
       let (shown, ends, shows) = answers more goes.1.2 in
-      let there = got_by moves pre was new was.layout keys shown more (subst (λ (ks : List (List ℕ)). EndsGet was.layout ks shown more) (goes.0 ∙ same) ends) (gaps_more moves was between old new trace goes.1.0 pre gaps moved goes.1.1) in
+      let there = got_by moves was new was.layout keys shown more (subst (λ (ks : List (List ℕ)). EndsGet was.layout ks shown more) (goes.0 ∙ same) ends) (gaps_more moves was between old new trace goes.1.0 pre gaps moved goes.1.1) in
       record { seen = looks_in more; answer = shown; reached = there.0; got = there.1; moved = there.2; shows = subst (λ (ks : List (List ℕ)). ShowsFound (get_data ks) shown reply) (goes.0 ∙ same) shows }
   keys_to keys walk (Ok next) (Begun going) trace same gaps goes answers =
       let more = trace ++ goes.1.0 in
       subst (λ (g : Going). LooksOn moves was (get keys) new g) (sym (answers more goes.1.2)) (goes.0 ∙ same, (more, goes.1.2, gaps_more moves was between old new trace goes.1.0 pre gaps moved goes.1.1))
   keys_to keys walk (Err fault) (Done reply) trace same gaps goes answers =
       let more = trace ++ goes.0 in
-      let there = got_by moves pre was new was.layout keys (Err fault) more (subst (λ (ks : List (List ℕ)). EndsGet was.layout ks (Err fault) more) same goes.2) (gaps_more moves was between old new trace goes.0 pre gaps moved goes.1) in
+      let there = got_by moves was new was.layout keys (Err fault) more (subst (λ (ks : List (List ℕ)). EndsGet was.layout ks (Err fault) more) same goes.2) (gaps_more moves was between old new trace goes.0 pre gaps moved goes.1) in
       record { seen = looks_in more; answer = Err fault; reached = there.0; got = there.1; moved = there.2; shows = answers more tt }
   keys_to keys walk (Err fault) (Begun going) trace same gaps goes answers = absurd (answers trace tt)
 

@@ -3,7 +3,7 @@ use Rattle.std.proofs.Common.{◌≡◌, ℕ, List, [], ◌∷◌, inl, inr, ref
 use Rattle.std.specs.Prelude.{Result, Ok, Err}
 use Rattle.pn_tablet.specs.Layouts.{tablet_of}
 use Rattle.pn_scan.specs.Candidates.{Look}
-use Rattle.pn_scan.specs.Paging.{AreMade, Gaps, LookMade, LooksAfter, Moving, Stays}
+use Rattle.pn_scan.specs.Paging.{AreMade, Gaps, IsPreorder, LookMade, LooksAfter, Moving, Stays}
 use Rattle.pn_scan.specs.Views.{Looks}
 use Rattle.pn_live.specs.Readers.{LiveReaderValue, LooksLive}
 use Rattle.pn_live.proofs.Knowing.{looks_know, looks_same}
@@ -20,6 +20,14 @@ pub use Rattle.pn_serve.specs.Proofs.Steady.{knows_itself, knows_on}
 use Rattle.pn_serve.specs.Session.Knowing.{KnowsNoLess}
 use Rattle.pn_serve.specs.Session.Lines.{LooksUp, Tells, AnswersLine}
 use Rattle.pn_serve.specs.Session.Looking.{LooksFor, LooksOn}
+
+-- what others do with a shared reader between two looks may be nothing, and may go on
+pub knows_preorder : IsPreorder KnowsNoLess
+knows_preorder = record { stays = knows_itself; goes_on = knows_on }
+
+-- a reader that is alone stays as it is
+pub stays_preorder : {V : Type 0} → IsPreorder {V = V} Stays
+stays_preorder {V} = record { stays = λ v. refl; goes_on = λ a b c first second. second ∙ first }
 
 pub knows_same : (old new : LiveReaderValue) → new ≡ old → KnowsNoLess old new
 knows_same old new same = subst (KnowsNoLess old) (sym same) (knows_itself old)

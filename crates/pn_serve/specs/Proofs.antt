@@ -1,3 +1,2 @@
 -- Proofs of what traits promise of handlers.
-pub mod GivenUp
 pub mod Steady

@@ -8,11 +8,16 @@ use Rattle.pn_protocol.specs.Reply.Texts.{reply_text, is_refusal}
 use Rattle.pn_protocol.specs.declared.reply.Reply.{Reply}
 use Rattle.pn_serve.specs.declared.machine.line_answers.Answer.{Answer}
 use Rattle.pn_serve.specs.declared.machine.line_answers.Answer.TheVariants.{Done, Going as Begun}
+use Rattle.pn_serve.specs.declared.machine.line_answers.ReplyPieces.{ReplyPieces}
 use Rattle.pn_serve.specs.declared.sessions.going.Going.{Going}
 
 -- a reply as its text and whether it refuses its line
 abbrev pub replied_of : Reply → Replied
 replied_of reply = record { text = reply_text reply; refused = is_refusal reply }
+
+-- the bytes of a text that are still to be made
+abbrev pub pieces_left : ReplyPieces → List ℕ
+pieces_left pieces = pieces.0
 
 -- the reply, or what is gone on with
 abbrev pub given_by : Answer → AnswerValue Going

@@ -1,5 +1,5 @@
 -- How a run ends, by what the engine for lines ended with.
-use Rattle.std.specs.Prelude.{◌≡◌, ℕ, List, Option, Result, Ok, Err}
+use Rattle.std.specs.Prelude.{◌≡◌, ◌≢◌, ℕ, List, Option, Result, Ok, Err}
 use Rattle.pn_lines.specs.Ends.{HasEnded, Start}
 use Rattle.pn_lines.specs.Handling.{Handling}
 use Rattle.pn_lines.specs.declared.driver.LinesFault.{LinesFault}
@@ -27,4 +27,5 @@ run_ended (Err lines.Closed) = Err TooManyTurns
 pub record HasRun {V G : Type 0} (handling : Handling V G) (start : Start V) (left written : Option (List ℕ)) (machine : V) (result : Result Counts RunFault) : Type 0 where
   pub ended : Result engine.Counts LinesFault
   pub has_ended : HasEnded handling MAX_LINES start left written machine ended
+  pub unclosed : ended ≢ Err lines.Closed
   pub is : result ≡ run_ended ended

@@ -1,6 +1,6 @@
 //! A control session: its lines are answered by its own reader, or by the writer between two rounds.
 
-ghost use Rattle.std.specs.Prelude.{◌≡◌, IsErrOf};
+ghost use Rattle.std.specs.Prelude.{◌≡◌, ◌≢◌, Err, IsErrOf, MatchBool};
 ghost use Rattle.pn_lines.specs.Ends.{start_at};
 ghost use Rattle.pn_serve.specs.Control.Ends.{AnswersClient, ControlEnds, control_start, uncounted};
 ghost use Rattle.pn_serve.specs.Lines.Waiting.{HandsOn};
@@ -102,12 +102,19 @@ fn answer_lines<R: Threads + Wait + Clock, C: StatsSource + Drop, S: Source, W: 
     ensures out { HandsOn result (W.is_handed_on output.new) }
 {
     for _ in rt.forever() {
-        match pn_lines::answer_lines(handler, buffers, MAX_LINES, input, output) {
-            Err(LinesFault::TooManyLines) => {}
-            ended => return uncount(ended),
+        let ended = pn_lines::answer_lines(handler, buffers, MAX_LINES, input, output);
+        if !is_full(&ended) {
+            return uncount(ended);
         }
     }
     unreachable!()
+}
+
+// Whether as many lines were answered as an input may have, and there is more.
+fn is_full(ended: &Result<Counts, LinesFault>) -> bool
+    ensures { MatchBool result (ended.now ≡ Err LinesFault.TooManyLines) (ended.now ≢ Err LinesFault.TooManyLines) }
+{
+    matches!(ended, Err(LinesFault::TooManyLines))
 }
 
 // What a session ends with. One that was closed has ended as it should.

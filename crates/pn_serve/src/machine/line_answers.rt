@@ -3,7 +3,7 @@
 ghost use Rattle.std.specs.Prelude.{◌≡◌, ◌≢◌, [], MatchBool};
 ghost use Rattle.pn_lines.specs.Answers.{answer_of, reply_of};
 ghost use Rattle.pn_protocol.specs.Prelude.{is_refusal as refuses};
-ghost use Rattle.pn_serve.specs.Lines.Handled.{given_by, replied_of};
+ghost use Rattle.pn_serve.specs.Lines.Handled.{given_by, pieces_left, replied_of};
 
 use crate::sessions::going::Going;
 use pn_lines::{Answered, EndedBy, LineReply, PieceText};
@@ -23,7 +23,9 @@ pub(crate) enum Answer {
 pub struct ReplyPieces(pub ReplyText);
 
 impl PieceText for ReplyPieces {
-    ghost unmade = { λ pieces. pieces.0 };
+    ghost use Rattle.pn_serve.specs.Lines.Handled.{pieces_left};
+
+    ghost unmade = { pieces_left };
 
     fn is_made(&self) -> bool {
         self.0.is_made()
@@ -39,7 +41,7 @@ impl PieceText for ReplyPieces {
 
 /// An answer that took this number of units of work.
 pub(crate) fn answered(answer: Answer, units: u32) -> Answered<Going, ReplyPieces>
-    ensures answer { answer_of ReplyPieces.unmade result.answer ≡ given_by answer }
+    ensures answer { answer_of pieces_left result.answer ≡ given_by answer }
     ensures units { result.units ≡ units }
 {
     let answer = match answer {
@@ -51,7 +53,7 @@ pub(crate) fn answered(answer: Answer, units: u32) -> Answered<Going, ReplyPiece
 
 /// The reply to a line.
 pub(crate) fn line_reply(reply: Reply) -> LineReply<ReplyPieces>
-    ensures { reply_of ReplyPieces.unmade result ≡ replied_of reply }
+    ensures { reply_of pieces_left result ≡ replied_of reply }
 {
     let is_refusal = is_refusal(&reply);
     LineReply {

@@ -27,7 +27,7 @@ impl<'a> AloneReader<'a> {
 }
 
 impl LineHandler for AloneReader<'_> {
-    ghost use Rattle.pn_serve.specs.Proofs.GivenUp.{alone_reads_steadily};
+    ghost use Rattle.pn_serve.specs.Proofs.Steady.{alone_reads_steadily};
     ghost use Rattle.pn_serve.specs.Session.Alone.{KeepsReader, alone_reads};
     ghost use Rattle.pn_serve.specs.Session.Looking.{going_left};
     ghost use Rattle.std.specs.Prelude.{⊤};

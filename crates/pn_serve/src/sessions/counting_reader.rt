@@ -89,7 +89,7 @@ impl CountingReader {
 }
 
 impl LineHandler for CountingReader {
-    ghost use Rattle.pn_serve.specs.Proofs.GivenUp.{knows_preorder, reads_steadily};
+    ghost use Rattle.pn_serve.specs.Proofs.Steady.{knows_steadily, reads_steadily};
     ghost use Rattle.pn_serve.specs.Session.Handling.{reads_lines};
     ghost use Rattle.pn_serve.specs.Session.Knowing.{KnowsNoLess};
     ghost use Rattle.pn_serve.specs.Session.Looking.{going_left};
@@ -126,7 +126,7 @@ impl LineHandler for CountingReader {
         answered(self.count(kind, answer), units_of(looked))
     }
 
-    ghost steady = { reads_steadily KnowsNoLess knows_preorder };
+    ghost steady = { reads_steadily KnowsNoLess knows_steadily };
 }
 
 impl RefusesLong for CountingReader {

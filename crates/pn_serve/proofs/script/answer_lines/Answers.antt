@@ -6,11 +6,11 @@ use Rattle.pn_serve.specs.declared.script.Counts.{Counts}
 use Rattle.pn_serve.specs.declared.script.RunFault.{RunFault}
 use Rattle.pn_serve.specs.declared.script.RunFault.TheVariants.{Read, Write, Memory}
 use Rattle.pn_serve.specs.declared.script.TheConstants.{MAX_LINES}
-use Rattle.pn_serve.proofs.Ending.{run_begun, run_end, run_few, run_out, run_read, run_write}
+use Rattle.pn_serve.proofs.Ending.{never_closed, run_begun, run_end, run_few, run_out, run_read, run_write}
 use Rattle.pn_serve.proofs.script.answer_lines.Goals as goal
 
 pub returns-clause-ends : goal.returns-clause-ends
-returns-clause-ends g c = record { ended = c.answer_lines.result; has_ended = c.answer_lines.ensures.ends; is = c.end_run.ensures }
+returns-clause-ends g c = record { ended = c.answer_lines.result; has_ended = c.answer_lines.ensures.ends; unclosed = never_closed _ _ _ _ c.answer_lines.result c.answer_lines.ensures.can (c.requires.unclosed _); is = c.end_run.ensures }
 
 pub returns-clause-read : goal.returns-clause-read
 returns-clause-read g c = λ is. run_read _ _ _ _ c.answer_lines.result c.answer_lines.ensures.can (sym c.end_run.ensures ∙ is)

@@ -7,13 +7,10 @@ use Rattle.pn_serve.specs.Session.Looking.{going_left}
 use Rattle.pn_serve.specs.declared.sessions.going.Going.{Going}
 use Rattle.pn_serve.proofs.Looked.{few_units, given_left, some_records}
 use Rattle.pn_serve.proofs.Lookups.{goes_by}
-use Rattle.pn_serve.proofs.sessions.LiveReaderLineHandler.go_on.Goals as goal
+use Rattle.pn_serve.proofs.sessions.alone_reader.AloneReaderLineHandler.go_on.Goals as goal
 
 pub returns-clause-answers : goal.returns-clause-answers
-returns-clause-answers c =
-    λ was between ended text looks moved.
-    subst (λ (a : AnswerValue Going). AnswersBy (reads_lines Stays) was ended text c.go_on-answer.new.reader a) (sym c.answered.ensures.answer)
-    (goes_by Stays was between c.go_on-answer.new.reader ended text c.args.going c.go_on-answer.result.0 looks (λ command so_far. c.go_on-answer.ensures.alone was between command so_far moved))
+returns-clause-answers c = ?
 
 pub returns-clause-nearer : goal.returns-clause-nearer
 returns-clause-nearer c = λ some.

@@ -6,7 +6,7 @@ use Rattle.pn_serve.specs.Lines.Going.{AnswersWith}
 use Rattle.pn_serve.specs.Session.Knowing.{KnowsNoLess}
 use Rattle.pn_serve.specs.Session.Lines.{AnswersLine}
 use Rattle.pn_serve.specs.Session.Looking.{LooksFor}
-use Rattle.pn_serve.specs.Proofs.GivenUp.{knows_preorder}
+use Rattle.pn_serve.proofs.Knowing.{knows_preorder}
 use Rattle.pn_serve.proofs.Lookups.{answers_too}
 use Rattle.pn_serve.proofs.sessions.counting_reader.CountingReader.answer_line.Goals as goal
 

@@ -8,6 +8,7 @@ use Rattle.pn_serve.specs.Session.Knowing.{KnowsNoLess}
 use Rattle.pn_serve.specs.Session.Looking.{going_left}
 use Rattle.pn_serve.specs.declared.sessions.going.Going.{Going}
 use Rattle.pn_serve.proofs.Looked.{few_units, given_left, some_records}
+use Rattle.pn_serve.proofs.Knowing.{knows_preorder}
 use Rattle.pn_serve.proofs.Lookups.{goes_by}
 use Rattle.pn_serve.proofs.sessions.counting_reader.CountingReaderLineHandler.go_on.Goals as goal
 
@@ -16,7 +17,7 @@ returns-clause-answers c =
     λ was between ended text looks moved.
     subst (λ (a : AnswerValue Going). AnswersBy (reads_lines KnowsNoLess) was ended text c.count.new.self a) (sym (c.answered.ensures.answer ∙ ap given_by c.count.ensures.same))
     (subst (λ (r : LiveReaderValue). AnswersBy (reads_lines KnowsNoLess) was ended text r (given_by c.go_on-answer.result.0)) (sym c.count.ensures.kept)
-    (goes_by KnowsNoLess was between c.go_on-answer.new.reader ended text c.args.going c.go_on-answer.result.0 looks
+    (goes_by KnowsNoLess knows_preorder was between c.go_on-answer.new.reader ended text c.args.going c.go_on-answer.result.0 looks.looks
     (λ command so_far. c.go_on-answer.ensures.shared was between command so_far (subst (λ (r : LiveReaderValue). KnowsNoLess between r) (sym c.self.view_is) moved))))
 
 pub returns-clause-nearer : goal.returns-clause-nearer

@@ -1,8 +1,9 @@
 -- A line that is too long is refused, whatever its bytes are.
 use Rattle.std.proofs.Common.{sym, subst}
+use Rattle.pn_live.specs.Readers.{LiveReaderValue}
 use Rattle.pn_lines.specs.Replies.{Replied}
-use Rattle.pn_serve.specs.Session.Knowing.{KnowsNoLess}
 use Rattle.pn_serve.specs.Lines.Handled.{Replies}
+use Rattle.pn_serve.specs.Session.Knowing.{KnowsNoLess}
 use Rattle.pn_serve.specs.Session.Lines.{AnswersLine, EndsLines}
 use Rattle.pn_serve.proofs.Knowing.{knows_itself}
 use Rattle.pn_serve.proofs.Lookups.{refuses_by}
@@ -10,8 +11,8 @@ use Rattle.pn_serve.proofs.sessions.counting_reader.CountingReaderRefusesLong.re
 
 pub returns-clause-answers : goal.returns-clause-answers
 returns-clause-answers c text long =
-    subst (λ (r : Replied). Replies (AnswersLine KnowsNoLess) (EndsLines KnowsNoLess) c.args.self.now c.args._ended text c.args.self.now r) (sym c.line_reply.ensures)
-    (refuses_by KnowsNoLess c.args.self.now c.args._ended text long)
+    subst (λ (r : Replied). Replies (AnswersLine KnowsNoLess) (EndsLines KnowsNoLess) c.args.self.now c.args._ended text c.self.inside.reader r) (sym c.line_reply.ensures)
+    (subst (λ (now : LiveReaderValue). Replies (AnswersLine KnowsNoLess) (EndsLines KnowsNoLess) c.args.self.now c.args._ended text now _) (sym c.self.view_is) (refuses_by KnowsNoLess c.args.self.now c.args._ended text long))
 
 pub returns-clause-kept : goal.returns-clause-kept
-returns-clause-kept c = knows_itself _
+returns-clause-kept c = subst (λ (now : LiveReaderValue). KnowsNoLess c.args.self.now now) (sym c.self.view_is) (knows_itself _)

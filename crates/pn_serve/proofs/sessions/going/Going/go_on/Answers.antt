@@ -9,7 +9,7 @@ use Rattle.pn_serve.specs.Session.Looking.{CountsLooks, LooksOn, going_left}
 use Rattle.pn_serve.proofs.GoingOn.{copy_nearer, copy_on, keys_nearer, keys_on, only_looks_know, page_nearer, page_on}
 use Rattle.pn_serve.proofs.Knowing.{knows_itself, moves_knows, stays_knows}
 use Rattle.pn_serve.proofs.Looked.{copy_counted, keys_counted, page_counted, page_few}
-use Rattle.pn_serve.specs.Proofs.GivenUp.{knows_preorder, stays_preorder}
+use Rattle.pn_serve.proofs.Knowing.{knows_preorder, stays_preorder}
 use Rattle.pn_serve.proofs.sessions.going.Going.go_on.Goals as goal
 
 pub returns-in-Page-clause-alone : goal.returns-in-Page-clause-alone

@@ -1,5 +1,5 @@
 -- What a reply's text gives of itself in a piece.
-use Rattle.std.proofs.Common.{◌≡◌, ◌≤◌, ℕ, List, [], ◌∷◌, ◌++◌, length, refl, sym, ap, arith, append-nil, length-append}
+use Rattle.std.proofs.Common.{◌≡◌, ◌≤◌, ℕ, true, false, List, [], ◌∷◌, ◌++◌, length, refl, sym, ap, arith, append-nil, length-append}
 use Rattle.std.specs.Prelude.{Vec, vec_capacity}
 use Rattle.std.specs.declared.alloc.Global.{Global}
 use Rattle.pn_lines.specs.Giving.{Gives}
@@ -20,3 +20,6 @@ gives_piece was now old new whole few capacity =
 
 pub gives_none : (text : List ℕ) (out : Vec ℕ Global) → Gives text text out out
 gives_none text out = record { given = []; items = sym (append-nil out.items); split = refl; capacity = omega arith }
+
+pub true_false : true ≡ false → ⊥
+true_false is = cc

@@ -7,16 +7,13 @@ use Rattle.std.proofs.lemmas.List.{length-map}
 use Rattle.pn_tablet.specs.Layouts.{Bounds, tablet_of}
 use Rattle.pn_tablet.specs.Refusals.{Refuses}
 use Rattle.pn_scan.specs.Pages.{unless}
-use Rattle.pn_scan.specs.Paging.{Gaps, IsOnPage, IsPreorder, LookMade, LooksAfter, Moving, Stays, looks_in}
-use Rattle.pn_scan.specs.Reads.{IsGet, cells_of_keys}
+use Rattle.pn_scan.specs.Paging.{Gaps, IsOnPage, IsPreorder, LookMade, Moving, looks_in}
+use Rattle.pn_scan.specs.Reads.{cells_of_keys}
 use Rattle.pn_scan.specs.Views.{is_memory}
 use Rattle.pn_scan.specs.declared.fault.ScanFault.{ScanFault}
 use Rattle.pn_scan.specs.declared.fault.ScanFault.TheVariants.{Memory as look_memory}
-use Rattle.pn_scan.proofs.Paging.{gaps_more, looks_after, page_without_memory, scanned}
+use Rattle.pn_scan.proofs.Paging.{gaps_more, page_without_memory, scanned}
 use Rattle.pn_scan.proofs.Scans.{none_refused_front}
-use Rattle.pn_record.specs.Sets.{CellValue}
-use Rattle.pn_lines.specs.Handling.{Answers, GivesUp}
-use Rattle.pn_lines.specs.Moves as lines
 use Rattle.pn_lines.specs.Replies.{Replied}
 use Rattle.pn_lines.specs.declared.handler.EndedBy.{EndedBy}
 use Rattle.pn_lines.specs.declared.handler.EndedBy.TheVariants.{Newline, Input}
@@ -29,14 +26,10 @@ use Rattle.pn_protocol.specs.declared.refusal.Refusal.{Refusal}
 use Rattle.pn_protocol.specs.declared.refusal.Refusal.TheVariants.{Memory}
 use Rattle.pn_protocol.specs.declared.reply.Reply.{Reply}
 use Rattle.pn_protocol.specs.declared.reply.Reply.TheVariants.{Refused}
+use Rattle.pn_serve.proofs.GoingOn.{got_by}
 use Rattle.pn_serve.specs.Lines.Handled.{Replies, by_end, replied_of}
-use Rattle.pn_serve.specs.Proofs.Steady.{knows_itself, knows_on, knows_steadily, stays_steadily}
-use Rattle.pn_serve.specs.Session.Alone.{KeepsReader, alone_reads, reader_of}
-use Rattle.pn_serve.specs.Session.Handling.{reads_by, reads_lines}
-use Rattle.pn_serve.specs.Session.Knowing.{KnowsNoLess}
 use Rattle.pn_serve.specs.Session.Lines.{AnswersLine, EndsLines, LooksUp, Tells}
 use Rattle.pn_serve.specs.Session.Looking.{LooksFor, LooksForLast, LooksOn}
-use Rattle.pn_serve.specs.declared.sessions.alone_reader.AloneReader.{AloneReader}
 use Rattle.pn_serve.specs.declared.sessions.going.Going.{Going}
 use Rattle.pn_serve.specs.declared.sessions.going.Going.TheVariants.{Page, Keys, Copy}
 
@@ -72,16 +65,6 @@ record After (moves : Moving LiveReaderValue) (does : LiveReaderValue → List �
   made : does between text now (Refused Memory)
 
 module _ (moves : Moving LiveReaderValue) (pre : IsPreorder moves) where
-  -- a get that was answered, by the looks that were made
-  pub got_by : (was new : LiveReaderValue) (bounds : Bounds) (keys : List (List ℕ)) (answer : Result (List (Option CellValue)) ScanFault) (trace : List (LookMade LiveReaderValue)) → EndsGet bounds keys answer trace → Gaps moves was trace new
-      → (reached : LiveReaderValue) × IsGet (LooksAfter moves LooksLive) bounds keys was reached (λ cells. cells) answer (looks_in trace) × moves reached new
-  got_by was new bounds keys answer trace ends gaps =
-      let there = looks_after moves LooksLive was new trace ends.made gaps in (
-        there.0,
-        record { looked = there.1; found = ends.found; order = ends.order; only = ends.only; answers = ends.answers; whole = ends.whole },
-        there.2,
-      )
-
   module _ (was between now : LiveReaderValue) (moved : moves between now) where
     -- nothing was looked at
     refused_at_once : (text : List ℕ) (command : CommandValue) → lookup_at text ≡ Ok command → moves was between → After moves (AnswersLine moves) was text now
@@ -104,7 +87,7 @@ module _ (moves : Moving LiveReaderValue) (pre : IsPreorder moves) where
         let more = on.1.0 ++ no_looks in
         let ends = subst (λ (l : List (LookMade LiveReaderValue)). EndsGet was.layout keys (Err look_memory) l) (sym (append-nil on.1.0))
         (subst (λ (ks : List (List ℕ)). EndsGet was.layout ks (Err look_memory) on.1.0) on.0 (keys_without_memory was.layout walk on.1.0 on.1.1)) in
-        let there = got_by was now was.layout keys (Err look_memory) more ends (gaps_more moves was between now now on.1.0 [] pre on.1.2 moved refl) in
+        let there = got_by moves was now was.layout keys (Err look_memory) more ends (gaps_more moves was between now now on.1.0 [] pre on.1.2 moved refl) in
         refused_after text (get keys) said record { seen = looks_in more; answer = Err look_memory; reached = there.0; got = there.1; moved = there.2; shows = refl }
     up_given_up text (copy need tablet) (Copy count) said on =
         refused_after text (copy need tablet) said (inl record { within = on.within; found = on.found; answer = Ok count.copy; reached = on.reached; copied = on.copied; moved = pre.goes_on on.reached between now on.moved moved; shows = inr refl })
@@ -131,38 +114,11 @@ module _ (moves : Moving LiveReaderValue) (pre : IsPreorder moves) where
     last_given_up (b ∷ text) going looks = let after = line_given_up (b ∷ text) going looks in record { between = after.between; moved = after.moved; made = after.made }
 
     -- the line is left refused
-    given_up : (ended : EndedBy) (text : List ℕ) (going : Going) → by_end (LooksFor moves) (LooksForLast moves) was ended text between going → (replied : Replied) × Answers (reads_lines moves) was ended text now replied
+    pub given_up : (ended : EndedBy) (text : List ℕ) (going : Going) → by_end (LooksFor moves) (LooksForLast moves) was ended text between going
+        → (replied : Replied) × ((first : LiveReaderValue) × moves was first × Replies (AnswersLine moves) (EndsLines moves) first ended text now replied)
     given_up Newline text going looks =
         let after = line_given_up text going looks in
-        (replied_of (Refused Memory), record { between = after.between; moved = after.moved; answered = record { reply = Refused Memory; shown = refl; made = after.made } })
+        (replied_of (Refused Memory), (after.between, after.moved, record { reply = Refused Memory; shown = refl; made = after.made }))
     given_up Input text going looks =
         let after = last_given_up text going looks in
-        (replied_of (Refused Memory), record { between = after.between; moved = after.moved; answered = record { reply = Refused Memory; shown = refl; made = after.made } })
-
-  -- what a reader may become in between, what it keeps, and what is given up
-  pub reads_steadily : lines.IsPreorder moves × lines.IsPreorder KnowsNoLess × GivesUp (reads_lines moves)
-  reads_steadily = (record { stays = pre.stays; goes_on = pre.goes_on }, knows_steadily, λ was between now ended text going looks moved. given_up was between now moved ended text going looks)
-
--- a reader that is shared may come to know more in between
-pub knows_preorder : IsPreorder KnowsNoLess
-knows_preorder = record { stays = knows_itself; goes_on = knows_on }
-
--- and one that is alone stays as it is
-pub stays_preorder : {V : Type 0} → IsPreorder {V = V} Stays
-stays_preorder {V} = record { stays = λ v. refl; goes_on = λ a b c first second. second ∙ first }
-
--- a handler that has its reader alone
-module _ {V : Type 0} (see : V → LiveReaderValue) where
-  answered_alone : (was now : V) (ended : EndedBy) (text : List ℕ) → (replied : Replied) × Answers (reads_lines Stays) (see was) ended text (see now) replied → (replied : Replied) × Answers (reads_by see) was ended text now replied
-  answered_alone was now ended text (replied, is) =
-      (replied, record { between = was; moved = refl; answered = subst (λ (reader : LiveReaderValue). Replies (AnswersLine Stays) (EndsLines Stays) reader ended text (see now) replied) is.moved is.answered })
-
-  alone_given_up : GivesUp (reads_by see)
-  alone_given_up was between now ended text going looks moved = answered_alone was now ended text (given_up Stays stays_preorder (see was) (see between) (see now) (ap see moved) ended text going looks)
-
-pub alone_reads_steadily : lines.IsPreorder {V = AloneReader} Stays × lines.IsPreorder KeepsReader × GivesUp alone_reads
-alone_reads_steadily = (
-  stays_steadily,
-  record { stays = λ alone. (knows_itself alone.reader.now, refl); goes_on = λ a b c first second. (knows_on a.reader.now b.reader.now c.reader.now first.0 second.0, second.1 ∙ first.1) },
-  alone_given_up reader_of,
-)
+        (replied_of (Refused Memory), (after.between, after.moved, record { reply = Refused Memory; shown = refl; made = after.made }))
