@@ -10,3 +10,5 @@ pub mod Progress
 pub mod Replies
 pub mod Standing
 pub mod Taking
+pub mod TurnStates
+pub mod Turns

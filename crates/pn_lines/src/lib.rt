@@ -10,6 +10,7 @@ mod handler;
 mod piece_text;
 #[cfg(test)]
 mod tests;
+mod turns;
 
 pub use driver::buffers::LineBuffers;
 pub use driver::{LinesFault, answer_lines};
@@ -19,3 +20,7 @@ pub use handler::{
     Answer, Answered, EndedBy, LineHandler, LineReply, MAX_ANSWER_UNITS, RefusesLong,
 };
 pub use piece_text::{MAX_PIECE_BYTES, PieceText};
+pub use turns::{
+    Input, LineTurns, MAX_UNREAD, Pause, READ_SIZE, SourceState, TURN_UNITS, TurnBuffers,
+    TurnFault, TurnOutcome, answer_in_turns, is_wait,
+};
