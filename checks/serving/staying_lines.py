@@ -1,15 +1,16 @@
-"""Long lines of many clients, and of the client for Python; and silence beside clients that come: checks of `checks/run stay`."""
+"""Long lines of many clients, and of the client for Python; dear scans; and silence beside clients that come: checks of `checks/run stay`."""
 import contextlib
+import json
 import os
 import random
 import socket
 import struct
 import sys
 import time
-from collections.abc import Callable
+from collections.abc import Callable, Iterator
 
 from common.crates import TOP
-from common.served import SECONDS, Client, in_time, row_of, same, seconds_of, written
+from common.served import SECONDS, Client, Json, in_time, row_of, same, seconds_of, written
 from serving.staying import Beside, Staying, messages, until
 from serving.staying_limits import none
 
@@ -22,6 +23,8 @@ KEYS_ASKED: dict[str, Callable[[int], str]] = {"Cyrillic letters": lambda at: ch
                                               "control characters": lambda at: chr(1 + at % 8) * 256}
 # How long one waits that may never be answered, and what clients may leave.
 PATIENCE, LEAK_KB = 20.0, 4_096
+# Records with many contents, among some with one.
+HEAVY, HEAVY_CONTENTS, LIGHT = 3, 1_500, 20
 # For how many seconds a client may be silent, how often others come meanwhile, and how much later than that it is ended at most.
 IDLE, COMING, LATER = 3, 0.04, 2.5
 
@@ -55,6 +58,46 @@ def check_long_lines_of_many(program: str, folder: str) -> None:
             if before:
                 region.same_rest(before, "once as many have gone again", LEAK_KB)
             before = region.rest("once they have gone")
+
+
+def heavy_stream() -> Iterator[bytes]:
+    """Some records of one content, and some of many, which differ in a field."""
+    keys = [(f"k{number:03}", 1) for number in range(LIGHT)] + [(f"k{number * 7:03}x", HEAVY_CONTENTS) for number in range(HEAVY)]
+    images = [(key, part) for key, count in keys for part in range(count)]
+    for at, (key, part) in enumerate(images, 1):
+        image = {"fields": {"all": "x", "part": part}, "key": key, "master": "w", "version": [1, 1]}
+        yield json.dumps({"at": at, "image": image}).encode() + b"\n"
+
+
+def keys_shown(client: Client, limit: int, *conditions: list[object]) -> list[str]:
+    """The keys that pages show of a scan, one after another."""
+    query: Json = {"limit": limit, "where": list(conditions)}
+    keys = list[str]()
+    while query:
+        page = client.ask({"do": "scan", "query": query})
+        keys += [row["key"] for row in page["rows"]]
+        query = page["next"]
+    return keys
+
+
+def check_records_of_many_contents(program: str, folder: str) -> None:
+    """A scan shows a record of 1,500 contents where one of them does for all conditions, wherever it stands, beside others that scan."""
+    path = os.path.join(folder, "heavy")
+    with open(path, "wb") as file:
+        file.writelines(heavy_stream())
+    heavy = [f"k{number * 7:03}x" for number in range(HEAVY)]
+    light = [f"k{number:03}" for number in range(LIGHT)]
+    with Staying(program, folder, [("east", path)], threads=1) as region:
+        with Client(region.port) as client, Client(region.port) as other:
+            until("all contents are there", lambda: keys_shown(client, 1_000, ["eq", "part", HEAVY_CONTENTS - 1]) == heavy, 60)
+            for limit in (1, 2, 1_000):
+                other.send(b'{"do":"scan","query":{"where":[["eq","all","y"]]}}\n' * 20)
+                for part in (1, HEAVY_CONTENTS // 2, HEAVY_CONTENTS - 1):
+                    same(f"those with part {part}", keys_shown(client, limit, ["eq", "part", part]), heavy)
+                same("those with the first part", keys_shown(client, limit, ["eq", "part", 0]), sorted(light + heavy))
+                same("those with none", keys_shown(client, limit, ["eq", "part", HEAVY_CONTENTS]), [])
+                same("none has two parts", keys_shown(client, limit, ["eq", "part", 1], ["eq", "part", 2]), [])
+                same("what the other is shown", [other.reply() for _ in range(20)], [b'{"next":null,"rows":[]}\n'] * 20)
 
 
 def check_idle_with_a_long_line(program: str, folder: str) -> None:

@@ -2,9 +2,11 @@
 
   checks/run turns PROGRAM [ROW ..] [--records N] [--seconds S]
 
-300,000 small records, and 2,000 of 4 KB. One session thread: an honest client reads, a line at a time, beside 1, 8 and 64 clients that
-send one kind of line without end and take all replies: `scan` (all records, and shows none), `page` (1,000 rows of 4 KB), `copy`, `get`
-(100 keys) and `nested` (64 KB of `[`). A row says how long its reads took, at their middle, for 999 of 1,000 of them, and at most.
+300,000 small records, 2,000 of 4 KB, 2,000 of 64 fields, and one of 30,000 contents. One session thread: an honest client reads, a line at
+a time, beside 1, 8 and 64 clients that send one kind of line without end and take all replies: `scan` (all records, and shows none), `page`
+(1,000 rows of 4 KB), `copy`, `get` (100 keys), `nested` (64 KB of `[`), and scans that show none: `prefixes` (15 of 4,000 bytes), `fields`
+(16 conditions, each on the last of 64 fields with long names) and `contents` (of the one record). A row says how long its reads took, at their
+middle, for 999 of 1,000 of them, and at most.
 `stream` says how fast a stream loads alone and beside four that scan; `deaf` what 1,024 clients cost that ask for pages and copies and
 take nothing; `scarce` whether an honest client loses a reply where memory is limited, and whether a stream goes on.
 
@@ -12,6 +14,7 @@ Exit status 0 where each row is as wanted: 999 of 1,000 reads within 10 ms besid
 fast; at most 256 MB.
 """
 import contextlib
+import json
 import os
 import resource
 import select
@@ -28,6 +31,7 @@ from common.tried import program_parser
 from serving.staying import CHUNK, Beside, Staying, raise_descriptors, until
 
 BIG_RECORDS, BIG_TEXT = 2_000, 4_000
+WIDE_RECORDS, WIDE_FIELDS, CONTENTS = 2_000, 64, 30_000
 # For how many seconds the records may be read in.
 LOADING = 600
 GREEDY = (1, 8, 64)
@@ -40,7 +44,23 @@ PAGE = b'{"do":"scan","query":{"from":"p","limit":1000}}\n'
 COPY = b'{"do":"copy","need":{},"tablet":0}\n'
 GET = b'{"do":"get","keys":[%b]}\n' % b",".join(b'"k%06d"' % (number * 37) for number in range(100))
 NESTED = b"[" * 65_000 + b"\n"
-LINES = {"scan": SCAN, "page": PAGE, "copy": COPY, "get": GET, "nested": NESTED}
+
+
+def field_name(number: int) -> str:
+    """A name of 64 bytes, of which only the last two tell it from others."""
+    return f"{'f' * 62}{number:02}"
+
+
+def scan_of(first: str, end: str, conditions: list[list[str]]) -> bytes:
+    """A scan of the keys from one to another."""
+    return json.dumps({"do": "scan", "query": {"from": first, "to": end, "where": conditions}}).encode() + b"\n"
+
+
+LAST_FIELD = field_name(WIDE_FIELDS - 1)
+PREFIXES = scan_of("p", "q", [["prefix", "v", "y" * BIG_TEXT]] * 14 + [["prefix", "v", "y" * (BIG_TEXT - 1) + "z"]])
+FIELDS = scan_of("f", "g", [["has", LAST_FIELD]] * 15 + [["eq", LAST_FIELD, "none has it"]])
+CONTENTS_SCAN = scan_of("c", "d", [["eq", "v", "none has it"]])
+LINES = {"scan": SCAN, "page": PAGE, "copy": COPY, "get": GET, "nested": NESTED, "prefixes": PREFIXES, "fields": FIELDS, "contents": CONTENTS_SCAN}
 
 
 class Row(NamedTuple):
@@ -56,12 +76,22 @@ def messages(first: int, count: int, key: str, text: str) -> bytes:
     return b"".join(line % (at, at, at) for at in range(first, first + count))
 
 
+def images(first: int, count: int, key: str, fields: Callable[[int], dict[str, object]]) -> Iterator[bytes]:
+    """Messages whose images have some fields each, all of one version. Where the key has no number in it they are of one record."""
+    for index in range(count):
+        image = {"fields": fields(index), "key": key.format(index), "master": "w", "version": [1, 1]}
+        yield json.dumps({"at": first + index, "image": image}, sort_keys=True).encode() + b"\n"
+
+
 def write_records(folder: str, records: int) -> str:
     """A stream of all records."""
-    path = os.path.join(folder, "east")
+    path, wide = os.path.join(folder, "east"), {field_name(number): number for number in range(WIDE_FIELDS)}
     with open(path, "wb") as file:
         file.write(messages(1, records, "k", "x"))
         file.write(messages(records + 1, BIG_RECORDS, "p", "y" * BIG_TEXT))
+        at = records + BIG_RECORDS + 1
+        file.writelines(images(at, WIDE_RECORDS, "f{:06}", lambda index: dict(wide)))
+        file.writelines(images(at + WIDE_RECORDS, CONTENTS, "c", lambda index: {"v": f"{index:06}"}))
     return path
 
 

@@ -3,8 +3,8 @@
   checks/run words
 
 Commands, members, refusals, options and the reasons that writers of streams are told are read off the sources. Each has to stand
-in docs/formats.md; commands also in README.md, the slow program and the fuzzer's words; what sessions have in clients/README.md
-and in each client; what control sessions have besides in the client for Python.
+in docs/formats.md; commands also in README.md, the slow program and the fuzzer's words; what sessions have, by the table of commands, in
+clients/README.md and in each client; what control sessions have besides in the client for Python.
 Commands and options that README.md, docs/ or the packages name have to be those of the program, and its version is the same in
 all files (bin/version).
 
@@ -18,7 +18,9 @@ from pathlib import Path
 
 from common.crates import TOP
 
-COMMAND = re.compile(r'"(\w+)" => Some\(CommandWord::')
+COMMAND = re.compile(r'"(\w+)" => Some\(CommandWord::(\w+)\)')
+# A row of the table of commands.
+ROW = re.compile(r"CommandWord::(\w+) => row\(CommandUsers::(\w+)")
 # What control sessions have besides.
 CONTROL = re.compile(r'"(\w+)" => Some\(ControlWord::')
 MEMBER = re.compile(r'(?:Part|Member)::\w+ => "(\w+)"')
@@ -29,8 +31,7 @@ OPTION = re.compile(r'\b(?:option|number|plain|path|flag)\(\s*alloc,\s*"([a-z-]+
 TOLD_COMMAND = re.compile(r'"do":"(\w+)"')
 TOLD_OPTION = re.compile(r"pnuts (?:serve|replay)[^\n|]*?(--[a-z-]+)")
 
-# What sessions have, and the refusals that they know.
-LOOKUPS = {"read", "get", "scan", "copy"}
+# The refusals that sessions do not have.
 OF_SCRIPTS = {"gap", "too-many-streams", "bad-line", "outside-range", "not-rising", "bad-end", "truncated", "wrong-range", "too-old", "still-recovering"}
 # Options that clap has by itself.
 BY_CLAP = {"--help", "--version"}
@@ -77,15 +78,22 @@ def versions() -> list[str]:
     return ran.stdout.splitlines() if ran.returncode else []
 
 
+def commands_of(users: str, protocol: str) -> set[str]:
+    """The words of the commands that these may say, by the table."""
+    words = {name: word for word, name in COMMAND.findall(protocol)}
+    return {words[name] for name, row_users in ROW.findall(protocol) if row_users == users}
+
+
 def all_faults() -> Iterator[str]:
     protocol = sources("pn_protocol")
     commands = found(COMMAND, protocol)
+    lookups, of_controls = commands_of("Sessions", protocol), commands_of("Controls", protocol)
     members = found(MEMBER, protocol + sources("pn_record")) - {"whole", "other"}
     controls, refusals = found(CONTROL, protocol), found(REFUSAL, protocol)
     options = {f"--{it}" for it in found(OPTION, sources("pn_arguments"))}
     reasons = found(REASON, sources("pn_stay"))
     formats, readme = (TOP / "docs/formats.md").read_text(), (TOP / "README.md").read_text()
-    if min(map(len, (commands, members, refusals, options, reasons))) < 5:
+    if min(map(len, (commands, members, refusals, options, reasons))) < 5 or not lookups or not of_controls:
         yield "the sources do not say their words in the way that this script reads them"
     for kind, words in (("command", commands | controls), ("member", members), ("refusal", refusals), ("option", options), ("reason", reasons)):
         yield from missing(kind, words, "docs/formats.md", formats)
@@ -93,9 +101,9 @@ def all_faults() -> Iterator[str]:
     yield from missing("command", commands, "the slow program (checks)", text_of(below("checks")))
     yield from missing("command", commands, "fuzz/words.dict", (TOP / "fuzz/words.dict").read_text())
     for where, paths in clients().items():
-        yield from missing("command", LOOKUPS, where, text_of(paths))
+        yield from missing("command", lookups, where, text_of(paths))
         yield from missing("refusal", refusals - OF_SCRIPTS, where, text_of(paths))
-    yield from missing("command", controls, "the client for Python", text_of(clients()["the client for Python"]))
+    yield from missing("command", controls | of_controls, "the client for Python", text_of(clients()["the client for Python"]))
     told = readme + text_of(sorted((TOP / "docs").glob("*.md")))
     yield from unknown("command", TOLD_COMMAND.findall(told), commands | controls, "README.md or docs/")
     yield from unknown("option", TOLD_OPTION.findall(told + text_of(below("packaging"))), options | BY_CLAP, "README.md, docs/ or packaging/")

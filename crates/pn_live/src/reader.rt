@@ -8,7 +8,7 @@ ghost use Rattle.pn_live.specs.Copying.{IsCopied};
 ghost use Rattle.pn_live.specs.Counting.{IsCounted};
 ghost use Rattle.pn_live.specs.Readers.{LooksLive, IsFrontFor, AreTabletReadersOf, tablets_of};
 ghost use Rattle.pn_live.specs.TabletReaders.{AllLearn};
-ghost use Rattle.pn_live.specs.declared.reader.TheConstants.{ENTRY_RECORDS};
+ghost use Rattle.pn_live.specs.declared.reader.TheConstants.{ENTRY_WORK};
 
 use crate::front::{Front, TabletNote};
 use crate::tablet_reader::TabletReader;
@@ -19,9 +19,9 @@ use pn_tablet::{CopyFault, Layout, RecordCounts, TabletCopy};
 use std::alloc::Global;
 use std::marker::Model;
 
-/// How many records one entry into a tablet looks at where there are as many; it takes the others with it, by a slice. While a
-/// reader is inside, the writer spins. A page without conditions takes no more records, and a slice costs more than these.
-pub const ENTRY_RECORDS: usize = 1_024;
+/// How much work one entry into a tablet does where there is as much; it takes the other records with it, by a slice. While a
+/// reader is inside, the writer spins. A page without conditions is no more work, and a slice costs more than this.
+pub const ENTRY_WORK: usize = 2_048;
 
 /// A reader of a live region, for one thread at a time. None of its calls waits.
 #[derive(Drop)]
@@ -202,7 +202,7 @@ pub(crate) fn with_cell(
 impl View for LiveReader {
     ghost bounds = { λ reader. reader.layout };
 
-    ghost most = { λ records. max records ENTRY_RECORDS };
+    ghost most = { λ work. max work ENTRY_WORK };
 
     ghost looks = { LooksLive };
 
@@ -211,10 +211,10 @@ impl View for LiveReader {
     }
 
     fn part(&mut self, tablet: usize, query: &Query, room: usize, budget: Budget) -> PartResult {
-        let records = budget.records.max(ENTRY_RECORDS);
+        let work = budget.work.max(ENTRY_WORK);
         let entry = Budget {
             alloc: budget.alloc,
-            records,
+            work,
         };
         self.tablet_readers[tablet].part(tablet, query, room, entry)
     }

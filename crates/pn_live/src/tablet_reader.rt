@@ -1,9 +1,10 @@
 //! Tablet readers: what a reader of a live region has of each tablet.
 
-ghost use Rattle.std.specs.Prelude.{◌≡◌, ◌≤◌, MatchResult, Option, IfOk};
+ghost use Rattle.std.specs.Prelude.{◌≡◌, ◌≤◌, max, MatchResult, Option, IfOk};
 ghost use Rattle.pn_tablet.specs.Prelude.{TabletStateValue};
 ghost use Rattle.pn_scan.specs.Parts.{looked_in};
 ghost use Rattle.pn_scan.specs.Prelude.{rows_at, cell_at, part_at};
+ghost use Rattle.pn_scan.specs.declared.work.TheConstants.{MAX_PART_WORK};
 ghost use Rattle.pn_live.specs.Copying.{IsOneCopy};
 ghost use Rattle.pn_live.specs.Counting.{IsOneCount};
 ghost use Rattle.pn_live.specs.Looks.{IsOneLook, left_by};
@@ -110,10 +111,10 @@ impl TabletReader {
     }
 
     /// The first `room` rows that a query shows in the state that one entry finds, as `part_of`; `NoEntry` where
-    /// the entry is refused. The entry looks at the budget's records at most.
+    /// the entry is refused. The entry does the budget's work at most, or looks at one content.
     pub fn part(&mut self, tablet: usize, query: &Query, room: usize, budget: Budget) -> PartResult
         ensures look { (found : Option TabletStateValue) × IsOneLook self.old self.new (part_at query.now) result (rows_at query.now room) tablet found }
-        ensures few { IfOk result (λ part. looked_in budget.records part ≤ budget.records) }
+        ensures few { IfOk result (λ part. looked_in (max budget.work MAX_PART_WORK) part ≤ max budget.work MAX_PART_WORK) }
     {
         replace_with(
             self,
@@ -130,7 +131,7 @@ impl TabletReader {
         budget: Budget,
     ) -> (TabletReader, PartResult)
         ensures look { (found : Option TabletStateValue) × IsOneLook self result.0 (part_at query.now) result.1 (rows_at query.now room) tablet found }
-        ensures few { IfOk result.1 (λ part. looked_in budget.records part ≤ budget.records) }
+        ensures few { IfOk result.1 (λ part. looked_in (max budget.work MAX_PART_WORK) part ≤ max budget.work MAX_PART_WORK) }
     {
         match self.enter() {
             Ok(guard) => {

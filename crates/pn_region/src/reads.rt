@@ -18,7 +18,7 @@ use pn_tablet::{Layout, Status, TabletState};
 impl View for &Region {
     ghost bounds = { λ view. view.now.state.layout };
 
-    ghost most = { λ records. 2 ^ 64 - 1 };
+    ghost most = { λ work. 2 ^ 64 - 1 };
 
     ghost looks = { λ old look new. (new ≡ old) × IsThere old.now.state look };
 
@@ -30,7 +30,7 @@ impl View for &Region {
     fn part(&mut self, tablet: usize, query: &Query, room: usize, budget: Budget) -> PartResult {
         let whole = Budget {
             alloc: budget.alloc,
-            records: usize::MAX,
+            work: usize::MAX,
         };
         part_of(self.state(tablet), tablet, query, room, whole)
     }

@@ -23,3 +23,4 @@ pub mod Settled
 pub mod Visiting
 pub mod WalkLaws
 pub mod Walking
+pub mod Works

@@ -15,7 +15,7 @@ use Rattle.pn_scan.specs.Shown.{shown_rows}
 use Rattle.pn_scan.specs.Candidates.{Look, cells_in, is_candidate, candidates, rows_in, is_visited, candidates_of, visited}
 use Rattle.pn_scan.specs.Pages.{PageValue, refusal, first_refusal, first_page, unless}
 use Rattle.pn_scan.specs.Paging.{LookMade, AreMade, looks_in, Follows, Gaps, Moving, IsPreorder, LooksAfter, going_in, rows_to_come, steps_left, IsOnPage, EndsPage}
-use Rattle.pn_scan.specs.Parts.{PartValue, left_in, IsDone}
+use Rattle.pn_scan.specs.Parts.{PartValue, left_in, part_left}
 use Rattle.pn_scan.specs.Views.{Looks, LooksOnce, is_memory, rows_at}
 use Rattle.pn_scan.specs.Visits.{GoesOn, IsVisit, IsWhole, IsScan}
 use Rattle.pn_scan.specs.WalkValues.{PageWalkValue, PartWalkValue}
@@ -278,7 +278,6 @@ scanned moves looks bounds query was now answer trace ends gaps =
     )
 
 -- a look that is resumed comes nearer to its end
-pub less_left : (part : TabletRows) (next old : Option PartWalkValue) (walk : PartWalkValue) → next ≡ going_in part → old ≡ Some walk → (left_in part < length walk.rest) ⊎ IsDone part → steps_left next < steps_left old
-less_left (FoundAll rows more looked) next old walk is was less = let none = ap steps_left is in let some = ap steps_left was in omega arith
-less_left (Rest rest) next old walk is was (inl less) = let left = ap steps_left is in let some = ap steps_left was in omega arith
-less_left (Rest rest) next old walk is was (inr done) = absurd done
+pub less_left : (part : TabletRows) (next old : Option PartWalkValue) (walk : PartWalkValue) → next ≡ going_in part → old ≡ Some walk → left_in part < part_left walk → steps_left next < steps_left old
+less_left (FoundAll rows more looked) next old walk is was less = let none = ap steps_left is in let some = ap steps_left was in omega (arith, less)
+less_left (Rest rest) next old walk is was less = let left = ap steps_left is in let some = ap steps_left was in omega (arith, less)

@@ -8,15 +8,15 @@ use Rattle.pn_scan.specs.WalkValues.{PageWalkValue, PartWalkValue}
 -- a look as pairs
 abbrev pub part_walk_code : Coded PartWalkValue
 part_walk_code =
-    code_by ((Entries × Entries) × ℕ) (coded× (coded× entries_code entries_code) coded_ℕ)
-    (λ w. ((w.rows, w.rest), w.room))
-    (λ p. record { rows = p.0.0; rest = p.0.1; room = p.1 })
+    code_by ((Entries × Entries) × (ℕ × ℕ)) (coded× (coded× entries_code entries_code) (coded× coded_ℕ coded_ℕ))
+    (λ w. ((w.rows, w.rest), (w.seen, w.room)))
+    (λ p. record { rows = p.0.0; rest = p.0.1; seen = p.1.0; room = p.1.1 })
     (λ _. refl)
 
 -- a page as pairs
 abbrev pub page_walk_code : Coded PageWalkValue
 page_walk_code =
     code_by ((Entries × Option PartWalkValue) × (ℕ × (ℕ × ℕ))) (coded× (coded× entries_code (coded_option part_walk_code)) (coded× coded_ℕ (coded× coded_ℕ coded_ℕ)))
-    (λ w. ((w.rows, w.part), (w.next, (w.end, w.looked))))
-    (λ p. record { rows = p.0.0; part = p.0.1; next = p.1.0; end = p.1.1.0; looked = p.1.1.1 })
+    (λ w. ((w.rows, w.part), (w.next, (w.end, w.units))))
+    (λ p. record { rows = p.0.0; part = p.0.1; next = p.1.0; end = p.1.1.0; units = p.1.1.1 })
     (λ _. refl)

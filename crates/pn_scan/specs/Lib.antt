@@ -18,3 +18,4 @@ pub mod Visits
 pub mod WalkValues
 pub mod Walking
 pub mod Walks
+pub mod Works

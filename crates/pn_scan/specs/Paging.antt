@@ -1,11 +1,11 @@
 -- Pages that are resumed, between whose looks the view may move.
-use Rattle.std.specs.Prelude.{◌≡◌, ◌⊎◌, ◌<◌, ◌≤◌, ℕ, suc, ◌+◌, ◌-◌, List, [], ◌∷◌, ◌++◌, length, map, take, max, Option, None, Some, IfSome, Result, Ok, Err, OnOk, OnErr}
+use Rattle.std.specs.Prelude.{◌≡◌, ◌⊎◌, ◌<◌, ◌≤◌, ℕ, ◌+◌, ◌-◌, ◌*◌, List, [], ◌∷◌, ◌++◌, length, map, take, max, Option, None, Some, IfSome, Result, Ok, Err, OnOk, OnErr}
 use Rattle.std.specs.List.{AllByRecursion, range_with_len}
 use Rattle.pn_record.specs.CellMap.{Entries}
 use Rattle.pn_tablet.specs.Layouts.{Bounds}
 use Rattle.pn_scan.specs.Candidates.{Look, candidates, rows_in, visited}
 use Rattle.pn_scan.specs.Pages.{PageValue, first_page, first_refusal, unless}
-use Rattle.pn_scan.specs.Parts.{walk_answer}
+use Rattle.pn_scan.specs.Parts.{part_left, part_work, walk_answer}
 use Rattle.pn_scan.specs.Queries.{QueryValue}
 use Rattle.pn_scan.specs.Views.{Answers}
 use Rattle.pn_scan.specs.Visits.{IsVisit, IsWhole}
@@ -14,6 +14,7 @@ use Rattle.pn_scan.specs.declared.fault.ScanFault.{ScanFault}
 use Rattle.pn_scan.specs.declared.page_walk.PageStep.{PageStep}
 use Rattle.pn_scan.specs.declared.page_walk.PageStep.TheVariants.{Done, Next}
 use Rattle.pn_scan.specs.declared.walk.TabletRows.{TabletRows}
+use Rattle.pn_scan.specs.declared.work.TheConstants.{UNIT_WORK}
 use Rattle.pn_scan.specs.declared.walk.TabletRows.TheVariants.{Done as FoundAll, Rest}
 
 -- a look as it was made: the view before it, the tablet and what was found, and the view after it
@@ -68,15 +69,15 @@ abbrev pub rows_to_come : QueryValue → Option PartWalkValue → Entries
 rows_to_come query None = []
 rows_to_come query (Some walk) = (walk_answer query walk).0
 
--- the number of records that are still to be looked at before the next look
-abbrev pub records_left : Option PartWalkValue → ℕ
-records_left None = 0
-records_left (Some walk) = length walk.rest
+-- what is still to be looked at before the next look counts for this
+abbrev pub work_left : QueryValue → Option PartWalkValue → ℕ
+work_left query None = 0
+work_left query (Some walk) = part_work query walk
 
--- one more than that, where a look is resumed
+-- how far a look is from its end, where one is resumed
 abbrev pub steps_left : Option PartWalkValue → ℕ
 steps_left None = 0
-steps_left (Some walk) = suc (length walk.rest)
+steps_left (Some walk) = part_left walk
 
 -- the look that is resumed, if one is
 abbrev pub going_in : TabletRows → Option PartWalkValue
@@ -110,11 +111,13 @@ PagesTo {V} looks bounds query old new (Err fault) trace = (more : List (LookMad
 abbrev pub IsNewWalk : Bounds → QueryValue → PageWalkValue → Type 0
 IsNewWalk bounds query walk = (walk.rows ≡ []) × (walk.part ≡ None) × (candidates bounds query ≡ range_with_len walk.next (walk.end - walk.next))
 
--- of what a look had left no more records were looked at than are counted, which are at most the first of these numbers, or the second where a look was begun
-abbrev pub CountsRecords : ℕ → ℕ → PageWalkValue → PageStep → Type 0
-CountsRecords records first old (Done page) = Unit {0}
-CountsRecords records first old (Next walk) =
-    (walk.looked ≤ max records first) × ((records_left old.part ≤ records_left walk.part + walk.looked) ⊎ (walk.part ≡ None))
+-- of what a look had left no more was looked at than the units count, which are no more than the first of these amounts of work, or than the
+-- second where a look was begun
+abbrev pub CountsWork : QueryValue → ℕ → ℕ → PageWalkValue → PageStep → Type 0
+CountsWork query most first old (Done page) = Unit {0}
+CountsWork query most first old (Next walk) =
+    (UNIT_WORK * walk.units < max most first + UNIT_WORK)
+    × ((work_left query old.part ≤ work_left query walk.part + UNIT_WORK * walk.units) ⊎ (walk.part ≡ None))
 
 -- fewer tablets are to come, or less is left of the one that is looked into
 abbrev pub IsNearer : PageWalkValue → PageStep → Type 0

@@ -1,8 +1,9 @@
 -- Looks into one tablet that are resumed: each is shown by the answer that it comes to.
-use Rattle.std.specs.Prelude.{◌≤◌, ℕ, ◌+◌, Bool, nat_lt, ◌++◌, length, take}
+use Rattle.std.specs.Prelude.{◌≤◌, ℕ, suc, ◌+◌, ◌-◌, ◌*◌, ◌^◌, Bool, nat_lt, ◌++◌, length, take}
 use Rattle.pn_record.specs.CellMap.{Entries}
 use Rattle.pn_scan.specs.Queries.{QueryValue}
-use Rattle.pn_scan.specs.Shown.{shown_rows}
+use Rattle.pn_scan.specs.Shown.{rows_from}
+use Rattle.pn_scan.specs.Works.{records_work}
 use Rattle.pn_scan.specs.WalkValues.{PartWalkValue}
 use Rattle.pn_scan.specs.declared.walk.TabletRows.{TabletRows}
 use Rattle.pn_scan.specs.declared.walk.TabletRows.TheVariants.{Done, Rest}
@@ -13,29 +14,32 @@ PartValue = Entries × Bool
 
 -- the answer that a look comes to
 abbrev pub walk_answer : QueryValue → PartWalkValue → PartValue
-walk_answer query walk = (take walk.room (walk.rows ++ shown_rows query walk.rest), nat_lt walk.room (length (walk.rows ++ shown_rows query walk.rest)))
+walk_answer query walk = (take walk.room (walk.rows ++ rows_from query walk.seen walk.rest), nat_lt walk.room (length (walk.rows ++ rows_from query walk.seen walk.rest)))
 
 -- the answer that it has, or comes to
 abbrev pub part_at : QueryValue → TabletRows → PartValue
 part_at query (Done rows more looked) = (rows.items, more)
 part_at query (Rest walk) = walk_answer query walk
 
--- how many records are still to be looked at
+-- how far a look is from its end: its records, and the contents of the first one
+abbrev pub part_left : PartWalkValue → ℕ
+part_left walk = suc (length walk.rest) * 2 ^ 64 - walk.seen
+
+-- the same of a look that may be done
 abbrev pub left_in : TabletRows → ℕ
 left_in (Done rows more looked) = 0
-left_in (Rest walk) = length walk.rest
+left_in (Rest walk) = part_left walk
 
--- nothing is left to look at
-abbrev pub IsDone : TabletRows → Type 0
-IsDone (Done rows more looked) = Unit {0}
-IsDone (Rest walk) = ⊥
+-- what is left of a look counts for this
+abbrev pub part_work : QueryValue → PartWalkValue → ℕ
+part_work query walk = records_work query.conditions walk.seen walk.rest
 
--- how many records were looked at: as many as it says where it is done, and else this number
+-- what a look counts for: as much as it says where it is done, and else this
 abbrev pub looked_in : ℕ → TabletRows → ℕ
-looked_in records (Done rows more looked) = looked
-looked_in records (Rest walk) = records
+looked_in most (Done rows more looked) = looked
+looked_in most (Rest walk) = most
 
--- of the records that were left, at most this number were looked at
-abbrev pub LooksAtMost : ℕ → ℕ → TabletRows → Type 0
-LooksAtMost records left (Done rows more looked) = looked ≤ records
-LooksAtMost records left (Rest walk) = left ≤ length walk.rest + records
+-- of what was left, at most this was looked at
+abbrev pub LooksAtMost : QueryValue → ℕ → PartWalkValue → TabletRows → Type 0
+LooksAtMost query most old (Done rows more looked) = looked ≤ most
+LooksAtMost query most old (Rest walk) = part_work query old ≤ part_work query walk + most

@@ -17,10 +17,11 @@ mod unchecked_conditions;
 mod unchecked_query;
 mod view;
 mod walk;
+mod work;
 
 pub use condition::Condition;
 pub use fault::ScanFault;
-pub use page_walk::{PageStep, PageWalk};
+pub use page_walk::{LOOK_UNITS, PageStep, PageWalk};
 pub use pages::page;
 pub use part::{cell_of, part_of};
 pub use query::{MAX_CONDITIONS, MAX_PAGE_ROWS, Query};
@@ -29,3 +30,4 @@ pub use query_writing::{query_value, write_query};
 pub use reads::{get, read_at_least};
 pub use view::{Budget, Page, PartResult, Row, View};
 pub use walk::{PartWalk, TabletRows};
+pub use work::{MAX_PART_WORK, UNIT_WORK};

@@ -1,18 +1,24 @@
 //! Pages that are resumed.
 
-ghost use Rattle.std.specs.Prelude.{◌≡◌, ◌<◌, ◌≤◌, ◌+◌, ◌++◌, ◌⊎◌, true, false, List, length, max, None, IfOk};
+ghost use Rattle.std.specs.Prelude.{◌≡◌, ◌<◌, ◌≤◌, ◌+◌, ◌*◌, ◌^◌, ◌++◌, ◌⊎◌, true, false, List, length, max, None, IfOk};
 ghost use Rattle.pn_tablet.specs.Prelude.{IsLayout};
-ghost use Rattle.pn_scan.specs.Paging.{CountsRecords, going_in, records_left, rows_to_come, IsNearer, IsNewWalk, IsOnPage, LookMade, OnlyLooks, PagesTo};
+ghost use Rattle.pn_scan.specs.Paging.{CountsWork, going_in, rows_to_come, steps_left, IsNearer, IsNewWalk, IsOnPage, LookMade, OnlyLooks, PagesTo};
 ghost use Rattle.pn_scan.specs.Parts.{looked_in, part_at};
 ghost use Rattle.pn_scan.specs.Queries.{QueryValue};
-ghost use Rattle.pn_scan.specs.declared.pages.TheConstants.{LOOK_RECORDS};
+ghost use Rattle.pn_scan.specs.Works.{units_in};
+ghost use Rattle.pn_scan.specs.declared.page_walk.TheConstants.{LOOK_UNITS};
+ghost use Rattle.pn_scan.specs.declared.work.TheConstants.{MAX_PART_WORK, UNIT_WORK};
 
-use crate::pages::{LOOK_RECORDS, candidates, page_of, put_after};
+use crate::pages::{candidates, page_of, put_after};
+use crate::work::{MAX_PART_WORK, units_of, work_of};
 use crate::{Budget, Page, PartWalk, Query, Row, ScanFault, TabletRows, View};
 use pn_join::NoMemory;
 use pn_tablet::Layout;
 use std::alloc::Global;
 use std::marker::Model;
+
+/// How many units of work the first look into a tablet does, where the tablets may change meanwhile, before it is resumed.
+pub const LOOK_UNITS: u32 = 64;
 
 /// What a page comes to where it is resumed.
 #[derive(Drop)]
@@ -32,8 +38,8 @@ pub struct PageWalk {
     // The tablets that are still to be looked into, from the first number up to the second.
     tablet: usize,
     end: usize,
-    // How many records the last step looked at.
-    looked: usize,
+    // How many units of work the last step counts for.
+    units: u32,
 }
 
 impl Model for PageWalk {
@@ -45,7 +51,7 @@ impl Model for PageWalk {
 
     ghost coded = { page_walk_code };
 
-    ghost view = { λ walk. record { rows = walk.rows.items; part = walk.part; next = walk.tablet; end = walk.end; looked = walk.looked } };
+    ghost view = { λ walk. record { rows = walk.rows.items; part = walk.part; next = walk.tablet; end = walk.end; units = walk.units } };
 }
 
 impl PageWalk {
@@ -59,39 +65,38 @@ impl PageWalk {
             part: None,
             tablet,
             end,
-            looked: 0,
+            units: 0,
         }
     }
 
-    /// How many records the last step looked at; where its look is to be resumed, as many as it was to look at.
-    pub fn looked(&self) -> usize
-        ensures { result ≡ self.now.looked }
+    /// How many units of work the last step counts for; where its look is to be resumed, as many as it was to do.
+    pub fn units(&self) -> u32
+        ensures { result ≡ self.now.units }
     {
-        self.looked
+        self.units
     }
 
-    /// How many records are still to be looked at before the next look.
-    pub fn left(&self) -> usize
-        ensures { result ≡ records_left self.now.part }
+    /// Recalls for the prover that how far a look is from its end is counted in 128 bits.
+    pub fn recall_steps(&self)
+        ensures { steps_left self.now.part ≤ 2 ^ 128 }
     {
-        match &self.part {
-            Some(part) => part.left(),
-            None => 0,
+        if let Some(part) = &self.part {
+            part.recall_left();
         }
     }
 
-    /// Looks at at most `records` more records, or into the next tablet, at as many or at those of a first look.
+    /// Looks on for this many units of work, or at one more content; or into the next tablet, for as many, or those of a first look.
     pub fn go_on<V: View>(
         self,
         alloc: Global,
         view: &mut V,
         query: &Query,
-        records: usize,
+        units: u32,
     ) -> Result<PageStep, ScanFault>
         ensures goes { (trace : List (LookMade V)) → IsOnPage V.looks (V.bounds view.old) query.now self trace
             → PagesTo V.looks (V.bounds view.old) query.now view.old view.new result trace }
-        ensures nearer { 0 < records → IfOk result (IsNearer self) }
-        ensures few { IfOk result (CountsRecords (max records LOOK_RECORDS) (V.most (max records LOOK_RECORDS)) self) }
+        ensures nearer { IfOk result (IsNearer self) }
+        ensures few { IfOk result (CountsWork query.now (UNIT_WORK * max units LOOK_UNITS) (V.most (UNIT_WORK * max units LOOK_UNITS)) self) }
         ensures looked { OnlyLooks V.looks view.old view.new }
         ensures layout { V.bounds view.new ≡ V.bounds view.old }
     {
@@ -100,21 +105,26 @@ impl PageWalk {
             part,
             tablet,
             end,
-            looked,
+            units: before,
         } = self;
         let walk = PageWalk {
             rows,
             part: None,
             tablet,
             end,
-            looked,
+            units: before,
         };
         match part {
             Some(part) => {
-                let part = part.go_on(query, records)?;
-                Ok(PageStep::Next(walk.with_part(part, records)?))
+                let work = work_of(units);
+                let part = part.go_on(query, work)?;
+                let most = work.max(MAX_PART_WORK);
+                Ok(PageStep::Next(walk.with_part(part, most)?))
             }
-            None => walk.look_further(view, query, Budget { alloc, records }),
+            None => {
+                let work = work_of(units.max(LOOK_UNITS));
+                walk.look_further(view, query, Budget { alloc, work })
+            }
         }
     }
 
@@ -129,7 +139,7 @@ impl PageWalk {
         ensures goes { (trace : List (LookMade V)) → IsOnPage V.looks (V.bounds view.old) query.now self trace
             → PagesTo V.looks (V.bounds view.old) query.now view.old view.new result trace }
         ensures nearer { IfOk result (IsNearer self) }
-        ensures few { IfOk result (CountsRecords (max budget.records LOOK_RECORDS) (V.most (max budget.records LOOK_RECORDS)) self) }
+        ensures few { IfOk result (CountsWork query.now budget.work (V.most budget.work) self) }
         ensures looked { OnlyLooks V.looks view.old view.new }
         ensures layout { V.bounds view.new ≡ V.bounds view.old }
     {
@@ -138,14 +148,9 @@ impl PageWalk {
         }
         let mut walk = self;
         let room = query.limit() + 1 - walk.rows.len();
-        let most = budget.records.max(LOOK_RECORDS);
-        let further = Budget {
-            alloc: budget.alloc,
-            records: most,
-        };
-        let part = view.part(walk.tablet, query, room, further)?;
+        let part = view.part(walk.tablet, query, room, budget)?;
         walk.tablet += 1;
-        Ok(PageStep::Next(walk.with_part(part, most)?))
+        Ok(PageStep::Next(walk.with_part(part, budget.work)?))
     }
 
     // Whether no tablet of the layout is left to look into, or no room in the page.
@@ -157,12 +162,12 @@ impl PageWalk {
         self.tablet >= self.end.min(layout.count()) || self.rows.len() > query.limit()
     }
 
-    // With what the look into a tablet has come to, which went over this number of records unless it is done.
-    fn with_part(self, part: TabletRows, records: usize) -> Result<PageWalk, NoMemory>
+    // With what the look into a tablet has come to, which did this much work unless it is done.
+    fn with_part(self, part: TabletRows, most: usize) -> Result<PageWalk, NoMemory>
         ensures rows { IfOk result (λ walk. (query : QueryValue) → walk.rows ++ rows_to_come query walk.part ≡ self.rows ++ (part_at query part).0) }
         ensures part { IfOk result (λ walk. walk.part ≡ going_in part) }
         ensures ends { IfOk result (λ walk. (walk.next ≡ self.next) × (walk.end ≡ self.end)) }
-        ensures looked { IfOk result (λ walk. walk.looked ≡ looked_in records part) }
+        ensures units { IfOk result (λ walk. walk.units ≡ units_in (looked_in most part)) }
     {
         let PageWalk {
             rows,
@@ -176,14 +181,14 @@ impl PageWalk {
                 part: None,
                 tablet,
                 end,
-                looked,
+                units: units_of(looked),
             }),
             TabletRows::Rest(part) => Ok(PageWalk {
                 rows,
                 part: Some(part),
                 tablet,
                 end,
-                looked: records,
+                units: units_of(most),
             }),
         }
     }

@@ -11,14 +11,13 @@ ghost use Rattle.pn_scan.specs.Pages.{first_page};
 ghost use Rattle.pn_scan.specs.Views.{LooksOnce};
 ghost use Rattle.pn_scan.specs.Visits.{IsScan, rows_after};
 
+use crate::page_walk::LOOK_UNITS;
+use crate::work::work_of;
 use crate::{Budget, Page, Query, Row, ScanFault, View};
 use pn_join::NoMemory;
 use pn_record::Key;
 use pn_tablet::Layout;
 use std::alloc::Global;
-
-/// How many records a look of a page goes over, where the tablets may change meanwhile, before it is resumed.
-pub(crate) const LOOK_RECORDS: usize = 1_024;
 
 /// The first rows of a query, at most its limit, and the query for the next page exactly where there is more.
 ///
@@ -69,7 +68,7 @@ fn read_on<V: View>(
     let room = query.limit() + 1 - rows.len();
     let budget = Budget {
         alloc,
-        records: LOOK_RECORDS,
+        work: work_of(LOOK_UNITS),
     };
     let part = view.part(tablet, query, room, budget)?;
     Ok(put_after(rows, part.into_rows(query)?)?)

@@ -1,25 +1,24 @@
 //! Reads of one tablet.
 
-ghost use Rattle.std.specs.Prelude.{◌≡◌, ◌≤◌, ℕ, [], true, drop, length, count_by, Some, IfOk, IsTrue};
+ghost use Rattle.std.specs.Prelude.{◌≡◌, ◌≤◌, ℕ, [], drop, length, max, count_by, Some, IfOk, IsTrue};
 ghost use Rattle.std.specs.FinMap.{is_sorted};
 ghost use Rattle.std.specs.Option.{option_copied, option_map_or};
-ghost use Rattle.std.specs.List.{AllByRecursion};
 ghost use Rattle.std.specs.Ordering.{is_lt};
 ghost use Rattle.pn_scan.specs.Pages.{refusal, unless};
 ghost use Rattle.pn_scan.specs.Parts.{looked_in, part_at, walk_answer};
 ghost use Rattle.pn_scan.specs.Views.{Answers, rows_at, cell_at};
 ghost use Rattle.pn_scan.specs.Shown.{shown_rows};
 ghost use Rattle.pn_record.specs.Prelude.{bytes_cmp};
-ghost use Rattle.pn_tablet.specs.Prelude.{is_from};
+ghost use Rattle.pn_scan.specs.declared.work.TheConstants.{MAX_PART_WORK};
 
-use crate::walk::{PartWalk, WalkOutcome, walk_some};
+use crate::walk::{PartWalk, Place, WalkOutcome, walk_some};
 use crate::{Budget, PartResult, Query, Row, ScanFault, TabletRows};
 use pn_join::{Dup, NoMemory};
 use pn_record::{Cell, Key, Records};
 use pn_tablet::{Status, TabletState, is_before};
 
 /// The first `room` rows that a query shows of a tablet, and whether it shows more. It copies keys and shares contents. It looks
-/// at the budget's records at most; where that is not enough it takes the others by sharing them, and is to be resumed.
+/// for the budget's work, or at one content; where that is not enough it takes the other records by sharing them, and is to be resumed.
 ///
 /// `Recovering`, with the number given, exactly where the tablet recovers.
 pub fn part_of(
@@ -30,47 +29,49 @@ pub fn part_of(
     budget: Budget,
 ) -> PartResult
     ensures answers { Answers (part_at query.now) result (rows_at query.now room (tablet, Some state.now)) }
-    ensures few { IfOk result (λ part. looked_in budget.records part ≤ budget.records) }
+    ensures few { IfOk result (λ part. looked_in (max budget.work MAX_PART_WORK) part ≤ max budget.work MAX_PART_WORK) }
 {
     check_serving(state, tablet)?;
     Ok(begin_walk(state.cells(), query, room, budget)?)
 }
 
 // A walk from the first key that may be shown, found by a search, to the end of the range, one row past the room, or past the
-// budget's number of records.
+// budget's work.
 fn begin_walk(
     cells: &Records,
     query: &Query,
     room: usize,
     budget: Budget,
 ) -> Result<TabletRows, NoMemory>
-    ensures same { IfOk result (λ part. part_at query.now part ≡ walk_answer query.now (record { rows = []; rest = cells.now; room = room })) }
-    ensures few { IfOk result (λ part. looked_in budget.records part ≤ budget.records) }
+    ensures same { IfOk result (λ part. part_at query.now part ≡ walk_answer query.now (record { rows = []; rest = cells.now; seen = 0; room = room })) }
+    ensures few { IfOk result (λ part. looked_in (max budget.work MAX_PART_WORK) part ≤ max budget.work MAX_PART_WORK) }
 {
     let mut rows = Vec::with_capacity(budget.alloc, room.min(cells.len()))?;
     let index = first_index(cells, query);
-    prefetch_cells(cells, index, query, room.min(budget.records));
-    match walk_some(cells, index, query, room, budget.records, &mut rows)? {
+    prefetch_cells(cells, index, query, room.min(budget.work));
+    let from = Place { index, seen: 0 };
+    match walk_some(cells, from, query, room, budget.work, &mut rows)? {
         WalkOutcome::All(more, looked) => Ok(TabletRows::Done(rows, more, looked)),
         WalkOutcome::To(next) => take_rest(cells, next, query, rows, room),
     }
 }
 
-// Takes the records from an index on that may be shown, by sharing them.
+// Takes the records from a place on that may be shown, by sharing them.
 fn take_rest(
     cells: &Records,
-    index: usize,
+    next: Place,
     query: &Query,
     rows: Vec<Row>,
     room: usize,
 ) -> Result<TabletRows, NoMemory>
-    requires index { index ≤ length cells.now }
+    requires index { next.index ≤ length cells.now }
     requires few { length rows.items ≤ room }
-    ensures same { IfOk result (λ part. part_at query.now part ≡ walk_answer query.now (record { rows = rows.items; rest = drop index cells.now; room = room })) }
-    ensures rest { IfOk result (λ part. (records : ℕ) → looked_in records part ≡ records) }
+    ensures same { IfOk result (λ part. part_at query.now part ≡ walk_answer query.now (record { rows = rows.items; rest = drop next.index cells.now; seen = next.seen; room = room })) }
+    ensures rest { IfOk result (λ part. (most : ℕ) → looked_in most part ≡ most) }
 {
-    let rest = cells.slice(index, end_of_range(cells, query).max(index))?;
-    Ok(TabletRows::Rest(PartWalk::new(rest, rows, room)))
+    let end = end_of_range(cells, query).max(next.index);
+    let rest = cells.slice(next.index, end)?;
+    Ok(TabletRows::Rest(PartWalk::new(rest, next.seen, rows, room)))
 }
 
 // How many records are below the end of a query.
@@ -117,11 +118,10 @@ fn prefetch_cells(cells: &Records, index: usize, query: &Query, room: usize) {
     }
 }
 
-// An index before which no record is shown, and after which no key is below `from`.
+// An index before which no record is shown.
 fn first_index(cells: &Records, query: &Query) -> usize
     requires { IsTrue (is_sorted bytes_cmp cells.now) }
-    ensures shown { shown_rows query.now (drop result cells.now) ≡ shown_rows query.now cells.now }
-    ensures from { AllByRecursion (λ e. is_from query.now.from e.0 ≡ true) (drop result cells.now) }
+    ensures { shown_rows query.now (drop result cells.now) ≡ shown_rows query.now cells.now }
 {
     index_of(cells, query.from()).max(index_of(cells, query.after()))
 }

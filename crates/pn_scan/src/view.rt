@@ -45,8 +45,8 @@ pub struct Page {
 pub struct Budget {
     /// The memory for what it finds.
     pub alloc: Global,
-    /// How many records it looks at.
-    pub records: usize,
+    /// How much work it does.
+    pub work: usize,
 }
 
 /// What a look into a tablet has of its answer; or why none was made.
@@ -58,7 +58,7 @@ pub trait View {
     // The bounds of its layout.
     ghost bounds: { Self → Bounds };
 
-    // How many records a look goes over at most, where it is to go over this number.
+    // How much work a look does at most, where it is to do this much.
     ghost most: { ℕ → ℕ };
 
     // One look into a tablet: the view before, the state that was found or none where refused, and the view after.
@@ -69,7 +69,7 @@ pub trait View {
         ensures { result.now ≡ bounds self.now };
 
     /// The first `room` rows that a query shows of a tablet, whose number is below the layout's count, and whether it
-    /// shows more. A view of tablets that may change looks at the budget's records, or at some more, and then takes the others with it.
+    /// shows more. A view of tablets that may change does the budget's work, or some more, and then takes the other records with it.
     ///
     /// `Recovering` exactly where the tablet recovers, `NoEntry` exactly where the entry was refused. After an error
     /// the view stays usable.
@@ -77,7 +77,7 @@ pub trait View {
         requires { tablet ≤ length (bounds self.old) }
         ensures look { (found : Option TabletStateValue) × LooksOnce looks (bounds self.old) self.old self.new (part_at query.now) result
             (rows_at query.now room) (tablet, found) }
-        ensures few { IfOk result (λ part. looked_in (most budget.records) part ≤ most budget.records) }
+        ensures few { IfOk result (λ part. looked_in (most budget.work) part ≤ most budget.work) }
         ensures layout { bounds self.new ≡ bounds self.old };
 
     /// The cell of a key, if it has one, read in the key's own tablet. Errors are those of `part`.

@@ -1,24 +1,22 @@
 //! Looks into one tablet that are resumed.
 
-ghost use Rattle.std.specs.Prelude.{◌≡◌, ◌+◌, ◌<◌, ◌≤◌, ◌^◌, ◌⊎◌, true, false, drop, length, IfOk};
-ghost use Rattle.std.specs.List.{AllByRecursion};
-ghost use Rattle.std.specs.Option.{option_copied};
-ghost use Rattle.pn_tablet.specs.Prelude.{is_from};
-ghost use Rattle.pn_scan.specs.Walking.{BeginsBelow, WalksTo};
-ghost use Rattle.pn_scan.specs.Parts.{part_at, walk_answer, left_in, IsDone, LooksAtMost};
+ghost use Rattle.std.specs.Prelude.{◌≡◌, ◌<◌, ◌≤◌, ◌^◌, drop, length, max, IfOk};
+ghost use Rattle.pn_scan.specs.Walking.{WalksTo};
+ghost use Rattle.pn_scan.specs.Parts.{part_at, walk_answer, left_in, part_left, LooksAtMost};
+ghost use Rattle.pn_scan.specs.declared.work.TheConstants.{MAX_PART_WORK};
 
-use crate::filter::is_shown;
-use crate::part::{index_of, row_of};
+use crate::filter::look_at;
+use crate::part::row_of;
 use crate::{Query, Row};
 use pn_join::NoMemory;
-use pn_record::{Key, Records};
+use pn_record::Records;
 use pn_tablet::is_before;
 use std::marker::Model;
 
 /// What a look into a tablet has of its answer.
 #[derive(Drop)]
 pub enum TabletRows {
-    /// The first rows that a query shows of the tablet, whether it shows more, and how many records were looked at.
+    /// The first rows that a query shows of the tablet, whether it shows more, and how much work it was to look.
     Done(Vec<Row>, bool, usize),
     /// The look is to be resumed, over what it took of the tablet.
     Rest(PartWalk),
@@ -36,13 +34,20 @@ impl TabletRows {
     }
 }
 
+/// How many records were looked at, and how many contents of the next one.
+#[derive(Clone, Copy, Debug, PartialEq, Eq)]
+pub(crate) struct Place {
+    pub(crate) index: usize,
+    pub(crate) seen: usize,
+}
+
 /// The rows that a look found so far, and the records of its tablet that it has still to look at, as they were found. They are its
 /// own, so the tablet may change.
 #[derive(Drop)]
 pub struct PartWalk {
     rest: Records,
-    // How many of these were looked at.
-    index: usize,
+    // What of these was looked at.
+    place: Place,
     rows: Vec<Row>,
     room: usize,
 }
@@ -57,91 +62,68 @@ impl Model for PartWalk {
 
     ghost coded = { part_walk_code };
 
-    ghost view = { λ walk. record { rows = walk.rows.items; rest = drop walk.index walk.rest; room = walk.room } };
+    ghost view = { λ walk. record { rows = walk.rows.items; rest = drop walk.place.index walk.rest; seen = walk.place.seen; room = walk.room } };
 
     ghost invariant = { λ walk. length walk.rows.items ≤ walk.room };
 }
 
 impl PartWalk {
-    /// A look that found these rows, and has still to look at these records.
-    pub(crate) fn new(rest: Records, rows: Vec<Row>, room: usize) -> PartWalk
+    /// A look that found these rows, and has still to look at these records, of the first of which some contents were looked at.
+    pub(crate) fn new(rest: Records, seen: usize, rows: Vec<Row>, room: usize) -> PartWalk
         requires { length rows.items ≤ room }
-        ensures { result ≡ record { rows = rows.items; rest = rest; room = room } }
+        ensures { result ≡ record { rows = rows.items; rest = rest; seen = seen; room = room } }
     {
         PartWalk {
             rest,
-            index: 0,
+            place: Place { index: 0, seen },
             rows,
             room,
         }
     }
 
-    /// Looks at at most `records` more records. The answer that it comes to stays.
-    pub fn go_on(self, query: &Query, records: usize) -> Result<TabletRows, NoMemory>
+    /// Looks on for this much work, or at one more content. The answer that it comes to stays.
+    pub fn go_on(self, query: &Query, work: usize) -> Result<TabletRows, NoMemory>
         ensures same { IfOk result (λ part. part_at query.now part ≡ walk_answer query.now self) }
-        ensures few { IfOk result (LooksAtMost records (length self.rest)) }
-        ensures less { 0 < records → IfOk result (λ part. (left_in part < length self.rest) ⊎ IsDone part) }
+        ensures few { IfOk result (LooksAtMost query.now (max work MAX_PART_WORK) self) }
+        ensures less { IfOk result (λ part. left_in part < part_left self) }
     {
         let PartWalk {
             rest,
-            index,
+            place,
             mut rows,
             room,
         } = self;
         recall_len(&rest);
-        if begins_below(&rest, index, query.from()) {
-            return Ok(TabletRows::Rest(PartWalk {
-                rest,
-                index: index + records.min(1),
-                rows,
-                room,
-            }));
-        }
-        match walk_some(&rest, index, query, room, records, &mut rows)? {
+        recall_seen(place);
+        match walk_some(&rest, place, query, room, work.max(1), &mut rows)? {
             WalkOutcome::All(more, looked) => Ok(TabletRows::Done(rows, more, looked)),
-            WalkOutcome::To(index) => Ok(TabletRows::Rest(PartWalk {
+            WalkOutcome::To(place) => Ok(TabletRows::Rest(PartWalk {
                 rest,
-                index,
+                place,
                 rows,
                 room,
             })),
         }
     }
 
-    /// How many records are still to be looked at.
-    pub(crate) fn left(&self) -> usize
-        ensures { result ≡ length self.now.rest }
+    /// Recalls for the prover that how far a look is from its end is counted in 128 bits.
+    pub(crate) fn recall_left(&self)
+        ensures { part_left self.now ≤ 2 ^ 128 }
     {
-        self.rest.len().saturating_sub(self.index)
+        recall_len(&self.rest);
     }
 
     // The first rows, once all is looked at.
     fn into_rows(self, query: &Query) -> Result<Vec<Row>, NoMemory>
         ensures { IfOk result (λ rows. rows.items ≡ (walk_answer query.now self).0) }
     {
-        let PartWalk {
-            rest,
-            index,
-            mut rows,
-            room,
-        } = self;
-        rest.recall_order();
-        let index = index.max(index_of(&rest, query.from()));
-        let _more = walk_all(&rest, index, query, room, &mut rows)?;
-        Ok(rows)
-    }
-}
-
-// Whether the record at an index, if there is one, is below `from`. None is in what a look took of its tablet for the query.
-fn begins_below(cells: &Records, index: usize, from: Option<&Key>) -> bool
-    ensures { BeginsBelow (option_copied from.entry) (drop index cells.now) result }
-{
-    let Some(from) = from else {
-        return false;
-    };
-    match cells.iter_from(index).next() {
-        Some((key, _)) => key < from,
-        None => false,
+        let mut walk = self;
+        'looks: loop {
+            match walk.go_on(query, usize::MAX)? {
+                TabletRows::Done(rows, _, _) => return Ok(rows),
+                TabletRows::Rest(rest) => walk = rest,
+            }
+        }
     }
 }
 
@@ -152,63 +134,62 @@ fn recall_len(cells: &Records)
     let _ = cells.len();
 }
 
+// Recalls for the prover that contents can be counted.
+fn recall_seen(place: Place)
+    ensures { place.seen < 2 ^ 64 }
+{
+    let _ = place.seen;
+}
+
 /// How far a walk over records came.
 #[derive(Clone, Copy, Debug, PartialEq, Eq)]
 pub(crate) enum WalkOutcome {
-    /// The rows that there is room for were found, or all. Whether there are more, and how many records were looked at.
+    /// The rows that there is room for were found, or all. Whether there are more, and how much work was done.
     All(bool, usize),
-    /// The records before this index were looked at.
-    To(usize),
+    /// What is before this place was looked at.
+    To(Place),
 }
 
-/// Adds the rows that a query shows of at most `records` records, from an index on.
+/// Adds the rows that a query shows from a place on, for this much work, or that of one content.
 pub(crate) fn walk_some(
     cells: &Records,
-    index: usize,
+    from: Place,
     query: &Query,
     room: usize,
-    records: usize,
+    most: usize,
     rows: &mut Vec<Row>,
 ) -> Result<WalkOutcome, NoMemory>
     requires len { length cells.now < 2 ^ 64 }
     requires few { length rows.old.items ≤ room }
-    requires from { AllByRecursion (λ e. is_from query.now.from e.0 ≡ true) (drop index cells.now) }
-    ensures { IfOk result (WalksTo query.now (drop index cells.now) index records room rows.old.items rows.new.items) }
+    ensures { IfOk result (WalksTo query.now cells.now from most room rows.old.items rows.new.items) }
 {
-    let mut looked = 0;
-    for (key, cell) in cells.iter_from(index) {
-        if looked == records {
-            return Ok(WalkOutcome::To(index + looked));
+    let mut index = from.index;
+    let mut seen = from.seen;
+    let mut done: usize = 0;
+    for (key, cell) in cells.iter_from(from.index) {
+        if done >= most {
+            return Ok(WalkOutcome::To(Place { index, seen }));
         }
-        looked += 1;
+        done += 1;
         if !is_before(query.to(), key) {
-            return Ok(WalkOutcome::All(false, looked));
+            return Ok(WalkOutcome::All(false, done));
         }
-        if is_shown(query, key, cell) {
+        let look = look_at(query, key, cell, seen, most, done);
+        let known = look.known;
+        if !known {
+            let seen = look.end;
+            return Ok(WalkOutcome::To(Place { index, seen }));
+        }
+        index = index.saturating_add(1);
+        seen = 0;
+        done = look.done;
+        let shows = look.shows;
+        if shows {
             if rows.len() == room {
-                return Ok(WalkOutcome::All(true, looked));
+                return Ok(WalkOutcome::All(true, done));
             }
             rows.push(row_of(key, cell)?)?;
         }
     }
-    Ok(WalkOutcome::All(false, looked))
-}
-
-// Adds the rows that a query shows of all records from an index on, as far as there is room. Whether there are more.
-fn walk_all(
-    cells: &Records,
-    index: usize,
-    query: &Query,
-    room: usize,
-    rows: &mut Vec<Row>,
-) -> Result<bool, NoMemory>
-    requires few { length rows.old.items ≤ room }
-    requires from { AllByRecursion (λ e. is_from query.now.from e.0 ≡ true) (drop index cells.now) }
-    ensures { IfOk result (λ more. (rows.new.items, more) ≡ walk_answer query.now (record { rows = rows.old.items; rest = drop index cells.now; room = room })) }
-{
-    let records = cells.len().saturating_sub(index);
-    match walk_some(cells, index, query, room, records, rows)? {
-        WalkOutcome::All(more, _) => Ok(more),
-        WalkOutcome::To(_) => unreachable!(),
-    }
+    Ok(WalkOutcome::All(false, done))
 }

@@ -5,7 +5,7 @@ use Rattle.std.specs.declared.alloc.Global.{Global}
 use Rattle.std.proofs.lemmas.Bool.{cases_lt}
 use Rattle.std.proofs.lemmas.Bool.Decides.{nat_tests}
 use Rattle.pn_join.specs.declared.memory.NoMemory.{NoMemory}
-use Rattle.pn_line.specs.Line.{LineBufferValue, so_far, kept_bytes}
+use Rattle.pn_line.specs.Line.{kept_bytes}
 use Rattle.pn_line.proofs.LineLaws.{kept_bytes-short, length-kept_bytes_long}
 use Rattle.pn_tablet.specs.Copies.{TabletCopyValue}
 use Rattle.pn_tablet.specs.CopyReading.{copy_at}
@@ -130,11 +130,11 @@ steps_kept old new line step steps =
     (subst (λ (b : Bool). StepsAs old (control_at (kept_bytes line)) new step ⊎ ((b ≡ false) × (new ≡ old) × (step ≡ Replies (Refused Memory)))) same.1 steps)
 
 -- so a line that was read
-pub steps_so_far : (old new : LiveReaderValue) (line : LineBufferValue) (text : List ℕ) (step : ControlStep) → line ≡ so_far text → StepsBy old line.bytes new step → StepsBy old text new step
-steps_so_far old new line text step is steps = steps_kept old new text step (subst (λ (bytes : List ℕ). StepsBy old bytes new step) (ap (λ (l : LineBufferValue). l.bytes) is) steps)
+pub steps_so_far : (old new : LiveReaderValue) (bytes text : List ℕ) (step : ControlStep) → bytes ≡ kept_bytes text → StepsBy old bytes new step → StepsBy old text new step
+steps_so_far old new bytes text step is steps = steps_kept old new text step (subst (λ (b : List ℕ). StepsBy old b new step) is steps)
 
-pub lasts_so_far : (old new : LiveReaderValue) (line : LineBufferValue) (text : List ℕ) (step : ControlStep) → line ≡ so_far text → StepsLast old line.bytes new step → StepsLast old text new step
-lasts_so_far old new line text step is last = record { first = last.first; steps = steps_so_far old new line text last.first is last.steps; lasts = last.lasts }
+pub lasts_so_far : (old new : LiveReaderValue) (bytes text : List ℕ) (step : ControlStep) → bytes ≡ kept_bytes text → StepsLast old bytes new step → StepsLast old text new step
+lasts_so_far old new bytes text step is last = record { first = last.first; steps = steps_so_far old new bytes text last.first is last.steps; lasts = last.lasts }
 
 -- the reader never knows less
 replied_knows : (old new : LiveReaderValue) (asked : command.CommandValue) (step : ControlStep) → RepliesWith (λ shown. LooksUp Stays old asked new shown) step → KnowsNoLess old new

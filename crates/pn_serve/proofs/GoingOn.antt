@@ -27,14 +27,24 @@ use Rattle.pn_protocol.specs.Command.Meaning.{CommandValue, adopt, copy, deliver
 use Rattle.pn_protocol.specs.Reply.Answers.{ShowsFound}
 use Rattle.pn_protocol.specs.Reply.Record.{get_data}
 use Rattle.pn_protocol.specs.Reply.Texts.{copy_reply}
-use Rattle.pn_serve.specs.declared.machine.line_handler.Answer.{Answer}
-use Rattle.pn_serve.specs.declared.machine.line_handler.Answer.TheVariants.{Done, Going as Begun}
+use Rattle.pn_serve.specs.declared.machine.line_answers.Answer.{Answer}
+use Rattle.pn_serve.specs.declared.machine.line_answers.Answer.TheVariants.{Done, Going as Begun}
 use Rattle.pn_serve.specs.declared.sessions.going.Going.{Going}
 use Rattle.pn_serve.specs.declared.sessions.going.Going.TheVariants.{Page, Keys, Copy}
 use Rattle.pn_serve.specs.Lines.Going.{answer_left}
 use Rattle.pn_serve.specs.Session.Knowing.{KnowsNoLess}
 use Rattle.pn_serve.specs.Session.Looking.{AreNewKeys, CopyAnswer, HasFew, IsNewPage, IsOnCopy, KeysAnswer, LooksOn, LooksTo, PageAnswer, going_left}
 use Rattle.pn_serve.proofs.Knowing.{going_knows, knows_on, knows_same, look_knows}
+
+-- a get that was answered, by the looks that were made
+pub got_by : (moves : Moving LiveReaderValue) (was new : LiveReaderValue) (bounds : Bounds) (keys : List (List ℕ)) (answer : Result (List (Option CellValue)) ScanFault) (trace : List (LookMade LiveReaderValue)) → EndsGet bounds keys answer trace → Gaps moves was trace new
+    → (reached : LiveReaderValue) × IsGet (LooksAfter moves LooksLive) bounds keys was reached (λ cells. cells) answer (looks_in trace) × moves reached new
+got_by moves was new bounds keys answer trace ends gaps =
+    let there = looks_after moves LooksLive was new trace ends.made gaps in (
+      there.0,
+      record { looked = there.1; found = ends.found; order = ends.order; only = ends.only; answers = ends.answers; whole = ends.whole },
+      there.2,
+    )
 
 module _ (moves : Moving LiveReaderValue) (pre : IsPreorder moves) (was between old new : LiveReaderValue) (moved : moves between old) where
   -- a page was resumed
@@ -57,16 +67,6 @@ module _ (moves : Moving LiveReaderValue) (pre : IsPreorder moves) (was between 
         let there = scanned moves LooksLive was.layout query was new (Err fault) (trace ++ goes.0) goes.2 gaps in
         record { seen = looks_in (trace ++ goes.0); answer = Err fault; reached = there.0; scanned = there.1; moved = there.2; shows = shows }
     page_goes (Err fault) (Begun going) goes shows = absurd shows
-
-  -- a get that was answered, by the looks that were made
-  pub got_by : (bounds : Bounds) (keys : List (List ℕ)) (answer : Result (List (Option CellValue)) ScanFault) (trace : List (LookMade LiveReaderValue)) → EndsGet bounds keys answer trace → Gaps moves was trace new
-      → (reached : LiveReaderValue) × IsGet (LooksAfter moves LooksLive) bounds keys was reached (λ cells. cells) answer (looks_in trace) × moves reached new
-  got_by bounds keys answer trace ends gaps =
-      let there = looks_after moves LooksLive was new trace ends.made gaps in (
-        there.0,
-        record { looked = there.1; found = ends.found; order = ends.order; only = ends.only; answers = ends.answers; whole = ends.whole },
-        there.2,
-      )
 
 -- ---- by what becomes of a reader between two looks, which leaves it reading the same tablets
 
@@ -100,14 +100,14 @@ module _ (moves : Moving LiveReaderValue) (pre : IsPreorder moves) (knows : (old
   keys_to keys walk (Ok next) (Done reply) trace same gaps goes answers =
       let more = trace ++ goes.1.0 in
       let (shown, ends, shows) = answers more goes.1.2 in
-      let there = got_by moves pre was between old new moved was.layout keys shown more (subst (λ (ks : List (List ℕ)). EndsGet was.layout ks shown more) (goes.0 ∙ same) ends) (gaps_more moves was between old new trace goes.1.0 pre gaps moved goes.1.1) in
+      let there = got_by moves was new was.layout keys shown more (subst (λ (ks : List (List ℕ)). EndsGet was.layout ks shown more) (goes.0 ∙ same) ends) (gaps_more moves was between old new trace goes.1.0 pre gaps moved goes.1.1) in
       record { seen = looks_in more; answer = shown; reached = there.0; got = there.1; moved = there.2; shows = subst (λ (ks : List (List ℕ)). ShowsFound (get_data ks) shown reply) (goes.0 ∙ same) shows }
   keys_to keys walk (Ok next) (Begun going) trace same gaps goes answers =
       let more = trace ++ goes.1.0 in
       subst (λ (g : Going). LooksOn moves was (get keys) new g) (sym (answers more goes.1.2)) (goes.0 ∙ same, (more, goes.1.2, gaps_more moves was between old new trace goes.1.0 pre gaps moved goes.1.1))
   keys_to keys walk (Err fault) (Done reply) trace same gaps goes answers =
       let more = trace ++ goes.0 in
-      let there = got_by moves pre was between old new moved was.layout keys (Err fault) more (subst (λ (ks : List (List ℕ)). EndsGet was.layout ks (Err fault) more) same goes.2) (gaps_more moves was between old new trace goes.0 pre gaps moved goes.1) in
+      let there = got_by moves was new was.layout keys (Err fault) more (subst (λ (ks : List (List ℕ)). EndsGet was.layout ks (Err fault) more) same goes.2) (gaps_more moves was between old new trace goes.0 pre gaps moved goes.1) in
       record { seen = looks_in more; answer = Err fault; reached = there.0; got = there.1; moved = there.2; shows = answers more tt }
   keys_to keys walk (Err fault) (Begun going) trace same gaps goes answers = absurd (answers trace tt)
 

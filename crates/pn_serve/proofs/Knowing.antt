@@ -6,32 +6,28 @@ use Rattle.pn_scan.specs.Candidates.{Look}
 use Rattle.pn_scan.specs.Paging.{AreMade, Gaps, IsPreorder, LookMade, LooksAfter, Moving, Stays}
 use Rattle.pn_scan.specs.Views.{Looks}
 use Rattle.pn_live.specs.Readers.{LiveReaderValue, LooksLive}
-use Rattle.pn_live.proofs.Knowing.{all_know_themselves, all_know_on, looks_know, looks_same}
+use Rattle.pn_live.proofs.Knowing.{looks_know, looks_same}
 use Rattle.pn_protocol.specs.declared.refusal.Refusal.{Refusal}
 use Rattle.pn_protocol.specs.declared.reply.Reply.{Reply}
 use Rattle.pn_protocol.specs.Command.Lines.{lookup_at}
 use Rattle.pn_protocol.specs.Command.Meaning.{CommandValue, adopt, copy, deliver, get, lose, marks, notices, read, relayout, scan, tablets}
-use Rattle.pn_serve.specs.declared.machine.line_handler.Answer.{Answer}
-use Rattle.pn_serve.specs.declared.machine.line_handler.Answer.TheVariants.{Done, Going as Begun}
+use Rattle.pn_serve.specs.declared.machine.line_answers.Answer.{Answer}
+use Rattle.pn_serve.specs.declared.machine.line_answers.Answer.TheVariants.{Done, Going as Begun}
 use Rattle.pn_serve.specs.declared.sessions.going.Going.{Going}
 use Rattle.pn_serve.specs.declared.sessions.going.Going.TheVariants.{Page, Keys, Copy}
 use Rattle.pn_serve.specs.Lines.Going.{AnswersWith}
+pub use Rattle.pn_serve.specs.Proofs.Steady.{knows_itself, knows_on}
 use Rattle.pn_serve.specs.Session.Knowing.{KnowsNoLess}
 use Rattle.pn_serve.specs.Session.Lines.{LooksUp, Tells, AnswersLine}
 use Rattle.pn_serve.specs.Session.Looking.{LooksFor, LooksOn}
 
-pub knows_itself : (reader : LiveReaderValue) → KnowsNoLess reader reader
-knows_itself reader = record { tablets = refl; known = all_know_themselves reader.tablet_readers }
-
-pub knows_on : (a b c : LiveReaderValue) → KnowsNoLess a b → KnowsNoLess b c → KnowsNoLess a c
-knows_on a b c p q = record {
-  tablets = q.tablets ∙ p.tablets;
-  known = all_know_on a.tablet_readers b.tablet_readers c.tablet_readers p.known q.known;
-}
-
--- what others do with a reader between two looks may be nothing, and may go on
+-- what others do with a shared reader between two looks may be nothing, and may go on
 pub knows_preorder : IsPreorder KnowsNoLess
 knows_preorder = record { stays = knows_itself; goes_on = knows_on }
+
+-- a reader that is alone stays as it is
+pub stays_preorder : {V : Type 0} → IsPreorder {V = V} Stays
+stays_preorder {V} = record { stays = λ v. refl; goes_on = λ a b c first second. second ∙ first }
 
 pub knows_same : (old new : LiveReaderValue) → new ≡ old → KnowsNoLess old new
 knows_same old new same = subst (KnowsNoLess old) (sym same) (knows_itself old)

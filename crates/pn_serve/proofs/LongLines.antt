@@ -3,7 +3,7 @@ use Rattle.std.proofs.Common.{◌≡◌, ℕ, ◌<◌, Bool, true, if◌then◌e
 use Rattle.std.proofs.lemmas.Bool.{cases_lt}
 use Rattle.std.proofs.lemmas.List.{take-take}
 use Rattle.std.proofs.lemmas.Bool.Decides.{nat_tests}
-use Rattle.pn_line.specs.Line.{LineBufferValue, so_far, kept_bytes, max_kept}
+use Rattle.pn_line.specs.Line.{kept_bytes, max_kept}
 use Rattle.pn_line.proofs.LineLaws.{kept_bytes-short, length-kept_bytes_long}
 use Rattle.pn_protocol.specs.declared.refusal.Refusal.TheVariants.{TooLong}
 use Rattle.pn_protocol.specs.declared.reply.Reply.{Reply}
@@ -51,10 +51,10 @@ end-kept awaits_command machine outcome part = elim (cases_lt 65536 (length part
 end-kept (announced left came) machine outcome part =
     ap (λ (bytes : List ℕ). text_adoption_turn (logged_region machine) (unless_call outcome (option_map (λ text. text ++ (bytes ++ [])) came))) (kept-kept part)
 
-pub answers_kept : (old new : Machine) (line : LineBufferValue) (taken : List ℕ) (reply : Reply) → line ≡ so_far taken → Answers old line.bytes new reply → Answers old taken new reply
-answers_kept old new line taken reply is answers =
-    subst (λ (turns : Outcome → Turn). TurnedBy (Unit {0}) turns new reply) (λ i outcome. (ap (λ (l : LineBufferValue). turn old outcome l.bytes) is ∙ turn-kept old.mode old outcome taken) i) answers
+pub answers_kept : (old new : Machine) (bytes text : List ℕ) (reply : Reply) → bytes ≡ kept_bytes text → Answers old bytes new reply → Answers old text new reply
+answers_kept old new bytes text reply is answers =
+    subst (λ (turns : Outcome → Turn). TurnedBy (Unit {0}) turns new reply) (λ i outcome. (ap (λ (b : List ℕ). turn old outcome b) is ∙ turn-kept old.mode old outcome text) i) answers
 
-pub concludes_kept : (old new : Machine) (line : LineBufferValue) (taken : List ℕ) (reply : Reply) → line ≡ so_far taken → Concludes old line.bytes new reply → Concludes old taken new reply
-concludes_kept old new line taken reply is concludes =
-    subst (λ (turns : Outcome → Turn). TurnedBy (Unit {0}) turns new reply) (λ i outcome. (ap (λ (l : LineBufferValue). end_turn old outcome l.bytes) is ∙ end-kept old.mode old outcome taken) i) concludes
+pub concludes_kept : (old new : Machine) (bytes text : List ℕ) (reply : Reply) → bytes ≡ kept_bytes text → Concludes old bytes new reply → Concludes old text new reply
+concludes_kept old new bytes text reply is concludes =
+    subst (λ (turns : Outcome → Turn). TurnedBy (Unit {0}) turns new reply) (λ i outcome. (ap (λ (b : List ℕ). end_turn old outcome b) is ∙ end-kept old.mode old outcome text) i) concludes

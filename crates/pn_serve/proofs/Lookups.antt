@@ -1,11 +1,14 @@
 -- Replies to lookups of a session.
-use Rattle.std.proofs.Common.{◌≡◌, ◌≢◌, ◌⊎◌, ◌<◌, ℕ, zero, suc, Bool, true, false, List, [], ◌∷◌, length, inl, inr, refl, sym, ap, ◌∙◌, subst, arith}
-use Rattle.std.specs.Prelude.{Option, Result, Ok, Err, IsTrue, ◌↔◌}
+use Rattle.std.proofs.Common.{◌≡◌, ◌≢◌, ◌⊎◌, ◌<◌, ℕ, Bool, true, false, List, [], ◌∷◌, length, inl, inr, refl, sym, ap, ◌∙◌, subst, arith}
+use Rattle.std.specs.Prelude.{◌==◌, MatchBool, Option, Result, Ok, Err}
 use Rattle.std.proofs.lemmas.Bool.{cases_lt}
 use Rattle.std.proofs.lemmas.Bool.Decides.{nat_tests}
 use Rattle.serde_json.specs.Data.{Data}
-use Rattle.pn_line.specs.Line.{LineBufferValue, so_far, kept_bytes}
-use Rattle.pn_line.proofs.LineLaws.{kept_bytes-short, length-kept_bytes_long}
+use Rattle.pn_line.specs.Line.{kept_bytes}
+use Rattle.pn_line.proofs.LineLaws.{kept_bytes-nil, kept_bytes-short, length-kept_bytes_long}
+use Rattle.pn_lines.specs.Answers.{AnswersBy}
+use Rattle.pn_lines.specs.declared.handler.EndedBy.{EndedBy}
+use Rattle.pn_lines.specs.declared.handler.EndedBy.TheVariants.{Newline, Input}
 use Rattle.pn_record.specs.Sets.{CellValue}
 use Rattle.pn_tablet.specs.Layouts.{Bounds}
 use Rattle.pn_scan.specs.Candidates.{Look}
@@ -25,11 +28,14 @@ use Rattle.pn_protocol.proofs.CommandLines.{too_long}
 use Rattle.pn_protocol.specs.Command.Lines.{is_too_long, lookup_at}
 use Rattle.pn_protocol.specs.Command.Meaning.{CommandValue, adopt, copy, deliver, get, lose, marks, notices, read, relayout, scan, tablets}
 use Rattle.pn_protocol.specs.Reply.Answers.{ShowsFound}
-use Rattle.pn_serve.specs.declared.machine.line_handler.Answer.{Answer}
-use Rattle.pn_serve.specs.declared.machine.line_handler.Answer.TheVariants.{Done, Going as Begun}
+use Rattle.pn_serve.specs.declared.machine.line_answers.Answer.{Answer}
+use Rattle.pn_serve.specs.declared.machine.line_answers.Answer.TheVariants.{Done, Going as Begun}
 use Rattle.pn_serve.specs.declared.sessions.going.Going.{Going}
 use Rattle.pn_serve.specs.declared.sessions.going.Going.TheVariants.{Page, Keys, Copy}
-use Rattle.pn_serve.specs.Lines.Going.{AnswersLast, AnswersWith}
+use Rattle.pn_serve.specs.Lines.Going.{AnswersWith}
+use Rattle.pn_serve.specs.Lines.Handled.{Replies, by_end, given_by, replied_of}
+use Rattle.pn_serve.specs.Session.Handling.{reads_by, reads_lines}
+use Rattle.pn_serve.proofs.SessionsGivenUp.{given_up}
 use Rattle.pn_serve.specs.Session.Looking.{LooksFor, LooksForLast, LooksOn, LooksTo}
 use Rattle.pn_serve.specs.Session.Lines.{Tells, LooksUp, AnswersLine, EndsLines, RefusesLine}
 
@@ -155,6 +161,33 @@ module _ (moves : Moving LiveReaderValue) where
   answers_err old line ReadOnly is short = answers_fault old line ReadOnly (is (λ same. cc))
   answers_err old line (OutOfRange part) is short = answers_fault old line (OutOfRange part) (is (λ same. cc))
 
+-- what a test decides
+pub when_true : (test : Bool) → test ≡ true → (P Q : Type 0) → MatchBool test P Q → P
+when_true true is P Q holds = holds
+when_true false is P Q holds = absurd (cc)
+
+pub when_false : (test : Bool) → test ≡ false → (P Q : Type 0) → MatchBool test P Q → Q
+when_false true is P Q holds = absurd (cc)
+when_false false is P Q holds = holds
+
+-- a list whose length was tested
+pub no_length : (text : List ℕ) → true ≡ (length text == 0) → text ≡ []
+no_length [] is = refl
+no_length (b ∷ text) is =
+    let other : (length (b ∷ text) == 0) ≡ false = grind (arith, nat_tests) in
+    let clash : true ≡ false = is ∙ other in absurd (cc)
+
+pub some_length : (text : List ℕ) → false ≡ (length text == 0) → text ≡ [] → ⊥
+some_length [] is none = cc
+some_length (b ∷ text) is none = cc
+
+-- a line without bytes, by those that are kept
+pub no_bytes : (text : List ℕ) → kept_bytes text ≡ [] → text ≡ []
+no_bytes text none = elim (cases_lt 65536 (length text)) [
+  | inl long ↦ absurd (omega (arith, length-kept_bytes_long text long, ap length none))
+  | inr short ↦ sym (kept_bytes-short text short) ∙ none
+]
+
 -- a line says what its kept bytes say
 said_kept : (line : List ℕ) → (lookup_at (kept_bytes line) ≡ lookup_at line) × (is_too_long (kept_bytes line) ≡ is_too_long line)
 said_kept line = elim (cases_lt 65536 (length line)) [
@@ -175,30 +208,49 @@ answers_kept moves old new line (Done reply) answered =
     (subst (λ (b : Bool). Tells moves old (lookup_at (kept_bytes line)) new reply ⊎ ((b ≡ false) × RefusesLine old Memory new reply)) same.1 answered)
 answers_kept moves old new line (Begun going) begun = record { command = begun.command; reads = sym (said_kept line).0 ∙ begun.reads; so_far = begun.so_far }
 
-pub answers_so_far : (moves : Moving LiveReaderValue) (old new : LiveReaderValue) (line : LineBufferValue) (text : List ℕ) (answer : Answer) → line ≡ so_far text → AnswersWith (AnswersLine moves) (LooksFor moves) old line.bytes new answer
-    → AnswersWith (AnswersLine moves) (LooksFor moves) old text new answer
-answers_so_far moves old new line text answer is answered =
-    answers_kept moves old new text answer (subst (λ (bytes : List ℕ). AnswersWith (AnswersLine moves) (LooksFor moves) old bytes new answer) (ap (λ (l : LineBufferValue). l.bytes) is) answered)
+module _ (moves : Moving LiveReaderValue) (pre : IsPreorder moves) where
+  -- a line that has its reply, or was begun
+  given : (old new : LiveReaderValue) (ended : EndedBy) (text : List ℕ) (answer : Answer) → (ended ≡ Input → text ≢ []) → AnswersWith (AnswersLine moves) (LooksFor moves) old text new answer
+      → AnswersBy (reads_lines moves) old ended text new (given_by answer)
+  given old new Newline text (Done reply) some answered = record { reply = reply; shown = refl; made = answered }
+  given old new Newline text (Begun going) some begun = record { looks = begun; gives_up = λ later moved. given_up moves pre old new later moved Newline text going begun }
+  given old new Input [] answer some answered = absurd (some refl refl)
+  given old new Input (b ∷ part) (Done reply) some answered = record { reply = reply; shown = refl; made = answered }
+  given old new Input (b ∷ part) (Begun going) some begun = record { looks = begun; gives_up = λ later moved. given_up moves pre old new later moved Input (b ∷ part) going begun }
+
+  -- a line is answered by its first bytes
+  pub answers_by : (old new : LiveReaderValue) (ended : EndedBy) (bytes text : List ℕ) (answer : Answer) → bytes ≡ kept_bytes text → (ended ≡ Input → bytes ≢ [])
+      → AnswersWith (AnswersLine moves) (LooksFor moves) old bytes new answer → AnswersBy (reads_lines moves) old ended text new (given_by answer)
+  answers_by old new ended bytes text answer is some answered =
+      given old new ended text answer (λ last none. some last (is ∙ ap kept_bytes none ∙ kept_bytes-nil))
+      (answers_kept moves old new text answer (subst (λ (bs : List ℕ). AnswersWith (AnswersLine moves) (LooksFor moves) old bs new answer) is answered))
+
+  -- a line that is looked up so far comes to its reply, or goes on
+  pub goes_by : (was between now : LiveReaderValue) (ended : EndedBy) (text : List ℕ) (going : Going) (answer : Answer) → by_end (LooksFor moves) (LooksForLast moves) was ended text between going
+      → ((command : CommandValue) → LooksOn moves was command between going → LooksTo moves was command now answer) → AnswersBy (reads_lines moves) was ended text now (given_by answer)
+  goes_by was between now Newline text going answer looks on =
+      given was now Newline text answer (λ is. absurd (cc)) (answers_said moves was now text looks.command answer looks.reads (on looks.command looks.so_far))
+  goes_by was between now Input [] going answer looks on = absurd looks
+  goes_by was between now Input (b ∷ part) going answer looks on =
+      given was now Input (b ∷ part) answer (λ is none. absurd (omega (arith, ap length none))) (answers_said moves was now (b ∷ part) looks.command answer looks.reads (on looks.command looks.so_far))
 
 -- the input is at its end after a newline
-pub ends_none : (moves : Moving LiveReaderValue) (old : LiveReaderValue) (line : LineBufferValue) (part : List ℕ) → line ≡ so_far part → line.count ≡ 0 → EndsLines moves old part old Silent
-ends_none moves old line [] is none = (refl, refl)
-ends_none moves old line (b ∷ part) is none = absurd (omega (arith, none, ap (λ (l : LineBufferValue). l.count) is))
+pub answers_none : (moves : Moving LiveReaderValue) (old : LiveReaderValue) (ended : EndedBy) (bytes text : List ℕ) → bytes ≡ kept_bytes text → (ended ≡ Input) × (bytes ≡ []) → AnswersBy (reads_lines moves) old ended text old (given_by (Done Silent))
+answers_none moves old ended bytes text is (last, none) = subst (λ (e : EndedBy). AnswersBy (reads_lines moves) old e text old (given_by (Done Silent))) (sym last) (silent text (no_bytes text (sym is ∙ none)))
+  where
+    silent : (t : List ℕ) → t ≡ [] → AnswersBy (reads_lines moves) old Input t old (given_by (Done Silent))
+    silent [] empty = record { reply = Silent; shown = refl; made = (refl, refl) }
+    silent (b ∷ t) empty = absurd (omega (arith, ap length empty))
 
-pub not_none : (b : Bool) (n : ℕ) → IsTrue b ↔ (n ≡ 0) → b ≡ false → 0 < n
-not_none b zero both is = let no = both.1 refl in absurd (cc (no, is))
-not_none b (suc n) both is = omega arith
+-- a line that is too long is refused, whatever its bytes are
+pub refuses_by : (moves : Moving LiveReaderValue) (old : LiveReaderValue) (ended : EndedBy) (text : List ℕ) → 65536 < length text → Replies (AnswersLine moves) (EndsLines moves) old ended text old (replied_of (Refused TooLong))
+refuses_by moves old Newline text long = record { reply = Refused TooLong; shown = refl; made = answers_fault moves old text TooLong (too_long _ text long) }
+refuses_by moves old Input [] long = absurd (omega (arith, long))
+refuses_by moves old Input (b ∷ part) long = record { reply = Refused TooLong; shown = refl; made = answers_fault moves old (b ∷ part) TooLong (too_long _ (b ∷ part) long) }
 
--- or after a part of a line
-pub ends_some : (moves : Moving LiveReaderValue) (old new : LiveReaderValue) (line : LineBufferValue) (part : List ℕ) (answer : Answer) → line ≡ so_far part → 0 < line.count → AnswersWith (AnswersLine moves) (LooksFor moves) old line.bytes new answer
-    → AnswersLast (EndsLines moves) (LooksForLast moves) old part new answer
-ends_some moves old new line [] answer is some answered = absurd (omega (arith, some, ap (λ (l : LineBufferValue). l.count) is))
-ends_some moves old new line (b ∷ part) (Done reply) is some answered = answers_so_far moves old new line (b ∷ part) (Done reply) is answered
-ends_some moves old new line (b ∷ part) (Begun going) is some answered = answers_so_far moves old new line (b ∷ part) (Begun going) is answered
+-- ---- the same by a reader that a handler has alone
 
--- a last part that is looked up so far
-pub last_on : (moves : Moving LiveReaderValue) (was between now : LiveReaderValue) (text : List ℕ) (going : Going) (answer : Answer) → LooksForLast moves was text between going
-    → ((command : CommandValue) → LooksOn moves was command between going → LooksTo moves was command now answer) → AnswersLast (EndsLines moves) (LooksForLast moves) was text now answer
-last_on moves was between now [] going answer looks on = absurd looks
-last_on moves was between now (b ∷ text) going (Done reply) looks on = answers_said moves was now (b ∷ text) looks.command (Done reply) looks.reads (on looks.command looks.so_far)
-last_on moves was between now (b ∷ text) going (Begun next) looks on = answers_said moves was now (b ∷ text) looks.command (Begun next) looks.reads (on looks.command looks.so_far)
+pub seen_alone : {V : Type 0} (see : V → LiveReaderValue) (was now : V) (ended : EndedBy) (text : List ℕ) (answer : Answer) → AnswersBy (reads_lines Stays) (see was) ended text (see now) (given_by answer)
+    → AnswersBy (reads_by see) was ended text now (given_by answer)
+seen_alone see was now ended text (Done reply) is = is
+seen_alone see was now ended text (Begun going) is = is

@@ -13,7 +13,7 @@ use Rattle.pn_serve.specs.declared.script.RunFault.TheVariants.{Read, Write, Too
 use Rattle.pn_serve.specs.Lines.Ends as lines
 use Rattle.pn_serve.specs.Lines.Stopped as stopped
 use Rattle.pn_serve.specs.Lines.Ends.{EndsBy}
-use Rattle.pn_serve.specs.Lines.States.{Start}
+use Rattle.pn_lines.specs.Ends.{Start}
 use Rattle.pn_serve.specs.Lines.Served.{AllAnswer}
 use Rattle.pn_serve.specs.Lines.Replies.{texts_of, refusals_of}
 use Rattle.pn_serve.specs.Machine.Outcomes.{Outcome, done, Machine, new_machine}

@@ -1,21 +1,16 @@
--- What was written if a script is not answered to its end.
-use Rattle.std.proofs.Common.{◌≡◌, ◌≢◌, ℕ, ◌<◌, ◌≤◌, Option, Some, List, [], ◌∷◌, ◌++◌, length, inl, inr, refl, sym, ap, ◌∙◌, subst, arith, append-nil, All}
-use Rattle.std.specs.Io.KnownBytes.{Appends}
+-- Scripts with more lines than may be answered, or with a line without end.
+use Rattle.std.proofs.Common.{◌≡◌, ◌≢◌, ℕ, ◌<◌, ◌≤◌, Option, List, [], ◌∷◌, ◌++◌, length, inl, inr, refl, sym, ap, ◌∙◌, subst, arith, All}
 use Rattle.std.proofs.lemmas.Bool.{cases_eq}
 use Rattle.std.proofs.lemmas.List.Elements.{All-nil}
-use Rattle.pn_line.specs.LinesRead.{LinesRead, PartRead}
+use Rattle.pn_line.specs.LinesRead.{PartRead}
 use Rattle.pn_line.specs.Reads.{IsUnbroken}
-use Rattle.pn_line.specs.Sent.{AppendsPrefix}
 use Rattle.pn_line.specs.Text.{lines_of, onto_first}
-use Rattle.pn_line.proofs.SentLaws.{Sends-flushed, Sends-cut_flush}
 use Rattle.pn_line.proofs.TextLaws.{lines_of-line, lines_of-byte, lines_of-text, lines_of-begun}
-use Rattle.pn_serve.specs.Lines.Stopped.{Broken, Cut, Exceeded}
-use Rattle.pn_serve.specs.Lines.States.{Start, Waiting}
-use Rattle.pn_serve.specs.Lines.Served.{AllAnswer, AllAnswered, IsShort}
-use Rattle.pn_protocol.specs.Reply.Texts.{reply_text}
-use Rattle.pn_serve.specs.Runs.Bounds.{IsAtBound, lines_within}
+use Rattle.pn_lines.specs.Ends.{Start}
 use Rattle.pn_protocol.specs.declared.reply.Reply.{Reply}
-use Rattle.pn_serve.proofs.Serving.{all_sent}
+use Rattle.pn_serve.specs.Lines.Served.{AllAnswer, IsShort}
+use Rattle.pn_serve.specs.Lines.Stopped.{Broken, Exceeded}
+use Rattle.pn_serve.specs.Runs.Bounds.{IsAtBound, lines_within}
 use Rattle.pn_serve.proofs.Within.{within-million, within-endless, not_all}
 
 -- a text with a byte has a line
@@ -36,86 +31,35 @@ begun_line [] rest unbroken long = absurd (omega (arith, long))
 begun_line (b ∷ part) rest unbroken long =
     let (line, more, is, longer) = lines_of-begun b part rest unbroken in (line, more, is, omega (arith, long, longer))
 
--- no part of the next line was read
-pub no_part : {text : List ℕ} {left : Option (List ℕ)} {lines : List (List ℕ)} → LinesRead text left lines → PartRead text left lines []
-no_part read = record {
-  rest = read.rest;
-  unbroken = read.unbroken;
-  part_unbroken = All-nil (λ (b : ℕ). b ≢ 10);
-  text_is = read.text_is;
-  left_is = read.left_is;
-}
-
 -- the lines of a text of which lines and a part were read
 lines_begun : {script : List ℕ} {left : Option (List ℕ)} {lines : List (List ℕ)} {part : List ℕ} (read : PartRead script left lines part) → lines_of script ≡ lines ++ lines_of (part ++ read.rest)
 lines_begun {lines = lines} {part = part} read = ap lines_of read.text_is ∙ lines_of-text lines (part ++ read.rest) read.unbroken
 
--- the lines before one of a billion bytes are those that may be answered
-pub bytes_within : (script : List ℕ) (left : Option (List ℕ)) (lines : List (List ℕ)) (part : List ℕ) → PartRead script left lines part → All IsShort lines → length part ≡ 1000000000 → length lines < 1000000 → lines_within script ≡ lines
-bytes_within script left lines part read short long few =
-    let (first, more, all, longer) = begun_line part read.rest read.part_unbroken long in
-    within-endless script lines first more (lines_begun read ∙ ap (λ (l : List (List ℕ)). lines ++ l) all) short few longer
-
-module _ {V : Type 0} (makes ends : V → List ℕ → V → Reply → Type 0) (start : Start V) (script : List ℕ) (left before after : Option (List ℕ)) (machine : V) (run : Waiting) (lines : List (List ℕ)) (part : List ℕ)
-    (is : AllAnswered makes start lines before machine run) (read : PartRead script left lines part) where
-  -- the writer failed as what waits was written
-  pub Cut_here : AppendsPrefix before after run.waits → Cut makes ends start script left after machine
-  Cut_here sent = record {
-    lines = lines;
-    part = part;
-    read = read;
-    replies = is.replies;
-    reached = machine;
-    made = is.made;
-    last = [];
-    ended = inl (refl, refl);
-    prefix = subst (λ (r : List ℕ). AppendsPrefix start.written after r) (sym (append-nil _)) (Sends-cut_flush is.sends sent);
-  }
-
-  -- a read failed, and all that waited was written
-  pub Broken_here : Appends before after run.waits → Broken makes ends start script left after machine
-  Broken_here sent = record { lines = lines; part = part; read = read; replies = is.replies; made = is.made; wrote = Sends-flushed after is.sends sent }
-
-  exceeded : IsAtBound lines part → lines_within script ≡ lines → lines_within script ≢ lines_of script → Appends before after run.waits → Exceeded makes ends start script left after machine
-  exceeded bound within more sent = record {
-    part = part;
-    read = subst (λ (l : List (List ℕ)). PartRead script left l part) (sym within) read;
-    stopped = subst (λ (l : List (List ℕ)). IsAtBound l part) (sym within) bound;
+-- lines were read and answered, and then a part of the next was read
+module _ {V : Type 0} (makes ends : V → List ℕ → V → Reply → Type 0) (start : Start V) (script : List ℕ) (left written : Option (List ℕ)) (machine : V) (is : Broken makes ends start script left written machine) where
+  exceeded : IsAtBound is.lines is.part → lines_within script ≡ is.lines → lines_within script ≢ lines_of script → Exceeded makes ends start script left written machine
+  exceeded bound within more = record {
+    part = is.part;
+    read = subst (λ (l : List (List ℕ)). PartRead script left l is.part) (sym within) is.read;
+    stopped = subst (λ (l : List (List ℕ)). IsAtBound l is.part) (sym within) bound;
     replies = is.replies;
     made = subst (λ (l : List (List ℕ)). AllAnswer makes start.machine l is.replies machine) (sym within) is.made;
-    wrote = Sends-flushed after is.sends sent;
+    wrote = is.wrote;
     more = more;
   }
 
   -- a line has no end
-  pub Exceeded_bytes : All IsShort lines → length part ≡ 1000000000 → run.counts.lines < 1000000 → Appends before after run.waits → Exceeded makes ends start script left after machine
-  Exceeded_bytes short long few sent =
-      let (first, more, all, longer) = begun_line part read.rest read.part_unbroken long in
-      let whole : lines_of script ≡ lines ++ first ∷ more = lines_begun read ∙ ap (λ (l : List (List ℕ)). lines ++ l) all in
-      let within = within-endless script lines first more whole short (omega (arith, few, is.lines_are)) longer in
-      exceeded (inr long) within (not_all script lines first more whole within) sent
+  pub Exceeded_bytes : All IsShort is.lines → length is.part ≡ 1000000000 → length is.lines < 1000000 → Exceeded makes ends start script left written machine
+  Exceeded_bytes short long few =
+      let (first, more, all, longer) = begun_line is.part is.read.rest is.read.part_unbroken long in
+      let whole : lines_of script ≡ is.lines ++ first ∷ more = lines_begun is.read ∙ ap (λ (l : List (List ℕ)). is.lines ++ l) all in
+      let within = within-endless script is.lines first more whole short few longer in
+      exceeded (inr long) within (not_all script is.lines first more whole within)
 
   -- there are more than a million lines
-  pub Exceeded_lines : All IsShort lines → part ≡ [] → read.rest ≢ [] → run.counts.lines ≡ 1000000 → Appends before after run.waits → Exceeded makes ends start script left after machine
-  Exceeded_lines short none some many sent =
-      let (line, more, all) = some_line read.rest some in
-      let whole : lines_of script ≡ lines ++ line ∷ more = lines_begun read ∙ ap (λ (p : List ℕ). lines ++ lines_of (p ++ read.rest)) none ∙ ap (λ (l : List (List ℕ)). lines ++ l) all in
-      let count : length lines ≡ 1000000 = sym is.lines_are ∙ many in
-      let within = within-million script lines (line ∷ more) whole short count in
-      exceeded (inl (count, none)) within (not_all script lines line more whole within) sent
-
--- the writer failed as the last reply was written
-pub Cut_end : {V : Type 0} (makes ends : V → List ℕ → V → Reply → Type 0) (start : Start V) (script : List ℕ) (left before after : Option (List ℕ)) (was now : V) (run new : Waiting) (lines : List (List ℕ)) (part : List ℕ) (reply : Reply)
-    → (is : AllAnswered makes start lines before was run) → PartRead script left lines part → left ≡ Some [] → ends was part now reply → new.waits ≡ run.waits ++ reply_text reply → AppendsPrefix before after new.waits
-    → Cut makes ends start script left after now
-Cut_end makes ends start script left before after was now run new lines part reply is read gone made waits sent = record {
-  lines = lines;
-  part = part;
-  read = read;
-  replies = is.replies;
-  reached = was;
-  made = is.made;
-  last = reply_text reply;
-  ended = inr (gone, (reply, refl, made));
-  prefix = Sends-cut_flush (all_sent makes ends start script before was now run new lines part reply is made waits) sent;
-}
+  pub Exceeded_lines : All IsShort is.lines → is.part ≡ [] → is.read.rest ≢ [] → length is.lines ≡ 1000000 → Exceeded makes ends start script left written machine
+  Exceeded_lines short none some many =
+      let (line, more, all) = some_line is.read.rest some in
+      let whole : lines_of script ≡ is.lines ++ line ∷ more = lines_begun is.read ∙ ap (λ (p : List ℕ). is.lines ++ lines_of (p ++ is.read.rest)) none ∙ ap (λ (l : List (List ℕ)). is.lines ++ l) all in
+      let within = within-million script is.lines (line ∷ more) whole short many in
+      exceeded (inl (many, none)) within (not_all script is.lines line more whole within)

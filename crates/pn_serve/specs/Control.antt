@@ -3,6 +3,7 @@ pub mod Answers
 pub mod Coding
 pub mod Commands
 pub mod Ends
+pub mod Handling
 pub mod Lines
 pub mod Steps
 pub mod Stops

@@ -2,6 +2,7 @@ pub mod Control
 pub mod Copies
 pub mod Lines
 pub mod Machine
+pub mod Proofs
 pub mod Runs
 pub mod Script
 pub mod Server

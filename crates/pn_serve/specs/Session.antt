@@ -1,5 +1,7 @@
 -- Sessions.
+pub mod Alone
 pub mod Counting
+pub mod Handling
 pub mod Knowing
 pub mod Lines
 pub mod Looking

@@ -21,8 +21,7 @@ pub use control::mailboxes::{ControlMailboxes, ControlsClosed, MAX_CONTROLS, Sto
 pub use control::session::{ControlSession, StatsSource};
 pub use copies::{CopiesFault, CopiesReader, open_copies, recut_copies};
 pub use laws::regions_converge;
-pub use machine::line_handler::{Answer, LineHandler};
-pub use machine::skipping::RefusesSkipped;
+pub use machine::line_answers::ReplyPieces;
 pub use page_laws::{
     a_scan_line_shows_the_page_of_its_region, keys_rise_from_page_to_page_of_a_script,
     pages_of_a_script_are_together_its_rows,
@@ -31,8 +30,6 @@ pub use recut_laws::recut_copies_are_as_good;
 pub use repeat_laws::{
     a_repeated_deliver_leaves_no_trace_of_a_refused_one, repeated_delivers_leave_the_same_region,
 };
-pub use script::line_loop::{LineLoop, LineState, Step, TURN_UNITS};
-pub use script::replies::{BLOCK, REPLY_CAPACITY, ReplyBuffer, SendOutcome};
 pub use script::{Counts, MAX_LINES, RunFault, run, run_to_exit};
 pub use server::{
     Acceptor, ComesBack, Counter, FaultLog, MAX_SESSIONS, NextWriter, OpenedRegion, Origin,

@@ -10,10 +10,9 @@ ghost use Rattle.pn_serve.specs.Machine.Ways.{HandlesTo, LastsBy};
 
 pub(crate) mod adoption;
 pub(crate) mod command_reader;
-pub(crate) mod line_handler;
+pub(crate) mod line_answers;
 pub(crate) mod lookups;
 pub(crate) mod script_handler;
-pub(crate) mod skipping;
 pub(crate) mod tablets;
 
 use crate::machine::adoption::{AnnouncedText, adopt, take_last_part, take_line};

@@ -1,23 +1,18 @@
 //! Scripts: each line is read and answered, and its reply is written.
 
 ghost use Rattle.std.specs.Prelude.{◌≡◌, ◌≢◌, ◌+◌, ◌≤◌, IfOk, IfErr, OnOk, IsErrOf};
-ghost use Rattle.pn_serve.specs.declared.script.RunFault.TheVariants.{Write, Memory};
-ghost use Rattle.pn_serve.specs.Lines.Stepping.{HasEnded, by};
-ghost use Rattle.pn_serve.specs.Lines.Waiting.{HandsOn, looks_of_input};
+ghost use Rattle.pn_lines.specs.Ends.{start_at};
 ghost use Rattle.pn_region.specs.Prelude.{new_region};
-ghost use Rattle.pn_serve.specs.Lines.States.{new_loop, start_at};
+ghost use Rattle.pn_serve.specs.declared.script.RunFault.TheVariants.{Memory};
+ghost use Rattle.pn_serve.specs.Lines.Running.{HasRun, run_ended};
+ghost use Rattle.pn_serve.specs.Lines.Waiting.{HandsOn, looks_of_input};
 ghost use Rattle.pn_serve.specs.Machine.Outcomes.{new_machine};
 ghost use Rattle.pn_serve.specs.Runs.Ends.{Ends, run_start};
-ghost use Rattle.pn_serve.specs.Session.Knowing.{KnowsNoLess};
-
-pub(crate) mod line_loop;
-pub(crate) mod replies;
 
 use crate::Settings;
-use crate::machine::line_handler::LineHandler;
 use crate::machine::script_handler::ScriptHandler;
-use crate::script::line_loop::LineLoop;
-use pn_line::{Sink, Source, WriteFault};
+use pn_line::{Sink, Source};
+use pn_lines::{LineBuffers, LineHandler, LinesFault};
 use std::alloc::Global;
 use std::mem;
 use std::thread::Threads;
@@ -51,14 +46,6 @@ pub enum RunFault {
     Memory,
 }
 
-impl From<WriteFault> for RunFault {
-    ghost from_gives = { λ _ fault. fault ≡ Write };
-
-    fn from(_fault: WriteFault) -> RunFault {
-        RunFault::Write
-    }
-}
-
 /// Answers each line of a script with one reply, over a new region. Replies are written before it waits for more
 /// input.
 pub fn run<R: Threads + Sync, S: Source, W: Sink>(
@@ -77,8 +64,8 @@ pub fn run<R: Threads + Sync, S: Source, W: Sink>(
     ensures end { OnOk result S.may_end }
     ensures unread { IsErrOf result RunFault.Memory → S.looks input.new ≡ S.looks input.old }
 {
-    let (mut lines, mut machine) = start_script(rt, alloc, settings)?;
-    answer_lines(&mut machine, &mut lines, input, output)
+    let (mut buffers, mut machine) = start_script(rt, alloc, settings)?;
+    answer_lines(&mut machine, &mut buffers, input, output)
 }
 
 /// Answers a script as [`run`] does, for a process that ends afterwards: the region's memory goes with the process and is not
@@ -99,55 +86,65 @@ pub fn run_to_exit<R: Threads + Sync, S: Source, W: Sink>(
     ensures end { OnOk result S.may_end }
     ensures unread { IsErrOf result RunFault.Memory → S.looks input.new ≡ S.looks input.old }
 {
-    let (mut lines, mut kept) = start_script(rt, alloc, settings)?;
-    let ended = answer_lines(&mut kept, &mut lines, input, output);
+    let (mut buffers, mut kept) = start_script(rt, alloc, settings)?;
+    let ended = answer_lines(&mut kept, &mut buffers, input, output);
     mem::forget(kept);
     ended
 }
 
-// The line loop and the new region of a script.
+// The buffers and the new region of a script.
 fn start_script<'a, R: Threads + Sync>(
     rt: &'a R,
     alloc: Global,
     settings: Settings,
-) -> Result<(LineLoop, ScriptHandler<'a, R>), RunFault>
-    ensures lines { IfOk result (λ begun. begun.0 ≡ new_loop) }
+) -> Result<(LineBuffers, ScriptHandler<'a, R>), RunFault>
     ensures machine { IfOk result (λ begun. begun.1 ≡ new_machine (new_region settings.layout)) }
     ensures fault { IfErr result (λ fault. fault ≡ Memory) }
 {
     match (
-        LineLoop::new(alloc),
+        LineBuffers::new(alloc),
         ScriptHandler::new(rt, alloc, settings),
     ) {
-        (Ok(lines), Ok(machine)) => Ok((lines, machine)),
+        (Ok(buffers), Ok(machine)) => Ok((buffers, machine)),
         _ => Err(RunFault::Memory),
     }
 }
 
-/// Answers all lines of an input, and its end.
+/// Answers all lines of an input, and its end, by a handler that is never closed.
 pub(crate) fn answer_lines<M: LineHandler, S: Source, W: Sink>(
     machine: &mut M,
-    lines: &mut LineLoop,
+    buffers: &mut LineBuffers,
     input: &mut S,
     output: &mut W,
 ) -> Result<Counts, RunFault>
     requires ready { M.ready }
-    requires new { lines.old ≡ new_loop }
-    ensures ends { HasEnded (by M.moves M.makes M.ends M.goes M.goes_last) (start_at machine.old (S.left input.old) (W.contents output.old)) (S.left input.new) (W.contents output.new) machine.new result }
+    requires unclosed { (state : M) → M.handling.closed state → ⊥ }
+    ensures ends { HasRun M.handling (start_at machine.old (S.left input.old) (W.contents output.old)) (S.left input.new) (W.contents output.new) machine.new result }
     ensures read { IsErrOf result RunFault.Read → S.may_fail }
     ensures write { IsErrOf result RunFault.Write → W.may_fail }
-    ensures knows { KnowsNoLess (M.reader machine.old) (M.reader machine.new) }
+    ensures kept { M.keeps machine.old machine.new }
     ensures few { IfOk result (λ counts. counts.lines ≤ MAX_LINES) }
     ensures out { HandsOn result (W.is_handed_on output.new) }
     ensures looks { S.looks input.new ≤ S.looks input.old + looks_of_input }
     ensures end { OnOk result S.may_end }
     ensures begun { IfErr result (λ fault. fault ≢ RunFault.Memory) }
 {
-    machine.recall_moves();
-    'reads: loop {
-        match lines.advance(machine, input, output) {
-            None => {}
-            Some(ended) => return ended,
+    end_run(pn_lines::answer_lines(machine, buffers, MAX_LINES, input, output))
+}
+
+// What a run ends with. Its handler is never closed.
+fn end_run(ended: Result<pn_lines::Counts, LinesFault>) -> Result<Counts, RunFault>
+    ensures { result ≡ run_ended ended }
+{
+    match ended {
+        Ok(counts) => Ok(Counts {
+            lines: counts.lines,
+            refused: counts.refused,
+        }),
+        Err(LinesFault::Read) => Err(RunFault::Read),
+        Err(LinesFault::Write) => Err(RunFault::Write),
+        Err(LinesFault::TooManyLines | LinesFault::EndlessLine | LinesFault::Closed) => {
+            Err(RunFault::TooManyTurns)
         }
     }
 }

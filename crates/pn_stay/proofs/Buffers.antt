@@ -2,11 +2,9 @@
 use Rattle.std.proofs.Common.{◌≡◌, ◌≢◌, ◌⊎◌, ℕ, ◌+◌, ◌-◌, ◌<◌, ◌≤◌, true, false, Some, List, ◌∷◌, ◌++◌, length, take, drop, inl, inr, sym, ap, ◌∙◌, subst, arith, length-append}
 use Rattle.std.specs.Prelude.{min}
 use Rattle.std.proofs.lemmas.List.{drop-drop, drop-take, drop_all, drop_at, length-take-le, take-append-drop, take-take}
-use Rattle.std.proofs.lemmas.List.Elements.{All-take}
 use Rattle.pn_line.specs.Line.{LineBufferValue}
 use Rattle.pn_line.specs.Reads.{IsUnbroken, Takes, HasMore}
 use Rattle.pn_line.specs.declared.piece.Piece.{Piece}
-use Rattle.pn_stay.specs.Skipping.{SkipsLine}
 
 -- the bytes between two places, as a slice shows them
 pub slice_within : (shown all : List ℕ) (start end : ℕ) → shown ≡ all → start ≤ end → take (end - start) (drop start shown) ≡ drop start (take end all)
@@ -36,44 +34,3 @@ pub HasMore-front : (piece : Piece) (old new : LineBufferValue) (all : List ℕ)
     → used ≡ new.count - old.count + length after → HasMore piece (Some shows) → HasMore piece (Some (drop (start + used) all))
 HasMore-front piece old new all start used shown shows now after same is takes used_is more =
     subst (λ (l : List ℕ). HasMore piece (Some l)) (sym (rest_front old new all start used shown shows now after same is takes used_is)) more
-
--- ---- a line that is skipped
-
-module _ (most found count : ℕ) (shown held : List ℕ) (same : shown ≡ held) (least : count ≡ min found most) (within : found ≤ length shown) (unbroken : IsUnbroken (take found shown)) where
-  line_long : count ≤ length held
-  line_long = omega (arith, least, within, ap length same)
-
-  line_length : length (take count held) ≡ count
-  line_length = length-take-le count held line_long
-
-  line_unbroken : IsUnbroken (take count held)
-  line_unbroken = subst (λ (l : List ℕ). IsUnbroken (take count l)) same (subst IsUnbroken (take-take count found shown (omega (arith, least))) (All-take (λ (b : ℕ). b ≢ 10) count (take found shown) unbroken))
-
-  -- it goes on
-  pub skipped_part : (new : List ℕ) → new ≡ drop count held → (count ≡ most) ⊎ (count ≡ length shown) → SkipsLine most held count false new
-  skipped_part new is end = record {
-    text = take count held;
-    unbroken = line_unbroken;
-    count_is = sym line_length;
-    few = omega (arith, line_length, least);
-    old_is = sym (take-append-drop count held) ∙ ap (λ (l : List ℕ). take count held ++ l) (sym is);
-    ends = elim end [
-      | inl all ↦ inr (line_length ∙ all)
-      | inr all ↦ inl (is ∙ drop_all count held (omega (arith, all, ap length same)))
-    ];
-  }
-
-  -- it ends
-  pub skipped_line : (new : List ℕ) → new ≡ drop (count + 1) held → count ≢ most → count ≢ length shown → (found < length shown → drop found shown ≡ 10 ∷ drop (found + 1) shown) → SkipsLine most held count true new
-  skipped_line new is other more newline =
-      let all : found ≡ count = omega (arith, least, other) in
-      let below : found < length shown = omega (arith, all, within, more) in
-      let here : drop count held ≡ 10 ∷ drop (count + 1) held =
-      subst (λ (l : List ℕ). drop count l ≡ 10 ∷ drop (count + 1) l) same (subst (λ (n : ℕ). drop n shown ≡ 10 ∷ drop (n + 1) shown) all (newline below)) in record {
-        text = take count held;
-        unbroken = line_unbroken;
-        count_is = sym line_length;
-        few = omega (arith, line_length, least);
-        old_is = sym (take-append-drop count held) ∙ ap (λ (l : List ℕ). take count held ++ l) (here ∙ ap (λ (l : List ℕ). 10 ∷ l) (sym is));
-        ends = omega (arith, line_length, least, other);
-      }

@@ -1,13 +1,6 @@
 pub mod Buffers
-pub mod Coming
 pub mod Crossing
 pub mod Endings
-pub mod Faults
 pub mod Held
-pub mod Inputs
-pub mod Outputs
 pub mod Pieces
 pub mod Quarters
-pub mod Skipping
-pub mod SkippingSteps
-pub mod Storing

@@ -1,14 +1,15 @@
 //! A connection of an event loop: its socket, what it keeps between two turns, and for how long it is idle.
 
-ghost use Rattle.std.specs.Prelude.{◌≡◌, ◌||◌, ◌≤◌, ◌↔◌, true, IsTrue};
+ghost use Rattle.std.specs.Prelude.{◌≡◌, ◌||◌, ◌+◌, ◌-◌, ◌^◌, ◌≤◌, ◌↔◌, min, true, IsTrue};
 ghost use Rattle.pn_serve.specs.Session.Knowing.{KnowsNoLess};
 ghost use Rattle.pn_stay.specs.IdleTimeouts.{new_idle_timeout, after_quarter};
 
-use crate::connection_state::{ConnectionState, Pause, ThreadBuffers, TurnOutcome};
 use crate::polled_input::PolledInput;
 use crate::socket::{Socket, TrackedSocket};
 use mio::event::Event;
-use pn_serve::{RefusesSkipped, RunFault};
+use pn_lines::{Counts, LineTurns, LinesEnd, Pause, TurnBuffers, TurnOutcome};
+use pn_protocol::LineCounts;
+use pn_serve::{CountingReader, Going, MAX_LINES, ReplyPieces};
 use std::alloc::Global;
 use std::marker::Model;
 
@@ -16,7 +17,7 @@ use std::marker::Model;
 #[derive(Drop)]
 pub(crate) struct Connection {
     socket: Socket,
-    state: ConnectionState,
+    lines: LineTurns<Going, ReplyPieces>,
     pub(crate) idle: IdleTimeout,
     /// Whether its replies wait for the socket.
     pub(crate) is_held_up: bool,
@@ -35,7 +36,7 @@ impl Connection {
     pub(crate) fn new(alloc: Global, socket: Socket) -> Connection {
         Connection {
             socket,
-            state: ConnectionState::new(alloc),
+            lines: LineTurns::new(alloc, MAX_LINES),
             idle: IdleTimeout::new(),
             is_held_up: false,
             is_ready: false,
@@ -62,33 +63,46 @@ impl Connection {
         socket
     }
 
-    /// One turn, after which it is not ready. None where the connection has ended.
-    pub(crate) fn turn<M: RefusesSkipped>(
+    /// One turn, after which it is not ready. None where the connection has ended. The lines that it takes are counted.
+    pub(crate) fn turn(
         &mut self,
-        buffers: &mut ThreadBuffers,
-        machine: &mut M,
+        buffers: &mut TurnBuffers,
+        reader: &mut CountingReader,
+        counted: &mut LineCounts,
     ) -> Option<Pause>
-        requires ready { M.ready }
-        ensures knows { KnowsNoLess (M.reader machine.old) (M.reader machine.new) }
+        ensures knows { KnowsNoLess reader.old reader.new }
     {
         self.is_ready = false;
         let mut socket = TrackedSocket::new(&self.socket);
         socket.end_input_if(self.is_ending);
         let mut input = PolledInput::new(socket, !self.is_ending && !self.is_closed);
         let mut output = TrackedSocket::new(&self.socket);
-        let turned = self.state.turn(buffers, machine, &mut input, &mut output);
+        let before = self.lines.counts();
+        let turned = self.lines.turn(buffers, reader, &mut input, &mut output);
+        add_lines(counted, before, self.lines.counts());
         let is_busy = turned == TurnOutcome::Goes(Pause::Turn);
         self.idle.note_activity(is_busy || output.has_moved());
         self.is_held_up = turned == TurnOutcome::Goes(Pause::Output);
         match turned {
             TurnOutcome::Goes(pause) => Some(pause),
-            TurnOutcome::Ended(ended) => {
-                self.lingers = ended == Err(RunFault::TooManyTurns);
+            TurnOutcome::Ended(end) => {
+                self.lingers = end != LinesEnd::Input;
                 None
             }
-            TurnOutcome::OutOfMemory => None,
+            TurnOutcome::Failed(_) => None,
         }
     }
+}
+
+// Adds the lines that were taken between two counts.
+fn add_lines(lines: &mut LineCounts, before: Counts, after: Counts)
+    ensures answered { lines.new.answered ≡ min (lines.old.answered + (after.lines - before.lines)) (2 ^ 64 - 1) }
+    ensures refused { lines.new.refused ≡ min (lines.old.refused + (after.refused - before.refused)) (2 ^ 64 - 1) }
+{
+    let answered = after.lines.saturating_sub(before.lines);
+    let refused = after.refused.saturating_sub(before.refused);
+    lines.answered = lines.answered.saturating_add(answered);
+    lines.refused = lines.refused.saturating_add(refused);
 }
 
 /// For how many quarters of a second a client was idle: no reply went to it, and no turn of it had more to do.

@@ -8,13 +8,14 @@ ghost use Rattle.slab.specs.Slab.{slab_len, Updates};
 mod ending;
 
 use crate::connection::Connection;
-use crate::connection_state::{Pause, ThreadBuffers};
 use crate::counters::Counters;
 use crate::lingering::LingeringSockets;
 use crate::socket::Socket;
 use crate::socket_mailbox::SocketMailbox;
 use mio::{Events, Poll, Token};
-use pn_serve::RefusesSkipped;
+use pn_lines::{Pause, TurnBuffers};
+use pn_protocol::LineCounts;
+use pn_serve::CountingReader;
 use slab::Slab;
 use std::alloc::Global;
 use std::sync::{Arc, Wait};
@@ -27,6 +28,12 @@ const EVENTS: usize = 1_024;
 /// How many quarters a second has.
 const QUARTERS: u32 = 4;
 
+/// No line was taken.
+const NO_LINES: LineCounts = LineCounts {
+    answered: 0,
+    refused: 0,
+};
+
 /// The token of the mailbox.
 pub(crate) const MAILBOX: Token = Token(usize::MAX);
 
@@ -36,7 +43,9 @@ pub(crate) struct EventLoop {
     alloc: Global,
     poll: Poll,
     events: Events,
-    buffers: ThreadBuffers,
+    buffers: TurnBuffers,
+    // The lines that were taken since they were added to the counters.
+    counted: LineCounts,
     connections: Slab<Connection>,
     // For how many quarters of a second a client may be idle.
     idle: Option<u32>,
@@ -57,15 +66,14 @@ impl EventLoop {
         idle: Option<u32>,
         counters: Arc<Counters>,
     ) -> io::Result<EventLoop> {
-        let Ok(buffers) = ThreadBuffers::new(alloc) else {
-            return Err(io::Error::from(io::ErrorKind::OutOfMemory));
-        };
+        let buffers = TurnBuffers::new(alloc)?;
         let events = Events::with_capacity(alloc, EVENTS)?;
         Ok(EventLoop {
             alloc,
             poll,
             events,
             buffers,
+            counted: NO_LINES,
             connections: Slab::new(alloc),
             idle: match idle {
                 Some(seconds) => Some(seconds.saturating_mul(QUARTERS)),
@@ -81,14 +89,13 @@ impl EventLoop {
     /// Answers connections until the mailbox is closed and the last has ended, or it is to answer nothing more. An error is one of the
     /// system's wait.
     #[tactic(auto, using(pn_serve::proofs::Knowing::knows_on))]
-    pub(crate) fn run<R: Wait + Clock, M: RefusesSkipped>(
+    pub(crate) fn run<R: Wait + Clock>(
         &mut self,
         rt: &R,
         mailbox: &SocketMailbox,
-        machine: &mut M,
+        reader: &mut CountingReader,
     ) -> io::Result<()>
-        requires ready { M.ready }
-        ensures knows { KnowsNoLess (M.reader machine.old) (M.reader machine.new) }
+        ensures knows { KnowsNoLess reader.old reader.new }
     {
         'rounds: for _ in rt.forever() {
             if self.wait()? {
@@ -96,7 +103,7 @@ impl EventLoop {
                 self.end_idle(rt, mailbox);
                 self.end_inputs(rt, mailbox);
             }
-            self.take_turns(rt, mailbox, machine);
+            self.take_turns(rt, mailbox, reader);
             self.lingering.close_ended(rt);
             if mailbox.is_cut(rt) || self.is_over(rt, mailbox) {
                 return Ok(());
@@ -221,14 +228,8 @@ impl EventLoop {
     }
 
     // Gives each connection that is ready one turn, while the thread is to answer.
-    fn take_turns<R: Wait, M: RefusesSkipped>(
-        &mut self,
-        rt: &R,
-        mailbox: &SocketMailbox,
-        machine: &mut M,
-    )
-        requires ready { M.ready }
-        ensures knows { KnowsNoLess (M.reader machine.old) (M.reader machine.new) }
+    fn take_turns<R: Wait>(&mut self, rt: &R, mailbox: &SocketMailbox, reader: &mut CountingReader)
+        ensures knows { KnowsNoLess reader.old reader.new }
     {
         let spare = mem::replace(&mut self.spare, Vec::new(self.alloc));
         let mut ready = mem::replace(&mut self.ready, spare);
@@ -236,7 +237,7 @@ impl EventLoop {
             if mailbox.is_cut(rt) {
                 continue;
             }
-            match self.give_turn(*key, machine) {
+            match self.give_turn(*key, reader) {
                 Some(Pause::Turn) => make_ready(&mut self.connections, &mut self.ready, *key),
                 Some(Pause::Input | Pause::Output) => {}
                 None => self.remove(rt, mailbox, *key),
@@ -244,19 +245,18 @@ impl EventLoop {
         }
         ready.clear();
         self.spare = ready;
-        let counts = self.buffers.take_line_counts();
+        let counts = mem::replace(&mut self.counted, NO_LINES);
         self.counters.clients.lines.add(counts.answered);
         self.counters.refused.add(counts.refused);
-        self.counters.kinds.add(machine.take_kinds());
+        self.counters.kinds.add(reader.take_kinds());
     }
 
     // One turn of the connection of a key. Where it is gone, nothing is at hand.
-    fn give_turn<M: RefusesSkipped>(&mut self, key: usize, machine: &mut M) -> Option<Pause>
-        requires ready { M.ready }
-        ensures knows { KnowsNoLess (M.reader machine.old) (M.reader machine.new) }
+    fn give_turn(&mut self, key: usize, reader: &mut CountingReader) -> Option<Pause>
+        ensures knows { KnowsNoLess reader.old reader.new }
     {
         match self.connections.get_mut(key) {
-            Some(connection) => connection.turn(&mut self.buffers, machine),
+            Some(connection) => connection.turn(&mut self.buffers, reader, &mut self.counted),
             None => Some(Pause::Input),
         }
     }

@@ -1,24 +1,20 @@
-//! The input buffer of a session thread, which its connections use one after another.
+//! The input buffer of a control thread, which its clients use one after another.
 
-ghost use Rattle.std.specs.Prelude.{◌≡◌, ◌≢◌, ◌⊎◌, ◌+◌, ◌≤◌, ◌<◌, ◌↔◌, [], ◌∷◌, true, false, drop, length, take, IfErr, IfOk, IsTrue, OnErr};
+ghost use Rattle.std.specs.Prelude.{◌≡◌, ◌≢◌, ◌⊎◌, ◌≤◌, ◌↔◌, [], true, false, length, take, IfErr, IfOk, IsTrue, OnErr};
 ghost use Rattle.std.specs.Io.KnownBytes.{Consumes, IsAtEnd, Keeps};
 ghost use Rattle.std.specs.IoError.{error_kind};
-ghost use Rattle.pn_line.specs.Reads.{IsUnbroken, newline_after};
-ghost use Rattle.pn_stay.specs.Skipping.{SkipsLine};
+ghost use Rattle.pn_line.specs.Reads.{newline_after};
+ghost use Rattle.pn_lines.specs.declared.turns.input.TheConstants.{READ_SIZE};
 
-use crate::input::Input;
 use pn_line::{InMemory, LineBuffer, MAX_LINE_BYTES, Piece, Source};
+use pn_lines::{Input, READ_SIZE};
 use std::alloc::{AllocError, Global};
 use std::io;
 use std::io::ErrorKind;
 use std::marker::Model;
 
-/// How many bytes fit into it. A connection keeps no more of its input as bytes, so that reading them again takes fewer units
-/// than a turn has, and the turn takes more input.
+/// How many bytes fit into it.
 pub const INPUT_CAPACITY: usize = MAX_LINE_BYTES - 1;
-
-/// How many bytes one read brings at most.
-pub const READ_SIZE: usize = 16_384;
 
 /// Input that was read and is not answered yet. Its memory is allocated when it is made, and never again.
 #[derive(Drop)]
@@ -79,25 +75,6 @@ impl InputBuffer {
         self.end = bytes.len();
     }
 
-    /// Skips at most `most` bytes of a line, and then its newline. Returns how many bytes of the line, and whether the newline was
-    /// skipped.
-    pub(crate) fn skip_line(&mut self, most: usize) -> (usize, bool)
-        ensures { SkipsLine most self.old result.0 result.1 self.new }
-    {
-        let held = self.bytes();
-        let len = held.len();
-        let count = count_unbroken(held).min(most);
-        self.start += count;
-        if count == most {
-            return (count, false);
-        }
-        if count == len {
-            return (count, false);
-        }
-        self.start += 1;
-        (count, true)
-    }
-
     /// Reads once, in place of the input that it holds. False at the end of the input.
     pub fn read_from<R: Input>(&mut self, input: &mut R) -> io::Result<bool>
         ensures came { IfOk result (λ _. Consumes (R.remaining input.old) (R.remaining input.new) self.new) }
@@ -127,22 +104,6 @@ fn read_piece<R: Input>(input: &mut R, bytes: &mut [u8]) -> io::Result<usize>
 {
     let count = input.read_some(&mut bytes[..READ_SIZE])?;
     Ok(count)
-}
-
-// How many bytes come before the first newline, or how many there are.
-fn count_unbroken(bytes: &[u8]) -> usize
-    ensures within { result ≤ length bytes.now }
-    ensures unbroken { IsUnbroken (take result bytes.now) }
-    ensures newline { result < length bytes.now → drop result bytes.now ≡ 10 ∷ drop (result + 1) bytes.now }
-{
-    let mut count = 0;
-    'bytes: for byte in bytes {
-        if *byte == b'\n' {
-            return count;
-        }
-        count += 1;
-    }
-    count
 }
 
 // Writes bytes over the first of others.

@@ -6,7 +6,8 @@ ghost use Rattle.std.specs.Duration.{as_nanos};
 ghost use Rattle.std.specs.IoError.{error_kind};
 ghost use Rattle.pn_stay.specs.declared.lingering.TheConstants.{SECONDS};
 
-use crate::socket::{Socket, is_wait};
+use crate::socket::Socket;
+use pn_lines::is_wait;
 use std::alloc::Global;
 use std::io::ErrorKind;
 use std::time::{Clock, Duration, Instant};

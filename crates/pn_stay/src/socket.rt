@@ -11,6 +11,7 @@ use libc::types::pollfd;
 use mio::unix::SourceFd;
 use mio::{Interest, Registry, Token};
 use pn_line::{Sink, WriteFault};
+use pn_lines::is_wait;
 use std::io;
 use std::io::{ErrorKind, Read, Write};
 use std::net::{Shutdown, TcpStream};
@@ -258,15 +259,5 @@ pub(crate) fn has_failed_after(has_failed: bool, moved: &io::Result<usize>) -> b
     match moved {
         Ok(_) => has_failed,
         Err(error) => has_failed || !is_wait(error),
-    }
-}
-
-/// Whether an error says that the call would have waited.
-pub(crate) fn is_wait(error: &io::Error) -> bool
-    ensures { MatchBool result (error_kind error.now ≡ ErrorKind.WouldBlock) (error_kind error.now ≢ ErrorKind.WouldBlock) }
-{
-    match error.kind() {
-        ErrorKind::WouldBlock => true,
-        _ => false,
     }
 }

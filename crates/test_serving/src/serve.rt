@@ -1,9 +1,9 @@
 //! Cases of `pn_serve`.
 //!
 //! `plan` and `says` read words; `run`, `blocks`, `writes` and `sessions` meet slow and failing readers and writers; `session` and
-//! `serve` answer sessions, `kinds` counts lines of one, `skip` refuses lines that were not kept, and `control` answers a control
-//! session; `start` opens a region from copies, and `endless` names the fault of a text of copies without end; `read` reads streams,
-//! and `writers` one whose writers come one after another. A bar is a newline.
+//! `serve` answer sessions, `kinds` counts lines of one, and `control` answers a control session; `start` opens a region from
+//! copies, and `endless` names the fault of a text of copies without end; `read` reads streams, and `writers` one whose writers
+//! come one after another. A bar is a newline.
 
 mod control;
 mod copies;
@@ -13,7 +13,6 @@ mod plans;
 mod rounds;
 mod scripts;
 mod sessions;
-mod skipping;
 mod talk;
 mod writers;
 
@@ -25,7 +24,6 @@ use plans::{plan_reply, says};
 use rounds::few_rounds;
 use scripts::{blocks, run_over, write_three_bytes};
 use sessions::{answer_session, fail_sessions};
-use skipping::skip_lines;
 use std::alloc::Global;
 use std::net::{Net, TcpListener, TcpStream};
 use std::sync::Wait;
@@ -57,7 +55,6 @@ where
         "sessions" => fail_sessions(rt, alloc, rest),
         "control" => answer_control(rt, alloc, rest),
         "kinds" => count_kinds(rt, alloc, rest),
-        "skip" => skip_lines(rt, alloc, rest),
         "serve" => serve_stream(rt, alloc, rest),
         "start" => start(rt, alloc, rest),
         "endless" => start_endless(rt, alloc, rest),

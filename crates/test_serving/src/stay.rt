@@ -13,6 +13,7 @@ mod writers;
 
 use clients::{count_input, keep_input, read_input, take_turns};
 use echo::Echo;
+use pn_lines::{LinesEnd, TurnOutcome};
 use pn_stay::every_way_of_coming_and_going;
 use served::{answer_flood, listen_twice, serve_session, stay_until_idle};
 use std::alloc::Global;
@@ -67,11 +68,11 @@ where
 fn come_and_go(alloc: Global, takes: &str, text: &str) -> Result<String, Fail> {
     let pieces = read_pieces(alloc, text)?;
     let takes = read_takes(alloc, takes)?;
-    let (ended, taken) = every_way_of_coming_and_going(alloc, &mut Echo, &pieces, &takes, TURNS)?;
-    let mut text = show(alloc, &taken)?;
-    match ended {
-        Some(Ok(counts)) => write!(text, " of {} lines", counts.lines),
-        Some(Err(_)) => text.push_str(" and a fault"),
+    let answered = every_way_of_coming_and_going(alloc, &mut Echo, &pieces, &takes, TURNS)?;
+    let mut text = show(alloc, &answered.taken)?;
+    match answered.ended {
+        Some(TurnOutcome::Ended(LinesEnd::Input)) => write!(text, " of {} lines", answered.lines),
+        Some(_) => text.push_str(" and a fault"),
         None => text.push_str(" so far"),
     }?;
     Ok(text)

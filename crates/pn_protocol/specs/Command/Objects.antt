@@ -1,16 +1,18 @@
 -- The command that a JSON object is, by its word.
-use Rattle.std.specs.Prelude.{◌≡◌, ◌⊎◌, [], ◌∷◌, codes, Some, Result, Ok, Err, IsOk}
+use Rattle.std.specs.Prelude.{◌≡◌, ◌⊎◌, Bool, true, false, if◌then◌else◌, [], ◌∷◌, codes, Some, Result, Ok, Err, IsOk}
 use Rattle.std.specs.Option.{ok_or}
 use Rattle.serde_json.specs.Data.{Data, string, Members}
 use Rattle.serde_json.specs.Find.{get, get_member, as_object}
 use Rattle.pn_json.specs.Answers.{◌>>=◌}
 use Rattle.pn_json.specs.Members.{member_as}
 use Rattle.pn_protocol.specs.Command.Meaning.{CommandValue, marks, tablets}
-use Rattle.pn_protocol.specs.Command.Words.{word_in}
+use Rattle.pn_protocol.specs.Command.Words.{users_of, word_in}
 use Rattle.pn_protocol.specs.Command.ShapeChecks.{named_alone}
 use Rattle.pn_protocol.specs.Command.Tablets.{adopt_in, copy_in, lose_in, relayout_in}
 use Rattle.pn_protocol.specs.declared.command.parse.AllowedCommands.{AllowedCommands}
 use Rattle.pn_protocol.specs.declared.command.parse.AllowedCommands.TheVariants.{All, Controls, Lookups}
+use Rattle.pn_protocol.specs.declared.command.word.CommandUsers.{CommandUsers}
+use Rattle.pn_protocol.specs.declared.command.word.CommandUsers.TheVariants as users
 use Rattle.pn_protocol.specs.declared.command.word.CommandWord.{CommandWord}
 use Rattle.pn_protocol.specs.declared.command.word.CommandWord.TheVariants.{Adopt, Copy, Deliver, Get, Lose, Marks, Notices, Read, Relayout, Scan, Tablets}
 use Rattle.pn_protocol.specs.declared.refusal.Part.TheVariants.{Whole, Do}
@@ -39,25 +41,19 @@ command_as Relayout members = relayout_in members
 command_as Scan members = scan_in members
 command_as Tablets members = alone_in tablets members
 
--- the word of a lookup
-abbrev pub lookup_word : CommandWord → Result (Unit {0}) Refusal
-lookup_word Copy = Ok tt
-lookup_word Get = Ok tt
-lookup_word Read = Ok tt
-lookup_word Scan = Ok tt
-lookup_word word = Err ReadOnly
-
--- the word of a command that control sessions have
-abbrev pub control_word : CommandWord → Result (Unit {0}) Refusal
-control_word Deliver = Err ReadOnly
-control_word Relayout = Err ReadOnly
-control_word word = Ok tt
+-- a command that these may say is allowed: scripts say all, control sessions what scripts do not have alone, sessions what is theirs
+abbrev pub may_say : AllowedCommands → CommandUsers → Bool
+may_say All who = true
+may_say Controls users.Scripts = false
+may_say Controls users.Controls = true
+may_say Controls users.Sessions = true
+may_say Lookups users.Scripts = false
+may_say Lookups users.Controls = false
+may_say Lookups users.Sessions = true
 
 -- the word is allowed, whatever the other members are
 abbrev pub allowed_word : AllowedCommands → CommandWord → Result (Unit {0}) Refusal
-allowed_word All word = Ok tt
-allowed_word Lookups word = lookup_word word
-allowed_word Controls word = control_word word
+allowed_word allowed word = if may_say allowed (users_of word) then Ok tt else Err ReadOnly
 
 -- the command that a value says, if it is allowed
 unfoldable pub allowed_in : AllowedCommands → Data → Result CommandValue Refusal

@@ -3,6 +3,8 @@ use Rattle.std.specs.Prelude.{ℕ, List, codes, if◌then◌else◌, Option, Som
 use Rattle.std.specs.Str.{bytes_eq}
 use Rattle.serde_json.specs.Data.{Data}
 use Rattle.serde_json.specs.Find.{as_str}
+use Rattle.pn_protocol.specs.declared.command.word.CommandUsers.{CommandUsers}
+use Rattle.pn_protocol.specs.declared.command.word.CommandUsers.TheVariants.{Controls, Scripts, Sessions}
 use Rattle.pn_protocol.specs.declared.command.word.CommandWord.{CommandWord}
 use Rattle.pn_protocol.specs.declared.command.word.CommandWord.TheVariants.{Adopt, Copy, Deliver, Get, Lose, Marks, Notices, Read, Relayout, Scan, Tablets}
 
@@ -20,6 +22,20 @@ word_of text =
     (if bytes_eq text (codes "relayout") then Some Relayout else
     (if bytes_eq text (codes "scan") then Some Scan else
     (if bytes_eq text (codes "tablets") then Some Tablets else None))))))))))
+
+-- who may say a command
+abbrev pub users_of : CommandWord → CommandUsers
+users_of Adopt = Controls
+users_of Copy = Sessions
+users_of Deliver = Scripts
+users_of Get = Sessions
+users_of Lose = Controls
+users_of Marks = Controls
+users_of Notices = Controls
+users_of Read = Sessions
+users_of Relayout = Scripts
+users_of Scan = Sessions
+users_of Tablets = Controls
 
 -- the word that a value is
 abbrev pub word_in : Data → Option CommandWord

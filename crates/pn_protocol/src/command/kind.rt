@@ -64,19 +64,7 @@ fn kind_of(word: Result<CommandWord, Refusal>) -> LineKind
     ensures { result ≡ kind_of_word word }
 {
     match word {
-        Ok(CommandWord::Copy) => LineKind::Copy,
-        Ok(CommandWord::Get) => LineKind::Get,
-        Ok(CommandWord::Read) => LineKind::Read,
-        Ok(CommandWord::Scan) => LineKind::Scan,
-        Ok(
-            CommandWord::Adopt
-            | CommandWord::Deliver
-            | CommandWord::Lose
-            | CommandWord::Marks
-            | CommandWord::Notices
-            | CommandWord::Relayout
-            | CommandWord::Tablets,
-        )
-        | Err(_) => LineKind::Other,
+        Ok(word) => word.row().kind,
+        Err(_) => LineKind::Other,
     }
 }

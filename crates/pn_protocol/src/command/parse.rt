@@ -8,7 +8,7 @@ ghost use Rattle.pn_protocol.specs.Command.Deliveries.{deliver_at, deliver_in};
 ghost use Rattle.pn_protocol.specs.Command.Grammar.{IsCommandLine};
 ghost use Rattle.pn_protocol.specs.Command.Meaning.{CommandValue, deliver, command_value};
 ghost use Rattle.pn_protocol.specs.Command.Lines.{refusal_of, allowed_at, command_at, lookup_at, is_too_long};
-ghost use Rattle.pn_protocol.specs.Command.Objects.{alone_in, allowed_in, allowed_word, control_word, lookup_word, TakesMemory};
+ghost use Rattle.pn_protocol.specs.Command.Objects.{alone_in, allowed_in, allowed_word, may_say as may_be_said, TakesMemory};
 
 use crate::command::build::{build_deliveries, items_at};
 use crate::command::lookups::{parse_get, parse_notices, parse_read, parse_scan};
@@ -16,7 +16,7 @@ use crate::command::members::{check_members, find_member};
 use crate::command::ranges::check_batches;
 use crate::command::shapes::{BatchShape, batches_of};
 use crate::command::tablets::{parse_adopt, parse_copy, parse_lose, parse_relayout};
-use crate::command::word::{CommandWord, word_of};
+use crate::command::word::{CommandUsers, CommandWord, word_of};
 use crate::{Command, Part, Refusal};
 use pn_json::{items_of, member_from};
 use pn_record::{ImageFault, read_value};
@@ -116,44 +116,20 @@ fn check_allowed(allowed: AllowedCommands, word: CommandWord) -> Result<(), Refu
     ensures exact { result ≡ allowed_word allowed word }
     ensures memory { IsErrOf result Refusal.Memory → ⊥ }
 {
-    match allowed {
-        AllowedCommands::All => Ok(()),
-        AllowedCommands::Lookups => check_lookup(word),
-        AllowedCommands::Controls => check_control(word),
+    if may_say(allowed, word.row().users) {
+        Ok(())
+    } else {
+        Err(Refusal::ReadOnly)
     }
 }
 
-fn check_lookup(word: CommandWord) -> Result<(), Refusal>
-    ensures exact { result ≡ lookup_word word }
-    ensures memory { IsErrOf result Refusal.Memory → ⊥ }
+fn may_say(allowed: AllowedCommands, users: CommandUsers) -> bool
+    ensures { result ≡ may_be_said allowed users }
 {
-    match word {
-        CommandWord::Copy | CommandWord::Get | CommandWord::Read | CommandWord::Scan => Ok(()),
-        CommandWord::Adopt
-        | CommandWord::Deliver
-        | CommandWord::Lose
-        | CommandWord::Marks
-        | CommandWord::Notices
-        | CommandWord::Relayout
-        | CommandWord::Tablets => Err(Refusal::ReadOnly),
-    }
-}
-
-fn check_control(word: CommandWord) -> Result<(), Refusal>
-    ensures exact { result ≡ control_word word }
-    ensures memory { IsErrOf result Refusal.Memory → ⊥ }
-{
-    match word {
-        CommandWord::Deliver | CommandWord::Relayout => Err(Refusal::ReadOnly),
-        CommandWord::Adopt
-        | CommandWord::Copy
-        | CommandWord::Get
-        | CommandWord::Lose
-        | CommandWord::Marks
-        | CommandWord::Notices
-        | CommandWord::Read
-        | CommandWord::Scan
-        | CommandWord::Tablets => Ok(()),
+    match users {
+        CommandUsers::Scripts => matches!(allowed, AllowedCommands::All),
+        CommandUsers::Controls => !matches!(allowed, AllowedCommands::Lookups),
+        CommandUsers::Sessions => true,
     }
 }
 

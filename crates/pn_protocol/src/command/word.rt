@@ -1,11 +1,12 @@
 //! The words of commands.
 
-ghost use Rattle.std.specs.Prelude.{◌≡◌};
+ghost use Rattle.std.specs.Prelude.{◌≡◌, Ok};
 ghost use Rattle.pn_json.specs.Prelude.{seen, member_as};
-ghost use Rattle.pn_protocol.specs.Command.Words.{word_of as word_named, word_in};
+ghost use Rattle.pn_protocol.specs.Command.Kinds.{kind_of_word};
+ghost use Rattle.pn_protocol.specs.Command.Words.{users_of, word_of as word_named, word_in};
 ghost use Rattle.pn_protocol.specs.declared.refusal.Part.TheVariants.{Do};
 
-use crate::{Part, Refusal};
+use crate::{LineKind, Part, Refusal};
 use serde_json::Value;
 
 /// The value of a command's `do`.
@@ -43,6 +44,53 @@ impl CommandWord {
             _ => None,
         }
     }
+}
+
+/// Who may say a command. Scripts may say all.
+#[derive(Clone, Copy)]
+pub(crate) enum CommandUsers {
+    /// Nobody else.
+    Scripts,
+    /// Control sessions too.
+    Controls,
+    /// Control sessions and sessions too.
+    Sessions,
+}
+
+/// What is the same of all lines that say a command.
+#[derive(Clone, Copy)]
+pub(crate) struct CommandRow {
+    pub(crate) users: CommandUsers,
+    /// As what sessions count it.
+    pub(crate) kind: LineKind,
+}
+
+impl CommandWord {
+    /// The table of commands.
+    pub(crate) fn row(self) -> CommandRow
+        ensures users { result.users ≡ users_of self }
+        ensures kind { result.kind ≡ kind_of_word (Ok self) }
+    {
+        match self {
+            CommandWord::Adopt => row(CommandUsers::Controls, LineKind::Other),
+            CommandWord::Copy => row(CommandUsers::Sessions, LineKind::Copy),
+            CommandWord::Deliver => row(CommandUsers::Scripts, LineKind::Other),
+            CommandWord::Get => row(CommandUsers::Sessions, LineKind::Get),
+            CommandWord::Lose => row(CommandUsers::Controls, LineKind::Other),
+            CommandWord::Marks => row(CommandUsers::Controls, LineKind::Other),
+            CommandWord::Notices => row(CommandUsers::Controls, LineKind::Other),
+            CommandWord::Read => row(CommandUsers::Sessions, LineKind::Read),
+            CommandWord::Relayout => row(CommandUsers::Scripts, LineKind::Other),
+            CommandWord::Scan => row(CommandUsers::Sessions, LineKind::Scan),
+            CommandWord::Tablets => row(CommandUsers::Controls, LineKind::Other),
+        }
+    }
+}
+
+fn row(users: CommandUsers, kind: LineKind) -> CommandRow
+    ensures { result ≡ record { users = users; kind = kind } }
+{
+    CommandRow { users, kind }
 }
 
 /// Reads the value of `do`.

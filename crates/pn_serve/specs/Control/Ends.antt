@@ -3,16 +3,18 @@ use Rattle.std.specs.Prelude.{◌≡◌, ◌⊎◌, ℕ, true, List, [], ◌++�
 use Rattle.std.specs.Io.KnownBytes.{Appends}
 use Rattle.pn_line.specs.LinesRead.{LinesRead}
 use Rattle.pn_line.specs.declared.line_buffer.TheConstants.{ENDLESS}
+use Rattle.pn_lines.specs.declared.driver.LinesFault.{LinesFault}
+use Rattle.pn_lines.specs.declared.driver.LinesFault.TheVariants as lines
+use Rattle.pn_lines.specs.declared.engine.Counts.{Counts}
 use Rattle.pn_live.specs.Readers.{LiveReaderValue}
 use Rattle.pn_protocol.specs.Reply.Texts.{reply_text}
 use Rattle.pn_protocol.specs.declared.reply.Reply.{Reply}
 use Rattle.pn_serve.specs.Control.Lines.{ControlState, at_rest, is_closed, AnswersControl, EndsControl}
 use Rattle.pn_serve.specs.Lines.Replies.{texts_of}
 use Rattle.pn_serve.specs.Lines.Served.{AllAnswer}
-use Rattle.pn_serve.specs.Lines.States.{Start}
+use Rattle.pn_lines.specs.Ends.{Start}
 use Rattle.pn_serve.specs.Lines.Stopped.{Broken, Cut}
 use Rattle.pn_serve.specs.Script.Parts.{parts_of}
-use Rattle.pn_serve.specs.declared.script.Counts.{Counts}
 use Rattle.pn_serve.specs.declared.script.RunFault.{RunFault}
 use Rattle.pn_serve.specs.declared.script.RunFault.TheVariants.{Read, Write, TooManyTurns, Memory}
 
@@ -20,10 +22,14 @@ use Rattle.pn_serve.specs.declared.script.RunFault.TheVariants.{Read, Write, Too
 abbrev pub control_start : LiveReaderValue → Option (List ℕ) → Option (List ℕ) → Start ControlState
 control_start reader left written = record { machine = at_rest reader; left = left; written = written }
 
--- an end without what was counted
-abbrev pub uncounted : Result Counts RunFault → Result (Unit {0}) RunFault
+-- an end without what was counted; a session that was closed has ended as it should
+abbrev pub uncounted : Result Counts LinesFault → Result (Unit {0}) RunFault
 uncounted (Ok counts) = Ok tt
-uncounted (Err fault) = Err fault
+uncounted (Err lines.Read) = Err Read
+uncounted (Err lines.Write) = Err Write
+uncounted (Err lines.TooManyLines) = Err TooManyTurns
+uncounted (Err lines.EndlessLine) = Err TooManyTurns
+uncounted (Err lines.Closed) = Ok tt
 
 -- some lines were read, and the replies to all of them were written
 pub record AnsweredSome (start : Start ControlState) (script : List ℕ) (left written : Option (List ℕ)) (state : ControlState) : Type 0 where

@@ -6,6 +6,7 @@ use Rattle.pn_protocol.specs.declared.reply.Reply.TheVariants.{Silent, Stopping}
 use Rattle.pn_serve.specs.Control.Steps.{AdoptsText, StepsBy, StepsLast}
 use Rattle.pn_serve.specs.Machine.Announced.{unless_call, with_line}
 use Rattle.pn_serve.specs.Machine.Outcomes.{Mode, Outcome, awaits_command, announced}
+use Rattle.pn_serve.specs.Session.Knowing.{KnowsNoLess}
 use Rattle.pn_serve.specs.declared.control.steps.ControlStep.{ControlStep}
 use Rattle.pn_serve.specs.declared.control.steps.ControlStep.TheVariants.{Replies, Announces, Stops, Ends}
 
@@ -28,6 +29,10 @@ closed_by (Some seconds) over = true
 
 abbrev pub is_closed : ControlState → Bool
 is_closed state = closed_by state.stop state.over
+
+-- its reader knows no less
+abbrev pub KeepsKnowing : ControlState → ControlState → Type 0
+KeepsKnowing old new = KnowsNoLess old.reader new.reader
 
 -- the session after a step
 abbrev pub after_step : LiveReaderValue → ControlStep → ControlState

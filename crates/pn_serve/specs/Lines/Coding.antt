@@ -1,4 +1,4 @@
--- How the states of a line loop and of a machine are stored in a proof.
+-- How the states of a machine are stored in a proof.
 use Rattle.std.specs.Prelude.{◌≡◌, ℕ, List, Option, None, Some, refl}
 use Rattle.std.specs.Coded.{Coded, code_by, coded×, coded_ℕ, coded_list, coded_option}
 use Rattle.pn_region.specs.Proofs.Coding.{region_code, entry_code}

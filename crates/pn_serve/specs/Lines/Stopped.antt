@@ -1,11 +1,11 @@
--- Where a line loop stops before the end of its script: a fault, or too many lines.
+-- Where lines stop before the end of their script: a fault, or too many lines.
 use Rattle.std.specs.Prelude.{◌≡◌, ◌≢◌, ◌⊎◌, ℕ, List, [], ◌++◌, Option, Some}
 use Rattle.std.specs.Io.KnownBytes.{Appends}
 use Rattle.pn_line.specs.LinesRead.{PartRead}
 use Rattle.pn_line.specs.Sent.{AppendsPrefix}
 use Rattle.pn_line.specs.Text.{lines_of}
 use Rattle.pn_protocol.specs.declared.reply.Reply.{Reply}
-use Rattle.pn_serve.specs.Lines.States.{Start}
+use Rattle.pn_lines.specs.Ends.{Start}
 use Rattle.pn_serve.specs.Lines.Served.{AllAnswer}
 use Rattle.pn_serve.specs.Lines.Replies.{texts_of}
 use Rattle.pn_protocol.specs.Reply.Texts.{reply_text}

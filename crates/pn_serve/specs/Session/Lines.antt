@@ -8,7 +8,7 @@ use Rattle.pn_protocol.specs.declared.reply.Reply.TheVariants.{Refused, Silent}
 use Rattle.pn_protocol.specs.Command.Lines.{is_too_long, lookup_at}
 use Rattle.pn_protocol.specs.Command.Meaning.{CommandValue, copy, get, read, scan}
 use Rattle.pn_scan.specs.Paging.{Moving}
-use Rattle.pn_serve.specs.Lines.States.{Start}
+use Rattle.pn_lines.specs.Ends.{Start}
 use Rattle.pn_serve.specs.Session.Lookups.{LooksUpKey, LooksUpKeys, LooksUpPage, LooksUpCopy}
 
 -- nothing was looked up, and the line was refused

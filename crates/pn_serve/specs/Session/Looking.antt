@@ -20,17 +20,18 @@ use Rattle.pn_scan.specs.declared.fault.ScanFault.{ScanFault}
 use Rattle.pn_scan.specs.declared.page_walk.PageStep.{PageStep}
 use Rattle.pn_scan.specs.declared.page_walk.PageStep.TheVariants as pages
 use Rattle.pn_scan.specs.Queries.{QueryValue}
-use Rattle.pn_scan.specs.Paging.{Gaps, IsNewWalk, IsOnPage, LookMade, Moving, records_left, steps_left}
+use Rattle.pn_scan.specs.Paging.{Gaps, IsNewWalk, IsOnPage, LookMade, Moving, steps_left, work_left}
 use Rattle.pn_tablet.specs.Copies.{TabletCopyValue}
 use Rattle.pn_tablet.specs.Layouts.{Bounds}
 use Rattle.pn_tablet.specs.Tablets.{TabletStateValue}
 use Rattle.pn_tablet.specs.declared.copy_count.CopyStep.{CopyStep}
 use Rattle.pn_tablet.specs.declared.copy_count.CopyStep.TheVariants as copies
-use Rattle.pn_serve.specs.declared.machine.line_handler.Answer.{Answer}
-use Rattle.pn_serve.specs.declared.machine.line_handler.Answer.TheVariants.{Done, Going as Begun}
+use Rattle.pn_serve.specs.declared.machine.line_answers.Answer.{Answer}
+use Rattle.pn_serve.specs.declared.machine.line_answers.Answer.TheVariants.{Done, Going as Begun}
 use Rattle.pn_serve.specs.declared.sessions.going.Going.{Going}
 use Rattle.pn_serve.specs.declared.sessions.going.Going.TheVariants.{Page, Keys, Copy}
-use Rattle.pn_serve.specs.declared.sessions.going.TheConstants.{RECORDS_OF_KEY}
+use Rattle.pn_scan.specs.declared.work.TheConstants.{UNIT_WORK}
+use Rattle.pn_serve.specs.declared.sessions.going.TheConstants.{UNIT_LINES}
 use Rattle.pn_serve.specs.Session.Lines.{LooksUp}
 
 -- a copy was taken by one look, after which the reader may move, and is what is counted
@@ -85,23 +86,23 @@ abbrev pub LooksForLast : Moving LiveReaderValue → LiveReaderValue → List �
 LooksForLast moves was [] now going = ⊥
 LooksForLast moves was (b ∷ part) now going = LooksFor moves was (b ∷ part) now going
 
--- how many records a step of a page looked at; where there was a fault, at most this number
+-- how many units of work a step of a page was; where there was a fault, at most this number
 abbrev pub CountsStep : ℕ → Result PageStep ScanFault → ℕ → Type 0
-CountsStep records (Ok (pages.Done page)) looked = looked ≡ 0
-CountsStep records (Ok (pages.Next walk)) looked = looked ≡ walk.looked
-CountsStep records (Err fault) looked = looked ≤ records
+CountsStep units (Ok (pages.Done page)) used = used ≡ 0
+CountsStep units (Ok (pages.Next walk)) used = used ≡ walk.units
+CountsStep units (Err fault) used = used ≤ units
 
--- of what a lookup had left, as many records were looked at as are counted; a key counts for some
+-- of what a lookup had left, no more was done than these units of work are
 abbrev pub CountsLooks : Answer → Going → ℕ → Type 0
-CountsLooks (Done reply) going looked = Unit {0}
-CountsLooks (Begun (Page asked next)) (Page query walk) looked = (records_left walk.part ≤ records_left next.part + looked) ⊎ (next.part ≡ None)
-CountsLooks (Begun (Keys next)) (Keys walk) looked = RECORDS_OF_KEY * next.read ≤ RECORDS_OF_KEY * walk.read + looked
-CountsLooks (Begun (Copy next)) (Copy count) looked = next.index ≤ count.index + looked
-CountsLooks answer going looked = Unit {0}
+CountsLooks (Done reply) going used = Unit {0}
+CountsLooks (Begun (Page asked next)) (Page query walk) used = (work_left query walk.part ≤ work_left query next.part + UNIT_WORK * used) ⊎ (next.part ≡ None)
+CountsLooks (Begun (Keys next)) (Keys walk) used = next.read ≤ walk.read + used
+CountsLooks (Begun (Copy next)) (Copy count) used = next.index ≤ count.index + UNIT_LINES * used
+CountsLooks answer going used = Unit {0}
 
--- how much of a lookup is left: its tablets, then the records of the one that is looked into; its keys; or its cells
+-- how much of a lookup is left: its tablets, then the steps of the look into one; its keys; or its cells
 abbrev pub going_left : Going → ℕ
-going_left (Page query walk) = (walk.end - walk.next) * 2 ^ 65 + steps_left walk.part
+going_left (Page query walk) = (walk.end - walk.next) * 2 ^ 129 + steps_left walk.part
 going_left (Keys walk) = length walk.keys - walk.read
 going_left (Copy count) = length count.copy.cells - count.index
 
@@ -111,10 +112,10 @@ kind_of (Page query walk) = kinds.Scan
 kind_of (Keys walk) = kinds.Get
 kind_of (Copy count) = kinds.Copy
 
--- what a page has still to look at before its next look is counted in 64 bits
+-- how far a page's look is from its end is counted in 128 bits
 abbrev pub HasFew : Result PageStep ScanFault → Type 0
 HasFew (Ok (pages.Done page)) = Unit {0}
-HasFew (Ok (pages.Next walk)) = steps_left walk.part ≤ 2 ^ 64
+HasFew (Ok (pages.Next walk)) = steps_left walk.part ≤ 2 ^ 128
 HasFew (Err fault) = Unit {0}
 
 -- a page of which nothing was looked for

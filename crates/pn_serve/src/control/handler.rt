@@ -1,14 +1,17 @@
 //! The handler of a control session's lines.
 
-ghost use Rattle.std.specs.Prelude.{◌≡◌};
-ghost use Rattle.pn_serve.specs.Control.Lines.{after_step, at_rest, is_closed, reply_of};
+ghost use Rattle.std.specs.Prelude.{◌≡◌, ℕ, List};
+ghost use Rattle.pn_line.specs.Prelude.{kept_bytes};
+ghost use Rattle.pn_serve.specs.Control.Lines.{AnswersControl, EndsControl, after_step, at_rest, is_closed, reply_of};
+ghost use Rattle.pn_serve.specs.Lines.Handled.{by_end};
+ghost use Rattle.pn_serve.specs.Session.Knowing.{KnowsNoLess};
 
 use crate::control::session::{ControlSession, StatsSource};
 use crate::control::steps::ControlStep;
 use crate::machine::adoption::{AnnouncedText, GatherOutcome};
-use crate::machine::line_handler::{Answer, LineHandler};
+use crate::machine::line_answers::{Answer, ReplyPieces, answered};
 use crate::sessions::going::Going;
-use pn_line::LineBuffer;
+use pn_lines::{Answered, EndedBy, LineHandler};
 use pn_live::LiveReader;
 use pn_protocol::Reply;
 use std::alloc::Global;
@@ -63,8 +66,8 @@ impl<'a, R, C: Drop> ControlHandler<'a, R, C> {
         }
     }
 
-    /// Whether no further line is answered: the server is to stop, or the writer takes no command any more.
-    pub(crate) fn is_closed(&self) -> bool
+    // Whether no further line is answered: the server is to stop, or the writer takes no command any more.
+    fn has_closed(&self) -> bool
         ensures { result ≡ is_closed self.now }
     {
         self.stop.is_some() || self.is_over
@@ -110,75 +113,112 @@ impl<'a, R, C: Drop> ControlHandler<'a, R, C> {
     }
 }
 
-impl<'a, R: Threads + Wait + Clock, C: StatsSource + Drop> LineHandler
-    for ControlHandler<'a, R, C> {
-    ghost use Rattle.pn_scan.specs.Prelude.{Stays};
-    ghost use Rattle.pn_serve.specs.Control.Lines.{AnswersControl, EndsControl};
-    ghost use Rattle.pn_serve.specs.Session.Knowing.{IsSteady};
-    ghost use Rattle.std.specs.Prelude.{⊤};
+impl<'a, R: Threads + Wait + Clock, C: StatsSource + Drop> ControlHandler<'a, R, C> {
+    // Answers a line, or the end of the input, by its first bytes.
+    fn reply_to(&mut self, alloc: Global, line: &[u8], ended: EndedBy) -> Reply
+        ensures answers { (text : List ℕ) → line.now ≡ kept_bytes text → by_end AnswersControl EndsControl self.old ended text self.new result }
+        ensures knows { KnowsNoLess self.old.reader self.new.reader }
+    {
+        match ended {
+            EndedBy::Newline => self.answer_line(alloc, line),
+            EndedBy::Input => self.answer_end(alloc, line),
+        }
+    }
 
-    ghost ready = { ⊤ };
-
-    ghost moves = { Stays };
-
-    ghost makes = { AnswersControl };
-
-    ghost ends = { EndsControl };
-
-    ghost goes = { λ _ _ _ _. ⊥ };
-
-    ghost goes_last = { λ _ _ _ _. ⊥ };
-
-    ghost reader = { λ session. session.reader };
-
-    fn answer(&mut self, alloc: Global, line: &LineBuffer) -> Answer {
-        if self.is_closed() {
-            return Answer::Done(Reply::Silent);
+    // Answers a line with its newline, by its first bytes.
+    fn answer_line(&mut self, alloc: Global, line: &[u8]) -> Reply
+        ensures answers { (text : List ℕ) → line.now ≡ kept_bytes text → AnswersControl self.old text self.new result }
+        ensures knows { KnowsNoLess self.old.reader self.new.reader }
+    {
+        if self.has_closed() {
+            return Reply::Silent;
         }
         match self.announced.take() {
             None => {
                 let reader = &mut self.reader;
-                let step = self.session.step(self.rt, alloc, reader, line.bytes());
-                Answer::Done(self.note(alloc, step))
+                let step = self.session.step(self.rt, alloc, reader, line);
+                self.note(alloc, step)
             }
-            Some(announced) => match announced.gather(line.bytes()) {
+            Some(announced) => match announced.gather(line) {
                 GatherOutcome::More(announced) => {
                     self.announced = Some(announced);
-                    Answer::Done(Reply::Silent)
+                    Reply::Silent
                 }
                 GatherOutcome::Text(text) => {
                     let step = self.session.adopt(self.rt, alloc, text);
-                    Answer::Done(self.note(alloc, step))
+                    self.note(alloc, step)
                 }
             },
         }
     }
 
-    fn answer_end(&mut self, alloc: Global, part: &LineBuffer) -> Answer {
-        if self.is_closed() {
-            return Answer::Done(Reply::Silent);
+    // Answers the end of the input, after a part of a line, by its first bytes.
+    fn answer_end(&mut self, alloc: Global, part: &[u8]) -> Reply
+        ensures ends { (text : List ℕ) → part.now ≡ kept_bytes text → EndsControl self.old text self.new result }
+        ensures knows { KnowsNoLess self.old.reader self.new.reader }
+    {
+        if self.has_closed() {
+            return Reply::Silent;
         }
         match self.announced.take() {
             Some(announced) => {
-                let text = announced.end(part.bytes());
+                let text = announced.end(part);
                 let step = self.session.adopt(self.rt, alloc, text);
-                Answer::Done(self.note(alloc, step))
+                self.note(alloc, step)
             }
-            None if part.is_empty() => Answer::Done(Reply::Silent),
+            None if part.is_empty() => Reply::Silent,
             None => {
                 let reader = &mut self.reader;
-                let step = self.session.last_step(self.rt, alloc, reader, part.bytes());
-                Answer::Done(self.note(alloc, step))
+                let step = self.session.last_step(self.rt, alloc, reader, part);
+                self.note(alloc, step)
             }
         }
     }
+}
 
-    // No line is resumed.
-    fn go_on(&mut self, _alloc: Global, _going: Going, _records: usize) -> (Answer, usize) {
-        (Answer::Done(Reply::Silent), 0)
+impl<'a, R: Threads + Wait + Clock, C: StatsSource + Drop> LineHandler
+    for ControlHandler<'a, R, C> {
+    ghost use Rattle.pn_serve.specs.Control.Handling.{HasClosed, controls};
+    ghost use Rattle.pn_serve.specs.Control.Lines.{AnswersControl, EndsControl, KeepsKnowing};
+    ghost use Rattle.pn_serve.specs.Lines.Handled.{Replies};
+    ghost use Rattle.pn_serve.specs.Proofs.Steady.{alone_steadily, controls_know};
+    ghost use Rattle.pn_serve.specs.Session.Looking.{going_left};
+    ghost use Rattle.std.specs.Prelude.{⊤};
+
+    type Going = Going;
+
+    type Text = ReplyPieces;
+
+    ghost ready = { ⊤ };
+
+    ghost handling = { controls };
+
+    ghost left = { going_left };
+
+    ghost keeps = { KeepsKnowing };
+
+    fn answer(
+        &mut self,
+        alloc: Global,
+        line: &[u8],
+        ended: EndedBy,
+    ) -> Answered<Going, ReplyPieces> {
+        answered(Answer::Done(self.reply_to(alloc, line, ended)), 1)
     }
 
-    fn recall_moves(&self) {}
+    // No line is resumed.
+    fn go_on(
+        &mut self,
+        _alloc: Global,
+        _going: Going,
+        _units: u32,
+    ) -> Answered<Going, ReplyPieces> {
+        answered(Answer::Done(Reply::Silent), 0)
+    }
 
-    fn recall_refused(&self, _going: &Going) {}
+    fn is_closed(&self) -> bool {
+        self.has_closed()
+    }
+
+    ghost steady = { alone_steadily (Replies AnswersControl EndsControl) HasClosed KeepsKnowing controls_know };
 }

@@ -1,17 +1,18 @@
 //! A control session: its lines are answered by its own reader, or by the writer between two rounds.
 
-ghost use Rattle.std.specs.Prelude.{◌≡◌, IsErrOf};
+ghost use Rattle.std.specs.Prelude.{◌≡◌, ◌≢◌, Err, IsErrOf, MatchBool};
+ghost use Rattle.pn_lines.specs.Ends.{start_at};
 ghost use Rattle.pn_serve.specs.Control.Ends.{AnswersClient, ControlEnds, control_start, uncounted};
-ghost use Rattle.pn_serve.specs.Lines.States.{new_loop, start_at};
 ghost use Rattle.pn_serve.specs.Lines.Waiting.{HandsOn};
 ghost use Rattle.pn_serve.specs.Session.Knowing.{KnowsNoLess};
 
+use crate::RunFault;
 use crate::control::handler::ControlHandler;
 use crate::control::mailboxes::ControlMailboxes;
-use crate::script::line_loop::LineLoop;
-use crate::{Counts, RunFault};
+use crate::script::MAX_LINES;
 use pn_join::NoMemory;
 use pn_line::{Sink, Source};
+use pn_lines::{Counts, LineBuffers, LinesFault};
 use pn_live::LiveReader;
 use pn_protocol::{Stats, TabletStats};
 use std::alloc::Global;
@@ -49,7 +50,7 @@ impl<C: StatsSource + Drop> ControlSession<C> {
     pub fn answer<R: Threads + Wait + Clock, S: Source, W: Sink>(
         &self,
         rt: &R,
-        lines: &mut LineLoop,
+        buffers: &mut LineBuffers,
         reader: LiveReader,
         input: &mut S,
         output: &mut W,
@@ -61,9 +62,8 @@ impl<C: StatsSource + Drop> ControlSession<C> {
         ensures knows { KnowsNoLess reader result.0 }
         ensures out { HandsOn result.1 (W.is_handed_on output.new) }
     {
-        lines.begin_anew();
         let mut handler = ControlHandler::new(rt, self, reader);
-        let ended = answer_lines(rt, &mut handler, lines, input, output);
+        let ended = answer_lines(rt, &mut handler, buffers, input, output);
         let (reader, stop) = handler.end();
         if let Some(seconds) = stop {
             self.stop_server(rt, seconds, &ended, &*output);
@@ -86,15 +86,14 @@ impl<C: StatsSource + Drop> ControlSession<C> {
 }
 
 // Answers all lines of a client, and the end of its input, unless the session is closed before. Once as many lines were answered
-// as a loop may answer, it begins anew.
+// as an input may have, it begins anew.
 fn answer_lines<R: Threads + Wait + Clock, C: StatsSource + Drop, S: Source, W: Sink>(
     rt: &R,
     handler: &mut ControlHandler<'_, R, C>,
-    lines: &mut LineLoop,
+    buffers: &mut LineBuffers,
     input: &mut S,
     output: &mut W,
 ) -> Result<(), RunFault>
-    requires new { lines.old ≡ new_loop }
     ensures ends { ControlEnds (start_at handler.old (S.left input.old) (W.contents output.old)) (S.left input.new) (W.contents output.new) handler.new result }
     ensures read { IsErrOf result RunFault.Read → S.may_fail }
     ensures write { IsErrOf result RunFault.Write → W.may_fail }
@@ -103,28 +102,29 @@ fn answer_lines<R: Threads + Wait + Clock, C: StatsSource + Drop, S: Source, W: 
     ensures out { HandsOn result (W.is_handed_on output.new) }
 {
     for _ in rt.forever() {
-        match lines.advance(handler, input, output) {
-            None => {}
-            Some(ended) => return without_counts(ended),
-        }
-        if !lines.is_between_lines() {
-            continue;
-        }
-        if handler.is_closed() {
-            return without_counts(lines.close(output));
-        }
-        if lines.is_full() {
-            lines.begin_run(output)?;
+        let ended = pn_lines::answer_lines(handler, buffers, MAX_LINES, input, output);
+        if !is_full(&ended) {
+            return uncount(ended);
         }
     }
     unreachable!()
 }
 
-fn without_counts(ended: Result<Counts, RunFault>) -> Result<(), RunFault>
+// Whether as many lines were answered as an input may have, and there is more.
+fn is_full(ended: &Result<Counts, LinesFault>) -> bool
+    ensures { MatchBool result (ended.now ≡ Err LinesFault.TooManyLines) (ended.now ≢ Err LinesFault.TooManyLines) }
+{
+    matches!(ended, Err(LinesFault::TooManyLines))
+}
+
+// What a session ends with. One that was closed has ended as it should.
+fn uncount(ended: Result<Counts, LinesFault>) -> Result<(), RunFault>
     ensures { result ≡ uncounted ended }
 {
     match ended {
-        Ok(_) => Ok(()),
-        Err(fault) => Err(fault),
+        Ok(_) | Err(LinesFault::Closed) => Ok(()),
+        Err(LinesFault::Read) => Err(RunFault::Read),
+        Err(LinesFault::Write) => Err(RunFault::Write),
+        Err(LinesFault::TooManyLines | LinesFault::EndlessLine) => Err(RunFault::TooManyTurns),
     }
 }

@@ -1,17 +1,21 @@
 //! The handler of a script's lines.
 
-ghost use Rattle.std.specs.Prelude.{◌≡◌, IfOk};
+ghost use Rattle.std.specs.Prelude.{◌≡◌, ℕ, List, IfOk};
+ghost use Rattle.pn_line.specs.Prelude.{kept_bytes};
 ghost use Rattle.pn_region.specs.Prelude.{new_region};
+ghost use Rattle.pn_serve.specs.Lines.Handled.{by_end};
+ghost use Rattle.pn_serve.specs.Machine.Answers.{Answers, Concludes};
 ghost use Rattle.pn_serve.specs.Machine.Outcomes.{new_machine};
+ghost use Rattle.std.specs.Thread.{IsSync};
 
 use crate::Settings;
 use crate::machine::adoption::AnnouncedText;
 use crate::machine::command_reader::Json;
-use crate::machine::line_handler::{Answer, LineHandler};
+use crate::machine::line_answers::{Answer, ReplyPieces, answered};
 use crate::machine::{answer_end, answer_line};
 use crate::sessions::going::Going;
 use pn_join::NoMemory;
-use pn_line::LineBuffer;
+use pn_lines::{Answered, EndedBy, LineHandler};
 use pn_protocol::Reply;
 use pn_region::Region;
 use std::alloc::Global;
@@ -62,32 +66,24 @@ impl<'a, R: Threads + Sync> ScriptHandler<'a, R> {
             announced: None,
         })
     }
-}
 
-impl<'a, R: Threads + Sync> LineHandler for ScriptHandler<'a, R> {
-    ghost use Rattle.pn_scan.specs.Prelude.{Stays};
-    ghost use Rattle.pn_serve.specs.Machine.Answers.{Answers, Concludes};
-    ghost use Rattle.pn_serve.specs.Session.Knowing.{no_reader};
-    ghost use Rattle.std.specs.Thread.{IsSync};
+    // Answers a line, or the end of the input, by its first bytes.
+    fn reply_to(&mut self, alloc: Global, line: &[u8], ended: EndedBy) -> Reply
+        requires ready { IsSync R.row }
+        ensures { (text : List ℕ) → line.now ≡ kept_bytes text → by_end Answers Concludes self.old ended text self.new result }
+    {
+        match ended {
+            EndedBy::Newline => self.answer_line(alloc, line),
+            EndedBy::Input => self.answer_end(alloc, line),
+        }
+    }
 
-    // Threads can share the runtime.
-    ghost ready = { IsSync R.row };
-
-    ghost moves = { Stays };
-
-    ghost makes = { Answers };
-
-    ghost ends = { Concludes };
-
-    ghost goes = { λ _ _ _ _. ⊥ };
-
-    ghost goes_last = { λ _ _ _ _. ⊥ };
-
-    ghost reader = { λ _. no_reader };
-
-    fn answer(&mut self, alloc: Global, line: &LineBuffer) -> Answer {
+    // Answers a line with its newline, by its first bytes.
+    fn answer_line(&mut self, alloc: Global, line: &[u8]) -> Reply
+        requires ready { IsSync R.row }
+        ensures { (text : List ℕ) → line.now ≡ kept_bytes text → Answers self.old text self.new result }
+    {
         let waiting = self.announced.take();
-        let bytes = line.bytes();
         let region = &mut self.region;
         let (reply, announced) = answer_line::<R, Json>(
             self.rt,
@@ -95,26 +91,63 @@ impl<'a, R: Threads + Sync> LineHandler for ScriptHandler<'a, R> {
             region,
             self.workers,
             waiting,
-            bytes,
+            line,
         );
         self.announced = announced;
-        Answer::Done(reply)
+        reply
     }
 
-    fn answer_end(&mut self, alloc: Global, part: &LineBuffer) -> Answer {
+    // Answers the end of the input, after a part of a line, by its first bytes.
+    fn answer_end(&mut self, alloc: Global, part: &[u8]) -> Reply
+        requires ready { IsSync R.row }
+        ensures { (text : List ℕ) → part.now ≡ kept_bytes text → Concludes self.old text self.new result }
+    {
         let announced = self.announced.take();
-        let bytes = part.bytes();
         let region = &mut self.region;
-        let reply = answer_end::<R, Json>(self.rt, alloc, region, self.workers, announced, bytes);
-        Answer::Done(reply)
+        answer_end::<R, Json>(self.rt, alloc, region, self.workers, announced, part)
+    }
+}
+
+impl<'a, R: Threads + Sync> LineHandler for ScriptHandler<'a, R> {
+    ghost use Rattle.pn_scan.specs.Prelude.{Stays};
+    ghost use Rattle.pn_lines.specs.Handling.{by};
+    ghost use Rattle.pn_serve.specs.Lines.Handled.{Replies};
+    ghost use Rattle.pn_serve.specs.Machine.Answers.{Answers, Concludes};
+    ghost use Rattle.pn_serve.specs.Proofs.Steady.{alone_steadily, forgets_steadily};
+    ghost use Rattle.pn_serve.specs.Session.Looking.{going_left};
+    ghost use Rattle.std.specs.Thread.{IsSync};
+
+    type Going = Going;
+
+    type Text = ReplyPieces;
+
+    // Threads can share the runtime.
+    ghost ready = { IsSync R.row };
+
+    ghost handling = { by Stays (Replies Answers Concludes) (λ _ _ _ _ _. ⊥) (λ _. ⊥) };
+
+    ghost left = { going_left };
+
+    ghost keeps = { λ _ _. Unit {0} };
+
+    fn answer(
+        &mut self,
+        alloc: Global,
+        line: &[u8],
+        ended: EndedBy,
+    ) -> Answered<Going, ReplyPieces> {
+        answered(Answer::Done(self.reply_to(alloc, line, ended)), 1)
     }
 
     // No line is resumed.
-    fn go_on(&mut self, _alloc: Global, _going: Going, _records: usize) -> (Answer, usize) {
-        (Answer::Done(Reply::Silent), 0)
+    fn go_on(
+        &mut self,
+        _alloc: Global,
+        _going: Going,
+        _units: u32,
+    ) -> Answered<Going, ReplyPieces> {
+        answered(Answer::Done(Reply::Silent), 0)
     }
 
-    fn recall_moves(&self) {}
-
-    fn recall_refused(&self, _going: &Going) {}
+    ghost steady = { alone_steadily (Replies Answers Concludes) (λ _. ⊥) (λ _ _. Unit {0}) forgets_steadily };
 }

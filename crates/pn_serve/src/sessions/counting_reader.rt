@@ -6,14 +6,15 @@ ghost use Rattle.pn_serve.specs.Session.Knowing.{KnowsNoLess};
 ghost use Rattle.pn_serve.specs.Session.Lines.{AnswersLine};
 ghost use Rattle.pn_serve.specs.Session.Looking.{LooksFor};
 
-use crate::machine::line_handler::{Answer, LineHandler, is_refusal};
-use crate::machine::skipping::{RefusesSkipped, refuse_line};
+use crate::machine::line_answers::{
+    Answer, ReplyPieces, answered, is_no_line, is_refusal, line_reply,
+};
 use crate::sessions::going::Going;
 use crate::sessions::kinds::{NO_LINES, count_line};
 use crate::sessions::lookups::answer_with_kind;
-use pn_line::LineBuffer;
+use pn_lines::{Answered, EndedBy, LineHandler, LineReply, RefusesLong};
 use pn_live::LiveReader;
-use pn_protocol::{LineKind, LineKinds, Reply};
+use pn_protocol::{LineKind, LineKinds, Refusal, Reply};
 use std::alloc::Global;
 use std::marker::Model;
 use std::mem;
@@ -59,6 +60,13 @@ impl CountingReader {
         reader
     }
 
+    /// How many lines of each kind it answered since this was asked last.
+    pub fn take_kinds(&mut self) -> LineKinds
+        ensures { self.new ≡ self.old }
+    {
+        mem::replace(&mut self.kinds, NO_LINES)
+    }
+
     // Answers a line, or begins to look for the reply.
     fn answer_line(&mut self, alloc: Global, line: &[u8]) -> Answer
         ensures { AnswersWith (AnswersLine KnowsNoLess) (LooksFor KnowsNoLess) self.old line.now self.new result }
@@ -80,60 +88,49 @@ impl CountingReader {
 }
 
 impl LineHandler for CountingReader {
-    ghost use Rattle.pn_serve.specs.Session.Knowing.{IsSteady, KnowsNoLess};
-    ghost use Rattle.pn_serve.specs.Session.Lines.{AnswersLine, EndsLines};
-    ghost use Rattle.pn_serve.specs.Session.Looking.{LooksFor, LooksForLast};
+    ghost use Rattle.pn_serve.specs.Proofs.Steady.{knows_steadily, reads_steadily};
+    ghost use Rattle.pn_serve.specs.Session.Handling.{reads_lines};
+    ghost use Rattle.pn_serve.specs.Session.Knowing.{KnowsNoLess};
+    ghost use Rattle.pn_serve.specs.Session.Looking.{going_left};
     ghost use Rattle.std.specs.Prelude.{⊤};
+
+    type Going = Going;
+
+    type Text = ReplyPieces;
 
     ghost ready = { ⊤ };
 
     // Several connections share it: between two looks of one the others look.
-    ghost moves = { KnowsNoLess };
+    ghost handling = { reads_lines KnowsNoLess };
 
-    ghost makes = { AnswersLine KnowsNoLess };
+    ghost left = { going_left };
 
-    ghost ends = { EndsLines KnowsNoLess };
+    ghost keeps = { KnowsNoLess };
 
-    ghost goes = { LooksFor KnowsNoLess };
-
-    ghost goes_last = { LooksForLast KnowsNoLess };
-
-    ghost reader = { λ reader. reader };
-
-    fn answer(&mut self, alloc: Global, line: &LineBuffer) -> Answer {
-        self.answer_line(alloc, line.bytes())
-    }
-
-    fn answer_end(&mut self, alloc: Global, part: &LineBuffer) -> Answer {
-        if part.is_empty() {
-            return Answer::Done(Reply::Silent);
+    fn answer(
+        &mut self,
+        alloc: Global,
+        line: &[u8],
+        ended: EndedBy,
+    ) -> Answered<Going, ReplyPieces> {
+        if is_no_line(line, ended) {
+            return answered(Answer::Done(Reply::Silent), 0);
         }
-        self.answer_line(alloc, part.bytes())
+        answered(self.answer_line(alloc, line), 1)
     }
 
-    fn go_on(&mut self, alloc: Global, going: Going, records: usize) -> (Answer, usize) {
+    fn go_on(&mut self, alloc: Global, going: Going, units: u32) -> Answered<Going, ReplyPieces> {
         let kind = going.kind();
-        let (answer, looked) = going.go_on(alloc, &mut self.reader, records);
-        (self.count(kind, answer), looked)
+        let (answer, used) = going.go_on(alloc, &mut self.reader, units);
+        answered(self.count(kind, answer), used)
     }
 
-    #[tactic(auto, using(crate::proofs::Knowing::knows_itself, crate::proofs::Knowing::knows_on))]
-    fn recall_moves(&self) {}
-
-    fn recall_refused(&self, _going: &Going) {}
-
-    fn shorten(&self, reply: Reply) -> Reply {
-        reply.or_memory()
-    }
-
-    fn take_kinds(&mut self) -> LineKinds {
-        mem::replace(&mut self.kinds, NO_LINES)
-    }
+    ghost steady = { reads_steadily KnowsNoLess knows_steadily };
 }
 
-impl RefusesSkipped for CountingReader {
-    fn refuse_skipped(&mut self, is_too_long: bool) -> Reply {
+impl RefusesLong for CountingReader {
+    fn refuse_long(&mut self, _ended: EndedBy) -> LineReply<ReplyPieces> {
         count_line(&mut self.kinds, LineKind::Other, true);
-        refuse_line(is_too_long)
+        line_reply(Reply::Refused(Refusal::TooLong))
     }
 }

@@ -1,9 +1,9 @@
 //! Lookups of a session that are resumed: a page, the records of keys, or a copy.
 
-ghost use Rattle.std.specs.Prelude.{◌≡◌, ◌<◌, ◌≤◌, ℕ, max, List, length, IfErr, IfOk};
+ghost use Rattle.std.specs.Prelude.{◌≡◌, ◌<◌, ◌≤◌, ◌*◌, ℕ, max, min, List, length, IfErr, IfOk};
 ghost use Rattle.pn_live.specs.Getting.{IsOnGet};
 ghost use Rattle.pn_live.specs.Prelude.{LiveReaderValue};
-ghost use Rattle.pn_live.specs.declared.reader.TheConstants.{ENTRY_RECORDS};
+ghost use Rattle.pn_lines.specs.declared.handler.TheConstants.{MAX_ANSWER_UNITS};
 ghost use Rattle.pn_protocol.specs.Command.Meaning.{CommandValue};
 ghost use Rattle.pn_scan.specs.Paging.{LookMade};
 ghost use Rattle.pn_scan.specs.Prelude.{Stays};
@@ -15,7 +15,7 @@ ghost use Rattle.pn_tablet.specs.CopyCounts.{CountsOn};
 ghost use Rattle.pn_tablet.specs.CopyMaking.{CopyCountValue};
 ghost use Rattle.pn_tablet.specs.Layouts.{Bounds};
 
-use crate::machine::line_handler::Answer;
+use crate::machine::line_answers::Answer;
 use pn_join::NoMemory;
 use pn_live::{GetWalk, LiveReader};
 use pn_protocol::{CommandFault, LineKind, Refusal, Reply, answer_get, answer_scan, refuse};
@@ -24,8 +24,8 @@ use pn_scan::{PageStep, PageWalk, Query, ScanFault, View};
 use pn_tablet::{CopyCount, CopyStep, TabletCopy};
 use std::alloc::Global;
 
-/// How many records reading a key counts for.
-const RECORDS_OF_KEY: usize = 16;
+/// How many lines of a copy are counted in one unit of work.
+const UNIT_LINES: usize = 16;
 
 /// A lookup of which some looks were made.
 #[derive(Drop)]
@@ -72,56 +72,68 @@ impl Going {
         }
     }
 
-    /// Looks at this number of further records, and at few beside them. Returns how many that counts for.
-    pub(crate) fn go_on(
-        self,
-        alloc: Global,
-        reader: &mut LiveReader,
-        records: usize,
-    ) -> (Answer, usize)
+    /// Goes on for this number of units of work, or for few. Returns how many that were.
+    pub(crate) fn go_on(self, alloc: Global, reader: &mut LiveReader, units: u32) -> (Answer, u32)
         ensures alone { (was between : LiveReaderValue) (command : CommandValue) → LooksOn Stays was command between self → Stays between reader.old → LooksTo Stays was command reader.new result.0 }
         ensures shared { (was between : LiveReaderValue) (command : CommandValue) → LooksOn KnowsNoLess was command between self → KnowsNoLess between reader.old → LooksTo KnowsNoLess was command reader.new result.0 }
-        ensures nearer { 0 < records → answer_left result.0 ≤ going_left self }
-        ensures few { result.1 ≤ max records ENTRY_RECORDS }
+        ensures nearer { 0 < units → answer_left result.0 ≤ going_left self }
+        ensures few { result.1 ≤ max units MAX_ANSWER_UNITS }
         ensures counted { CountsLooks result.0 self result.1 }
         ensures knows { KnowsNoLess reader.old reader.new }
     {
         match self {
             Going::Page(query, walk) => {
-                let step = walk.go_on(alloc, reader, &query, records);
+                let step = walk.go_on(alloc, reader, &query, units);
                 recall_few(&step);
-                let looked = looked_by(&step, records);
-                (page_answer(alloc, query, step), looked)
+                let used = units_by(&step, units);
+                (page_answer(alloc, query, step), used)
             }
             Going::Keys(walk) => {
-                let most = (records / RECORDS_OF_KEY).max(1);
-                let count = walk.left().min(most);
-                let walk = walk.go_on(reader, most);
-                (keys_answer(alloc, walk), count * RECORDS_OF_KEY)
+                let most = units.max(1);
+                let used = count_keys(walk.left(), most);
+                let walk = walk.go_on(reader, most as usize);
+                (keys_answer(alloc, walk), used)
             }
-            Going::Copy(count) => (copy_answer(count.go_on(records)), records),
+            Going::Copy(count) => (copy_answer(count.go_on(lines_in(units))), units),
         }
     }
 }
 
-// How many records a step of a page looked at. Where memory ran out, all counts as looked at.
-fn looked_by(step: &Result<PageStep, ScanFault>, records: usize) -> usize
-    ensures { CountsStep records step.now result }
+// How many units of work a step of a page was. Where memory ran out, all that it was to do.
+fn units_by(step: &Result<PageStep, ScanFault>, units: u32) -> u32
+    ensures { CountsStep units step.now result }
 {
     match step {
         Ok(PageStep::Done(_)) => 0,
-        Ok(PageStep::Next(walk)) => walk.looked(),
-        Err(ScanFault::Memory) => records,
+        Ok(PageStep::Next(walk)) => walk.units(),
+        Err(ScanFault::Memory) => units,
         Err(_) => 0,
     }
 }
 
-// What a page has still to look at before its next look is counted in 64 bits.
+// How many of the keys that are left are read: at most this number.
+fn count_keys(left: usize, most: u32) -> u32
+    ensures { result ≡ min left most }
+{
+    if left < most as usize {
+        return left as u32;
+    }
+    most
+}
+
+// How many lines of a copy are counted in some units.
+fn lines_in(units: u32) -> usize
+    ensures { result ≡ UNIT_LINES * units }
+{
+    units as usize * UNIT_LINES
+}
+
+// How far a page's look is from its end is counted in 128 bits.
 fn recall_few(step: &Result<PageStep, ScanFault>)
     ensures { HasFew step.now }
 {
     if let Ok(PageStep::Next(walk)) = step {
-        let _left = walk.left();
+        walk.recall_steps();
     }
 }
 

@@ -7,12 +7,12 @@ ghost use Rattle.pn_protocol.specs.declared.refusal.Refusal.TheVariants.{Memory 
 ghost use Rattle.pn_protocol.specs.declared.reply.Reply.TheVariants.{Refused};
 ghost use Rattle.pn_scan.specs.Prelude.{Stays};
 ghost use Rattle.pn_serve.specs.Lines.Going.{AnswersWith};
-ghost use Rattle.pn_serve.specs.declared.machine.line_handler.Answer.TheVariants.{Done};
+ghost use Rattle.pn_serve.specs.declared.machine.line_answers.Answer.TheVariants.{Done};
 ghost use Rattle.pn_serve.specs.Session.Lines.{AnswersLine, LooksUp};
 ghost use Rattle.pn_serve.specs.Session.Looking.{LooksFor, LooksTo};
 ghost use Rattle.pn_serve.specs.Session.Lookups.{LooksUpKey, LooksUpKeys, LooksUpPage, LooksUpCopy};
 
-use crate::machine::line_handler::Answer;
+use crate::machine::line_answers::Answer;
 use crate::sessions::going::Going;
 use pn_join::Marks;
 use pn_live::LiveReader;

@@ -3,25 +3,22 @@
 ghost use Rattle.std.specs.Prelude.{◌≡◌, ◌≢◌, true, false, [], IfOk};
 ghost use Rattle.std.specs.Io.KnownBytes.{IsAtEnd, Keeps, prepend_known};
 
-use crate::input::Input;
 use crate::input_buffer::InputBuffer;
 use pn_line::{LineBuffer, Piece, Source};
-use pn_serve::LineLoop;
+use pn_lines::{Input, LineBuffers};
 use std::alloc::{AllocError, Global};
 use std::io;
 
 /// The buffers of a control thread. Their memory is allocated when they are made, and never again.
 #[derive(Drop)]
 pub(super) struct ControlBuffers {
-    pub(super) lines: LineLoop,
+    pub(super) lines: LineBuffers,
     pub(super) input: InputBuffer,
 }
 
 impl ControlBuffers {
     pub(super) fn new(alloc: Global) -> Result<ControlBuffers, AllocError> {
-        let Ok(lines) = LineLoop::new(alloc) else {
-            return Err(AllocError);
-        };
+        let lines = LineBuffers::new(alloc)?;
         let input = InputBuffer::new(alloc)?;
         Ok(ControlBuffers { lines, input })
     }

@@ -1,10 +1,10 @@
 //! The socket at which a stream's writers come.
 
 use crate::seldom::Seldom;
-use crate::socket::is_wait;
 use crate::socket_file::{ListenFault, SocketFile};
 use crate::streams::notes::StreamTeller;
 use libc::net::{SO_RCVTIMEO, SOL_SOCKET, setsockopt};
+use pn_lines::is_wait;
 use std::alloc::{AllocError, Global};
 use std::fs::{File, Files};
 use std::io;

@@ -41,7 +41,7 @@ fn fault_text(alloc: Global, fault: &ScanFault) -> Result<String, Fail> {
     Ok(format!(in alloc; "{fault}")?)
 }
 
-/// The keys of a page that is resumed record by record after a first look, and in how many steps it was found; or why
+/// The keys of a page that is resumed unit by unit after a first look, and in how many steps it was found; or why
 /// there is no page.
 pub(crate) fn walk_reply(
     alloc: Global,

@@ -1,11 +1,12 @@
 //! A view of two lists of tablets that take turns from one read to the next.
 
-ghost use Rattle.std.specs.Prelude.{◌≡◌, ◌≤◌, Option, IfOk, IfSome, IsTrue};
+ghost use Rattle.std.specs.Prelude.{◌≡◌, ◌≤◌, max, Option, IfOk, IfSome, IsTrue};
 ghost use Rattle.std.specs.Option.{option_copied};
 ghost use Rattle.pn_tablet.specs.Laws.{IsSpelled};
 ghost use Rattle.pn_tablet.specs.Tablets.{TabletStateValue, lie_in};
 ghost use Rattle.pn_scan.specs.Parts.{looked_in, part_at};
 ghost use Rattle.pn_scan.specs.Views.{IsStateOf, IsFoundIn, Answers, rows_at, cell_at};
+ghost use Rattle.pn_scan.specs.declared.work.TheConstants.{MAX_PART_WORK};
 
 use pn_record::{Cell, Key};
 use pn_scan::{Budget, PartResult, Query, ScanFault, View, cell_of, part_of};
@@ -52,7 +53,7 @@ impl TakesTurns {
         ensures look { (found : Option TabletStateValue)
             × IsFoundIn self.now.layout (tablet, found)
             × Answers (part_at query.now) result (rows_at query.now room (tablet, found)) }
-        ensures few { IfOk result (λ part. looked_in budget.records part ≤ budget.records) }
+        ensures few { IfOk result (λ part. looked_in (max budget.work MAX_PART_WORK) part ≤ max budget.work MAX_PART_WORK) }
     {
         match self.state(tablet) {
             Some(state) => part_of(state, tablet, query, room, budget),
@@ -96,7 +97,7 @@ fn has_ends(state: &TabletState, from: Option<&Key>, to: Option<&Key>) -> bool
 impl View for TakesTurns {
     ghost bounds = { λ view. view.layout };
 
-    ghost most = { λ records. records };
+    ghost most = { λ work. max work MAX_PART_WORK };
 
     // What a read finds is left open.
     ghost looks = { λ old look new. Unit {0} };

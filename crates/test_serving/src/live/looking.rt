@@ -90,7 +90,7 @@ fn page_beside<R: Threads + Wait + Sync>(
     query: &Query,
 ) -> Option<Page> {
     let walk = begin_page(alloc, reader, query)?;
-    if walk.looked() == 0 || !take(rt, alloc, live, RECORDS + 2, "last@8") {
+    if walk.units() == 0 || !take(rt, alloc, live, RECORDS + 2, "last@8") {
         return None;
     }
     end_page(alloc, reader, query, walk)

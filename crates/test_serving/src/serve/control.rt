@@ -3,14 +3,14 @@
 use crate::reading::{Script, push_message, read_all, stream_of};
 use pn_join::{Name, NoMemory};
 use pn_line::InMemory;
+use pn_lines::LineBuffers;
 use pn_live::{LiveReader, LiveRegion};
 use pn_protocol::{
     ConnectionStats, LineCounts, LineKinds, LineStats, Stats, StreamFaultStats, StreamState,
     StreamStats, TabletStats,
 };
 use pn_serve::{
-    ControlMailboxes, ControlSession, LineLoop, StatsSource, Stream, close_region, open_region,
-    take_commands,
+    ControlMailboxes, ControlSession, StatsSource, Stream, close_region, open_region, take_commands,
 };
 use std::alloc::{AllocError, Global};
 use std::sync::{Arc, Wait};
@@ -200,8 +200,8 @@ fn answer<R: Threads + Wait + Clock>(
 ) -> Vec<u8> {
     let mut written = Vec::new(alloc);
     let mut input = InMemory::new(lines.as_bytes());
-    if let Ok(mut line_loop) = LineLoop::new(alloc) {
-        let _ = session.answer(rt, &mut line_loop, reader, &mut input, &mut written);
+    if let Ok(mut buffers) = LineBuffers::new(alloc) {
+        let _ = session.answer(rt, &mut buffers, reader, &mut input, &mut written);
     }
     session.mailboxes.stop(rt, 0);
     written

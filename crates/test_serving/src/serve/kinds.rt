@@ -2,10 +2,11 @@
 
 use crate::regions::{end, open_one};
 use pn_join::NoMemory;
-use pn_line::{InMemory, LineBuffer, LineEnd, read_line};
+use pn_line::InMemory;
+use pn_lines::{LineBuffers, answer_lines};
 use pn_live::LiveReader;
 use pn_protocol::{LineCounts, LineKinds};
-use pn_serve::{Answer, CountingReader, LineHandler};
+use pn_serve::CountingReader;
 use std::alloc::{AllocError, Global};
 use std::sync::Wait;
 use std::test::Fail;
@@ -53,40 +54,13 @@ fn count_lines<R: Threads + Wait + Sync>(
 
 fn count_by(alloc: Global, reader: LiveReader, lines: &str) -> Option<(LineKinds, LineKinds)> {
     let mut counting = CountingReader::new(reader);
-    let answered = answer_all(alloc, &mut counting, InMemory::new(lines.as_bytes()));
+    let mut buffers = LineBuffers::new(alloc).ok()?;
+    let mut input = InMemory::new(lines.as_bytes());
+    let mut written = Vec::new(alloc);
+    let ended = answer_lines(&mut counting, &mut buffers, 100, &mut input, &mut written);
     let (kinds, then) = (counting.take_kinds(), counting.take_kinds());
-    drop(counting.into_reader());
-    answered?;
+    ended.ok()?;
     Some((kinds, then))
-}
-
-// Answers lines up to the end of the input.
-fn answer_all(alloc: Global, counting: &mut CountingReader, input: InMemory<'_>) -> Option<()> {
-    let mut input = input;
-    let mut line = LineBuffer::new(alloc).ok()?;
-    for _ in 0..100 {
-        line.start();
-        if let Ok(LineEnd::Newline { .. }) = read_line(&mut line, &mut input) {
-            let begun = counting.answer(alloc, &line);
-            end_answer(alloc, counting, begun);
-        } else {
-            let begun = counting.answer_end(alloc, &line);
-            end_answer(alloc, counting, begun);
-            break;
-        }
-    }
-    Some(())
-}
-
-// Goes on with an answer until the line has its reply.
-fn end_answer(alloc: Global, counting: &mut CountingReader, begun: Answer) {
-    let mut answer = begun;
-    for _ in 0..100 {
-        match answer {
-            Answer::Done(_reply) => return,
-            Answer::Going(going) => answer = counting.go_on(alloc, going, 100).0,
-        }
-    }
 }
 
 fn push_counts(text: &mut String, name: &str, counts: LineCounts) -> Result<(), AllocError> {

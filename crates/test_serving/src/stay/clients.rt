@@ -4,9 +4,11 @@ use crate::stay::echo::Echo;
 use crate::stay::{TURNS, read_pieces, read_takes, show};
 use pn_join::{Name, NoMemory};
 use pn_line::{Discard, InMemory, LineBuffer, LineEnd, Sink, Source, read_line};
+use pn_lines::{LineTurns, Pause, TurnBuffers, TurnOutcome};
+use pn_serve::{Going, MAX_LINES, ReplyPieces};
 use pn_stay::{
-    ConnectionState, Counters, CountingSource, InputBuffer, InputCounters, Pause, ScriptedSink,
-    ScriptedSource, StreamCounters, ThreadBuffers, TurnOutcome,
+    Counters, CountingSource, InputBuffer, InputCounters, ScriptedSink, ScriptedSource,
+    StreamCounters,
 };
 use std::alloc::Global;
 use std::sync::Arc;
@@ -53,44 +55,34 @@ fn push_turns<W: Sink>(
     pieces: &[Vec<u8>],
     output: &mut W,
 ) -> Result<u64, Fail> {
-    let mut buffers = ThreadBuffers::new(alloc)?;
+    let mut buffers = TurnBuffers::new(alloc)?;
     push_and_count(alloc, pauses, &mut buffers, pieces, output)
 }
 
 fn push_and_count<W: Sink>(
     alloc: Global,
     pauses: &mut String,
-    buffers: &mut ThreadBuffers,
+    buffers: &mut TurnBuffers,
     pieces: &[Vec<u8>],
     output: &mut W,
 ) -> Result<u64, Fail> {
-    push_connection(alloc, pauses, buffers, pieces, output)?;
-    Ok(buffers.take_line_counts().answered)
-}
-
-fn push_connection<W: Sink>(
-    alloc: Global,
-    pauses: &mut String,
-    buffers: &mut ThreadBuffers,
-    pieces: &[Vec<u8>],
-    output: &mut W,
-) -> Result<(), Fail> {
-    let mut state = ConnectionState::new(alloc);
+    let mut lines = LineTurns::new(alloc, MAX_LINES);
     let mut input = ScriptedSource::new(pieces);
-    push_pauses(pauses, &mut state, buffers, &mut input, output)
+    push_pauses(pauses, &mut lines, buffers, &mut input, output)?;
+    Ok(lines.counts().lines)
 }
 
 fn push_pauses<W: Sink>(
     pauses: &mut String,
-    state: &mut ConnectionState,
-    buffers: &mut ThreadBuffers,
+    lines: &mut LineTurns<Going, ReplyPieces>,
+    buffers: &mut TurnBuffers,
     input: &mut ScriptedSource<'_>,
     output: &mut W,
 ) -> Result<(), Fail> {
     for _ in 0..TURNS {
-        match state.turn(buffers, &mut Echo, input, output) {
+        match lines.turn(buffers, &mut Echo, input, output) {
             TurnOutcome::Goes(pause) => pauses.push(sign(pause))?,
-            TurnOutcome::Ended(_) | TurnOutcome::OutOfMemory => break,
+            TurnOutcome::Ended(_) | TurnOutcome::Failed(_) => break,
         }
     }
     Ok(())

@@ -1,8 +1,8 @@
 //! A handler that answers each line with its own bytes.
 
-use pn_line::LineBuffer;
-use pn_protocol::{Refusal, Reply};
-use pn_serve::{Answer, Going, LineHandler, RefusesSkipped};
+use pn_lines::{Answer, Answered, EndedBy, LineHandler, LineReply, RefusesLong};
+use pn_protocol::{Refusal, Reply, ReplyText};
+use pn_serve::{Going, ReplyPieces};
 use std::alloc::Global;
 
 /// Answers each line with as much of it as is kept.
@@ -10,53 +10,73 @@ use std::alloc::Global;
 pub(crate) struct Echo;
 
 impl LineHandler for Echo {
+    ghost use Rattle.pn_lines.specs.Handling.{by};
     ghost use Rattle.std.specs.Prelude.{⊤};
-    ghost use Rattle.pn_serve.specs.Session.Knowing.{no_reader};
+
+    type Going = Going;
+
+    type Text = ReplyPieces;
 
     ghost ready = { ⊤ };
 
-    ghost moves = { λ _ _. ⊤ };
+    ghost handling = { by (λ _ _. ⊤) (λ _ _ _ _ _. ⊤) (λ _ _ _ _ _. ⊥) (λ _. ⊥) };
 
-    ghost makes = { λ _ _ _ _. ⊤ };
+    ghost left = { λ _. 0 };
 
-    ghost ends = { λ _ _ _ _. ⊤ };
+    ghost keeps = { λ _ _. ⊤ };
 
-    ghost goes = { λ _ _ _ _. ⊥ };
-
-    ghost goes_last = { λ _ _ _ _. ⊥ };
-
-    ghost reader = { λ _. no_reader };
-
-    fn answer(&mut self, alloc: Global, line: &LineBuffer) -> Answer {
-        Answer::Done(reply_to(alloc, line))
-    }
-
-    fn answer_end(&mut self, alloc: Global, part: &LineBuffer) -> Answer {
-        if part.is_empty() {
-            return Answer::Done(Reply::Silent);
+    fn answer(
+        &mut self,
+        alloc: Global,
+        line: &[u8],
+        ended: EndedBy,
+    ) -> Answered<Going, ReplyPieces> {
+        if line.is_empty() && ended == EndedBy::Input {
+            return answered(Reply::Silent);
         }
-        Answer::Done(reply_to(alloc, part))
+        answered(reply_to(alloc, line))
     }
 
     // No line is resumed.
-    fn go_on(&mut self, _alloc: Global, _going: Going, _records: usize) -> (Answer, usize) {
-        (Answer::Done(Reply::Silent), 0)
+    fn go_on(
+        &mut self,
+        _alloc: Global,
+        _going: Going,
+        _units: u32,
+    ) -> Answered<Going, ReplyPieces> {
+        answered(Reply::Silent)
     }
 
-    fn recall_moves(&self) {}
-
-    fn recall_refused(&self, _going: &Going) {}
+    ghost steady = { (
+      record { stays = λ _. tt; goes_on = λ _ _ _ _ _. tt },
+      record { stays = λ _. tt; goes_on = λ _ _ _ _ _. tt },
+      λ _ _ _ _ _ _ begun _. absurd begun,
+    ) };
 }
 
-impl RefusesSkipped for Echo {
-    fn refuse_skipped(&mut self, _is_too_long: bool) -> Reply {
-        Reply::Refused(Refusal::Memory)
+impl RefusesLong for Echo {
+    fn refuse_long(&mut self, _ended: EndedBy) -> LineReply<ReplyPieces> {
+        reply(Reply::Refused(Refusal::TooLong), true)
+    }
+}
+
+fn answered(shown: Reply) -> Answered<Going, ReplyPieces> {
+    Answered {
+        answer: Answer::Done(reply(shown, false)),
+        units: 1,
+    }
+}
+
+fn reply(shown: Reply, is_refusal: bool) -> LineReply<ReplyPieces> {
+    LineReply {
+        text: ReplyPieces(ReplyText::new(shown)),
+        is_refusal,
     }
 }
 
 // As much of a line as is kept, as a line.
-fn reply_to(alloc: Global, line: &LineBuffer) -> Reply {
-    let Ok(mut text) = Vec::from_slice(alloc, line.bytes()) else {
+fn reply_to(alloc: Global, line: &[u8]) -> Reply {
+    let Ok(mut text) = Vec::from_slice(alloc, line) else {
         return Reply::Silent;
     };
     let _ = text.push(b'\n');

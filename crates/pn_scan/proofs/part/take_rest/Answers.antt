@@ -8,4 +8,4 @@ pub returns-clause-same : goal.returns-clause-same
 returns-clause-same c =
     let query = c.args.query.now in
     ap (walk_answer query) c.new.ensures
-    ∙ slice_answer query c.args.cells.now c.in_ok-rest.rest c.args.index c.end_of_range.result c.max.result c.args.room c.args.rows.items c.in_ok-rest.ensures c.end_of_range.ensures.shown c.max.ensures
+    ∙ slice_answer query c.args.cells.now c.in_ok-rest.rest c.args.next.index c.args.next.seen c.end_of_range.result c.max-end.result c.args.room c.args.rows.items c.in_ok-rest.ensures c.end_of_range.ensures.shown c.max-end.ensures

@@ -1,7 +1,7 @@
 -- A read brings no more than it has room for, and it has some.
 use Rattle.std.proofs.Common.{◌≡◌, ◌∙◌, length, arith}
 use Rattle.std.proofs.lemmas.List.{length-take-le}
-use Rattle.pn_stay.specs.declared.input_buffer.TheConstants.{READ_SIZE}
+use Rattle.pn_lines.specs.declared.turns.input.TheConstants.{READ_SIZE}
 use Rattle.pn_stay.proofs.input_buffer.read_piece.Goals as goal
 
 pub returns-clause-end : goal.returns-clause-end

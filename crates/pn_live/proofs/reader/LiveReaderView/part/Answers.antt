@@ -1,5 +1,5 @@
 -- The tablet was looked into.
-use Rattle.std.proofs.Common.{ℕ, length, ◌≤◌, ap, subst, arith}
+use Rattle.std.proofs.Common.{ℕ, length, ◌≡◌, ◌≤◌, max, ap, subst, arith}
 use Rattle.std.specs.Prelude.{IfOk}
 use Rattle.pn_scan.specs.Parts.{looked_in, part_at}
 use Rattle.pn_scan.specs.Views.{rows_at}
@@ -30,4 +30,6 @@ returns-clause-look c =
     )
 
 pub returns-clause-few : goal.returns-clause-few
-returns-clause-few c = subst (λ (n : ℕ). IfOk c.part.result (λ part. looked_in n part ≤ n)) c.max-records.ensures c.part.ensures.few
+returns-clause-few c =
+    let same : max c.max-work.result 386 ≡ max c.args.budget.work 2048 = omega (arith, c.max-work.ensures) in
+    subst (λ (n : ℕ). IfOk c.part.result (λ part. looked_in n part ≤ n)) same c.part.ensures.few

@@ -1,9 +1,9 @@
 -- The look that is resumed comes to the same rows.
-use Rattle.std.proofs.Common.{◌<◌, [], ◌++◌, length, Option, Result, Err, refl, sym, ap, ◌∙◌, subst}
+use Rattle.std.proofs.Common.{◌<◌, ◌*◌, [], ◌++◌, length, max, Option, Result, Err, refl, sym, ap, ◌∙◌, subst, arith}
 use Rattle.std.specs.Prelude.{IfSome}
 use Rattle.std.proofs.lemmas.Result.{err_from_is_err_and}
-use Rattle.pn_scan.specs.Paging.{records_left, rows_to_come, IsOnPage, PagesTo}
-use Rattle.pn_scan.specs.Parts.{PartValue}
+use Rattle.pn_scan.specs.Paging.{work_left, rows_to_come, IsOnPage, PagesTo}
+use Rattle.pn_scan.specs.Parts.{LooksAtMost, PartValue}
 use Rattle.pn_scan.specs.WalkValues.{PageWalkValue, PartWalkValue}
 use Rattle.pn_scan.specs.declared.fault.ScanFault.{ScanFault}
 use Rattle.pn_scan.specs.declared.page_walk.PageStep.{PageStep}
@@ -41,4 +41,5 @@ returns-in_ok-with_part-in-Some-clause-goes g c = λ trace on.
 pub returns-in_ok-with_part-in-Some-clause-few : goal.returns-in_ok-with_part-in-Some-clause-few
 returns-in_ok-with_part-in-Some-clause-few g c =
     let next = c.in_ok-with_part-in-Some.ensures in
-    counted_on c.args.records _ _ _ _ _ _ c.in_ok-part-in-Some.part (ap records_left (sym (ap (λ (w : PageWalkValue). w.part) c.self.view_is) ∙ c.in-Some.is)) c.in_ok-part-in-Some.ensures.few next.part next.looked
+    let few = subst (λ n. LooksAtMost c.args.query.now n c.in-Some.part c.in_ok-part-in-Some.part) (sym c.max-most.ensures) c.in_ok-part-in-Some.ensures.few in
+    counted_on c.args.query.now c.max-most.result (32 * max c.args.units 64) _ _ _ _ c.in-Some.part c.in_ok-part-in-Some.part (ap (work_left c.args.query.now) (sym (ap (λ (w : PageWalkValue). w.part) c.self.view_is) ∙ c.in-Some.is)) (omega (arith, c.max-most.ensures, c.work_of-work.ensures.work)) (omega (arith, c.max-most.ensures, c.work_of-work.ensures.few)) few next.part next.units

@@ -2,13 +2,12 @@
 use Rattle.std.proofs.Common.{◌≡◌, ◌<◌, ◌≤◌, ◌⊎◌, ◌+◌, ◌-◌, ℕ, [], ◌∷◌, length, max, Result, Ok, Err, refl, sym, ap, ◌∙◌, subst, arith}
 use Rattle.std.proofs.lemmas.Result.{err_from_is_err_and}
 use Rattle.pn_tablet.specs.Layouts.{Bounds, IsLayout}
-use Rattle.pn_scan.specs.Paging.{IsOnPage, LookMade, PagesTo, records_left}
-use Rattle.pn_scan.specs.Parts.{looked_in, part_at}
+use Rattle.pn_scan.specs.Paging.{IsOnPage, LookMade, PagesTo, work_left}
+use Rattle.pn_scan.specs.Parts.{part_at}
 use Rattle.pn_scan.specs.Views.{LooksOnce, rows_at}
 use Rattle.pn_scan.specs.WalkValues.{PageWalkValue}
 use Rattle.pn_scan.specs.declared.fault.ScanFault.{ScanFault}
 use Rattle.pn_scan.specs.declared.page_walk.PageStep.{PageStep}
-use Rattle.pn_scan.specs.declared.pages.TheConstants.{LOOK_RECORDS}
 use Rattle.pn_scan.proofs.Counted.{counted_first}
 use Rattle.pn_scan.proofs.Paging.{page_ends, full_without_memory, look_fails, looked_on, looked_without_memory}
 use Rattle.pn_scan.proofs.page_walk.PageWalk.look_further.Goals as goal
@@ -101,7 +100,5 @@ returns-clause-looked g c = let look = c.in_ok-part.ensures.look in let made : L
 
 pub returns-clause-few : goal.returns-clause-few
 returns-clause-few g c =
-    let most = max c.args.budget.records LOOK_RECORDS in
-    let part = c.in_ok-part.part in
-    let few : looked_in (g.V.View.most most) part ≤ g.V.View.most most = subst (λ (n : ℕ). looked_in (g.V.View.most n) part ≤ g.V.View.most n) c.max-most.ensures c.in_ok-part.ensures.few in
-    counted_first most _ _ _ _ part (ap records_left c.requires) (c.in_ok-with_part.ensures.looked ∙ ap (λ (n : ℕ). looked_in n part) c.max-most.ensures) few
+    let query = c.args.query.now in
+    counted_first query c.args.budget.work _ _ _ _ c.in_ok-part.part (ap (work_left query) c.requires) c.in_ok-with_part.ensures.units c.in_ok-part.ensures.few

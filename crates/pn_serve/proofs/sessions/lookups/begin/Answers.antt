@@ -3,10 +3,10 @@ use Rattle.std.proofs.Common.{sym, subst}
 use Rattle.pn_scan.specs.Paging.{Stays}
 use Rattle.pn_protocol.specs.declared.command.Command.{Command}
 use Rattle.pn_protocol.specs.Command.Meaning.{command_value}
-use Rattle.pn_serve.specs.declared.machine.line_handler.Answer.TheVariants.{Going as Begun}
+use Rattle.pn_serve.specs.declared.machine.line_answers.Answer.TheVariants.{Going as Begun}
 use Rattle.pn_serve.specs.Session.Looking.{LooksTo}
 use Rattle.pn_serve.proofs.GoingOn.{begins_keys, begins_page}
-use Rattle.pn_serve.proofs.Running.{stays_preorder}
+use Rattle.pn_serve.proofs.Knowing.{stays_preorder}
 use Rattle.pn_serve.proofs.sessions.lookups.begin.Goals as goal
 
 pub returns-in-Get-clause-begins : goal.returns-in-Get-clause-begins

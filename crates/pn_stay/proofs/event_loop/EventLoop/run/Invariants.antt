@@ -3,4 +3,4 @@ use Rattle.pn_serve.specs.Session.Knowing.{KnowsNoLess}
 use Rattle.pn_stay.proofs.event_loop.EventLoop.run.Given as goal
 
 abbrev pub invariant-rounds : goal.invariant-rounds
-invariant-rounds g l = KnowsNoLess (g.M.LineHandler.reader l.initial.machine) (g.M.LineHandler.reader l.machine)
+invariant-rounds g l = KnowsNoLess l.initial.reader l.reader

@@ -3,4 +3,4 @@ use Rattle.pn_serve.specs.Session.Knowing.{KnowsNoLess}
 use Rattle.pn_stay.proofs.event_loop.EventLoop.take_turns.Given as goal
 
 abbrev pub invariant-loop-key : goal.invariant-loop-key
-invariant-loop-key g l = KnowsNoLess (g.M.LineHandler.reader l.initial.machine) (g.M.LineHandler.reader l.machine)
+invariant-loop-key g l = KnowsNoLess l.initial.reader l.reader

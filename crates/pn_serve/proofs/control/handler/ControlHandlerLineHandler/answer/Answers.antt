@@ -1,53 +1,11 @@
--- The line was a command, or was announced.
-use Rattle.std.proofs.Common.{List, ℕ, [], ◌∷◌, refl, sym, ap, ◌∙◌, subst}
-use Rattle.pn_live.specs.Readers.{LiveReaderValue}
-use Rattle.pn_serve.specs.Control.Lines.{ControlState, after_step}
-use Rattle.pn_serve.specs.Control.Steps.{StepsBy}
-use Rattle.pn_serve.specs.Machine.Modes.{bytes_of, mode_of}
-use Rattle.pn_serve.specs.Machine.Ways.{IsJoined}
-use Rattle.pn_serve.specs.Session.Knowing.{KnowsNoLess}
-use Rattle.pn_serve.proofs.ControlLines.{answers_command, answers_more, answers_whole, knows_after, more_state}
-use Rattle.pn_serve.proofs.ControlSteps.{steps_know}
-use Rattle.pn_serve.proofs.Knowing.{knows_itself, knows_same}
+-- The line has its reply at once.
+use Rattle.std.proofs.Common.{refl, sym, subst}
+use Rattle.pn_lines.specs.Answers.{AnswerValue, AnswersBy}
+use Rattle.pn_serve.specs.Control.Handling.{controls}
+use Rattle.pn_serve.specs.declared.sessions.going.Going.{Going}
 use Rattle.pn_serve.proofs.control.handler.ControlHandlerLineHandler.answer.Goals as goal
 
-pub returns-then-is_closed-clause-knows : goal.returns-then-is_closed-clause-knows
-returns-then-is_closed-clause-knows g c = knows_itself _
-
-pub returns-in-None-clause-makes : goal.returns-in-None-clause-makes
-returns-in-None-clause-makes g c text here =
-    let reader = ap (λ (s : ControlState). s.reader) c.self.view_is in
-    let mode = sym (ap (λ (s : ControlState). s.mode) c.self.view_is) ∙ ap mode_of (sym c.take.ensures.value ∙ c.in-None.is) in
-    answers_command c.args.self.now c.note.new.self text c.note.result (sym c.is_closed.ensures ∙ c.if-is_closed.false) c.args.line.now here mode c.step-step.new.reader c.step-step.result
-    (subst (λ (bytes : List ℕ). StepsBy c.args.self.now.reader bytes c.step-step.new.reader c.step-step.result) c.bytes.ensures
-    (subst (λ (r : LiveReaderValue). StepsBy r c.bytes.result.now c.step-step.new.reader c.step-step.result) reader c.step-step.ensures)) c.note.ensures.state c.note.ensures.reply
-
-pub returns-in-None-clause-knows : goal.returns-in-None-clause-knows
-returns-in-None-clause-knows g c =
-    let reader = ap (λ (s : ControlState). s.reader) c.self.view_is in
-    knows_after c.args.self.now.reader c.note.new.self c.step-step.new.reader c.step-step.result
-    (subst (λ (r : LiveReaderValue). KnowsNoLess r c.step-step.new.reader) reader (steps_know _ _ _ _ c.step-step.ensures)) c.note.ensures.state
-
-pub returns-in-More-clause-makes : goal.returns-in-More-clause-makes
-returns-in-More-clause-makes g c text here =
-    let mode = sym (ap (λ (s : ControlState). s.mode) c.self.view_is) ∙ ap mode_of (sym c.take.ensures.value ∙ c.in-Some.is) in
-    let gathers = c.in-More.ensures in
-    answers_more c.args.self.now _ text _ (sym c.is_closed.ensures ∙ c.if-is_closed.false) c.args.line.now here c.in-Some.announced.left (bytes_of c.in-Some.announced.text) (bytes_of c.in-More.announced.text) mode gathers.0
-    (subst (λ (bytes : List ℕ). IsJoined (bytes_of c.in-Some.announced.text) bytes (10 ∷ []) (bytes_of c.in-More.announced.text)) c.bytes-in-Some.ensures gathers.2)
-    (more_state _ c.args.self.now _ _ _ c.self.view_is gathers.1) refl
-
-pub returns-in-More-clause-knows : goal.returns-in-More-clause-knows
-returns-in-More-clause-knows g c = knows_same _ _ (ap (λ (s : ControlState). s.reader) c.self.view_is)
-
-pub returns-in-Text-clause-makes : goal.returns-in-Text-clause-makes
-returns-in-Text-clause-makes g c text here =
-    let reader = ap (λ (s : ControlState). s.reader) c.self.view_is in
-    let mode = sym (ap (λ (s : ControlState). s.mode) c.self.view_is) ∙ ap mode_of (sym c.take.ensures.value ∙ c.in-Some.is) in
-    let gathers = c.in-Text.ensures in
-    answers_whole c.args.self.now c.note-in-Text.new.self text c.note-in-Text.result (sym c.is_closed.ensures ∙ c.if-is_closed.false) c.args.line.now here c.in-Some.announced.left (bytes_of c.in-Some.announced.text) (bytes_of c.in-Text.text) mode gathers.0
-    (subst (λ (bytes : List ℕ). IsJoined (bytes_of c.in-Some.announced.text) bytes (10 ∷ []) (bytes_of c.in-Text.text)) c.bytes-in-Some.ensures gathers.1)
-    c.adopt-step.result c.adopt-step.ensures (c.note-in-Text.ensures.state ∙ ap (λ (r : LiveReaderValue). after_step r c.adopt-step.result) reader) c.note-in-Text.ensures.reply
-
-pub returns-in-Text-clause-knows : goal.returns-in-Text-clause-knows
-returns-in-Text-clause-knows g c =
-    knows_after c.args.self.now.reader c.note-in-Text.new.self c.self.inside.reader c.adopt-step.result (knows_same _ _ (ap (λ (s : ControlState). s.reader) c.self.view_is)) c.note-in-Text.ensures.state
+pub returns-clause-answers : goal.returns-clause-answers
+returns-clause-answers g c = λ text is.
+    subst (λ (a : AnswerValue Going). AnswersBy controls c.args.self.now c.args.ended text c.reply_to.new.self a) (sym c.answered.ensures.answer)
+    (record { reply = c.reply_to.result; shown = refl; made = c.reply_to.ensures.answers text is })

@@ -2,5 +2,5 @@
 use Rattle.pn_serve.proofs.Knowing.{knows_itself}
 use Rattle.pn_serve.proofs.control.handler.ControlHandlerLineHandler.go_on.Goals as goal
 
-pub returns-clause-knows : goal.returns-clause-knows
-returns-clause-knows g c = knows_itself _
+pub returns-clause-kept : goal.returns-clause-kept
+returns-clause-kept g c = knows_itself _

@@ -2,7 +2,7 @@
 use Rattle.std.proofs.Common.{subst}
 use Rattle.pn_serve.specs.Control.Ends.{ControlEnds}
 use Rattle.pn_serve.specs.Control.Lines.{ControlState}
-use Rattle.pn_serve.specs.Lines.States.{start_at}
+use Rattle.pn_lines.specs.Ends.{start_at}
 use Rattle.pn_serve.proofs.ControlEnds.{client_knows}
 use Rattle.pn_serve.proofs.control.session.ControlSession.answer.Goals as goal
 

@@ -1,19 +1,14 @@
--- The line was answered by the region.
-use Rattle.std.proofs.Common.{List, ℕ, ap, ◌∙◌, subst}
-use Rattle.pn_serve.specs.Machine.Modes.{with_mode}
-use Rattle.pn_serve.specs.Machine.Outcomes.{Machine}
-use Rattle.pn_serve.specs.Machine.Answers.{Answers}
-use Rattle.pn_serve.proofs.Knowing.{knows_itself}
-use Rattle.pn_serve.proofs.LongLines.{answers_kept}
+-- The line has its reply at once.
+use Rattle.std.proofs.Common.{refl, sym, subst}
+use Rattle.pn_lines.specs.Answers.{AnswerValue, AnswersBy}
+use Rattle.pn_lines.specs.Handling.{by}
+use Rattle.pn_scan.specs.Paging.{Stays}
+use Rattle.pn_serve.specs.Lines.Handled.{Replies}
+use Rattle.pn_serve.specs.Machine.Answers.{Answers, Concludes}
+use Rattle.pn_serve.specs.declared.sessions.going.Going.{Going}
 use Rattle.pn_serve.proofs.machine.script_handler.ScriptHandlerLineHandler.answer.Goals as goal
 
-pub returns-clause-makes : goal.returns-clause-makes
-returns-clause-makes g c text is =
-    let inside = c.self.inside in
-    let was = ap (λ waits. with_mode waits inside.region) c.take-waiting.ensures.value ∙ c.self.view_is in
-    answers_kept c.args.self.now _ c.args.line.now text c.answer_line-reply.result.0 is
-    (subst (λ (m : Machine). Answers m c.args.line.now.bytes (with_mode c.answer_line-reply.result.1 c.answer_line-reply.new.region) c.answer_line-reply.result.0) was
-    (subst (λ (bytes : List ℕ). Answers (with_mode c.take-waiting.result inside.region) bytes (with_mode c.answer_line-reply.result.1 c.answer_line-reply.new.region) c.answer_line-reply.result.0) c.bytes-bytes.ensures c.answer_line-reply.ensures))
-
-pub returns-clause-knows : goal.returns-clause-knows
-returns-clause-knows g c = knows_itself _
+pub returns-clause-answers : goal.returns-clause-answers
+returns-clause-answers g c = λ text is.
+    subst (λ (a : AnswerValue Going). AnswersBy (by Stays (Replies Answers Concludes) (λ _ _ _ _ _. ⊥) (λ _. ⊥)) c.args.self.now c.args.ended text c.reply_to.new.self a) (sym c.answered.ensures.answer)
+    (record { reply = c.reply_to.result; shown = refl; made = c.reply_to.ensures text is })

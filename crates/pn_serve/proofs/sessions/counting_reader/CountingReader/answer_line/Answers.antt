@@ -1,7 +1,7 @@
 -- What a reader that is alone answers, one that is shared answers too.
 use Rattle.std.proofs.Common.{sym, subst}
 use Rattle.pn_live.specs.Readers.{LiveReaderValue}
-use Rattle.pn_serve.specs.declared.machine.line_handler.Answer.{Answer}
+use Rattle.pn_serve.specs.declared.machine.line_answers.Answer.{Answer}
 use Rattle.pn_serve.specs.Lines.Going.{AnswersWith}
 use Rattle.pn_serve.specs.Session.Knowing.{KnowsNoLess}
 use Rattle.pn_serve.specs.Session.Lines.{AnswersLine}

@@ -2,14 +2,13 @@
 use Rattle.std.proofs.Common.{◌≤◌, ◌*◌, refl, sym, subst, arith}
 use Rattle.pn_scan.specs.Paging.{Stays}
 use Rattle.pn_serve.specs.declared.sessions.going.Going.{Going}
-use Rattle.pn_serve.specs.declared.sessions.going.TheConstants.{RECORDS_OF_KEY}
 use Rattle.pn_serve.specs.Lines.Going.{answer_left}
 use Rattle.pn_serve.specs.Session.Knowing.{KnowsNoLess}
 use Rattle.pn_serve.specs.Session.Looking.{CountsLooks, LooksOn, going_left}
 use Rattle.pn_serve.proofs.GoingOn.{copy_nearer, copy_on, keys_nearer, keys_on, only_looks_know, page_nearer, page_on}
-use Rattle.pn_serve.proofs.Knowing.{knows_itself, knows_preorder, moves_knows, stays_knows}
+use Rattle.pn_serve.proofs.Knowing.{knows_itself, moves_knows, stays_knows}
 use Rattle.pn_serve.proofs.Looked.{copy_counted, keys_counted, page_counted, page_few}
-use Rattle.pn_serve.proofs.Running.{stays_preorder}
+use Rattle.pn_serve.proofs.Knowing.{knows_preorder, stays_preorder}
 use Rattle.pn_serve.proofs.sessions.going.Going.go_on.Goals as goal
 
 pub returns-in-Page-clause-alone : goal.returns-in-Page-clause-alone
@@ -27,7 +26,7 @@ returns-in-Page-clause-shared c =
 pub returns-in-Page-clause-nearer : goal.returns-in-Page-clause-nearer
 returns-in-Page-clause-nearer c = λ some.
     subst (λ (going : Going). answer_left c.page_answer.result ≤ going_left going) (sym c.in-Page.is)
-    (page_nearer c.in-Page.query c.in-Page.walk c.go_on-step.result c.page_answer.result c.page_answer.ensures (c.go_on-step.ensures.nearer some) c.recall_few.ensures)
+    (page_nearer c.in-Page.query c.in-Page.walk c.go_on-step.result c.page_answer.result c.page_answer.ensures c.go_on-step.ensures.nearer c.recall_few.ensures)
 
 pub returns-in-Page-clause-knows : goal.returns-in-Page-clause-knows
 returns-in-Page-clause-knows c = only_looks_know c.args.reader.now c.go_on-step.new.view c.go_on-step.ensures.looked
@@ -47,7 +46,7 @@ returns-in-Keys-clause-shared c =
 pub returns-in-Keys-clause-nearer : goal.returns-in-Keys-clause-nearer
 returns-in-Keys-clause-nearer c = λ some.
     subst (λ (going : Going). answer_left c.keys_answer.result ≤ going_left going) (sym c.in-Keys.is)
-    (keys_nearer c.in-Keys.walk c.max-most.result c.go_on-walk.result c.keys_answer.result (omega arith) c.go_on-walk.ensures.left c.keys_answer.ensures.some c.keys_answer.ensures.fault)
+    (keys_nearer c.in-Keys.walk c.max-most.result c.go_on-walk.result c.keys_answer.result (omega (arith, c.max-most.ensures)) c.go_on-walk.ensures.left c.keys_answer.ensures.some c.keys_answer.ensures.fault)
 
 pub returns-in-Keys-clause-knows : goal.returns-in-Keys-clause-knows
 returns-in-Keys-clause-knows c = only_looks_know c.args.reader.now c.go_on-walk.new.reader c.go_on-walk.ensures.looked
@@ -55,43 +54,43 @@ returns-in-Keys-clause-knows c = only_looks_know c.args.reader.now c.go_on-walk.
 pub returns-in-Copy-clause-alone : goal.returns-in-Copy-clause-alone
 returns-in-Copy-clause-alone c =
     λ was between command on moved.
-    copy_on Stays stays_preorder stays_knows was between c.args.reader.now c.args.reader.now moved command c.in-Copy.count c.args.records c.go_on.result c.copy_answer.result
-    (subst (λ (going : Going). LooksOn Stays was command between going) c.in-Copy.is on) c.go_on.ensures (c.copy_answer.ensures c.args.records c.in-Copy.count c.go_on.ensures)
+    copy_on Stays stays_preorder stays_knows was between c.args.reader.now c.args.reader.now moved command c.in-Copy.count c.lines_in.result c.go_on.result c.copy_answer.result
+    (subst (λ (going : Going). LooksOn Stays was command between going) c.in-Copy.is on) c.go_on.ensures (c.copy_answer.ensures c.lines_in.result c.in-Copy.count c.go_on.ensures)
 
 pub returns-in-Copy-clause-shared : goal.returns-in-Copy-clause-shared
 returns-in-Copy-clause-shared c =
     λ was between command on moved.
-    copy_on KnowsNoLess knows_preorder moves_knows was between c.args.reader.now c.args.reader.now moved command c.in-Copy.count c.args.records c.go_on.result c.copy_answer.result
-    (subst (λ (going : Going). LooksOn KnowsNoLess was command between going) c.in-Copy.is on) c.go_on.ensures (c.copy_answer.ensures c.args.records c.in-Copy.count c.go_on.ensures)
+    copy_on KnowsNoLess knows_preorder moves_knows was between c.args.reader.now c.args.reader.now moved command c.in-Copy.count c.lines_in.result c.go_on.result c.copy_answer.result
+    (subst (λ (going : Going). LooksOn KnowsNoLess was command between going) c.in-Copy.is on) c.go_on.ensures (c.copy_answer.ensures c.lines_in.result c.in-Copy.count c.go_on.ensures)
 
 pub returns-in-Copy-clause-nearer : goal.returns-in-Copy-clause-nearer
 returns-in-Copy-clause-nearer c = λ some.
     subst (λ (going : Going). answer_left c.copy_answer.result ≤ going_left going) (sym c.in-Copy.is)
-    (copy_nearer c.in-Copy.count c.args.records c.go_on.result c.copy_answer.result some c.go_on.ensures (c.copy_answer.ensures c.args.records c.in-Copy.count c.go_on.ensures))
+    (copy_nearer c.in-Copy.count c.lines_in.result c.go_on.result c.copy_answer.result (omega (arith, c.lines_in.ensures, some)) c.go_on.ensures (c.copy_answer.ensures c.lines_in.result c.in-Copy.count c.go_on.ensures))
 
 pub returns-in-Copy-clause-knows : goal.returns-in-Copy-clause-knows
 returns-in-Copy-clause-knows c = knows_itself c.args.reader.now
 
 pub returns-in-Page-clause-few : goal.returns-in-Page-clause-few
-returns-in-Page-clause-few c = page_few c.args.records c.looked_by-looked.result c.in-Page.walk c.go_on-step.result c.looked_by-looked.ensures c.go_on-step.ensures.few
+returns-in-Page-clause-few c = page_few c.args.units c.units_by-used.result c.in-Page.query c.in-Page.walk c.go_on-step.result c.units_by-used.ensures c.go_on-step.ensures.few
 
 pub returns-in-Page-clause-counted : goal.returns-in-Page-clause-counted
 returns-in-Page-clause-counted c =
-    subst (λ (going : Going). CountsLooks c.page_answer.result going c.looked_by-looked.result) (sym c.in-Page.is)
-    (page_counted c.args.records c.looked_by-looked.result _ _ c.in-Page.query c.in-Page.walk c.go_on-step.result c.page_answer.result c.page_answer.ensures c.looked_by-looked.ensures c.go_on-step.ensures.few)
+    subst (λ (going : Going). CountsLooks c.page_answer.result going c.units_by-used.result) (sym c.in-Page.is)
+    (page_counted c.args.units c.units_by-used.result _ _ c.in-Page.query c.in-Page.walk c.go_on-step.result c.page_answer.result c.page_answer.ensures c.units_by-used.ensures c.go_on-step.ensures.few)
 
 pub returns-in-Keys-clause-few : goal.returns-in-Keys-clause-few
-returns-in-Keys-clause-few c = omega (arith, c.min-count.ensures, c.max-most.ensures)
+returns-in-Keys-clause-few c = omega (arith, c.count_keys-used.ensures, c.max-most.ensures)
 
 pub returns-in-Keys-clause-counted : goal.returns-in-Keys-clause-counted
 returns-in-Keys-clause-counted c =
-    subst (λ (going : Going). CountsLooks c.keys_answer.result going (c.min-count.result * RECORDS_OF_KEY)) (sym c.in-Keys.is)
-    (keys_counted c.in-Keys.walk c.max-most.result c.min-count.result _ c.go_on-walk.result c.keys_answer.result (omega (arith, c.min-count.ensures, c.left.ensures.left)) refl c.go_on-walk.ensures.few c.go_on-walk.ensures.left c.keys_answer.ensures.some c.keys_answer.ensures.fault)
+    subst (λ (going : Going). CountsLooks c.keys_answer.result going c.count_keys-used.result) (sym c.in-Keys.is)
+    (keys_counted c.in-Keys.walk c.max-most.result c.count_keys-used.result c.go_on-walk.result c.keys_answer.result (omega (arith, c.count_keys-used.ensures, c.left.ensures.left)) c.go_on-walk.ensures.few c.go_on-walk.ensures.left c.keys_answer.ensures.some c.keys_answer.ensures.fault)
 
 pub returns-in-Copy-clause-few : goal.returns-in-Copy-clause-few
 returns-in-Copy-clause-few c = omega arith
 
 pub returns-in-Copy-clause-counted : goal.returns-in-Copy-clause-counted
 returns-in-Copy-clause-counted c =
-    subst (λ (going : Going). CountsLooks c.copy_answer.result going c.args.records) (sym c.in-Copy.is)
-    (copy_counted c.in-Copy.count c.args.records c.go_on.result c.copy_answer.result c.go_on.ensures (c.copy_answer.ensures c.args.records c.in-Copy.count c.go_on.ensures))
+    subst (λ (going : Going). CountsLooks c.copy_answer.result going c.args.units) (sym c.in-Copy.is)
+    (copy_counted c.in-Copy.count c.args.units c.lines_in.result c.go_on.result c.copy_answer.result c.lines_in.ensures c.go_on.ensures (c.copy_answer.ensures c.lines_in.result c.in-Copy.count c.go_on.ensures))

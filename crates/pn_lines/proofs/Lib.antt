@@ -1,0 +1,14 @@
+pub mod Driving
+pub mod Ending
+pub mod Following
+pub mod Left
+pub mod Pieces
+pub mod Reading
+pub mod Standing
+pub mod Stepping
+pub mod Steps
+pub mod Taking
+pub mod Turned
+pub mod Turning
+pub mod Windows
+pub mod Working

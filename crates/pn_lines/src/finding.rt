@@ -1,0 +1,55 @@
+//! How the first line at hand is found.
+
+ghost use Rattle.std.specs.Prelude.{◌≤◌, IfNone, IfSome, length};
+ghost use Rattle.pn_line.specs.declared.line_buffer.TheConstants.{MAX_LINE_BYTES};
+ghost use Rattle.pn_line.specs.Reads.{IsUnbroken};
+ghost use Rattle.pn_lines.specs.Finding.{FindsLine, NewlineAt};
+
+use memchr::memchr;
+use pn_line::MAX_KEPT_BYTES;
+
+/// The first line at hand.
+#[derive(Clone, Copy, Debug, PartialEq, Eq)]
+pub(crate) enum Found {
+    /// It has so many bytes, and a newline.
+    Line(usize),
+    /// It is too long.
+    Long,
+    /// It has no newline, and is the last.
+    Last,
+    /// It has no newline so far.
+    Part,
+}
+
+/// Finds the first line. The bytes may be the last.
+pub(crate) fn find_line(bytes: &[u8], is_last: bool) -> Found
+    ensures { FindsLine bytes.now is_last result }
+{
+    if bytes.len() < MAX_KEPT_BYTES {
+        return find_short(bytes, is_last);
+    }
+    match find_newline(&bytes[..MAX_KEPT_BYTES]) {
+        Some(at) => Found::Line(at),
+        None => Found::Long,
+    }
+}
+
+// Finds the first line where there are no more bytes than it may have.
+fn find_short(bytes: &[u8], is_last: bool) -> Found
+    requires { length bytes.now ≤ MAX_LINE_BYTES }
+    ensures { FindsLine bytes.now is_last result }
+{
+    match find_newline(bytes) {
+        Some(at) => Found::Line(at),
+        None if is_last => Found::Last,
+        None => Found::Part,
+    }
+}
+
+/// Finds the first newline.
+pub(crate) fn find_newline(bytes: &[u8]) -> Option<usize>
+    ensures some { IfSome result (NewlineAt bytes.now) }
+    ensures none { IfNone result (IsUnbroken bytes.now) }
+{
+    memchr(b'\n', bytes)
+}
