@@ -15,7 +15,7 @@ def parts(program: str, scripts: str, live: str, soak: str) -> list[Part]:
               "rising-keys": [program], "locks": [program], "readme": [program], "words": [], "links": [], "naming": [], "types": []}
     wide = {"sessions": [program], "out-of-memory": [program, live], "failing-calls": [program], "damaged-input": [program],
             "damaged-streams": [program], "clients": [program],
-            "limits": [program], "stay": [program], "skipped": [program], "streams": [program], "control": [program], "ends": [program],
+            "limits": [program], "stay": [program], "unkept": [program], "streams": [program], "control": [program], "ends": [program],
             "signals": [program], "copies": [program], "exporter": [program], "full-disk": [program],
             "abuse": [program, "--seconds", soak]}
     return [Part(name, [str(RUN), name, *words], those is wide) for those in (narrow, wide) for name, words in those.items()]

@@ -1,12 +1,12 @@
 """Tries clients whose input a program that stays has no memory to keep.
 
-  checks/run skipped PROGRAM [--clients N]
+  checks/run unkept PROGRAM [--clients N]
 
 One session thread. Once 20,000 records are read in and all clients are answered, memory is limited to what it has and 256 KB. Each client
-sends most of a line, and some are too long. None may be disconnected: each line is answered as it should be or by `memory`, one too long by
-`too-long`, and each line after it in its order. An honest client reads beside them all the while.
+sends most of a line, and some are too long. Each line is answered in its order, as it should be or by `memory`, one too long by `too-long`,
+until the client's connection ends. An honest client reads beside them all the while, and is not ended.
 
-Exit status 0 where all of that holds, and input was skipped for some of them.
+Exit status 0 where all of that holds, and some of them were ended.
 """
 import contextlib
 import json
@@ -27,7 +27,7 @@ ROW: Json = {"row": row_of("k1", 1, "x")}
 LONG, SHORT = 70_000, 60_000
 
 
-class Skipped(Client):
+class Unkept(Client):
     """A client that sends a line in two parts."""
 
     def __init__(self, port: int, number: int) -> None:
@@ -37,22 +37,31 @@ class Skipped(Client):
 
     def begin(self) -> None:
         """Sends three lines, and most of another."""
-        self.send(LINE * 3 + b'{"do":"read","key":"k1"}' + b" " * (LONG if self.is_too_long else SHORT))
+        with contextlib.suppress(ConnectionError):
+            self.send(LINE * 3 + b'{"do":"read","key":"k1"}' + b" " * (LONG if self.is_too_long else SHORT))
 
     def finish(self) -> bool:
-        """Ends the line, and asks three others, or ends its input in it. Whether input was skipped."""
-        self.send(b"" if self.is_last else b"\n" + LINE * 3)
-        self.end_input()
-        replies = [json.loads(line) for line in self.replies]
-        before, reply, after = replies[:3], replies[3], replies[4:]
-        same("the replies", [got for got in before + after if got not in (ROW, MEMORY)], [])
-        same("how many there are", (len(before), len(after)), (3, 0 if self.is_last else 3))
-        same("the reply to a line in two parts", reply in ([TOO_LONG] if self.is_too_long else [ROW, MEMORY]), True)
-        return MEMORY in replies
+        """Ends the line, and asks three others, or ends its input in it. Whether it was ended before all was answered."""
+        with contextlib.suppress(OSError):
+            self.send(b"" if self.is_last else b"\n" + LINE * 3)
+            self.end_input()
+        replies = self.all_replies()
+        wanted = [ROW] * 3 + [TOO_LONG if self.is_too_long else ROW] + [ROW] * (0 if self.is_last else 3)
+        same("no more replies than lines", len(replies) <= len(wanted), True)
+        same("the replies", [got for got, want in zip(replies, wanted) if got not in (want, MEMORY)], [])
+        return len(replies) < len(wanted)
+
+    def all_replies(self) -> list[Json]:
+        """The replies until the connection ends."""
+        replies: list[Json] = []
+        with contextlib.suppress(ConnectionError):
+            for line in self.replies:
+                replies.append(json.loads(line))
+        return replies
 
 
 def try_clients(program: str, folder: str, count: int) -> int:
-    """How many clients' input was skipped."""
+    """How many clients were ended."""
     path, stream = fifo(folder, "east")
     with stream, Staying(program, folder, [("east", path)], "--connections", "4096", threads=1) as region, contextlib.ExitStack() as stay:
         for at in range(1, RECORDS + 1):
@@ -60,7 +69,7 @@ def try_clients(program: str, folder: str, count: int) -> int:
         honest = stay.enter_context(Client(region.port))
         honest.wait_for(f"k{RECORDS}", row_of(f"k{RECORDS}", RECORDS, "x"))
         idle = seconds_of(lambda: honest.read("k1"))
-        clients = [stay.enter_context(Skipped(region.port, number)) for number in range(count)]
+        clients = [stay.enter_context(Unkept(region.port, number)) for number in range(count)]
         limit_memory(region)
         is_over, slowest = threading.Event(), [0.0]
         beside = threading.Thread(target=read_until, args=[honest, is_over, slowest])
@@ -68,12 +77,12 @@ def try_clients(program: str, folder: str, count: int) -> int:
         try:
             for client in clients:
                 client.begin()
-            skipped = sum(client.finish() for client in clients)
+            ended = sum(client.finish() for client in clients)
         finally:
             is_over.set()
             beside.join()
         in_time("an honest client's slowest read", slowest[0], 1, idle)
-    return skipped
+    return ended
 
 
 def limit_memory(region: Staying) -> None:
@@ -94,10 +103,10 @@ def main(words: list[str]) -> int:
     raise_descriptors()
     with tempfile.TemporaryDirectory() as folder:
         try:
-            skipped = try_clients(given.program, folder, given.clients)
-            same("whether input was skipped", skipped > 0, True)
+            ended = try_clients(given.program, folder, given.clients)
+            same("whether some were ended", ended > 0, True)
         except (AssertionError, OSError, IndexError, ValueError, subprocess.SubprocessError) as fault:
             print(f"WRONG: {fault}")
             return 1
-    print(f"{skipped:,} of {given.clients:,} clients had a line refused, since there was no memory to keep it; none was disconnected: as it should be")
+    print(f"{ended:,} of {given.clients:,} clients were ended, since there was no memory to keep their input; all replies were in order: as it should be")
     return 0
