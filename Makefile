@@ -104,8 +104,8 @@ uninstall:
 deb: $(PROVED) licences
 	@packaging/deb "$(PNUTS)" "$(DEBS)"
 
-# Makes an image for containers of these packages, and of Debian's that they need. It needs root, and the network.
-image: deb
+# Makes an image for containers of the packages that `make deb` left, and of Debian's that they need. It needs root, and the network.
+image:
 	@packaging/image "$(DEBS)" "$(DEBS)/pnuts.oci"
 
 # Measures the built program, and prints tables.

@@ -239,7 +239,8 @@ def within(program: Path, made: Path | None) -> int:
     archive = made or folder / "pnuts.oci"
     try:
         if made is None:
-            run(["make", "-C", TOP, "image", f"DEBS={folder}", f"PNUTS={program}"])
+            run(["make", "-C", TOP, "deb", f"DEBS={folder}", f"PNUTS={program}"])
+            run(["make", "-C", TOP, "image", f"DEBS={folder}"])
         say(check_config(archive))
         how, image = image_of(folder, archive)
         say(f"containers are run by {how}")

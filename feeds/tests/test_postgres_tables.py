@@ -88,6 +88,17 @@ class PostgresTables(unittest.TestCase):
         self.assertEqual(self.server.ask("SELECT (people.tell('k', 'm-1', %s)).number", least)[0][0], 0)
         self.assertEqual(self.images("people", 2)[1]["fields"], json.loads(least))
 
+    def test_a_role_that_changes_rows(self) -> None:
+        text = (FEEDS / "README.md").read_text(encoding="utf-8").partition("\n## Tables of PostgreSQL\n")[2].partition("\n## ")[0]
+        grants = [line.strip() for line in text.splitlines() if line.startswith("    GRANT ")]
+        self.server.do("DROP ROLE IF EXISTS shop_app; CREATE ROLE shop_app", "GRANT ALL ON goods TO shop_app")
+        change = "BEGIN; SET LOCAL ROLE shop_app; INSERT INTO goods (id) VALUES (1); UPDATE goods SET price = 1; DELETE FROM goods; COMMIT"
+        with self.assertRaises(Fault):
+            self.server.do(change)
+        self.server.do(*(grant.replace("east", "shop") for grant in grants), change)
+        self.assertEqual([it["version"] for it in self.images("shop", 3)], [[1, 0], [1, 1], [1, 2]])
+        self.server.do("DROP OWNED BY shop_app; DROP ROLE shop_app")
+
     def test_what_is_refused(self) -> None:
         self.server.do("INSERT INTO profiles VALUES ('a', 'Ann'); CREATE TABLE IF NOT EXISTS loose (id int, other int UNIQUE)")
         for statement in ("UPDATE profiles SET id = 'b'", "TRUNCATE profiles", "CALL people.publish_table('profiles', 'name')",
