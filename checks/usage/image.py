@@ -203,6 +203,10 @@ def check_copies(image: Image, folder: Path) -> str:
     with region(image, volumes) as it:
         same("whether it has what was saved", has(it, "k100"), True)
         wait_until("the start is over", lambda: not copies.with_name("copies.starting").exists())
+    with region(image, volumes, {"PNUTS_BOUNDS": '["k3", "k5 "]'}) as it:
+        same("whether it has what was saved", has(it, "k100"), True)
+        status = json.loads(did(image, volumes, "pnuts-ctl", "--json", "status"))
+        same("its tablets", [each["from"] for each in status["tablets"]], [None, "k3", "k5 "])
     copies.write_bytes(copies.read_bytes()[:-1])
     with region(image, volumes) as it:
         same("how a start from damaged copies ends", (it.ended(), "truncated" in it.said_now()), (1, True))
