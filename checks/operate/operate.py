@@ -215,6 +215,26 @@ def check_tablets(site: Site) -> None:
         same("alerts", site.firing(), set())
 
 
+def check_wrong(site: Site) -> None:
+    """A feed whose words name another, longer stream gives nothing of it, ends, and alerts; its words are mended, and all goes on."""
+    with told(site, "a feed of another stream") as words:
+        machine, redis = site.machine(2), Redis(HUB, PORT)
+        for number in range(site.publisher.count + 2_000):
+            redis.do("XADD", "west", "*", "image", image("wrong", number))
+        start = time.monotonic()
+        machine.run("sed -i 's| east\"$| west\"|' /etc/default/pnuts-feed-east && systemctl restart pnuts-feed@east")
+        until("the feed ends", lambda: "and this one reads redis-stream west" in machine.journal("pnuts-feed@east"))
+        words.append(f"it ended after {time.monotonic() - start:.1f} s")
+        words.append(site.alert("PnutsFeedGone", start))
+        same("what the region has of the other stream", ask(machine, do="read", key="wrong"), {"row": None})
+        machine.run("sed -i 's| west\"$| east\"|' /etc/default/pnuts-feed-east")
+        start = time.monotonic()
+        site.do(runbook("A feed is gone"))
+        until("the region has all again", site.is_level)
+        words.append(f"with its own words it had all after {time.monotonic() - start:.1f} s")
+        until("no alert is left", lambda: not site.seen.states().keys() - {"PnutsRestarts"})
+
+
 def check_files(site: Site) -> None:
     """Copies that the timer's service saves are the service's own, also after root has saved them."""
     with told(site, "files of copies") as words:
@@ -244,7 +264,7 @@ def check_database(site: Site) -> None:
 
 
 CHECKS: dict[str, Callable[[Site], None]] = {
-    "poison": check_poison, "feed": check_feed, "files": check_files, "tablets": check_tablets, "tablet": check_tablet, "upgrade": check_upgrade,
+    "poison": check_poison, "feed": check_feed, "wrong": check_wrong, "files": check_files, "tablets": check_tablets, "tablet": check_tablet, "upgrade": check_upgrade,
     "machine": check_machine, "database": check_database}
 
 

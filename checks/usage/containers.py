@@ -34,7 +34,7 @@ root=$1
 shift 3
 exec chroot "$root" setpriv --reuid=7070 --regid=7070 --clear-groups --no-new-privs --bounding-set=-all env -i PATH=/usr/sbin:/usr/bin:/sbin:/bin "$@"
 """
-PATIENCE = 60.0
+PATIENCE = 300.0
 
 
 class Running(Protocol):

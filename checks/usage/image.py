@@ -128,6 +128,13 @@ def has(it: Region, key: str) -> bool:
     return b'"version":[1,0]' in it.ask(json.dumps({"do": "read", "key": key}).encode() + b"\n")
 
 
+def allowed(image: Image, folder: Path) -> float:
+    """How many seconds a container that is told to stop may take: on a machine that is busy, more by what a container takes to be run."""
+    start = time.monotonic()
+    did(image, make_volumes(folder / "idle"), "pnuts-ctl", "--help")
+    return SECONDS + MORE + time.monotonic() - start
+
+
 def check_config(archive: Path) -> str:
     """What the image says of how it is run."""
     config = config_of(archive)["config"]
@@ -153,6 +160,7 @@ def check_programs(image: Image, folder: Path) -> str:
 
 def check_stop(image: Image, folder: Path) -> str:
     """Lines that have come when it is stopped are all answered, and it ends."""
+    most = allowed(image, folder)
     with region(image, make_volumes(folder)) as it:
         give(it, 500)
         clients = [it.client() for _ in range(CLIENTS)]
@@ -168,12 +176,13 @@ def check_stop(image: Image, folder: Path) -> str:
         status, took = it.ended(), time.monotonic() - start
     for reply in replies:
         same("replies", [reply.count(b"\n"), reply.count(b'"version":[1,0]'), reply[-1:]], [LINES, LINES, b"\n"])
-    same("how it ended", (status, took < SECONDS + MORE), (0, True))
+    same(f"how it ended, after {took:.1f} seconds", (status, took < most), (0, True))
     return f"a container that is stopped answers {CLIENTS * LINES:,} lines of {CLIENTS} clients, and has ended after {took:.1f} seconds"
 
 
 def check_deadline(image: Image, folder: Path) -> str:
     """A client that takes no replies does not hold it up for longer than it may."""
+    most = allowed(image, folder)
     with region(image, make_volumes(folder)) as it:
         give(it, 100)
         with it.client() as client:
@@ -184,7 +193,7 @@ def check_deadline(image: Image, folder: Path) -> str:
             start = time.monotonic()
             it.signal(signal.SIGINT)
             status, took = it.ended(), time.monotonic() - start
-    same("how it ended", (status, SECONDS <= took < SECONDS + MORE), (0, True))
+    same(f"how it ended, after {took:.1f} seconds", (status, SECONDS <= took < most), (0, True))
     return f"beside a client that takes nothing it has ended after {took:.1f} of {SECONDS} seconds and {MORE} more"
 
 
@@ -203,6 +212,10 @@ def check_copies(image: Image, folder: Path) -> str:
     with region(image, volumes) as it:
         same("whether it has what was saved", has(it, "k100"), True)
         wait_until("the start is over", lambda: not copies.with_name("copies.starting").exists())
+    with region(image, volumes, {"PNUTS_BOUNDS": '["k3", "k5 "]'}) as it:
+        same("whether it has what was saved", has(it, "k100"), True)
+        status = json.loads(did(image, volumes, "pnuts-ctl", "--json", "status"))
+        same("its tablets", [each["from"] for each in status["tablets"]], [None, "k3", "k5 "])
     copies.write_bytes(copies.read_bytes()[:-1])
     with region(image, volumes) as it:
         same("how a start from damaged copies ends", (it.ended(), "truncated" in it.said_now()), (1, True))

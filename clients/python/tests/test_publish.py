@@ -92,7 +92,8 @@ class Outboxes(unittest.TestCase):
             return self.outbox.tell(self.database.cursor(), key, fields, "w")
 
     def test_versions(self) -> None:
-        told = [self.tell("k", fields) for fields in ({"v": "x"}, {"v": 1}, None, None, {"v": "y"}, {})]
+        changes: list[Mapping[str, str | int] | None] = [{"v": "x"}, {"v": 1}, None, None, {"v": "y"}, {}]
+        told = [self.tell("k", fields) for fields in changes]
         self.assertEqual(told, [(1, 0), (1, 1), (1, 2), (2, 0), (3, 0), (3, 1)])
         self.assertEqual(self.tell("other", None), (1, 0))
         self.assertEqual(self.outbox.publish(self.database, self.sent.append), 7)

@@ -25,11 +25,11 @@ RATES = (("messages", "Messages a second"), ("answered", "Lines a second"), ("re
 LAG = 30.0
 """For how many seconds a stream may lag that is well, where nothing else is said."""
 STREAMS = ("Stream", "State", "Position", "Behind", "Last message", "Read", "Messages a second", "", "Path")
-LAGS = ("Feed", "Broker's last", "Lag", "Lag time")
+FEEDS = ("Stream", "Feed", "Broker's last", "Broker heard", "Lag", "Lag time")
 TABLETS = ("Tablet", "From", "To", "State", "Behind")
 COUNTED = ("Records", "Deleted")
 LINES = ("Lines", "Answered", "Refused", "Answered a second", "")
-NUMBERS = {*LAGS[1:], "Position", "Behind", "Last message", "Read", "Messages a second", "Records", "Deleted", "Answered", "Refused", "Answered a second"}
+NUMBERS = {*FEEDS[2:], "Position", "Behind", "Last message", "Read", "Messages a second", "Records", "Deleted", "Answered", "Refused", "Answered a second"}
 
 
 def policy() -> str:
@@ -73,7 +73,8 @@ def sections(view: View) -> Iterator[Html]:
     parts = (
         element("div", *tiles(view), class_="tiles"),
         element("h2", "Streams"),
-        table(heads_of(view.last), streams(view, view.last)),
+        table(STREAMS, streams(view, view.last)),
+        *feeds(view.last),
         element("h2", "Tablets"),
         tablets(view.last),
         element("h2", "Clients"),
@@ -108,35 +109,34 @@ def shown_rate(value: float) -> str:
     return f"{value:,.0f}" if value >= 10 or value == 0 else f"{value:.1f}"
 
 
-def heads_of(seen: Seen) -> Sequence[str]:
-    """The columns of streams: those of lags are there where feeds tell them."""
-    return (*STREAMS[:3], *LAGS, *STREAMS[3:]) if seen.lags else STREAMS
+def feeds(seen: Seen) -> Iterator[Html]:
+    """A table of how far streams lag, where feeds tell it."""
+    if seen.lags:
+        yield element("h2", "Feeds")
+        yield table(FEEDS, (row(FEEDS, (element("strong", name), *lagging(lag))) for name, lag in seen.lags.items()))
 
 
-def lagging(lag: Lag | None) -> Sequence[object]:
+def lagging(lag: Lag) -> Sequence[object]:
     """The cells of a stream's lag."""
-    if lag is None:
-        return ("-",) * len(LAGS)
     newest, messages = ("-" if it is None else f"{it:,}" for it in (lag.newest, lag.messages))
-    time = "-" if lag.seconds is None else shown_seconds(int(lag.seconds))
-    return (state("gone" if lag.is_gone else "runs"), newest, messages, time)
+    silence, time = ("-" if it is None else shown_seconds(int(it)) for it in (lag.silence, lag.seconds))
+    heard = "-" if lag.silence is None else f"{silence} ago"
+    return (state("gone" if lag.is_gone else "runs"), newest, heard, messages, time)
 
 
 def streams(view: View, seen: Seen) -> Iterator[Html]:
     """A row for each stream, and one for its last fault."""
-    heads = heads_of(seen)
     for it in seen.stats.streams:
         points = view.rates(PER_STREAM + it.name)
         now, _ = now_and_most(points)
         last = "-" if it.since is None else f"{shown_seconds(it.since)} ago"
         behind = max((lack(it, tablet) for tablet in seen.tablets), default=0)
         picture = sparkline(points, SECONDS, f"Messages of {it.name} a second")
-        lags = lagging(seen.lags.get(it.name)) if seen.lags else ()
-        cells = (element("strong", it.name), state(it.state), f"{it.position:,}", *lags, f"{behind:,}", last, shown_bytes(it.bytes))
-        yield row(heads, (*cells, "-" if now is None else shown_rate(now), picture, it.path))
+        cells = (element("strong", it.name), state(it.state), f"{it.position:,}", f"{behind:,}", last, shown_bytes(it.bytes))
+        yield row(STREAMS, (*cells, "-" if now is None else shown_rate(now), picture, it.path))
         if it.reason is not None:
             line = "" if it.line is None else f", in line {it.line:,} of what its writer sent"
-            yield element("tr", element("td", f"{it.name}: {it.reason}{line}", colspan=len(heads), class_="reason"), class_="fault")
+            yield element("tr", element("td", f"{it.name}: {it.reason}{line}", colspan=len(STREAMS), class_="reason"), class_="fault")
 
 
 def lack(stream: StreamStats, tablet: Tablet) -> int:
