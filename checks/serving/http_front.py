@@ -9,6 +9,8 @@ import contextlib
 import http.client
 import json
 import os
+import pathlib
+import re
 import signal
 import socket
 import subprocess
@@ -22,10 +24,12 @@ from common.tried import checks_in, checks_parser, try_checks
 from serving import front_attacks
 from serving.browser import Browser, browser
 from serving.controlled import Session, region_in, written
-from serving.fronts import Front, Stream, certified, curl, front_in, has_tools, header
+from serving.fronts import Front, Stream, built, certified, curl, front_in, has_tools, header
 from serving.staying import raise_descriptors, until
+from usage.readme import blocks, written_by
 
 TOOLS = ("go", "gofmt", "curl", "openssl")
+PAGE = TOP / "http/README.md"
 STREAMS, MOST_MEMORY = 10_000, 200_000
 # What a browser does with a stream: it keeps all that it is told.
 FOLLOW = """window.told = []; window.source = new EventSource("/changes");
@@ -37,6 +41,21 @@ def check_tests(program: str, folder: str) -> None:
     """Its own tests, whose answers are as its description says."""
     ran = subprocess.run([TOP / "http/test"], env={**os.environ, "PNUTS": program}, stdin=subprocess.DEVNULL, capture_output=True, text=True)
     same("what the tests say", (ran.returncode, "FAIL" in ran.stdout), (0, False))
+
+
+def check_readme(program: str, folder: str) -> None:
+    """What its page shows is what is said."""
+    here, count, written = pathlib.Path(folder), 0, ""
+    for name, target in (("bin/pnuts", program), ("out/pnuts-http", built())):
+        (here / name).parent.mkdir()
+        (here / name).symlink_to(target)
+    for told, shown in blocks(PAGE.read_text(encoding="utf-8").partition("\n## ")[0]):
+        if told.endswith("It prints"):
+            same("what is written", written, shown)
+            count += 1
+        elif not shown.startswith("make "):
+            written = written_by(shown, here)
+    same("whether something is shown", count > 0, True)
 
 
 def check_curl(program: str, folder: str) -> None:
@@ -116,6 +135,17 @@ def check_browser(program: str, folder: str) -> None:
                 session.told(do="lose", tablet=1)
             until("it is told of a loss", lambda: page.value(COUNT.format("missed")) == 2)
             page.value("source.close()")
+            (shown,) = re.findall(r"^```js\n(.*?)^```", PAGE.read_text(encoding="utf-8"), re.MULTILINE | re.DOTALL)
+            page.value(f"(() => {{ {shown} }})()")
+            until("what its page shows says to read", lambda: said(page) == ["read anew"])
+            written(path, 26, 1)
+            until("and what changes", lambda: said(page) == ["read anew", "k026"])
+
+
+def said(page: Browser) -> list[str]:
+    """What the page's scripts say so far."""
+    page.value("0")
+    return [it["params"]["args"][0]["value"] for it in page.happened if it["method"] == "Runtime.consoleAPICalled"]
 
 
 def check_idle_streams(program: str, folder: str) -> None:
