@@ -30,16 +30,11 @@ type stream struct {
 	gone  <-chan struct{}
 }
 
-// changes answers with a stream, which lasts until the client goes or takes nothing, or the front stops.
+// changes answers with a stream, which lasts until the client goes or takes nothing, or the front stops. While a region is away, it is silent:
+// browsers give up where it is refused.
 func (a *answer) changes() error {
 	if len(a.histories) == 0 {
 		return faulty(http.StatusNotFound, "not-found", "path", "no --control tells changes")
-	}
-	for at, it := range a.histories {
-		if err := it.Err(); err != nil {
-			where := fmt.Sprintf("range %d", at)
-			return &fault{status: http.StatusServiceUnavailable, What: "away", Where: where, Why: "its changes are not followed", cause: err}
-		}
 	}
 	if a.request.Method == http.MethodHead {
 		return a.reply(http.StatusOK, asEvents, nil)

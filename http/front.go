@@ -109,7 +109,7 @@ type route struct {
 var routes = map[string]route{
 	"/records/":     {"record", "GET", "read", []string{"at-least"}, "requests", (*answer).record},
 	"/records":      {"page", "GET", "read", []string{"from", "to", "after", "limit", "where"}, "pages", (*answer).page},
-	"/get":          {"get", "POST", "read", nil, "pages", (*answer).get},
+	"/get":          {"get", "POST", "read", nil, "requests", (*answer).get},
 	"/copies/":      {"copy", "GET", "copy", []string{"range"}, "copies", (*answer).copy},
 	"/changes":      {"changes", "GET", "changes", nil, "requests", (*answer).changes},
 	"/healthz":      {"healthz", "GET", "", nil, "requests", (*answer).health},

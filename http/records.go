@@ -110,6 +110,12 @@ func (a *answer) get() error {
 			return err
 		}
 	}
+	// The body has come: who sends it slowly holds up nobody.
+	leave, err := a.enter("pages")
+	if err != nil {
+		return err
+	}
+	defer leave()
 	records, err := a.regions.Get(a.ctx, asked.Keys)
 	if err != nil {
 		return ofRegions(err, "regions of the keys", nil)

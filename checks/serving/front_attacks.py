@@ -74,6 +74,7 @@ def check_slow_senders(program: str, folder: str) -> None:
             for client in clients[::4]:
                 client.sendall(b"x")
             is_well(front)
+            same("an honest page", front.asked("/records")[0], 200)
             time.sleep(0.5)
         for client in clients:
             ended(client, SECONDS)
