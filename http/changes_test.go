@@ -123,7 +123,7 @@ func TestManyChanges(t *testing.T) {
 	isFollowed(t, front)
 	stream := follow(t, base, "")
 	stream.nextIs(t, "missed", "")
-	const parts, each = 30, 1000
+	const parts, each = 10, 1000
 	written := make(chan bool)
 	go func() {
 		defer close(written)
