@@ -91,7 +91,7 @@ func TestChanges(t *testing.T) {
 	other, there := serving(t, "--control", first.control(), first.address())
 	isFollowed(t, other)
 	same(t, "the last event at another front", follow(t, there, middle).nextIs(t, "change", `"key":"c"`), last)
-	for _, id := range []string{"x", middle + "_" + middle, "x" + middle, strings.Replace(last, ".3", ".4", 1), strings.Replace(last, ".3", ".-1", 1), strings.Repeat("9", 5_000)} {
+	for _, id := range []string{"x", middle + " " + middle, "x" + middle, strings.Replace(last, ".3", ".4", 1), strings.Replace(last, ".3", ".-1", 1), strings.Repeat("9", 5_000)} {
 		same(t, "the mark after "+id, follow(t, there, id).nextIs(t, "missed", ""), last)
 	}
 
