@@ -97,37 +97,36 @@ func say(text string, of ...any) { fmt.Fprintf(os.Stderr, "pnuts-http: "+text+"\
 func main() {
 	// Where nobody reads what it says, that is lost, and no reason to end.
 	signal.Ignore(syscall.SIGPIPE)
+	stopping, stop := signal.NotifyContext(context.Background(), syscall.SIGTERM, syscall.SIGINT)
 	told, err := parsed(os.Args[1:])
-	switch {
-	case errors.Is(err, flag.ErrHelp):
-	case err != nil:
-		say("%v; --help tells more", err)
-		os.Exit(2)
-	default:
-		if err = serve(told); err != nil {
-			say("%v", err)
-			os.Exit(1)
-		}
+	if errors.Is(err, flag.ErrHelp) {
+		return
+	}
+	front, status := (*front)(nil), 2
+	if err == nil {
+		front, err = newFront(told, stopping)
+	}
+	if err == nil {
+		status, err = 1, front.serve(stop)
+	}
+	if err != nil {
+		say("%v", err)
+		os.Exit(status)
 	}
 }
 
-// serve answers until SIGTERM or SIGINT.
-func serve(told words) error {
-	stopping, stop := signal.NotifyContext(context.Background(), syscall.SIGTERM, syscall.SIGINT)
-	front, err := newFront(told, stopping)
+// serve answers until it is told to stop.
+func (f *front) serve(stop func()) error {
+	listener, err := net.Listen("tcp", f.words.listen)
 	if err != nil {
 		return err
 	}
-	listener, err := net.Listen("tcp", told.listen)
-	if err != nil {
-		return err
-	}
-	listener = &places{listener, make(chan struct{}, told.connections), front.counts}
-	server := &http.Server{Handler: front, ReadHeaderTimeout: patience, IdleTimeout: idle, MaxHeaderBytes: mostHeader,
+	listener = &places{listener, make(chan struct{}, f.words.connections), f.counts}
+	server := &http.Server{Handler: f, ReadHeaderTimeout: patience, IdleTimeout: idle, MaxHeaderBytes: mostHeader,
 		ConnContext: withConnection, ErrorLog: log.New(complaints{}, "", 0)}
-	get := func(*tls.ClientHelloInfo) (*tls.Certificate, error) { return front.certificate.Load(), nil }
+	get := func(*tls.ClientHelloInfo) (*tls.Certificate, error) { return f.certificate.Load(), nil }
 	serving := func() error { return server.Serve(listener) }
-	if told.certificate != "" {
+	if f.words.certificate != "" {
 		server.TLSConfig = &tls.Config{MinVersion: tls.VersionTLS12, GetCertificate: get}
 		serving = func() error { return server.ServeTLS(listener, "", "") }
 	}
@@ -140,11 +139,11 @@ func serve(told words) error {
 		case err = <-ended:
 			return err
 		case <-again:
-			say("tokens and certificates are read again, error %v", front.load())
-		case <-stopping.Done():
+			say("tokens and certificates are read again, error %v", f.load())
+		case <-f.stopping.Done():
 			// Another signal ends it at once.
 			stop()
-			front.end(server)
+			f.end(server)
 			return nil
 		}
 	}
