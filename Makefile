@@ -43,8 +43,8 @@ STAGE ?= notices
 SOAK ?= 60
 SECONDS ?= 240
 
-.PHONY: run quick test edits build licences http install uninstall deb bench bench-beside checks checks-clients checks-feeds \
-	checks-brokers checks-install pictures races fuzz definitions rows toolchain
+.PHONY: run quick check test edits build licences http install uninstall deb image bench bench-beside checks checks-clients \
+	checks-feeds checks-brokers checks-install pictures races fuzz definitions rows toolchain
 
 # Shows the program at work: the replies to the script on standard output. It proves nothing. A program that is current answers
 # at once; otherwise one is built as by `make quick`.
@@ -55,6 +55,10 @@ run: toolchain
 quick: toolchain licences
 	@bin/program quick > /dev/null
 	@echo "an optimised program that is not proved: $(QUICK)"
+
+# What a contributor wants to know before the gate, over a program without proofs: in some ten minutes.
+check: toolchain
+	@ROWS="$(ROWS)" checks/run before-gate
 
 # The gate: every proof from nothing, the edits that must fail, the program and the tests.
 test: toolchain
@@ -107,6 +111,10 @@ uninstall:
 deb: $(PROVED) licences http
 	@packaging/deb "$(PNUTS)" "$(DEBS)"
 
+# Makes an image for containers of the packages that `make deb` left, and of Debian's that they need. It needs root, and the network.
+image:
+	@packaging/image "$(DEBS)" "$(DEBS)/pnuts.oci"
+
 # Measures the built program, and prints tables.
 bench: build
 	@cd crates/pn_bench && rt run -- $$(< args) < stdin > /dev/null
@@ -116,10 +124,11 @@ bench: build
 	bench/instructions "$(PROGRAM)"; \
 	exit $$status
 
-# Measures the built program beside a plain Rust program and servers that do nothing, and one that stays beside Redis.
-bench-beside: build
-	@bench/beside "$(PROGRAM)"
-	@bench/stay "$(PROGRAM)"
+# Measures the built program beside a plain Rust program and servers that do nothing, and one that stays beside Redis. Where
+# PNUTS=out/quick/pnuts names one that is not proved, it says so.
+bench-beside: $(PROVED)
+	@bench/beside "$(PNUTS)"
+	@bench/stay "$(PNUTS)"
 
 # Brings the built program to each of its ends; talks to its sessions, and misbehaves, where it stays by the thousand, after which it has
 # to rest; gives it each limit of a line in all ways; stops it by lines and signals; refuses each of its allocations in turn, and all
@@ -145,9 +154,10 @@ checks-clients: build
 checks-feeds:
 	@PNUTS="$(realpath $(PROGRAM))" feeds/test
 
-# Tests the feeds, gives 200,000 images through each, and runs both examples with real brokers, a database and proxies. Debian's
-# packages: redis-server python3-redis python3-hiredis rabbitmq-server python3-pika python3-confluent-kafka postgresql
-# python3-psycopg2 haproxy openssl iproute2 util-linux. What misses one of them says so, and is skipped.
+# Tests the feeds, gives 200,000 images through each, asks through a proxy, and runs both examples and the runbooks, with real brokers, a
+# database and proxies. Debian's packages: redis-server python3-redis python3-hiredis rabbitmq-server python3-pika
+# python3-confluent-kafka postgresql python3-psycopg2 haproxy openssl prometheus python3-prometheus-client socat curl iproute2
+# util-linux. What misses one of them says so, and is skipped.
 checks-brokers: build
 	@checks/run brokers "$(PROGRAM)"
 
@@ -156,9 +166,12 @@ pictures:
 	@cd docs/pictures; for it in *.dot; do dot -Tsvg -o "$${it%.dot}.svg" "$$it"; done
 	@cd docs/pictures; for it in *.gnuplot; do gnuplot "$$it" > "$${it%.gnuplot}.svg"; done
 
-# Installs and removes the program, and its Debian package in a system that is made for it. It needs root and the network.
+# Installs and removes the program, and its Debian package in a system that is made for it; makes an image, runs and stops containers of
+# it, and compares the manifest for Kubernetes with its schema, for which python3-kubernetes is needed. It needs root and the network.
 checks-install: $(PROVED)
 	@checks/run install "$(PNUTS)"
+	@checks/run image "$(PNUTS)"
+	@checks/run manifest || [ $$? = 2 ]
 
 # Prints the definitions that contracts cite, each with its comment: of all crates, or of one.
 definitions:

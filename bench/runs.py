@@ -93,6 +93,13 @@ def write_figures(path: pathlib.Path, figures: dict[int, list[float]]) -> None:
     path.write_text("".join("\t".join(map(str, row)) + "\n" for row in rows), encoding="utf-8")
 
 
+def tell_unproved(program: str) -> None:
+    """Says so where a program's version says that nothing of it is proved: figures are then of another build than is delivered."""
+    version = subprocess.run([program, "--version"], capture_output=True, text=True, check=True).stdout.strip()
+    if "not proved" in version:
+        print(f"bench: {program} is {version}: it was built without proofs", flush=True)
+
+
 def are_programs(*words: str) -> bool:
     """Whether each word is a program, of which those that are none are named."""
     missing = [word for word in words if not os.access(word, os.X_OK)]

@@ -18,6 +18,10 @@ Word = str | os.PathLike[str]
 TOP = Path(__file__).resolve().parents[1]
 FEEDS = TOP / "feeds"
 CLIENT = TOP / "clients/python/src"
+PROXIES = TOP / "examples/proxy"
+# How pnuts-ctl is run, where it is not installed.
+CONTROL = [sys.executable, "-m", "pnuts_client.ctl", "--control"]
+CLIENT_WORDS = {"PYTHONPATH": str(CLIENT), "PYTHONDONTWRITEBYTECODE": "1"}
 WITHIN = "PNUTS_EXAMPLE_IS_WITHIN"
 # Files of an example, of which none is left.
 RUN = Path("/run")
@@ -102,6 +106,17 @@ class Processes:
             program = subprocess.Popen(command, stdin=subprocess.DEVNULL, stdout=said, stderr=said, env=within, start_new_session=True)
         self._stay.callback(end, program)
         return program
+
+
+def start_proxy(
+    processes: Processes, name: str, file: str, words: dict[str, Word], within: Sequence[str] = ()
+) -> subprocess.Popen[bytes]:
+    """A proxy of a file of examples/proxy, for which these variables are set."""
+    environment = {name: str(word) for name, word in words.items()}
+    looked = subprocess.run(["haproxy", "-c", "-q", "-f", PROXIES / file], env={**os.environ, **environment}, capture_output=True, text=True)
+    if looked.returncode:
+        raise OSError(f"haproxy refuses {file}: {looked.stderr}")
+    return processes.start(name, [*within, "haproxy", "-db", "-f", PROXIES / file], environment)
 
 
 def said_by(name: str) -> Path:

@@ -1,4 +1,4 @@
--- The outbox that feeds/postgres-outbox reads. Give it another name by replacing the word everywhere.
+-- The outbox that feeds/postgres-outbox reads, in the schema that it is run in: a stream has a schema of its own.
 
 -- Images, in the order of the transactions that wrote them. The database fills id and xid.
 CREATE TABLE outbox (
@@ -26,7 +26,7 @@ CREATE TRIGGER outbox_keeps_rows BEFORE UPDATE OR DELETE OR TRUNCATE ON outbox
 
 -- Deletes what all regions have: give it the position that each of them has taken, of every region there is. Answers up to
 -- which position rows are deleted now. A region that has less, or starts from its first message, has to start from copies then.
-CREATE FUNCTION outbox_forget(VARIADIC taken bigint[]) RETURNS bigint LANGUAGE plpgsql AS $$
+CREATE FUNCTION outbox_forget(VARIADIC taken bigint[]) RETURNS bigint LANGUAGE plpgsql SET search_path FROM CURRENT AS $$
 DECLARE
     head json;
     up_to bigint;

@@ -1,20 +1,23 @@
 """Random scripts, whose replies have to be those of a plain, slow program (checks/replies/slow.py).
 
-  checks/run random-scripts PROGRAM [--scripts N] [--seed S]
+  checks/run random-scripts PROGRAM [--scripts N] [--seed S] [--replay]
   checks/run random-scripts --write N
 
-PROGRAM is the one of crates/test_rows. All scripts are put to it in one input. Each seed makes three: for a region that is
+PROGRAM is the one of crates/test_rows, to which all scripts are put in one input; with --replay it is `pnuts`, of which each script
+has a process. Each seed makes three: for a region that is
 lost and recovers, for one that it takes copies from, and for one that takes what the first accepted anew, in another order
 and over another layout; the first and the last have to show the same records. In a third, regions change their layouts; in a
 third, fields and conditions have numbers.
 --write puts N scripts with their replies into crates/test_rows, in place of those that were made so before. Exit status 0
 only where all agree and, of 1,000 scripts or more, each kind of reply occurs.
 """
+import functools
 import json
 import pathlib
 import subprocess
 from collections.abc import Iterator
 
+from common.at_once import at_once
 from common.tried import parser_of
 from replies.random_talks import Meeting, Talk
 from replies.slow_lines import Json
@@ -80,6 +83,19 @@ def replies_of(program: str, talks: list[Talk]) -> dict[str, list[bytes]]:
     return replies
 
 
+def replayed(program: str, talk: Talk) -> list[bytes]:
+    """What `pnuts replay` replies to a talk, below its head."""
+    command = [program, "replay", "--bounds", json.dumps(talk.bounds), "--workers", str(talk.workers)]
+    script = b"".join(line + b"\n" for line in talk.lines)
+    ended = subprocess.run(command, input=script, capture_output=True, check=True)
+    return [talk.head(), *ended.stdout.splitlines(keepends=True)]
+
+
+def replays_of(program: str, talks: list[Talk]) -> dict[str, list[bytes]]:
+    """What `pnuts replay` replies to each talk, by its name."""
+    return dict(zip([talk.name for talk in talks], at_once(functools.partial(replayed, program), talks)))
+
+
 def first_difference(talk: Talk, replies: list[bytes]) -> str | None:
     """The first reply that is not the slow program's, or None."""
     wanted = talk.replies().splitlines(keepends=True)
@@ -101,9 +117,10 @@ def differences(meetings: list[Meeting], replies: dict[str, list[bytes]]) -> Ite
             yield f"{meeting.first.name}: the same images, taken anew, show other records"
 
 
-def check(program: str, scripts: int, seed: int) -> int:
+def check(program: str, scripts: int, seed: int, is_replay: bool) -> int:
     meetings = meetings_of(seed, scripts, EVENTS)
-    replies = replies_of(program, [talk for meeting in meetings for talk in meeting.talks()])
+    talks = [talk for meeting in meetings for talk in meeting.talks()]
+    replies = replays_of(program, talks) if is_replay else replies_of(program, talks)
     found = list(differences(meetings, replies))
     for difference in found[:5]:
         print(difference)
@@ -138,10 +155,11 @@ def main(words: list[str]) -> int:
     parser.add_argument("program", nargs="?")
     parser.add_argument("--scripts", type=int, default=MANY)
     parser.add_argument("--seed", type=int, default=1)
+    parser.add_argument("--replay", action="store_true")
     parser.add_argument("--write", type=int)
     given = parser.parse_args(words)
     if given.write:
         return write(given.write)
     if not given.program:
         parser.error("the program is missing")
-    return check(given.program, given.scripts, given.seed)
+    return check(given.program, given.scripts, given.seed, given.replay)

@@ -22,7 +22,7 @@ from serving.copies_texts import exchanged, fault_of, least_marks, messages_from
 from serving.staying import Staying, until
 
 REGIONS = 100
-KILLS, STARTS = 1_000, 200
+KILLS, STARTS, RECUT = 1_000, 200, 60
 ZEROS, LAST_POSITION = 5 << 30, 10**15
 # What a program may say where an allocation is refused before it listens.
 STARTS_NOT = (b"pnuts: memory", b"pnuts: copies: memory", b"pnuts: cannot start", b"pnuts: cannot listen", b"pnuts: cannot open")
@@ -125,15 +125,58 @@ def check_any_order(program: str, folder: str) -> None:
 
 
 def check_words(program: str, folder: str) -> None:
-    """Bounds beside copies are refused with the words; a file that is not there, or no file, is named."""
-    path = written(folder, "copies", b"".join(some_texts(program, folder, ["b"])))
-    same("bounds beside copies", refusal(program, path, "--bounds", '["b"]'), (2, "", f"pnuts: copies: {path}: not with --bounds\n"))
+    """A file that is not there, or no file, is named."""
     gone = os.path.join(folder, "gone")
     same("no file", refusal(program, gone)[:2], (1, ""))
     same("why there is no file", refusal(program, gone)[2].startswith(f"pnuts: copies: {gone}: "), True)
     same("a folder", refusal(program, folder), (1, "", "pnuts: copies: read\n"))
     status, shown, said = refusal(program, "")
     same("an empty path", (status, shown, bool(said)), (2, "", True))
+
+
+def recut_fault(program: str, seed: int) -> str | None:
+    """What is wrong with a region that starts from the copies of one layout in another, and goes on with its streams."""
+    rng = random.Random(seed)
+    streams = streams_of(rng, MANY_KEYS)
+    ends = {name: rng.randrange(len(images) + 1) for name, images in streams.items()}
+    bounds, others = (sorted(rng.sample(MANY_KEYS, rng.choice(counts))) for counts in ([0, 1, 7, 63], [1, 3, 7, 63]))
+    with tempfile.TemporaryDirectory() as folder:
+        had, wanted = (taken(program, folder, ["--bounds", json.dumps(it)], part_of(streams, ends), len(it) + 1) for it in (bounds, others))
+        path, control = written(folder, "copies", b"".join(rng.sample(had, len(had)))), os.path.join(folder, "control")
+        rest = [(name, written(folder, f"{name}.rest", messages_from(images, ends[name] + 1))) for name, images in streams.items()]
+        with Staying(program, folder, [(name, os.devnull) for name in streams], "--copies", path, "--bounds", json.dumps(others),
+                     "--control", control, is_looked_at=False), Session(control) as session:
+            tablets = [session.copy(tablet) for tablet in range(len(wanted))]
+        if tablets != wanted:
+            return f"the tablets of seed {seed} are not those of a region of the other layout that took the same images"
+        all_taken = taken(program, folder, ["--bounds", json.dumps(others)], streams, len(wanted))
+        with Staying(program, folder, rest, "--copies", path, "--bounds", json.dumps(others), is_looked_at=False) as region:
+            with Client(region.port) as client:
+                found = [copied(client, copy_line(tablet, streams)) for tablet in range(len(wanted))]
+        return None if found == all_taken else f"the copies of seed {seed} are not those of a region that took all"
+
+
+def check_other_bounds(program: str, folder: str) -> None:
+    """Copies of one layout start a region of another, which is as one of that layout that took the same images, and goes on so."""
+    faults = [fault for fault in at_once(lambda seed: recut_fault(program, seed), range(RECUT)) if fault]
+    same("what is wrong", faults[:1], [])
+
+
+def check_bounds_of_other_moments(program: str, folder: str) -> None:
+    """Tablets of different marks are cut, and are not joined: it is said which would be, and nothing listens."""
+    early, late = (some_texts_up_to(program, folder, count)[at] for at, count in ((0, 10), (1, 30)))
+    path = written(folder, "copies", early + late)
+    status, shown, said = refusal(program, path, "--bounds", '["a"]')
+    same("the end", (status, shown), (1, ""))
+    same("what is said", said.startswith("pnuts: copies: bounds: tablet 1 would join copies of different marks: behind: the tablet has 10 of stream "), True)
+    with Staying(program, folder, [("east", os.devnull)], "--copies", path, "--bounds", '["a","b","ca"]', is_looked_at=False):
+        pass
+
+
+def some_texts_up_to(program: str, folder: str, count: int) -> list[bytes]:
+    """The copies of a region of two tablets that took so many images of each stream."""
+    streams = streams_of(random.Random(7), KEYS)
+    return taken(program, folder, ["--bounds", '["b"]'], {name: images[:count] for name, images in streams.items()}, 2)
 
 
 def check_no_copies(program: str, folder: str) -> None:

@@ -7,96 +7,27 @@ It needs Debian's prometheus and python3-prometheus-client, and is skipped witho
 where each holds.
 """
 import contextlib
-import json
-import os
 import shutil
 import signal
 import socket
-import subprocess
 import sys
-import urllib.parse
 
-from common.crates import TOP
-from common.served import SECONDS, free_port, in_time, same, seconds_of
+from common.served import SECONDS, in_time, same, seconds_of
 from common.tried import checks_in, checks_parser, try_checks
-from serving import exporter_page
+from serving import exporter_alerts, exporter_page
 from serving.browser import browser
 from serving.controlled import Session, adoption, region_in, written
-from serving.exporting import Exporter, answered, python
+from serving.exporting import Exporter, python
+from serving.prometheus import Prometheus
 from serving.staying import raise_descriptors, until
 from serving.writers import Writer
 
-RULES = TOP / "packaging/prometheus/pnuts.rules.yml"
 TOOLS = ("prometheus", "promtool")
-
-
-class Prometheus:
-    """A Prometheus that scrapes an exporter each second and knows the alerts, until the block ends."""
-
-    def __init__(self, folder: str, address: str) -> None:
-        self.url = f"http://127.0.0.1:{free_port()}"
-        scrape = {"job_name": "pnuts", "static_configs": [{"targets": [address]}]}
-        told = {"global": {"evaluation_interval": "1s", "scrape_interval": "1s"}, "rule_files": [str(RULES)], "scrape_configs": [scrape]}
-        path = os.path.join(folder, "prometheus.yml")
-        with open(path, "w", encoding="utf-8") as file:
-            json.dump(told, file)
-        words = [f"--config.file={path}", f"--storage.tsdb.path={folder}/data", f"--web.listen-address={self.url.removeprefix('http://')}"]
-        with open(f"{folder}/prometheus-said", "wb") as said:
-            self.process = subprocess.Popen(["prometheus", *words], stdin=subprocess.DEVNULL, stdout=said, stderr=said)
-
-    def __enter__(self) -> "Prometheus":
-        until("Prometheus is ready", self.is_ready)
-        return self
-
-    def __exit__(self, *_: object) -> None:
-        self.process.terminate()
-        self.process.wait(SECONDS)
-
-    def is_ready(self) -> bool:
-        with contextlib.suppress(OSError):
-            return answered(f"{self.url}/-/ready")[0] == 200
-        return False
-
-    def query(self, text: str) -> list[float]:
-        """The values that an expression has now."""
-        told = json.loads(answered(f"{self.url}/api/v1/query?{urllib.parse.urlencode({'query': text})}")[1])
-        return [float(it["value"][1]) for it in told["data"]["result"]]
-
-    def wait_for(self, text: str, values: list[float]) -> None:
-        until(f"{text} is {values}", lambda: self.query(text) == values)
-
-    def alerts(self) -> set[str]:
-        """The alerts that fire, or will once they have held for long enough."""
-        return {it["labels"]["alertname"] for it in json.loads(answered(f"{self.url}/api/v1/alerts")[1])["data"]["alerts"]}
-
-    def wait_for_alerts(self, *names: str) -> None:
-        until(f"the alerts are {names}", lambda: self.alerts() == set(names))
-
-
-def check_rules(program: str, folder: str) -> None:
-    """`promtool` takes the file of alerts, and each alert fires when it should, and not before."""
-    subprocess.run(["promtool", "check", "rules", RULES], stdout=subprocess.DEVNULL, check=True)
-    cases = {"PnutsDown": ("pnuts_up", "1 0x20", 3), "PnutsTabletRecovering": ('pnuts_tablet_recovering{tablet="1"}', "0 1x20", 7),
-             "PnutsStreamFailed": ('pnuts_stream_state{state="failed",stream="east"}', "0 1x20", 3),
-             "PnutsStreamWithoutWriter": ('pnuts_stream_state{state="ended",stream="east"}', "0 1x20", 12),
-             "PnutsConnectionsRefused": ("pnuts_connections_refused_total", "0+1x20", 7)}
-    tests = []
-    for name, (series, values, minutes) in cases.items():
-        given = [{"series": series, "values": values}, *([{"series": "pnuts_up", "values": "1x30"}] if name != "PnutsDown" else [])]
-        wanted = [{"alertname": name, "eval_time": "0m", "exp_alerts": []}]
-        tests.append({"interval": "1m", "input_series": given, "alert_rule_test": wanted,
-                      "promql_expr_test": [{"expr": f'count(ALERTS{{alertname="{name}",alertstate="firing"}})', "eval_time": f"{minutes}m",
-                                            "exp_samples": [{"labels": "{}", "value": 1}]}]})
-    path = os.path.join(folder, "tests.yml")
-    with open(path, "w", encoding="utf-8") as file:
-        json.dump({"rule_files": [str(RULES)], "tests": tests}, file)
-    ran = subprocess.run(["promtool", "test", "rules", path], capture_output=True, text=True)
-    same("what promtool says", (ran.returncode, ran.stdout.count("SUCCESS"), ran.stderr), (0, 1, ""))
 
 
 def check_scrapes(program: str, folder: str) -> None:
     """Prometheus scrapes what a region does, and alerts of a lost tablet, a stream that fails, and a region that is gone."""
-    with region_in(folder, program) as (region, control, path), Exporter(control) as exporter, Prometheus(folder, exporter.address) as seen:
+    with region_in(folder, program) as (region, control, path), Exporter(control) as exporter, Prometheus(folder, [exporter.address]) as seen:
         with Session(control) as session:
             written(path, 1, 250)
             copy = session.copy(1)
@@ -119,7 +50,9 @@ def check_scrapes(program: str, folder: str) -> None:
         seen.wait_for("pnuts_up", [0.0])
         seen.wait_for_alerts("PnutsDown")
         same("its health", exporter.health()[0], 503)
-        with region_in(folder, program):
+        with region_in(folder, program) as (again, _, _):
+            # The exporter is still there when it ends.
+            again.is_looked_at = False
             seen.wait_for("pnuts_up", [1.0])
             seen.wait_for_alerts("PnutsStreamWithoutWriter")
             same("its health", exporter.health(), (200, "well\n"))
@@ -165,7 +98,7 @@ def check_exporter_beside_silent_clients(program: str, folder: str) -> None:
 
 
 def main(words: list[str]) -> int:
-    checks = checks_in(sys.modules[__name__], exporter_page)
+    checks = checks_in(sys.modules[__name__], exporter_alerts, exporter_page)
     given = checks_parser(__doc__, checks).parse_args(words)
     lacks = [tool for tool in TOOLS if not shutil.which(tool)] + ["python3-prometheus-client"] * (python() is None)
     if lacks:

@@ -51,8 +51,8 @@ class Exporter:
             return answered(f"http://{self.address}/none")[0] == 404
         return False
 
-    def health(self) -> tuple[int, str]:
-        return answered(f"http://{self.address}/healthz")
+    def health(self, query: str = "") -> tuple[int, str]:
+        return answered(f"http://{self.address}/healthz{query}")
 
     def metrics(self) -> dict[str, float]:
         """The values of all metrics, by their names with labels."""

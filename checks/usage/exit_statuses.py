@@ -96,7 +96,6 @@ WORDS: dict[str, tuple[list[str], End]] = {
         ["serve", "--stay", "--socket", "/none/socket", "--control", "/dev/null", "east=/dev/null"],
         (1, b"", b"pnuts: cannot listen: /dev/null: Address already in use"),
     ),
-    "copies beside bounds": (["serve", "--copies", "c", "--bounds", '["m"]', "east"], (2, b"", b"pnuts: copies: c: not with --bounds")),
     "copies that are not there": (
         ["serve", "--copies", "/none", "--listen", "192.0.2.1", "east=/none"],
         (1, b"", b"pnuts: copies: /none: No such file or directory"),

@@ -15,7 +15,7 @@ PAUSE = 0.1
 TOOLS = {"debootstrap": "debootstrap", "dh": "debhelper", "unshare": "util-linux", "nsenter": "util-linux", "man": "man-db",
          "zsh": "zsh", "fish": "fish", "objcopy": "binutils", "rt": "the toolchain"}
 MIRROR, SUITE = "http://deb.debian.org/debian", "bookworm"
-PACKAGES = ("golang-go", "iproute2", "lintian", "nodejs", "openssl", "python3-hiredis", "python3-redis", "python3-venv", "redis-server", "socat", "systemd")
+PACKAGES = ("golang-go", "iproute2", "lintian", "nodejs", "openssl", "python3-hiredis", "python3-prometheus-client", "python3-redis", "python3-venv", "redis-server", "socat", "systemd")
 SPACES = ("--mount", "--pid", "--net", "--uts", "--ipc", "--cgroup")
 CLEAN = {"PATH": "/usr/sbin:/usr/bin:/sbin:/bin", "LC_ALL": "C.UTF-8", "DEBIAN_FRONTEND": "noninteractive", "container": "unshare"}
 

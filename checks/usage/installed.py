@@ -16,15 +16,15 @@ from usage.packaged import check_serving, differing, trace
 
 PREFIX = "/usr/local"
 ENVIRONMENT = "etc/default/pnuts"
-FEEDS = ("kafka", "postgres-outbox", "rabbitmq-stream", "redis-stream")
+FEEDS = ("check-images", "kafka", "postgres-outbox", "rabbitmq-stream", "redis-stream")
 FILES = {
     "bin/pnuts": 0o755,
     "bin/pnuts-ctl": 0o755,
     "bin/pnuts-http": 0o755,
     ENVIRONMENT: 0o644,
     f"{ENVIRONMENT}-http": 0o644,
-    "lib/systemd/system/pnuts-feed@.service": 0o644,
-    "lib/systemd/system/pnuts-http.service": 0o644,
+    **{f"lib/systemd/system/{it}": 0o644 for it in ("pnuts-exporter.service", "pnuts-feed@.service", "pnuts-http.service",
+                                                            "pnuts-save.service", "pnuts-save.timer")},
     "lib/systemd/system/pnuts.service": 0o644,
     "lib/sysusers.d/pnuts-http.conf": 0o644,
     "lib/sysusers.d/pnuts.conf": 0o644,
@@ -44,7 +44,9 @@ FILES = {
     "share/man/man8/pnuts-http.8": 0o644,
     "share/man/man8/pnuts.8": 0o644,
     "share/pnuts-feeds/postgres-outbox.sql": 0o644,
-    "share/pnuts-tools/pnuts.rules.yml": 0o644,
+    "share/pnuts-feeds/postgres-table.sql": 0o644,
+    **{f"share/pnuts-tools/pnuts.{it}": 0o644 for it in ("dashboard.json", "rules.yml", "tests.yml")},
+    "share/pnuts-tools/container": 0o755,
     "share/zsh/site-functions/_pnuts": 0o644,
 }
 SHELLS = {

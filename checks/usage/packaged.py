@@ -18,7 +18,8 @@ from usage.fresh_system import CLEAN, PAUSE, SECONDS, System, run
 
 # What a session is read by, in another system.
 ONE_SESSION = Path(__file__).resolve().parent / "one_session.py"
-UNITS = ("/lib/systemd/system/pnuts.service", "/lib/systemd/system/pnuts-feed@.service", "/lib/systemd/system/pnuts-http.service")
+UNITS = tuple(f"/lib/systemd/system/{it}" for it in (
+    "pnuts.service", "pnuts-feed@.service", "pnuts-exporter.service", "pnuts-http.service", "pnuts-save.service", "pnuts-save.timer"))
 HTTP_PORT = 8080
 ENVIRONMENT = "etc/default/pnuts"
 SOCKET = "/run/pnuts/east"
@@ -88,7 +89,8 @@ def check_units(system: System) -> None:
     for unit in UNITS:
         named = unit.replace("@", "@east")
         same(f"what is said against {named}", system.status(*verify, named), (0, ""))
-        system.run("systemd-analyze", "security", "--no-pager", f"--threshold={EXPOSURE}", "--offline=yes", unit)
+        if unit.endswith(".service"):
+            system.run("systemd-analyze", "security", "--no-pager", f"--threshold={EXPOSURE}", "--offline=yes", unit)
     (system.root / "etc/unknown.service").write_text(UNKNOWN, encoding="utf-8")
     same("a unit with an unknown line is refused", system.status(*verify, "/etc/unknown.service")[0], 1)
     (system.root / "etc/unknown.service").unlink()
@@ -132,7 +134,7 @@ def check_example(system: System) -> None:
     environment = system.root / ENVIRONMENT
     as_it_was = environment.read_text(encoding="utf-8")
     lines = [it for it in as_it_was.splitlines() if not it.startswith("PNUTS_WORDS=")]
-    environment.write_text("\n".join(it.removeprefix("# ") if "--bounds" in it else it for it in lines) + "\n", encoding="utf-8")
+    environment.write_text("\n".join(it.removeprefix("# ") if "PNUTS_BOUNDS='[\"" in it else it for it in lines) + "\n", encoding="utf-8")
     system.run("systemctl", "restart", "pnuts")
     process = check_serving(system)
     same("the bounds", '["g","p"]' in system.run("cat", f"/proc/{process}/cmdline").split("\0"), True)
@@ -191,6 +193,22 @@ def check_copies(system: System) -> None:
     same("what is beside the copies", [path.name for path in copies.parent.iterdir()], [f"{copies.name}.refused"])
     copies.with_name(f"{copies.name}.refused").unlink()
     environment.write_text(as_it_was, encoding="utf-8")
+    system.run("systemctl", "restart", "pnuts")
+
+
+def check_tools(system: System) -> None:
+    """Copies that root or the timer's service saves are the service's own, and it starts from them; the exporter finds the region well."""
+    for line in (["pnuts-ctl", "save", COPIES], ["systemctl", "start", "pnuts-save"], ["pnuts-ctl", "save", COPIES]):
+        system.run(*line)
+        same("the copies' owner and mode", system.run("stat", "--format=%U:%G %a", COPIES).strip(), "pnuts:pnuts 640")
+    system.run("systemctl", "restart", "pnuts")
+    check_record(system, 0, "x")
+    system.run("systemctl", "enable", "--now", "pnuts-save.timer", "pnuts-exporter")
+    health = "import urllib.request; print(urllib.request.urlopen('http://127.0.0.1:9107/healthz').read().decode(), end='')"
+    system.wait_for("well", "python3", "-c", health)
+    same("the exporter's user", shown(system, "User", unit="pnuts-exporter"), ["pnuts"])
+    system.run("systemctl", "disable", "--now", "pnuts-save.timer", "pnuts-exporter")
+    (system.root / COPIES[1:]).unlink()
     system.run("systemctl", "restart", "pnuts")
 
 
@@ -298,6 +316,9 @@ def check_packages(system: System, packages: Sequence[Path]) -> Iterator[str]:
     check_serving(system)
     check_copies(system)
     yield "started from copies: it has what they have; of a text that is cut short it starts only where it is told to, without"
+    check_serving(system)
+    check_tools(system)
+    yield "copies that root or the timer's service saves are the service's own, and the exporter finds the region well"
     check_serving(system)
     yield f"did the {check_operation(system)} lines that pnuts(8) shows as examples"
     check_feed(system)

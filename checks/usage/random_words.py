@@ -3,7 +3,7 @@
   checks/run random-words PROGRAM [--runs N] [--seed S]
 
 Bounds, an address, the paths and permissions of sockets and streams are drawn from small pools, half of the time with `--stay`. Words that are
-refused have to end with status 2 and that fault, with `--stay`, and of `--control` and `--copies`, of which text, and why. No path is there, so all
+refused have to end with status 2 and that fault, with `--stay`, and of `--control`, of which text, and why. No path is there, so all
 others have to end with status 1 and the copies, or the first stream, with `--stay` and its path. Exit status 0 only where all agree and, of 1,000
 runs or more, each fault occurs.
 """
@@ -132,10 +132,6 @@ def fault_of_control(words: Words) -> Refused | None:
     return (words.control, "a path of more than 107 bytes") if len(words.control.encode()) > MOST_OF_SOCKET else None
 
 
-def fault_of_copies(words: Words) -> Refused | None:
-    return (words.copies, "not with --bounds") if words.copies is not None and words.bounds != "[]" else None
-
-
 def fault_of_stream(stays: bool, word: str) -> str | None:
     name, equals, path = word.partition("=")
     is_listened = stays and path.startswith("listen:")
@@ -161,7 +157,7 @@ def fault_of_streams(words: Words) -> Refused | None:
 def faults_of(words: Words) -> Iterator[tuple[str, Refused]]:
     """Each kind that is at fault, with the first text of it and why, in the order in which they are told."""
     found = {"bounds": fault_of_bounds(words.bounds), "address": fault_of_address(words), "control": fault_of_control(words),
-             "copies": fault_of_copies(words), "stream": fault_of_streams(words)}
+             "stream": fault_of_streams(words)}
     return ((kind, refused) for kind, refused in found.items() if refused)
 
 
@@ -174,7 +170,7 @@ def shown(text: str) -> str:
 def wanted_of(words: Words) -> tuple[int, str]:
     """The status, and what is said on standard error."""
     for kind, (text, why) in faults_of(words):
-        return 2, f"pnuts: {kind}: {shown(text)}: {why}\n" if words.stays or kind in ("control", "copies") else f"pnuts: {kind}\n"
+        return 2, f"pnuts: {kind}: {shown(text)}: {why}\n" if words.stays or kind == "control" else f"pnuts: {kind}\n"
     if words.copies is not None:
         return 1, f"pnuts: copies: {words.copies}: No such file or directory\n"
     name, _, path = words.streams[0].partition("=")

@@ -1,4 +1,4 @@
-"""Machines as network namespaces, each with a broker's node, a region for each range of keys with its feed, and a proxy."""
+"""Machines as network namespaces, each with a broker's node, and for each range of keys a region, its feed and a proxy."""
 
 from __future__ import annotations
 
@@ -8,14 +8,13 @@ import shutil
 import socket
 import ssl
 import subprocess
-import sys
 from collections.abc import Sequence
 from dataclasses import dataclass, field
 from pathlib import Path
 
 import pika
 
-from running import CLIENT, FEEDS, RUN, Processes, Word, kill
+from running import CLIENT_WORDS, CONTROL, FEEDS, RUN, Processes, Word, kill, start_proxy
 
 # Three machines run at first. A fourth, with no node of the broker, takes the place of one that is lost.
 COUNT, ALL = 3, 4
@@ -24,16 +23,14 @@ FRONT = "10.77.0.254"
 BOUND, RANGES = "m", ["low", "high"]
 # The first keys of the tablets of each range but its first.
 BOUNDS = {"low": ["a100", "a250", "a400"], "high": ["z100", "z250", "z400"]}
-REGION_PORT, PROXY_PORT = 7070, 7443
+# The ports of the first range; the second's are the next ones. At the last one the front asks whether a region is well.
+REGION_PORT, PROXY_PORT, HEALTH_PORT = 7070, 7443, 9107
 CONNECTIONS = 64
 # After how many seconds the copies of a region are saved again.
 EVERY = 10
-# A record that each stream has once the first images are there: a region that lacks it is not ready.
-LOADED = {"low": "a-loaded", "high": "z-loaded"}
 RABBIT = Path("/usr/lib/rabbitmq/bin")
 CERTIFICATES = RUN / "certificates"
 SHOWN = ["--authority", str(CERTIFICATES / "authority.pem"), "--certificate", str(CERTIFICATES / "client.pem")]
-CLIENT_WORDS = {"PYTHONPATH": str(CLIENT), "PYTHONDONTWRITEBYTECODE": "1"}
 
 
 def run(*command: Word, environment: dict[str, str] | None = None) -> None:
@@ -79,59 +76,33 @@ def context(certificate: str | None = "client") -> ssl.SSLContext:
     return made
 
 
-FRONT_SOCKET = RUN / "front.socket"
-GLOBAL = f"global\n    stats socket {FRONT_SOCKET} mode 600 level admin\n"
-# Each proxy lets in only who has a certificate of the authority.
-PROXY = """
-defaults
-    mode tcp
-    timeout connect 2s
-    timeout client 1h
-    timeout server 1h
-    timeout check 1s
-"""
-BIND = "ssl crt {folder}/proxy.pem ca-file {folder}/authority.pem verify required"
-CHECK = "check inter 500ms fall 2 rise 1 on-marked-down shutdown-sessions"
-TO_PROXY = "ssl crt {folder}/client.pem ca-file {folder}/authority.pem verify required"
+# What the front calls the regions of machines.
+NAMES = ("one", "two", "three", "four")
+TLS: dict[str, Word] = {"PNUTS_CERTIFICATES": CERTIFICATES, "PNUTS_CONNECTIONS": str(CONNECTIONS)}
+
+
+def front_socket(name: str) -> Path:
+    """Where the front of a range takes commands."""
+    return RUN / f"front-{name}.socket"
 
 
 def start_front(processes: Processes, machines: Sequence[Machine]) -> None:
-    """The proxy that clients ask: it gives each connection to the region that has the fewest, of those that answer.
-
-    A check is a connection of the region beside those that `maxconn` counts.
-    """
-    text = GLOBAL + PROXY
+    """The proxies that clients ask: each gives a connection to the region of its range that has the fewest, of those that are well."""
     for at, name in enumerate(RANGES):
-        line = f'{{\\"do\\":\\"read\\",\\"key\\":\\"{LOADED[name]}\\",\\"version\\":[1,0]}}\\n'
-        server = f"{TO_PROXY.format(folder=CERTIFICATES)} maxconn {CONNECTIONS - 1} {CHECK}"
-        text += f"""
-listen {name}
-    bind {FRONT}:{PROXY_PORT + at} {BIND.format(folder=CERTIFICATES)}
-    balance leastconn
-    option redispatch 1
-    retries 2
-    option tcp-check
-    tcp-check send "{line}"
-    tcp-check expect string '{{"row"'
-""" + "".join(f"    server {machine.name} {machine.address}:{PROXY_PORT + at} {server}\n" for machine in machines)
-    start_proxy(processes, "front", [], text)
+        regions: dict[str, Word] = {f"PNUTS_REGION_{machine.number}": f"{machine.address}:{PROXY_PORT + at}" for machine in machines}
+        own: dict[str, Word] = {"PNUTS_PROXY_LISTEN": f"{FRONT}:{PROXY_PORT + at}", "PNUTS_PROXY_SOCKET": front_socket(name),
+                                "PNUTS_HEALTH_PORT": str(HEALTH_PORT + at)}
+        start_proxy(processes, f"front-{name}", "haproxy.cfg", {**TLS, **own, **regions})
 
 
-def tell_front(command: str) -> None:
-    """Has the front do a command of its socket, which says nothing where it is done."""
+def tell_front(name: str, command: str) -> None:
+    """Has the front of a range do a command of its socket, which says nothing where it is done."""
     with socket.socket(socket.AF_UNIX) as front:
-        front.connect(str(FRONT_SOCKET))
+        front.connect(str(front_socket(name)))
         front.sendall(f"{command}\n".encode())
         said = front.makefile().read().strip()
     if said:
         raise OSError(f"the front says to {command}: {said}")
-
-
-def start_proxy(processes: Processes, name: str, within: Sequence[str], text: str) -> subprocess.Popen[bytes]:
-    path = RUN / f"{name}.cfg"
-    path.write_text(text, encoding="utf-8")
-    run("haproxy", "-c", "-f", path)
-    return processes.start(f"{name}-proxy", [*within, "haproxy", "-db", "-f", path])
 
 
 @dataclass
@@ -208,13 +179,13 @@ class Machine:
     def wait_for_all_nodes(self) -> None:
         run(*self.within, RABBIT / "rabbitmqctl", "--longnames", "await_online_nodes", str(COUNT), environment=self.environment())
 
-    def start_proxy(self) -> None:
-        """The proxy before its regions, which themselves listen on loopback alone."""
-        text = PROXY
+    def start_proxies(self) -> None:
+        """The proxies before its regions, which themselves listen on loopback alone, and what says whether these are well."""
         for at, name in enumerate(RANGES):
-            text += f"\nlisten {name}\n    bind {self.address}:{PROXY_PORT + at} {BIND.format(folder=CERTIFICATES)}\n"
-            text += f"    retries 0\n    server region 127.0.0.1:{REGION_PORT + at} maxconn {CONNECTIONS}\n"
-        self.running["proxy"] = start_proxy(self.processes, self.name, self.within, text)
+            own = {"PNUTS_PROXY_LISTEN": f"{self.address}:{PROXY_PORT + at}", "PNUTS_REGION": f"127.0.0.1:{REGION_PORT + at}"}
+            self.running[f"{name}-proxy"] = start_proxy(self.processes, f"{self.name}-{name}-proxy", "machine.cfg", {**TLS, **own}, self.within)
+            line = self.control_line(name, "exporter", "--listen", f"{self.address}:{HEALTH_PORT + at}")
+            self.start(f"{name}-exporter", line, CLIENT_WORDS)
 
     def start_feed(self, name: str) -> None:
         """The feed of a range's stream. It waits for the region, and begins where that is."""
@@ -241,7 +212,7 @@ class Machine:
         run(*self.control_line(name, *words), environment=CLIENT_WORDS)
 
     def control_line(self, name: str, *words: Word) -> list[Word]:
-        return [sys.executable, "-m", "pnuts_client.ctl", "--control", self.path(name, "control"), *words]
+        return [*CONTROL, self.path(name, "control"), *words]
 
     def region_address(self, name: str) -> str:
         """Where others ask for the region of a range."""
@@ -250,7 +221,7 @@ class Machine:
     def set_state(self, state: str) -> None:
         """Whether the front gives it new connections: `ready`, or `drain`."""
         for name in RANGES:
-            tell_front(f"set server {name}/{self.name} state {state}")
+            tell_front(name, f"set server regions/{NAMES[self.number - 1]} state {state}")
 
     def path(self, name: str, kind: str) -> Path:
         """A file of the feed and the region of a range."""

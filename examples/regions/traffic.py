@@ -11,7 +11,7 @@ from collections.abc import Callable, Sequence
 from dataclasses import dataclass, field
 
 import pika
-from machines import BOUND, FRONT, LOADED, PROXY_PORT, RANGES, Machine, context
+from machines import BOUND, FRONT, PROXY_PORT, RANGES, Machine, context
 from pnuts_client import Client, PnutsError, RecordBehind, Recovering, Regions
 from pnuts_client.addresses import Tcp
 
@@ -47,13 +47,12 @@ class Publisher:
     stopped: threading.Event = field(default_factory=threading.Event)
 
     def make_streams(self) -> None:
-        """The streams, each on all nodes, with the first image of each key and a record that says that they are all there."""
+        """The streams, each on all nodes, with the first image of each key."""
         connection = pika.BlockingConnection(pika.URLParameters(self.machines[0].url))
         for name in RANGES:
             connection.channel().queue_declare(name, durable=True, arguments=STREAM | {"x-max-age": f"{self.kept_for}s"})
         connection.close()
-        first = [(key, 0) for number in range(KEYS) for key in (f"a{number:03}", f"z{number:03}")]
-        self.publish(first + [(key, 0) for key in LOADED.values()])
+        self.publish([(key, 0) for number in range(KEYS) for key in (f"a{number:03}", f"z{number:03}")])
 
     def has_outlived_images(self) -> bool:
         """Whether the first images are twice as old as the broker keeps them."""
@@ -90,7 +89,7 @@ class Publisher:
 
     def run(self) -> None:
         """Publishes a next version of some key, again and again, until it is told to stop."""
-        rng, keys = random.Random(1), [key for key in self.confirmed if key not in LOADED.values()]
+        rng, keys = random.Random(1), list(self.confirmed)
         while not self.stopped.is_set():
             self.publish([(key, self.confirmed[key] + 1) for key in rng.sample(keys, 50)])
 

@@ -15,7 +15,7 @@ from pnuts_client.addresses import Tcp
 
 from running import until
 
-# The tablet of the range `high` that is lost. The front's check reads none of its keys.
+# The tablet of the range `high` that is lost.
 LOST, KEYS = 2, [f"z{number}" for number in range(250, 400)]
 PATIENCE = 600.0
 
@@ -77,7 +77,7 @@ def join(new: Machine, peers: Sequence[Machine], is_level: Callable[[str], bool]
         new.start_feed(name)
         new.start_region(name)
         new.keep_copies(name)
-    new.start_proxy()
+    new.start_proxies()
     for name in RANGES:
         until(f"{new.name} has all of {name}", lambda: is_level(name), PATIENCE)
     return time.monotonic() - start

@@ -40,6 +40,11 @@ def _check(body: bytes) -> None:
         raise ValueError(f"it nests deeper than {MAX_DEPTH}")
 
 
+def whole_of(digits: str) -> int | float:
+    """A number without a point, as a region takes it: -0 is no whole one."""
+    return -0.0 if digits == "-0" else int(digits)
+
+
 def _no_number(word: str) -> Any:
     raise ValueError(f"{word} is no number")
 

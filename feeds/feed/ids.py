@@ -1,11 +1,11 @@
-"""Which message of the broker has which position."""
+"""Which message of the broker has which position, and what was given last."""
 
 from __future__ import annotations
 
 from collections import deque
 from collections.abc import Sequence
 
-MOST = 200_000
+MOST, MOST_BYTES = 200_000, 4_000_000
 
 
 class Ids:
@@ -42,3 +42,32 @@ class Ids:
 
     def _drop(self) -> None:
         self._count -= len(self._parts.popleft()[1])
+
+
+class Given:
+    """The lines that were given last, of which the region may refuse one."""
+
+    def __init__(self) -> None:
+        self._parts: deque[tuple[int, Sequence[bytes], int]] = deque()
+        self._size = 0
+
+    def begin(self) -> None:
+        """Forgets all of them."""
+        self._parts.clear()
+        self._size = 0
+
+    def add(self, first: int, lines: Sequence[bytes]) -> None:
+        """Lines that are given next, from this position on."""
+        size = sum(map(len, lines))
+        self._parts.append((first, lines, size))
+        self._size += size
+        while self._size > MOST_BYTES and len(self._parts) > 1:
+            self._size -= self._parts.popleft()[2]
+
+    def at(self, position: int | None) -> bytes | None:
+        """The line of this position, where it is still known."""
+        if position is not None:
+            for first, lines, _ in self._parts:
+                if first <= position < first + len(lines):
+                    return lines[position - first]
+        return None

@@ -22,7 +22,8 @@ class RegionGone(Exception):
 class Output(Protocol):
     """The way to a region."""
 
-    # The last position that the region is known to have taken.
+    # Whether the region says what it has taken, and the last position that it is known to have taken.
+    tells: bool
     taken: int
 
     def begin(self) -> int:
@@ -43,6 +44,8 @@ class Output(Protocol):
 
 class Pipe:
     """A FIFO, or standard output where no path is given. Its region wants the stream from its first message on."""
+
+    tells = False
 
     def __init__(self, path: str | None) -> None:
         self.taken = 0
@@ -86,7 +89,9 @@ class Pipe:
 
 
 def add_output_words(words: argparse.ArgumentParser) -> None:
-    """The words that say where lines go."""
+    """The words that say where lines go, and which others go there."""
+    words.add_argument("--instead", metavar="FILE", help='lines {"at":P,"image":I}: the image that is given at position P, in place of the message')
+    words.add_argument("--figures", metavar="FILE", help="write how far broker and region are into it, each second, for `pnuts-ctl exporter --feeds`")
     words.add_argument("--socket", action="store_true", help="PATH is a region's socket, and is waited for where it is not there yet")
     words.add_argument(
         "output",

@@ -40,6 +40,8 @@ class Refused(Exception):
 class RegionSocket:
     """One connection after another to a region."""
 
+    tells = True
+
     def __init__(self, path: str, say: Callable[[str], None]) -> None:
         self.taken = 0
         self._path = path

@@ -14,7 +14,7 @@ from pathlib import Path
 
 from .program import ProgramRegion
 from .region import Region
-from .support import FEEDS, wait_until
+from .support import FEEDS, image, wait_until
 
 # How many images a feed is killed and begun anew among.
 IMAGES = int(os.environ.get("FEEDS_IMAGES", "200000"))
@@ -221,6 +221,19 @@ class Resuming(unittest.TestCase):
             self.assertEqual((status, region.has), (1, 2))
             self.assertIn("message 3 is no line of JSON", said)
             self.assertIn(self.id_of(3), said)
+
+    def test_an_image_in_place_of_a_message(self) -> None:
+        self.fill(1, 2)
+        self.add_body(b"{")
+        self.fill(4, 3)
+        with self.region() as region, self.feed(region) as program:
+            self.assertEqual((program.ended()[0], region.has), (1, 2))
+            instead = region.path.with_name("instead")
+            instead.write_bytes(b'\n{"image": %b, "at": 3}\n{"at":9,"image":{}}\n' % image(3))
+            with self.feed(region, "--instead", str(instead)) as anew:
+                self.wait_for(region, anew, 6)
+                told = f"position 3, {self.id_of(3)}: the image in {instead} is given instead\n"
+                self.assertEqual(anew.said(), f"{self.words[0]}: {told}")
 
     def test_the_program(self) -> None:
         with tempfile.TemporaryDirectory() as folder:

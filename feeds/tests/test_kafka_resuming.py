@@ -9,6 +9,7 @@ from pathlib import Path
 
 from . import resuming
 from .kafka_server import FIND_COORDINATOR, GROUP_REFUSED, Server, server_of
+from .sasl_relay import SaslRelay
 from .support import image, wait_until
 from .tls_relay import Relay
 
@@ -135,6 +136,25 @@ class KafkaResuming(resuming.Resuming):
                 # On a busy machine no answer is told before the reason.
                 self.assertRegex(program.said(), "certificate verify failed|Failed to get metadata")
             with self.region() as region, self.feed(region, "--set", f"ssl.ca.location={relay.certificate}") as program:
+                self.wait_for(region, program, 1_000)
+                self.fill(1_001, 3)
+                self.wait_for(region, program, 1_003)
+                self.assertEqual(program.said(), "")
+
+    def test_a_password(self) -> None:
+        self.fill(1, 1_000)
+        with tempfile.TemporaryDirectory() as folder:
+            relay = SaslRelay(Path(folder), self.server.brokers, "region", "se=cret")
+            self.addCleanup(relay.end)
+            told = ("security.protocol=sasl_ssl", f"ssl.ca.location={relay.certificate}", "sasl.mechanism=PLAIN", "sasl.username=region")
+            words = [word for it in told for word in ("--set", it)]
+            self.words = ("kafka", "--brokers", relay.brokers, *words, self.topic)
+            with self.region() as region, self.feed(region, "--set", "sasl.password=wrong") as program:
+                wait_until(lambda: "waiting for the broker: " in program.said(), resuming.PATIENCE)
+                wait_until(lambda: relay.refused > 1, resuming.PATIENCE)
+                self.assertRegex(program.said(), "wrong password|Failed to get metadata")
+                self.assertEqual((program.is_running(), region.has), (True, 0))
+            with self.region() as region, self.feed(region, "--set", "sasl.password=se=cret") as program:
                 self.wait_for(region, program, 1_000)
                 self.fill(1_001, 3)
                 self.wait_for(region, program, 1_003)

@@ -2,6 +2,7 @@
 
 from __future__ import annotations
 
+import re
 import signal
 import time
 
@@ -111,6 +112,21 @@ class PostgresResuming(resuming.Resuming):
             self.wait_for(region, program, 7)
             self.assertEqual(region.again, 0)
         slow.close()
+
+    def test_a_row_that_is_mended(self) -> None:
+        self.fill(1, 2)
+        self.add_body(b"{")
+        self.fill(4, 3)
+        with self.region() as region, self.feed(region) as program:
+            said = program.ended()[1]
+            found = re.search(r"message 3 is no line of JSON: .*; it is the row of xid (\d+), id (\d+) of the table outbox\n", said)
+            assert found is not None
+            mended = f"UPDATE outbox SET image = '{image(3).decode()}' WHERE xid = '{found[1]}' AND id = {found[2]}"
+            with self.assertRaises(Fault):
+                self.server.do(mended)
+            self.server.do(f"BEGIN; SET LOCAL outbox.forgets = 'yes'; {mended}; COMMIT")
+            with self.feed(region) as anew:
+                self.wait_for(region, anew, 6)
 
     def test_a_head_that_is_a_name_alone(self) -> None:
         self.fill(1, 10)

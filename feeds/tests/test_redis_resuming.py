@@ -4,7 +4,7 @@ from __future__ import annotations
 
 from . import resuming
 from .redis_server import server_of
-from .support import image
+from .support import image, wait_until
 
 
 class RedisResuming(resuming.Resuming):
@@ -38,6 +38,46 @@ class RedisResuming(resuming.Resuming):
             with self.subTest(has), self.region(has) as region, self.feed(region) as program:
                 self.wait_for(region, program, 20_000)
                 self.assertEqual(region.again, 0)
+
+    def test_a_feed_of_another_stream(self) -> None:
+        """It is known by its key, and one that was made anew and is longer by an entry that is not there."""
+        self.fill(1, 50)
+        with self.region(10) as region:
+            words = ("--figures", str(region.path.with_name("east.json")))
+            with self.feed(region, *words) as program:
+                self.wait_for(region, program, 50)
+                wait_until(lambda: '"last": [50, ' in region.path.with_name("east.json").read_text(encoding="utf-8"))
+            for number in range(1, 101):
+                self.server.client.xadd("west", {"image": image(number)})
+            self.words = ("redis-stream", "--url", self.server.url, "west")
+            with self.feed(region, *words) as program:
+                status, said = program.ended()
+                self.assertEqual((status, region.has), (2, 50))
+                self.assertIn("east.json is of a feed of redis-stream east, and this one reads redis-stream west: remove it", said)
+            self.words = ("redis-stream", "--url", self.server.url, "east")
+            with self.feed(region, *words) as program:
+                self.fill(51, 5)
+                self.wait_for(region, program, 55)
+            self.server.client.rename("west", "east")
+            with self.feed(region, *words) as program:
+                status, said = program.ended()
+                self.assertEqual((status, region.has), (1, 55))
+                self.assertRegex(said, r"position 5\d, entry [\d-]+ of the stream east, which is not there: it is another one than before")
+
+    def test_a_stream_that_is_trimmed_behind_a_feed_that_comes_later(self) -> None:
+        """Entries that are gone, as Redis says, are no sign of another stream."""
+        self.fill(1, 50)
+        with self.region() as region:
+            words = ("--figures", str(region.path.with_name("east.json")))
+            for last, gone in ((50, "trim"), (60, "delete"), (70, "")):
+                with self.feed(region, *words) as program:
+                    self.wait_for(region, program, last)
+                    wait_until(lambda: f'"last": [{last}, ' in region.path.with_name("east.json").read_text(encoding="utf-8"))
+                self.fill(last + 1, 10)
+                if gone == "trim":
+                    self.trim(10)
+                elif gone:
+                    self.server.client.xdel("east", self.server.client.xrevrange("east", count=11)[-1][0])
 
     def test_a_stream_that_is_trimmed_while_it_is_read(self) -> None:
         self.fill(1, 5_000)

@@ -155,6 +155,17 @@ class Scripted:
         """See `feed.running.Source`."""
         return f"number {identity}"
 
+    def identity(self) -> None:
+        """See `feed.running.Source`."""
+
+    def has(self, position: int, name: str) -> bool:
+        """See `feed.running.Source`."""
+        return True
+
+    def newest(self) -> int:
+        """See `feed.running.Source`."""
+        return self._count
+
 
 class Running(unittest.TestCase):
     """A feed's life between a broker and a region that are away now and then."""

@@ -17,6 +17,7 @@ WORDS = (
     ("rabbitmq-stream", "--url", "bad", "east"),
     ("rabbitmq-stream", "--url", "amqp://a:b/", "east"),
     ("redis-stream", "--url", "bad", "east"),
+    ("redis-stream", "--instead", "/nowhere", "east"),
     ("redis-stream", "--url", "redis://a:b/0", "east"),
     ("redis-stream", "--url", "redis://a/0?nope=1", "east"),
 )

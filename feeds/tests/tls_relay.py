@@ -42,12 +42,18 @@ class Relay:
                 connection = self._listener.accept()[0]
                 threading.Thread(target=self._relay, args=(connection,), daemon=True).start()
 
+    def _admits(self, client: socket.socket, broker: socket.socket) -> bool:
+        """Whether a client may go on."""
+        return True
+
     def _relay(self, connection: socket.socket) -> None:
         """Hands all on, with the relay's port in place of the broker's."""
         host = self._broker[0].encode()
         told, own = (host + struct.pack(">i", port) for port in (self._broker[1], self._port))
         with suppress(OSError), self._secret.wrap_socket(connection, server_side=True) as client:
             with socket.create_connection(self._broker) as broker:
+                if not self._admits(client, broker):
+                    return
                 while True:
                     for source in [client] if client.pending() else select.select([client, broker], [], [])[0]:
                         if not (part := source.recv(1_000_000)):

@@ -7,6 +7,7 @@ import io
 import os
 import signal
 import socket
+import stat
 import tempfile
 import unittest
 from collections.abc import Iterator
@@ -87,6 +88,46 @@ class SavingTest(unittest.TestCase):
             self.assertEqual(str(raised.exception), said)
             self.assertEqual(list(self.path.parent.iterdir()), [self.path])
             self.assertEqual(self.path.read_text(encoding="utf-8"), "before")
+
+    def mode_of(self) -> tuple[int, int, int]:
+        """Owner, group and mode of the file, once it is saved."""
+        self.saved((given(WHOLE),))
+        found = self.path.stat()
+        return found.st_uid, found.st_gid, stat.S_IMODE(found.st_mode)
+
+    def test_a_save_has_the_mode_of_the_file_before_it_or_of_its_folder(self) -> None:
+        own = (os.geteuid(), self.path.parent.stat().st_gid)
+        for folder, mode in ((0o750, 0o640), (0o700, 0o600), (0o755, 0o640), (0o777, 0o600), (0o1777, 0o600)):
+            self.path.parent.chmod(folder)
+            self.assertEqual(self.mode_of(), (*own, mode))
+            self.path.unlink()
+        self.path.parent.chmod(0o750)
+        self.path.write_text("before", encoding="utf-8")
+        for mode, then in ((0o444, 0o644), (0o600, 0o600), (0o664, 0o664)):
+            self.path.chmod(mode)
+            self.assertEqual(self.mode_of(), (*own, then))
+        self.path.unlink()
+        self.path.symlink_to("/etc/hostname")
+        self.assertEqual(self.mode_of(), (*own, 0o640))
+
+    @unittest.skipIf(os.geteuid(), "it needs root")
+    def test_a_save_of_root_is_the_service_s(self) -> None:
+        self.path.parent.chmod(0o750)
+        os.chown(self.path.parent, 7_001, 7_002)
+        self.assertEqual(self.mode_of(), (7_001, 7_002, 0o640))
+        self.assertEqual(self.mode_of(), (7_001, 7_002, 0o640))
+        os.chown(self.path, 7_003, 7_004)
+        self.path.chmod(0o600)
+        self.assertEqual(self.mode_of(), (7_003, 7_004, 0o600))
+        self.path.parent.chmod(0o777)
+        self.assertEqual(self.mode_of(), (0, 0, 0o600))
+
+    def test_a_file_of_another_user_is_left(self) -> None:
+        self.path.write_text("before", encoding="utf-8")
+        self.path.parent.chmod(0o750)
+        with patch("pnuts_client.files.os.geteuid", return_value=os.geteuid() + 1), self.assertRaisesRegex(OSError, "another user's"):
+            self.saved((given(WHOLE),))
+        self.assertEqual([*self.path.parent.iterdir()], [self.path])
 
     def test_a_save_that_is_ended_leaves_nothing(self) -> None:
         def end(connection: socket.socket) -> None:

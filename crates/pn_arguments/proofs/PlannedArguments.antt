@@ -13,7 +13,7 @@ use Rattle.clap.specs.Walk.{Row, Text, Walk, finished, nothing_held, settled, wa
 use Rattle.pn_json.proofs.Inverses.{bind_ok}
 use Rattle.pn_arguments.specs.Options.{program}
 use Rattle.pn_arguments.specs.Plans.{Answers, HasSessions, IsTold, Plans, Says, Tells}
-use Rattle.pn_arguments.specs.Commands.{address_in, control_in, copies_in, number_at, plan_in, replay_in, serve_in, service_in, settings_in, text_at}
+use Rattle.pn_arguments.specs.Commands.{address_in, control_in, number_at, plan_in, replay_in, serve_in, service_in, settings_in, text_at}
 use Rattle.pn_arguments.specs.Faults.{FaultValue, told_fault}
 use Rattle.pn_arguments.specs.Faults as faults
 use Rattle.pn_arguments.specs.Permissions.{permissions_in}
@@ -86,7 +86,6 @@ answered words kind (inr among) (Err (fault.Words text)) is = record { kind = ki
 answered words kind has (Err (fault.Bounds refused)) is = absurd is
 answered words kind has (Err (fault.Address refused)) is = absurd is
 answered words kind has (Err (fault.Control refused)) is = absurd is
-answered words kind has (Err (fault.Copies refused)) is = absurd is
 answered words kind has (Err (fault.Stream refused)) is = absurd is
 answered words kind has (Err fault.Memory) is = tt
 
@@ -108,8 +107,7 @@ service_plans host options service e =
     let placed = bind_ok (address_in host options) _ service e in
     let moded = bind_ok (permissions_in (text_at (codes "socket-mode") options)) _ service placed.2 in
     let controlled = bind_ok (control_in options) _ service moded.2 in
-    let copied = bind_ok (copies_in options) _ service controlled.2 in
-    let last = copied.2 in
+    let last = controlled.2 in
     let same : number_at (codes "sessions") MAX_SESSIONS options ≡ service.sessions = cc in
     subst (λ n. (1 ≤ n) × (n ≤ MAX_SESSIONS)) same (in_range _)
 
@@ -153,7 +151,6 @@ no_words options option.Listen e = absurd (cc)
 no_words options option.Socket e = absurd (cc)
 no_words options option.SocketMode e = absurd (cc)
 no_words options (option.Control why) e = absurd (cc)
-no_words options option.Copies e = absurd (cc)
 no_words options (option.Stream index why) e = absurd (cc)
 no_words options option.Memory e = absurd (cc)
 
@@ -167,7 +164,6 @@ planned words taken command found (Err (fault.Words text)) tells = absurd (no_wo
 planned words taken command found (Err (fault.Bounds refused)) tells = told words taken command found _ tells _ tells.shows
 planned words taken command found (Err (fault.Address refused)) tells = told words taken command found _ tells _ tells.shows
 planned words taken command found (Err (fault.Control refused)) tells = told words taken command found _ tells _ tells.shows
-planned words taken command found (Err (fault.Copies refused)) tells = told words taken command found _ tells _ tells.shows
 planned words taken command found (Err (fault.Stream refused)) tells = told words taken command found _ tells _ tells.shows
 planned words taken command found (Err fault.Memory) tells = tt
 

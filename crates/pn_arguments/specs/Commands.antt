@@ -69,12 +69,9 @@ control_in options =
     else if nat_lt MAX_SOCKET_BYTES (length (text_at (codes "control") options)) then Err (fault.Control why.LongPath)
     else Ok (Some (text_at (codes "control") options))
 
--- the text of copies that the region starts from, whose layout is theirs
-abbrev pub copies_in : List Row → Result (Option Text) OptionFault
-copies_in options =
-    if is_absent (codes "copies") options then Ok None
-    else if not (bytes_eq (text_at (codes "bounds") options) (codes "[]")) then Err fault.Copies
-    else Ok (Some (text_at (codes "copies") options))
+-- the text of copies that the region starts from
+abbrev pub copies_in : List Row → Option Text
+copies_in options = if is_absent (codes "copies") options then None else Some (text_at (codes "copies") options)
 
 -- how sessions are served
 abbrev pub service_in : IpAddr → List Row → Result ServiceValue OptionFault
@@ -82,7 +79,6 @@ service_in host options = do
   address ← address_in host options
   mode ← permissions_in (text_at (codes "socket-mode") options)
   control ← control_in options
-  copies ← copies_in options
   Ok (record {
     sessions = number_at (codes "sessions") MAX_SESSIONS options;
     address = address;
@@ -91,7 +87,7 @@ service_in host options = do
     control = control;
     idle = idle_in options;
     is_progress_told = is_set (codes "progress") options;
-    copies = copies;
+    copies = copies_in options;
   })
 
 -- the arguments of the streams

@@ -7,7 +7,7 @@ use Rattle.pn_arguments.specs.declared.faults.PlanFault.{PlanFault}
 use Rattle.pn_arguments.specs.declared.faults.PlanFault.TheVariants as plan
 use Rattle.pn_arguments.specs.declared.faults.Refused.{Refused}
 use Rattle.pn_arguments.specs.declared.faults.Why.{Why}
-use Rattle.pn_arguments.specs.declared.faults.Why.TheVariants.{LongPath, NoAddress, NoBounds, NoPermissions}
+use Rattle.pn_arguments.specs.declared.faults.Why.TheVariants.{LongPath, NoAddress, NoPermissions}
 use Rattle.pn_arguments.specs.Commands.{is_set, stream_words, text_at}
 
 -- a text that is refused, and why
@@ -15,14 +15,13 @@ pub record RefusedValue : Type 0 where
   pub text : Text
   pub why : Why
 
--- what `clap` refuses; or bounds, an address, the socket of control sessions, copies or a stream, each with the text and why;
+-- what `clap` refuses; or bounds, an address, the socket of control sessions or a stream, each with the text and why;
 -- or no memory
 pub data FaultValue : Type 0 where
   words : FaultValue
   bounds : Option RefusedValue → FaultValue
   address : Option RefusedValue → FaultValue
   control : RefusedValue → FaultValue
-  copies : RefusedValue → FaultValue
   stream : Option RefusedValue → FaultValue
   memory : FaultValue
 
@@ -36,7 +35,6 @@ fault_value (plan.Words text) = words
 fault_value (plan.Bounds refused) = bounds (option_map refused_value refused)
 fault_value (plan.Address refused) = address (option_map refused_value refused)
 fault_value (plan.Control refused) = control (refused_value refused)
-fault_value (plan.Copies refused) = copies (refused_value refused)
 fault_value (plan.Stream refused) = stream (option_map refused_value refused)
 fault_value plan.Memory = memory
 
@@ -55,6 +53,5 @@ told_fault options fault.Listen = address (reason_in options (text_at (codes "li
 told_fault options fault.Socket = address (reason_in options (text_at (codes "socket") options) LongPath)
 told_fault options fault.SocketMode = address (reason_in options (text_at (codes "socket-mode") options) NoPermissions)
 told_fault options (fault.Control why) = control (record { text = text_at (codes "control") options; why = why })
-told_fault options fault.Copies = copies (record { text = text_at (codes "copies") options; why = NoBounds })
 told_fault options (fault.Stream index why) = stream (reason_in options (word_at options index) why)
 told_fault options fault.Memory = memory

@@ -9,7 +9,7 @@ use std::alloc::AllocError;
 use std::fmt;
 use thiserror::Error;
 
-/// Why arguments are refused. With `--stay`, and for `--control` and `--copies`, the text that is refused comes with it, and the reason.
+/// Why arguments are refused. With `--stay`, and for `--control`, the text that is refused comes with it, and the reason.
 #[derive(Debug, Drop)]
 pub enum PlanFault<'w> {
     /// `clap` refuses them; the text says why.
@@ -20,8 +20,6 @@ pub enum PlanFault<'w> {
     Address(Option<Refused<'w>>),
     /// Control sessions are only with `--stay`, and at a path of at most 107 bytes.
     Control(Refused<'w>),
-    /// Bounds are beside copies, whose layout is theirs.
-    Copies(Refused<'w>),
     /// A stream has no `=`, no name, no path, a socket's path that is too long, or another's name, or there are more than 16.
     Stream(Option<Refused<'w>>),
     Memory,
@@ -51,8 +49,6 @@ pub enum Why {
     NoPermissions,
     #[error("only with --stay")]
     NoStay,
-    #[error("not with --bounds")]
-    NoBounds,
     #[error("no =")]
     NoEquals,
     #[error("no name")]
@@ -79,8 +75,6 @@ pub(crate) enum OptionFault {
     SocketMode,
     /// `--control` is without `--stay`, or its path is too long.
     Control(Why),
-    /// `--copies` is beside `--bounds`.
-    Copies,
     /// The stream of this index, from 0, is refused.
     Stream(usize, Why),
     Memory,
@@ -93,7 +87,6 @@ impl fmt::Display for PlanFault<'_> {
             PlanFault::Bounds(refused) => write_refused(f, "bounds", refused),
             PlanFault::Address(refused) => write_refused(f, "address", refused),
             PlanFault::Control(refused) => write!(f, "control: {refused}"),
-            PlanFault::Copies(refused) => write!(f, "copies: {refused}"),
             PlanFault::Stream(refused) => write_refused(f, "stream", refused),
             PlanFault::Memory => f.write_str("memory"),
         }

@@ -67,7 +67,7 @@ const CONTROL_HELP: &str =
     "With --stay: a Unix socket for those who run the region; only its owner may connect";
 
 const COPIES_HELP: &str =
-    "A text of copies, one of each tablet, that the region starts from; the layout is theirs";
+    "A text of copies, one of each tablet, that the region starts from; without --bounds in their layout";
 
 const STAY_HELP: &str =
     "Goes on until a signal or --control ends it, and reads one writer of a FIFO or socket after another";

@@ -1,6 +1,6 @@
 //! What the program's arguments plan.
 
-ghost use Rattle.std.specs.Prelude.{◌≡◌, map, string_bytes, IfOk, IsSome, Option, Some};
+ghost use Rattle.std.specs.Prelude.{◌≡◌, map, string_bytes, IfOk, IsSome, Ok, Option, Some};
 ghost use Rattle.std.specs.declared.net.ip_addr.IpAddr.{IpAddr};
 ghost use Rattle.clap.specs.Words.{found_of, kind_of, rows_of, subcommand_rows_of};
 ghost use Rattle.pn_json.specs.Prelude.{IsUnless, ShowsUnless};
@@ -158,16 +158,13 @@ fn control_path(alloc: Global, options: &ArgMatches<'_>) -> Result<Option<String
     Ok(Some(String::from_str(alloc, control)?))
 }
 
-// The text of copies that the region starts from, if one is named. Bounds beside it are refused.
+// The text of copies that the region starts from, if one is named.
 fn copies_path(alloc: Global, options: &ArgMatches<'_>) -> Result<Option<String>, OptionFault>
-    ensures { ShowsUnless OptionFault.Memory optional_bytes result (copies_in (rows_of (found_of options.now))) }
+    ensures { ShowsUnless OptionFault.Memory optional_bytes result (Ok (copies_in (rows_of (found_of options.now)))) }
 {
     let copies = option_text(options, "copies");
     if copies.is_empty() {
         return Ok(None);
-    }
-    if option_text(options, "bounds") != "[]" {
-        return Err(OptionFault::Copies);
     }
     Ok(Some(String::from_str(alloc, copies)?))
 }

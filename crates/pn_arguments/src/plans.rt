@@ -38,7 +38,7 @@ pub struct Service {
     pub idle: Option<u32>,
     /// Whether progress is written to standard error each second.
     pub is_progress_told: bool,
-    /// The path of a text of copies that the region starts from. There are no bounds beside it.
+    /// The path of a text of copies that the region starts from. Bounds beside it are its layout, in place of that of the copies.
     pub copies: Option<String>,
 }
 

@@ -10,7 +10,7 @@ use crate::faults::{OptionFault, Refused, Why};
 use crate::options::{is_given, option_text};
 use clap::ArgMatches;
 
-/// The fault of what a command is given; with `--stay`, and of `--control` and `--copies`, with the text that is refused, and why.
+/// The fault of what a command is given; with `--stay`, and of `--control`, with the text that is refused, and why.
 pub(crate) fn told_fault<'w>(options: &ArgMatches<'w>, fault: OptionFault) -> PlanFault<'w>
     ensures { fault_value result ≡ told (rows_of (found_of options.now)) fault }
 {
@@ -34,10 +34,6 @@ pub(crate) fn told_fault<'w>(options: &ArgMatches<'w>, fault: OptionFault) -> Pl
         OptionFault::Control(why) => PlanFault::Control(Refused {
             text: option_text(options, "control"),
             why,
-        }),
-        OptionFault::Copies => PlanFault::Copies(Refused {
-            text: option_text(options, "copies"),
-            why: Why::NoBounds,
         }),
         OptionFault::Stream(index, why) => {
             PlanFault::Stream(reason_of(options, stream_word(options, index), why))

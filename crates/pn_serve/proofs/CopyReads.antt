@@ -18,7 +18,7 @@ use Rattle.pn_serve.specs.Copies.Faulty.{AreCutsToFault}
 use Rattle.pn_serve.proofs.CopyCuts.{are_whole, none_faulty, read_alike}
 use Rattle.pn_serve.proofs.CopyTexts.{cuts-append}
 use Rattle.pn_serve.specs.declared.copies.fault.CopiesFault.{CopiesFault}
-use Rattle.pn_serve.specs.declared.copies.fault.CopiesFault.TheVariants.{Line, Memory, NoCopy, Read, TooMany, TooManyStreams, TwoCopies}
+use Rattle.pn_serve.specs.declared.copies.fault.CopiesFault.TheVariants.{Line, Memory, NoCopy, Read, TooMany, TooManyStreams, TwoCopies, Unequal}
 
 -- these of the copies that were read were added, and the rest is to come
 pub record AddedSoFar (reads : List (Result TabletCopyValue CopiesFault)) (old new : List TabletCopyValue) (rest : List (Result TabletCopyValue CopiesFault)) : Type 0 where
@@ -200,6 +200,7 @@ at_fault may_fail text TooMany stops = stops (λ is. cc)
 at_fault may_fail text (NoCopy key) stops = stops (λ is. cc)
 at_fault may_fail text (TwoCopies key) stops = stops (λ is. cc)
 at_fault may_fail text TooManyStreams stops = stops (λ is. cc)
+at_fault may_fail text (Unequal n why) stops = stops (λ is. cc)
 
 pub stopped : {S : Type 0} (left : S → Option (List ℕ)) (may_fail : Type 0) (text : List ℕ) (old : CopiesReaderValue S) (later : S) (after : ℕ) (some : List CopyCutValue) (reads : List (Result TabletCopyValue CopiesFault)) (fault : CopiesFault)
     → CutsOut left old.source old.next some later after → AreRead some reads → (fault ≢ Memory → StopsAt reads old.copies fault) → HasRead left text old → StopsReading may_fail text fault

@@ -4,6 +4,7 @@ pub mod Cutting
 pub mod Faulty
 pub mod Lines
 pub mod Reading
+pub mod Recutting
 use Rattle.std.specs.Prelude.{◌≡◌, List, map, Err}
 use Rattle.std.specs.List.Sorted.{IsPermutation, IsSortedByKey}
 use Rattle.std.specs.Option.{option_cmp}
@@ -22,7 +23,7 @@ use Rattle.pn_live.specs.Starting.{StartsLive, StopsStart}
 use Rattle.pn_live.specs.declared.fault.StartFault.{StartFault}
 use Rattle.pn_live.specs.declared.fault.StartFault.TheVariants.{Adopt, Advance}
 use Rattle.pn_serve.specs.declared.copies.fault.CopiesFault.{CopiesFault}
-use Rattle.pn_serve.specs.declared.copies.fault.CopiesFault.TheVariants.{Line, Memory, NoCopy, Read, TooMany, TooManyStreams, TwoCopies}
+use Rattle.pn_serve.specs.declared.copies.fault.CopiesFault.TheVariants.{Line, Memory, NoCopy, Read, TooMany, TooManyStreams, TwoCopies, Unequal}
 
 -- in some order the copies are those of a layout's tablets, one each, and the live region started from them
 pub record StartsOrdered (copies : List TabletCopyValue) (live : LiveRegionValue) : Type 0 where
@@ -58,6 +59,7 @@ StopsOpen copies TooManyStreams = AreOfTooManyStreams copies
 StopsOpen copies Memory = Unit {0}
 StopsOpen copies (Line n fault) = ⊥
 StopsOpen copies Read = ⊥
+StopsOpen copies (Unequal n why) = ⊥
 
 -- the fault of copies that are those of no layout
 abbrev pub cut_fault : CutFault → CopiesFault

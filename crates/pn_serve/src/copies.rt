@@ -9,6 +9,8 @@ ghost use Rattle.pn_serve.specs.Server.Sessions.{AllRead};
 mod fault;
 mod fronts;
 mod reading;
+mod recutting;
+mod starting;
 mod texts;
 
 use crate::copies::fault::start_fault;
@@ -17,6 +19,7 @@ pub use fault::CopiesFault;
 use pn_live::LiveRegion;
 use pn_tablet::{TabletCopy, layout_of_copies};
 pub use reading::CopiesReader;
+pub use recutting::recut_copies;
 use std::alloc::Global;
 use std::sync::Wait;
 

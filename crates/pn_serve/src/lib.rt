@@ -6,6 +6,7 @@ mod copies;
 mod laws;
 mod machine;
 mod page_laws;
+mod recut_laws;
 mod repeat_laws;
 mod script;
 mod server;
@@ -18,7 +19,7 @@ mod version;
 pub use control::laws::commands_are_events;
 pub use control::mailboxes::{ControlMailboxes, ControlsClosed, MAX_CONTROLS, StopAsked};
 pub use control::session::{ControlSession, StatsSource};
-pub use copies::{CopiesFault, CopiesReader, open_copies};
+pub use copies::{CopiesFault, CopiesReader, open_copies, recut_copies};
 pub use laws::regions_converge;
 pub use machine::line_handler::{Answer, LineHandler};
 pub use machine::skipping::RefusesSkipped;
@@ -26,6 +27,7 @@ pub use page_laws::{
     a_scan_line_shows_the_page_of_its_region, keys_rise_from_page_to_page_of_a_script,
     pages_of_a_script_are_together_its_rows,
 };
+pub use recut_laws::recut_copies_are_as_good;
 pub use repeat_laws::{
     a_repeated_deliver_leaves_no_trace_of_a_refused_one, repeated_delivers_leave_the_same_region,
 };

@@ -7,12 +7,13 @@ ghost use Rattle.pn_serve.specs.Server.Sessions.{AllRead};
 
 use crate::failures::{fail, fail_at};
 use pn_arguments::Service;
-use pn_join::{Marks, Name};
+use pn_join::{Dup, Marks, Name};
 use pn_serve::{
     CopiesFault, CopiesReader, MAX_CONTROLS, OpenedRegion, Settings, StreamPath, close_region,
-    open_copies,
+    open_copies, recut_copies,
 };
-use pn_tablet::{MAX_BOUNDS, TabletCopy};
+use pn_tablet::{Layout, MAX_BOUNDS, TabletCopy};
+use std::alloc::Global;
 use std::fs::File;
 use std::io::BufReader;
 use std::process::ExitCode;
@@ -107,12 +108,26 @@ where
     ensures readers { IfOk result (λ region. service.now.sessions ≤ vec_len region.readers) }
 {
     let copies = read_copies(rt, settings.workers(), service.is_progress_told, source)?;
+    let copies = in_bounds(rt.alloc(), settings.layout(), copies)?;
     let controls = if service.control.is_some() {
         MAX_CONTROLS
     } else {
         0
     };
     open_copies(rt, rt.alloc(), copies, service.sessions + controls)
+}
+
+// The copies, or where bounds are told those of the tablets between them.
+fn in_bounds(
+    alloc: Global,
+    layout: &Layout,
+    copies: Vec<TabletCopy>,
+) -> Result<Vec<TabletCopy>, CopiesFault> {
+    if layout.count() > 1 {
+        recut_copies(alloc, copies, layout.dup()?)
+    } else {
+        Ok(copies)
+    }
 }
 
 // The copies of a file. It says how many were read, once a second.

@@ -20,10 +20,12 @@ from .client import Client
 from .control import Control
 from .control_requests import LAST_NUMBER, Notice, Tablet
 from .errors import ConnectionFailed, PnutsError, TimedOut
+from .figures import Beside
+from .layouts import MOST_TABLETS, as_json, copies_in, sizes_of
 from .pauses import pause
 from .recovery import recover
-from .saving import save
-from .status import shown_status
+from .saving import copies, save
+from .status import shown_bytes, shown_status, shown_tablets
 
 DEFAULT_CONTROL = "/run/pnuts/control"
 EXAMPLES = """examples:
@@ -31,6 +33,7 @@ EXAMPLES = """examples:
   pnuts-ctl --json watch --since 0
   pnuts-ctl save region.copies --from tcp://10.0.0.2:7070 --from tcp://10.0.0.3:7070
   pnuts-ctl save /var/lib/pnuts/copies --every 600
+  pnuts-ctl tablets --into 8
   pnuts-ctl recover 3 --from tcp://10.0.0.2:7070
   pnuts-ctl exporter --listen 127.0.0.1:9107
 
@@ -64,6 +67,9 @@ def parser() -> argparse.ArgumentParser:
                         help=f"{PEER}; of several, a later one is asked where an earlier one has no copy (default: the control socket's)")
     copied.add_argument("--every", type=_seconds, metavar="SECONDS", help="write it anew again and again, until it is interrupted")
     _add_certificates(copied)
+    laid = command(show_tablets, "tablets", "show the tablets, or keys that cut them into others of like size")
+    laid.add_argument("--into", type=_tablets, metavar="N", help="propose bounds of this many, as --bounds takes them: all copies are read")
+    laid.add_argument("--copies", type=Path, metavar="FILE", help="read them in a file that was saved (default: those of the region)")
     lost = command(recover_tablet, "recover", "have a lost tablet adopt the copy of a peer, which is asked until it has what is needed")
     lost.add_argument("tablet", type=int, metavar="TABLET", help="its number, from 0")
     lost.add_argument("--from", dest="peer", required=True, metavar="ADDRESS", help=f"the peer: {PEER}")
@@ -77,6 +83,10 @@ def parser() -> argparse.ArgumentParser:
     shown = command(export, "exporter", "show the region to people at /, to Prometheus at /metrics, and to load balancers at /healthz (needs python3-prometheus-client)")
     shown.add_argument("--listen", type=_address, default=("127.0.0.1", 9107), metavar="ADDRESS:PORT", help="where (default: 127.0.0.1:9107)")
     shown.add_argument("--silence", type=int, metavar="SECONDS", help="/healthz is 503 also where a stream brought nothing for longer")
+    shown.add_argument("--feeds", type=Path, metavar="FOLDER", help="the folder of the files STREAM.json that feeds write by --figures")
+    shown.add_argument("--lag", type=_seconds, metavar="SECONDS",
+                       help="/healthz is 503 also where a stream lags for longer, or its feed does not tell, as it is for /healthz?lag=SECONDS")
+    shown.add_argument("--copies", type=Path, metavar="FILE", help="the file of copies whose age is shown")
     return words
 
 
@@ -102,6 +112,13 @@ def _seconds(text: str) -> float:
     if not 0 < seconds <= 1e9:
         raise argparse.ArgumentTypeError(f"no seconds: {text!r}")
     return seconds
+
+
+def _tablets(text: str) -> int:
+    """A number of tablets."""
+    if not text.isdecimal() or not 1 <= int(text) <= MOST_TABLETS:
+        raise argparse.ArgumentTypeError(f"no number from 1 to {MOST_TABLETS}: {text!r}")
+    return int(text)
 
 
 def _address(text: str) -> tuple[str, int]:
@@ -179,6 +196,20 @@ def _save_once(words: Words, addresses: Sequence[Address]) -> None:
     say(words, {"bytes": size, "path": str(words.file), "tablets": count}, f"{words.file}: {count} tablets, {size} bytes")
 
 
+def show_tablets(region: Control, words: Words) -> int:
+    if words.into is None:
+        tablets = region.tablets()
+        say(words, [_as_json(it) for it in tablets], shown_tablets(region.stats(), tablets))
+        return 0
+    with Client(Unix(words.control), retries=1) as asked:
+        sizes = sizes_of(copies_in(words.copies) if words.copies else copies(asked))
+    bounds = sizes.bounds(words.into)
+    each = shown_bytes(sizes.size // (len(bounds) + 1))
+    print(f"{sizes.count} images, {shown_bytes(sizes.size)}: {len(bounds) + 1} tablets of some {each} each", file=sys.stderr)
+    print(as_json(bounds))
+    return 0
+
+
 def recover_tablet(region: Control, words: Words) -> int:
     with Client(_peer(words, words.peer)) as peer:
         size = recover(region, words.tablet, peer, words.timeout)
@@ -225,12 +256,12 @@ def stop_region(region: Control, words: Words) -> int:
 
 def export(region: Control, words: Words) -> int:
     try:
-        from .exporter import serve
+        from .exporter import Shown, serve
     except ModuleNotFoundError as fault:
         raise PnutsError(f"{fault.name} is not installed: it is in Debian's python3-prometheus-client") from fault
     host, port = words.listen
     with Control(Unix(words.control), timeout=5.0, retries=1) as watched:
-        serve(region, watched, host, port, words.silence)
+        serve(region, watched, host, port, Shown(Beside(words.feeds, words.copies), words.silence, words.lag))
     return 0
 
 

@@ -5,11 +5,14 @@ It needs Debian's package python3-prometheus-client.
 
 from __future__ import annotations
 
+import os
 import socket
 import threading
 from collections.abc import Callable, Iterable, Iterator
+from dataclasses import dataclass, field
 from socketserver import ThreadingMixIn
 from typing import Any, cast
+from urllib.parse import parse_qs
 from wsgiref.simple_server import WSGIRequestHandler, WSGIServer, make_server
 
 from prometheus_client import CollectorRegistry, Metric, make_wsgi_app
@@ -19,9 +22,10 @@ from prometheus_client.core import GaugeMetricFamily as Gauge
 from .control import Control
 from .control_requests import Stats, StreamStats, Tablet
 from .errors import PnutsError
+from .figures import Beside, Lags
 from .history import History
 from .page import policy, shown_page
-from .status import faults_of
+from .status import failures_of, lags_of, losses_of, silences_of
 
 PATIENCE = 10.0
 """For how many seconds a client is waited for that sends or takes nothing."""
@@ -32,14 +36,25 @@ TEXT = ("Content-Type", "text/plain; charset=utf-8")
 App = Callable[[dict[str, Any], Callable[..., Any]], Iterable[bytes]]
 
 
+@dataclass(frozen=True)
+class Shown:
+    """What is looked at beside the region, and for how many seconds a stream may be silent or lag, where that is asked."""
+
+    beside: Beside = field(default_factory=Beside)
+    silence: int | None = None
+    lag: float | None = None
+
+
 class Collector:
     """Asks the region anew at each scrape."""
 
-    def __init__(self, region: Control) -> None:
+    def __init__(self, region: Control, beside: Beside) -> None:
         self._region = region
+        self._beside = beside
 
     def collect(self) -> Iterator[Metric]:
-        """The metrics of one moment; only `pnuts_up` where the region does not answer."""
+        """The metrics of one moment; where the region does not answer, `pnuts_up` and those of the machine alone."""
+        yield from of_machine(self._beside)
         try:
             stats, tablets = self._region.stats(), self._region.tablets()
         except PnutsError:
@@ -48,8 +63,32 @@ class Collector:
         yield Gauge("pnuts_up", "Whether the region answers", value=1)
         yield from of_region(stats)
         yield from of_streams(stats.streams)
+        yield from of_lags(self._beside.lags(stats.streams))
         yield from of_tablets(tablets)
         yield from of_contents(stats)
+
+
+def of_machine(beside: Beside) -> Iterator[Metric]:
+    """The machine's memory, and the age of the copies."""
+    memory = os.sysconf("SC_PHYS_PAGES") * os.sysconf("SC_PAGE_SIZE")
+    yield Gauge("pnuts_machine_memory_bytes", "The memory of the exporter's machine", value=memory)
+    if (age := beside.copies_age()) is not None:
+        yield Gauge("pnuts_copies_age_seconds", "How long ago the copies were saved; infinite where there are none", value=age)
+
+
+def of_lags(lags: Lags) -> Iterable[Metric]:
+    """How far streams are behind their brokers, where feeds tell it."""
+    newest = Gauge("pnuts_stream_newest", "The position of the broker's last message of a stream", labels=["stream"])
+    messages = Gauge("pnuts_stream_lag_messages", "How many messages of a stream the broker has that the region lacks", labels=["stream"])
+    seconds = Gauge("pnuts_stream_lag_seconds", "For how long the region has lacked a message that the broker has", labels=["stream"])
+    age = Gauge("pnuts_feed_age_seconds", "How long ago the feed of a stream wrote its figures", labels=["stream"])
+    silence = Gauge("pnuts_feed_broker_silence_seconds", "For how long the broker has not answered a feed", labels=["stream"])
+    for name, lag in lags.items():
+        age.add_metric([name], lag.age)
+        for metric, value in ((newest, lag.newest), (messages, lag.messages), (seconds, lag.seconds), (silence, lag.silence)):
+            if value is not None:
+                metric.add_metric([name], value)
+    return newest, messages, seconds, age, silence
 
 
 def of_region(stats: Stats) -> Iterator[Metric]:
@@ -111,36 +150,62 @@ def of_contents(stats: Stats) -> Iterable[Metric]:
     return records, deleted
 
 
-def faults(region: Control, silence: int | None) -> list[str]:
-    """What is wrong with a region, of which one fault is that it does not answer."""
+def faults(region: Control, shown: Shown, lag: float | None) -> tuple[list[str], list[str]]:
+    """For what a region should not be asked, of which one fault is that it does not answer, and what else is wrong.
+
+    A stream that has failed is of the latter: a message that one region refuses, all refuse, and they serve what they have.
+    """
     try:
-        return faults_of(region.stats(), region.tablets(), silence)
+        stats, tablets = region.stats(), region.tablets()
     except PnutsError as fault:
-        return [str(fault)]
+        return [str(fault)], []
+    found = [*losses_of(tablets), *silences_of(stats, shown.silence)]
+    if lag is not None:
+        found += lags_of(stats.streams, shown.beside.lags(stats.streams), lag)
+    return found, failures_of(stats)
 
 
-def app_of(region: Control, history: History, silence: int | None = None) -> App:
+def lag_in(query: str, usual: float | None) -> float | None:
+    """For how many seconds a stream may lag, where the address says it. Raises ValueError where it says something else."""
+    told = parse_qs(query, keep_blank_values=True, strict_parsing=True) if query else {}
+    if told.keys() - {"lag"}:
+        raise ValueError(query)
+    seconds = float(told["lag"][-1]) if told else usual
+    if seconds is not None and not seconds >= 0:
+        raise ValueError(query)
+    return seconds
+
+
+def app_of(region: Control, history: History, shown: Shown) -> App:
     """What is served."""
     registry = CollectorRegistry(auto_describe=False)
-    registry.register(cast(Any, Collector(region)))
+    registry.register(cast(Any, Collector(region, shown.beside)))
     metrics: App = make_wsgi_app(registry)
     page = [("Content-Type", "text/html; charset=utf-8"), ("Content-Security-Policy", policy()), ("Cache-Control", "no-store"),
             ("Referrer-Policy", "no-referrer"), ("X-Content-Type-Options", "nosniff")]
+
+    def health(environ: dict[str, Any], start: Callable[..., Any]) -> Iterable[bytes]:
+        try:
+            lag = lag_in(environ.get("QUERY_STRING", ""), shown.lag)
+        except ValueError:
+            start("400 Bad Request", [TEXT])
+            return [b"of words there is lag=SECONDS\n"]
+        found, others = faults(region, shown, lag)
+        start("503 Service Unavailable" if found else "200 OK", [TEXT])
+        return ["".join(f"{it}\n" for it in [*found, *others] or ["well"]).encode()]
 
     def app(environ: dict[str, Any], start: Callable[..., Any]) -> Iterable[bytes]:
         path = environ["PATH_INFO"] or "/"
         if path == "/metrics":
             return metrics(environ, start)
+        if path == "/healthz":
+            return health(environ, start)
         if path == "/":
             # The server adds to the list.
             start("200 OK", [*page])
-            return [shown_page(history.view(), silence)]
-        if path != "/healthz":
-            start("404 Not Found", [TEXT])
-            return [b"there are /, /metrics and /healthz\n"]
-        found = faults(region, silence)
-        start("503 Service Unavailable" if found else "200 OK", [TEXT])
-        return ["".join(f"{it}\n" for it in found or ["well"]).encode()]
+            return [shown_page(history.view(), shown.silence, shown.lag)]
+        start("404 Not Found", [TEXT])
+        return [b"there are /, /metrics and /healthz\n"]
 
     return app
 
@@ -180,10 +245,10 @@ class Server6(Server):
     address_family = socket.AF_INET6
 
 
-def serve(region: Control, watched: Control, host: str, port: int, silence: int | None = None) -> None:
+def serve(region: Control, watched: Control, host: str, port: int, shown: Shown) -> None:
     """Serves until it is interrupted. What the page shows is asked through a client of its own: scrapes do not wait for it."""
-    history = History(watched)
+    history = History(watched, shown.beside)
     kind = Server6 if ":" in host else Server
-    with make_server(host, port, app_of(region, history, silence), server_class=kind, handler_class=Handler) as server:
+    with make_server(host, port, app_of(region, history, shown), server_class=kind, handler_class=Handler) as server:
         history.begin()
         server.serve_forever()

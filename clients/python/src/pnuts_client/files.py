@@ -2,7 +2,10 @@
 
 from __future__ import annotations
 
+import contextlib
+import errno
 import os
+import stat
 import tempfile
 from collections.abc import Iterable
 from pathlib import Path
@@ -16,6 +19,7 @@ def write_whole(path: Path, content: bytes) -> None:
 def write_parts(path: Path, parts: Iterable[bytes], keep: bool = True) -> None:
     """Writes a file of parts as they come beside the path, and moves it there. With `keep` it is on the disk then.
 
+    It has the owner and the mode of the file whose place it takes, or else those of its folder, of whose mode others get nothing.
     What the system refuses is raised with the path.
     """
     try:
@@ -28,6 +32,7 @@ def _write_parts(path: Path, parts: Iterable[bytes], keep: bool) -> None:
     handle, name = tempfile.mkstemp(dir=path.parent, prefix=f".{path.name}.")
     try:
         with os.fdopen(handle, "wb") as file:
+            _own_as(handle, path)
             for part in parts:
                 file.write(part)
             file.flush()
@@ -39,6 +44,25 @@ def _write_parts(path: Path, parts: Iterable[bytes], keep: bool) -> None:
         raise
     if keep:
         _sync_folder(path.parent)
+
+
+def _own_as(handle: int, path: Path) -> None:
+    """Gives a new file to those who read the one at the path. In a folder that is everybody's it is its maker's alone."""
+    folder, user = os.stat(path.parent), os.geteuid()
+    if folder.st_mode & stat.S_IWOTH:
+        return
+    owner, group, mode = folder.st_uid if user == 0 else user, folder.st_gid, folder.st_mode & 0o640
+    with contextlib.suppress(FileNotFoundError):
+        there = os.lstat(path)
+        if stat.S_ISREG(there.st_mode):
+            owner, group, mode = there.st_uid, there.st_gid, there.st_mode & 0o777
+    if owner != user and user != 0:
+        raise OSError(errno.EPERM, "it is another user's, who could not read what takes its place")
+    try:
+        os.fchown(handle, owner, group)
+    except PermissionError:
+        mode &= stat.S_IRWXU
+    os.fchmod(handle, mode | stat.S_IRUSR | stat.S_IWUSR)
 
 
 def _sync_folder(path: Path) -> None:

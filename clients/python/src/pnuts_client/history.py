@@ -6,12 +6,13 @@ import threading
 import time
 from collections import deque
 from collections.abc import Mapping, Sequence
-from dataclasses import dataclass
+from dataclasses import dataclass, field
 from itertools import pairwise
 
 from .control import Control
 from .control_requests import Stats, Tablet
 from .errors import PnutsError
+from .figures import Beside, Lags
 
 STEP = 3.0
 """How many seconds there are between two samples of a region that answers."""
@@ -35,11 +36,12 @@ class Sample:
 
 @dataclass(frozen=True, slots=True)
 class Seen:
-    """What a region said last, and when."""
+    """What a region said last, and when, and how far its streams lagged."""
 
     at: float
     stats: Stats
     tablets: Sequence[Tablet]
+    lags: Lags = field(default_factory=dict)
 
 
 @dataclass(frozen=True, slots=True)
@@ -88,8 +90,9 @@ def counts_of(stats: Stats) -> dict[str, int]:
 class History:
     """The samples of a region, which it has a client of its own for."""
 
-    def __init__(self, region: Control, kept: int = KEPT) -> None:
+    def __init__(self, region: Control, beside: Beside = Beside(), kept: int = KEPT) -> None:
         self._region = region
+        self._beside = beside
         self._samples: deque[Sample] = deque(maxlen=kept)
         self._last: Seen | None = None
         self._fault: str | None = "it was not asked yet"
@@ -103,7 +106,7 @@ class History:
         except PnutsError as fault:
             self._note(None, str(fault))
         else:
-            self._note(Seen(time.monotonic(), stats, tablets), None)
+            self._note(Seen(time.monotonic(), stats, tablets, self._beside.lags(stats.streams)), None)
 
     def _note(self, seen: Seen | None, fault: str | None) -> None:
         with self._lock:

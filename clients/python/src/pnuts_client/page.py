@@ -9,9 +9,10 @@ from pathlib import Path
 
 from .control_requests import LineCounts, Lines, Stats, StreamStats, Tablet
 from .elements import Html, element, joined
+from .figures import Lag
 from .history import KEPT, PER_KIND, PER_STREAM, STEP, Point, Seen, View
 from .sparkline import sparkline
-from .status import faults_of, shown_bytes, shown_marks, shown_seconds
+from .status import faults_of, lags_of, shown_bytes, shown_marks, shown_seconds
 
 STYLE, SCRIPT = (Path(__file__).with_name(f"page.{kind}").read_text(encoding="utf-8") for kind in ("css", "js"))
 SECONDS = STEP * KEPT
@@ -21,11 +22,14 @@ FIRST = Html(
     '<link rel="icon" href="data:,"><noscript><meta http-equiv="refresh" content="5"></noscript>'
 )
 RATES = (("messages", "Messages a second"), ("answered", "Lines a second"), ("refused", "Refused a second"), ("rounds", "Rounds a second"))
+LAG = 30.0
+"""For how many seconds a stream may lag that is well, where nothing else is said."""
 STREAMS = ("Stream", "State", "Position", "Behind", "Last message", "Read", "Messages a second", "", "Path")
+LAGS = ("Feed", "Broker's last", "Lag", "Lag time")
 TABLETS = ("Tablet", "From", "To", "State", "Behind")
 COUNTED = ("Records", "Deleted")
 LINES = ("Lines", "Answered", "Refused", "Answered a second", "")
-NUMBERS = {"Position", "Behind", "Last message", "Read", "Messages a second", "Records", "Deleted", "Answered", "Refused", "Answered a second"}
+NUMBERS = {*LAGS[1:], "Position", "Behind", "Last message", "Read", "Messages a second", "Records", "Deleted", "Answered", "Refused", "Answered a second"}
 
 
 def policy() -> str:
@@ -35,11 +39,13 @@ def policy() -> str:
     return f"default-src 'none'; {allowed}; base-uri 'none'; form-action 'none'; frame-ancestors 'none'"
 
 
-def shown_page(view: View, silence: int | None = None) -> bytes:
-    """The page of a view. What is wrong is as `/healthz` says it."""
+def shown_page(view: View, silence: int | None = None, lag: float | None = None) -> bytes:
+    """The page of a view, with all that is wrong; streams whose feeds tell figures may lag for a time only."""
     wrong = [view.fault] if view.fault is not None else []
     if view.last is not None and not wrong:
         wrong = faults_of(view.last.stats, view.last.tablets, silence)
+        told = [it for it in view.last.stats.streams if lag is not None or it.name in view.last.lags]
+        wrong += lags_of(told, view.last.lags, LAG if lag is None else lag)
     head = joined(element("title", "pnuts: wrong" if wrong else "pnuts: well"), element("style", Html(STYLE)))
     shown = element("main", *heading(view, wrong), *sections(view))
     said = element("p", id="said", role="status")
@@ -67,7 +73,7 @@ def sections(view: View) -> Iterator[Html]:
     parts = (
         element("div", *tiles(view), class_="tiles"),
         element("h2", "Streams"),
-        table(STREAMS, streams(view, view.last)),
+        table(heads_of(view.last), streams(view, view.last)),
         element("h2", "Tablets"),
         tablets(view.last),
         element("h2", "Clients"),
@@ -102,19 +108,35 @@ def shown_rate(value: float) -> str:
     return f"{value:,.0f}" if value >= 10 or value == 0 else f"{value:.1f}"
 
 
+def heads_of(seen: Seen) -> Sequence[str]:
+    """The columns of streams: those of lags are there where feeds tell them."""
+    return (*STREAMS[:3], *LAGS, *STREAMS[3:]) if seen.lags else STREAMS
+
+
+def lagging(lag: Lag | None) -> Sequence[object]:
+    """The cells of a stream's lag."""
+    if lag is None:
+        return ("-",) * len(LAGS)
+    newest, messages = ("-" if it is None else f"{it:,}" for it in (lag.newest, lag.messages))
+    time = "-" if lag.seconds is None else shown_seconds(int(lag.seconds))
+    return (state("gone" if lag.is_gone else "runs"), newest, messages, time)
+
+
 def streams(view: View, seen: Seen) -> Iterator[Html]:
     """A row for each stream, and one for its last fault."""
+    heads = heads_of(seen)
     for it in seen.stats.streams:
         points = view.rates(PER_STREAM + it.name)
         now, _ = now_and_most(points)
         last = "-" if it.since is None else f"{shown_seconds(it.since)} ago"
         behind = max((lack(it, tablet) for tablet in seen.tablets), default=0)
         picture = sparkline(points, SECONDS, f"Messages of {it.name} a second")
-        cells = (element("strong", it.name), state(it.state), f"{it.position:,}", f"{behind:,}", last, shown_bytes(it.bytes))
-        yield row(STREAMS, (*cells, "-" if now is None else shown_rate(now), picture, it.path))
+        lags = lagging(seen.lags.get(it.name)) if seen.lags else ()
+        cells = (element("strong", it.name), state(it.state), f"{it.position:,}", *lags, f"{behind:,}", last, shown_bytes(it.bytes))
+        yield row(heads, (*cells, "-" if now is None else shown_rate(now), picture, it.path))
         if it.reason is not None:
             line = "" if it.line is None else f", in line {it.line:,} of what its writer sent"
-            yield element("tr", element("td", f"{it.name}: {it.reason}{line}", colspan=len(STREAMS), class_="reason"), class_="fault")
+            yield element("tr", element("td", f"{it.name}: {it.reason}{line}", colspan=len(heads), class_="reason"), class_="fault")
 
 
 def lack(stream: StreamStats, tablet: Tablet) -> int:

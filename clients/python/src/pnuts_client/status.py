@@ -2,9 +2,10 @@
 
 from __future__ import annotations
 
-from collections.abc import Sequence
+from collections.abc import Iterable, Sequence
 
 from .control_requests import Lines, Marks, Stats, StreamStats, Tablet
+from .figures import Lags
 
 STREAMS = ("STREAM", "STATE", "POSITION", "MESSAGES", "SIZE", "LAST", "PATH")
 TABLETS = ("TABLET", "FROM", "TO", "STATE")
@@ -28,15 +29,49 @@ def shown_status(stats: Stats, tablets: Sequence[Tablet]) -> str:
     return "\n".join(shown)
 
 
+def shown_tablets(stats: Stats, tablets: Sequence[Tablet]) -> str:
+    """The table of tablets."""
+    return "\n".join(table(_tablets(stats, tablets)))
+
+
 def faults_of(stats: Stats, tablets: Sequence[Tablet], silence: int | None) -> list[str]:
     """What is wrong: tablets that are lost, and streams that have failed or are silent for longer than a given number of seconds."""
-    found = [f"tablet {number} is recovering" for number, it in enumerate(tablets) if it.need is not None]
+    return [*losses_of(tablets), *failures_of(stats), *silences_of(stats, silence)]
+
+
+def losses_of(tablets: Iterable[Tablet]) -> list[str]:
+    """Which tablets are lost: the region does not serve their keys."""
+    return [f"tablet {number} is recovering" for number, it in enumerate(tablets) if it.need is not None]
+
+
+def failures_of(stats: Stats) -> list[str]:
+    """Which streams have failed: the region serves what it has."""
+    return [f"stream {it.name} has failed: {it.reason}" for it in stats.streams if it.state == "failed"]
+
+
+def silences_of(stats: Stats, silence: int | None) -> list[str]:
+    """Which streams that have not failed brought nothing for longer than a number of seconds, where one is given."""
+    found = []
     for stream in stats.streams:
         since = stats.uptime if stream.since is None else stream.since
-        if stream.state == "failed":
-            found.append(f"stream {stream.name} has failed: {stream.reason}")
-        elif silence is not None and since > silence:
+        if silence is not None and since > silence and stream.state != "failed":
             found.append(f"stream {stream.name} brought nothing for {since} seconds")
+    return found
+
+
+def lags_of(streams: Iterable[StreamStats], lags: Lags, most: float) -> list[str]:
+    """Which streams lag for longer than this many seconds, or have a feed that does not say it."""
+    found = []
+    for name in (it.name for it in streams):
+        lag = lags.get(name)
+        if lag is None:
+            found.append(f"stream {name} has no feed that tells how far its broker is")
+        elif lag.is_gone:
+            found.append(f"stream {name} has a feed that last told something {lag.age:.0f} seconds ago")
+        elif lag.seconds is None:
+            found.append(f"stream {name} has a feed that does not know how far its broker is")
+        elif lag.seconds > most:
+            found.append(f"stream {name} lags for {lag.seconds:.0f} seconds, by {lag.messages or 0} messages")
     return found
 
 

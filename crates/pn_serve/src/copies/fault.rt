@@ -8,7 +8,7 @@ use pn_join::NoMemory;
 use pn_live::StartFault;
 use pn_record::Key;
 use pn_region::{AdoptFault, AdvanceFault};
-use pn_tablet::{CopyTextFault, CutFault, MAX_BOUNDS};
+use pn_tablet::{CopyFault, CopyTextFault, CutFault, MAX_BOUNDS};
 use std::alloc::{AllocError, AllocFailed};
 use std::fmt;
 
@@ -27,6 +27,8 @@ pub enum CopiesFault {
     TwoCopies(Option<Key>),
     /// The copies are of more than 16 streams.
     TooManyStreams,
+    /// The first tablet of other bounds that would join copies of different marks, and why it gives no copy.
+    Unequal(usize, CopyFault),
     Memory,
 }
 
@@ -39,6 +41,12 @@ impl fmt::Display for CopiesFault {
             CopiesFault::NoCopy(key) => write!(f, "no copy has the key {:?}", key_text(key)),
             CopiesFault::TwoCopies(key) => write!(f, "two copies have the key {:?}", key_text(key)),
             CopiesFault::TooManyStreams => f.write_str("too-many-streams"),
+            CopiesFault::Unequal(tablet, fault) => {
+                write!(
+                    f,
+                    "bounds: tablet {tablet} would join copies of different marks: {fault}"
+                )
+            }
             CopiesFault::Memory => f.write_str("memory"),
         }
     }

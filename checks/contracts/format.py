@@ -1,0 +1,37 @@
+"""Looks whether the sources, definitions and proofs of all crates are formatted as `rt fmt` formats them.
+
+  checks/run format
+
+Exit status 0 where nothing is to be changed, 1 where something is: `rt fmt` in the folder of the crate that is named.
+"""
+import subprocess
+from collections.abc import Iterator
+from pathlib import Path
+
+from common.crates import TOP, kit
+from common.tried import parser_of
+
+FOLDERS = ("src", "specs", "proofs")
+SUFFIXES = (".rt", ".antt")
+
+
+def files_of(crate: Path) -> Iterator[str]:
+    """The files of a crate that have a format."""
+    for folder in FOLDERS:
+        yield from sorted(str(path.relative_to(crate)) for path in (crate / folder).rglob("*") if path.suffix in SUFFIXES)
+
+
+def is_formatted(crate: Path) -> bool:
+    """Whether nothing in a crate would be changed. What would be is written as the formatter tells it."""
+    ran = subprocess.run([str(kit() / "bin" / "rattle"), "fmt", "--check", *files_of(crate)], cwd=crate, stdin=subprocess.DEVNULL)
+    return ran.returncode == 0
+
+
+def main(words: list[str]) -> int:
+    parser_of(__doc__).parse_args(words)
+    crates = sorted(path.parent for path in (TOP / "crates").glob("*/src"))
+    wrong = [crate.name for crate in crates if not is_formatted(crate)]
+    for name in wrong:
+        print(f"format: WRONG: crates/{name}: run rt fmt there")
+    print(f"format: {len(crates) - len(wrong)} of {len(crates)} crates are formatted")
+    return 1 if wrong else 0

@@ -1,0 +1,91 @@
+"""Does what docs/publishing.md and clients/python/README.md show to publishers: a table of PostgreSQL and one of SQLite are published,
+and regions have the record.
+
+  checks/run publishing PROGRAM
+
+Needs unshare, ip, and Debian's postgresql, python3-psycopg2, redis-server and python3-redis. Exit status 0 where that is so, 1 where it is
+not, 2 where something is missing.
+"""
+import os
+import re
+import shutil
+import subprocess
+import sys
+import tempfile
+from pathlib import Path
+
+from common.crates import TOP
+from common.parts import MISSING
+from common.tried import program_parser
+
+DEBIAN, BIN = "/usr/bin/python3", Path("/usr/lib/postgresql/15/bin")
+TOOLS = ("unshare", "ip", "setpriv", "redis-server", "psql")
+CODE = re.compile(r"```python\n(.*?)```", re.DOTALL)
+SHOWN = re.compile(r"(?:^    .+\n)+", re.MULTILINE)
+SECONDS = 180
+READ = """
+for it in $(seq 600); do
+    found=$(PYTHONPATH=clients/python/src python3 -c 'from pnuts_client import Client; print(Client("tcp://127.0.0.1:7070").read("tea").fields)' 2> /dev/null) || :
+    [ "$found" = "{'price': 1400}" ] && break
+    sleep 0.1
+done
+echo "$found"
+"""
+START = f"""
+ip link set lo up
+mkdir data
+chown nobody data
+as() {{ setpriv --reuid=nobody --regid=nogroup --clear-groups env -C / "$@"; }}
+as {BIN}/initdb -D "$PWD/data/db" -A trust -U root --no-sync > /dev/null
+as {BIN}/pg_ctl -D "$PWD/data/db" -w -l "$PWD/data/log" -o "-c listen_addresses= -c unix_socket_directories=$PWD/data" start > /dev/null
+export PGHOST=$PWD/data PGUSER=root
+"""
+
+
+def shown(text: str) -> list[str]:
+    """The lines of a shell that a text shows."""
+    return [re.sub("^    ", "", it, flags=re.MULTILINE) for it in SHOWN.findall(CODE.sub("", text))]
+
+
+def done(lines: str, folder: Path) -> str:
+    """What the lines write, and then the record as a client reads it."""
+    within = ["unshare", "--net", "--pid", "--fork", "--kill-child", "bash", "-c", lines]
+    given = {**os.environ, "PATH": f"{folder / 'bin'}:{BIN}:/usr/bin:/bin:/usr/sbin:/sbin", "PYTHONDONTWRITEBYTECODE": "1"}
+    ran = subprocess.run(within, cwd=folder, env=given, text=True, timeout=SECONDS, stdin=subprocess.DEVNULL, stdout=subprocess.PIPE, stderr=subprocess.STDOUT)
+    return ran.stdout
+
+
+def faults(program: str, folder: Path) -> list[str]:
+    client = (TOP / "clients/python/README.md").read_text(encoding="utf-8").partition("\n## Publishing\n")[2].partition("\n## ")[0]
+    postgres, check = shown((TOP / "docs/publishing.md").read_text(encoding="utf-8"))
+    (redis,) = shown(client)
+    (folder / "bin").mkdir()
+    (folder / "bin/pnuts").symlink_to(program)
+    for name in ("clients", "feeds"):
+        (folder / name).symlink_to(TOP / name)
+    (folder / "shop.py").write_text(CODE.findall(client)[0], encoding="utf-8")
+    good = '{"deleted":true,"key":"k","master":"w","version":[1,0]}\n'
+    (folder / "images").write_text(good + good.replace("[1,0]", "[0,0]") + "{\n", encoding="utf-8")
+    found = [("postgres", done(START + postgres + READ, folder)), ("redis", done("ip link set lo up\n" + redis + READ, folder))]
+    wrong = [f"the record of {name}: {said[-1_000:]}" for name, said in found if said.splitlines()[-1:] != ["{'price': 1400}"]]
+    said = done(check, folder)
+    if [": ".join(line.split(": ")[:2]) for line in said.splitlines()] != ["line 2, position 2: out-of-range version", "line 3, position 3: not-json whole"]:
+        wrong.append(f"what is said of images: {said}")
+    return wrong
+
+
+def main(words: list[str]) -> int:
+    told = program_parser(__doc__).parse_args(words)
+    lacks = [it for it in TOOLS if not shutil.which(it)] + ([] if BIN.is_dir() else ["postgresql"]) + ([] if os.geteuid() == 0 else ["root"])
+    if subprocess.run([DEBIAN, "-c", "import redis, psycopg2"], capture_output=True).returncode:
+        lacks.append("python3-redis python3-psycopg2")
+    if lacks:
+        print(f"checks/run publishing: missing: {' '.join(lacks)}", file=sys.stderr)
+        return MISSING
+    with tempfile.TemporaryDirectory(ignore_cleanup_errors=True) as made:
+        Path(made).chmod(0o755)
+        wrong = faults(told.program, Path(made))
+    for fault in wrong:
+        print(f"checks/run publishing: WRONG: {fault}")
+    print("publishing: a table of PostgreSQL and one of SQLite are published as documents show" if not wrong else f"{len(wrong)} are wrong")
+    return 1 if wrong else 0
