@@ -43,7 +43,7 @@ STAGE ?= notices
 SOAK ?= 60
 SECONDS ?= 240
 
-.PHONY: run quick check test edits build licences install uninstall deb image bench bench-beside checks checks-clients \
+.PHONY: run quick check test edits build licences http install uninstall deb image bench bench-beside checks checks-clients \
 	checks-feeds checks-brokers checks-install pictures races fuzz definitions rows toolchain
 
 # Shows the program at work: the replies to the script on standard output. It proves nothing. A program that is current answers
@@ -87,21 +87,28 @@ $(LIVE): $(SOURCES)
 licences:
 	@packaging/licences.py out/third-party
 
-# Installs the built program with its pages for man, completions, licences, service, feeds and tools. After a build it needs no
-# toolchain.
+# Builds the front for HTTP. It needs Debian's golang-go.
+http:
+	@packaging/http out
+	@echo "the front for HTTP: out/pnuts-http"
+
+# Installs the built program with its pages for man, completions, licences, service, feeds and tools, and the front for HTTP where `make http`
+# left one. After a build it needs no toolchain.
 install: licences
 	@packaging/install "$(PNUTS)" --prefix "$(PREFIX)" --destdir "$(DESTDIR)/"
 	@packaging/install --feeds --prefix "$(PREFIX)" --destdir "$(DESTDIR)/"
 	@packaging/install --tools --prefix "$(PREFIX)" --destdir "$(DESTDIR)/"
+	@if [[ -x out/pnuts-http ]]; then packaging/install --http --prefix "$(PREFIX)" --destdir "$(DESTDIR)/"; fi
 
 # Removes what `make install` installed, but for an environment file that was changed.
 uninstall:
 	@packaging/install --remove --feeds --prefix "$(PREFIX)" --destdir "$(DESTDIR)/"
 	@packaging/install --remove --tools --prefix "$(PREFIX)" --destdir "$(DESTDIR)/"
+	@packaging/install --remove --http --prefix "$(PREFIX)" --destdir "$(DESTDIR)/"
 	@packaging/install --remove --prefix "$(PREFIX)" --destdir "$(DESTDIR)/"
 
-# Builds the Debian packages of the program, of its feeds and of its tools.
-deb: $(PROVED) licences
+# Builds the Debian packages of the program, of its feeds, of its tools and of the front for HTTP.
+deb: $(PROVED) licences http
 	@packaging/deb "$(PNUTS)" "$(DEBS)"
 
 # Makes an image for containers of the packages that `make deb` left, and of Debian's that they need. It needs root, and the network.
@@ -138,9 +145,10 @@ races: toolchain
 fuzz: build
 	@fuzz/fuzz "$(PROGRAM)" --seconds $(SECONDS)
 
-# Tests the clients against the built program. Those whose language is missing are skipped.
+# Tests the clients and the front for HTTP against the built program. Those whose language is missing are skipped.
 checks-clients: build
 	@checks/run clients "$(PROGRAM)"
+	@checks/run http-front "$(PROGRAM)"
 
 # Tests the feeds against brokers that are started for it, and with the built program where it is there; brokers that are missing are skipped.
 checks-feeds:

@@ -35,8 +35,6 @@ type answer struct {
 	last    string
 	query   url.Values
 	entry   entry
-	// Whether a stream goes on, which ends the answer itself.
-	isHandedOn bool
 }
 
 // reply answers with a whole body.
@@ -121,6 +119,8 @@ func is[E error](err error) bool {
 	return errors.As(err, &found)
 }
 
+func isAny[E, F error](err error) bool { return is[E](err) || is[F](err) }
+
 // Kinds of faults of regions, by their errors, of which the first that fits is told.
 var kinds = []struct {
 	fits      func(error) bool
@@ -128,11 +128,9 @@ var kinds = []struct {
 	what, why string
 }{
 	{is[*pnuts.BadLine], http.StatusBadRequest, "bad-request", "regions refuse it"},
-	{is[*pnuts.RecordBehind], http.StatusServiceUnavailable, "behind", "no region that answers has the version that was shown before"},
-	{is[*pnuts.CopyBehind], http.StatusServiceUnavailable, "behind", "the tablet has not taken all yet"},
+	{isAny[*pnuts.RecordBehind, *pnuts.CopyBehind], http.StatusServiceUnavailable, "behind", "no region that answers has all that was shown before"},
 	{is[*pnuts.Recovering], http.StatusServiceUnavailable, "recovering", "the tablet was lost, and is not there again yet"},
-	{is[*pnuts.NoEntry], http.StatusServiceUnavailable, "busy", "the region has no reader free"},
-	{is[*pnuts.OutOfMemory], http.StatusServiceUnavailable, "busy", "the region has no memory for it"},
+	{isAny[*pnuts.NoEntry, *pnuts.OutOfMemory], http.StatusServiceUnavailable, "busy", "the region is short of readers or memory"},
 	{is[*pnuts.ConnectionFailed], http.StatusServiceUnavailable, "away", "no region can be reached"},
 	{func(err error) bool { return errors.Is(err, context.DeadlineExceeded) }, http.StatusGatewayTimeout, "late", "no region answered in time"},
 	{func(err error) bool { return errors.Is(err, context.Canceled) }, http.StatusRequestTimeout, "gone", "the client did not wait"},
@@ -170,14 +168,11 @@ func (a *answer) fail(err error) {
 	_ = a.reply(found.status, asJSON, append(body, '\n'))
 }
 
-// end counts the answer, and writes it into the log.
-func (a *answer) end() {
-	if !a.isHandedOn {
-		a.ended(a.route, a.entry)
-	}
-}
-
+// ended counts what was answered, and has it logged; but for what was handed on, which is answered yet.
 func (f *front) ended(route string, it entry) {
+	if it.Status == 0 {
+		return
+	}
 	it.Seconds = time.Since(it.start).Seconds()
 	labels := `{route="` + route + `",status="` + strconv.Itoa(it.Status) + `"}`
 	f.counts.add("requests_total"+labels, 1)

@@ -30,16 +30,11 @@ type stream struct {
 	gone  <-chan struct{}
 }
 
-// changes answers with a stream, which lasts until the client goes or takes nothing, or the front stops.
+// changes answers with a stream, which lasts until the client goes or takes nothing, or the front stops. While a region is away, it is silent:
+// browsers give up where it is refused.
 func (a *answer) changes() error {
 	if len(a.histories) == 0 {
 		return faulty(http.StatusNotFound, "not-found", "path", "no --control tells changes")
-	}
-	for at, it := range a.histories {
-		if err := it.Err(); err != nil {
-			where := fmt.Sprintf("range %d", at)
-			return &fault{status: http.StatusServiceUnavailable, What: "away", Where: where, Why: "its changes are not followed", cause: err}
-		}
 	}
 	if a.request.Method == http.MethodHead {
 		return a.reply(http.StatusOK, asEvents, nil)
@@ -50,7 +45,7 @@ func (a *answer) changes() error {
 	}
 	a.counts.add("streams_open", 1)
 	s := &stream{a.front, make([]control.Mark, len(a.histories)), a.write, a.ctx.Done()}
-	if last := strings.Split(a.request.Header.Get("Last-Event-ID"), "_"); len(last) == len(s.marks) {
+	if last := strings.Fields(a.request.Header.Get("Last-Event-ID")); len(last) == len(s.marks) {
 		for at := range last {
 			s.marks[at] = control.MarkOf(last[at])
 		}
@@ -77,7 +72,7 @@ func (s *stream) handOn(a *answer, hijacker http.Hijacker, leave func()) error {
 		return err
 	}
 	gone, route, entry := make(chan struct{}), a.route, a.entry
-	s.gone, a.isHandedOn = gone, true
+	s.gone, a.entry.Status = gone, 0
 	s.write = func(text []byte) error {
 		entry.Bytes += int64(len(text))
 		_, err := connection.Write(text)
@@ -148,10 +143,4 @@ func (s *stream) told(text []byte, at int, found control.Notices, to control.Mar
 }
 
 // id is that of an event: the marks of all ranges.
-func (s *stream) id() string {
-	parts := make([]string, len(s.marks))
-	for at, it := range s.marks {
-		parts[at] = it.String()
-	}
-	return strings.Join(parts, "_")
-}
+func (s *stream) id() string { return strings.Trim(fmt.Sprint(s.marks), "[]") }

@@ -73,7 +73,7 @@ func isFollowed(t testing.TB, front *front) {
 func TestChanges(t *testing.T) {
 	folder := t.TempDir()
 	first := startRegion(t, folder)
-	front, base := serving(t, "--control", first.control(), "--streams", "3", first.address())
+	front, base := serving(t, "--control", first.control(), "--streams", "4", first.address())
 	isFollowed(t, front)
 	stream := follow(t, base, "")
 	begin := stream.nextIs(t, "missed", `{"range":0}`)
@@ -91,7 +91,7 @@ func TestChanges(t *testing.T) {
 	other, there := serving(t, "--control", first.control(), first.address())
 	isFollowed(t, other)
 	same(t, "the last event at another front", follow(t, there, middle).nextIs(t, "change", `"key":"c"`), last)
-	for _, id := range []string{"x", middle + "_" + middle, "x" + middle, strings.Replace(last, ".3", ".4", 1), strings.Replace(last, ".3", ".-1", 1), strings.Repeat("9", 5_000)} {
+	for _, id := range []string{"x", middle + " " + middle, "x" + middle, strings.Replace(last, ".3", ".4", 1), strings.Replace(last, ".3", ".-1", 1), strings.Repeat("9", 5_000)} {
 		same(t, "the mark after "+id, follow(t, there, id).nextIs(t, "missed", ""), last)
 	}
 
@@ -103,9 +103,9 @@ func TestChanges(t *testing.T) {
 	// A region that began anew has other numbers.
 	first.kill()
 	until(t, "nobody is followed", func() bool { return front.histories[0].Err() != nil })
-	answer, _ := asked(t, "GET", base+"/changes", "")
-	same(t, "the status", answer.StatusCode, 503)
+	waiting := follow(t, base, middle)
 	second := startRegion(t, folder)
+	waiting.nextIs(t, "missed", "")
 	begin = stream.nextIs(t, "missed", "")
 	second.write(t, 1, image("a", "x", 0))
 	stream.nextIs(t, "change", `{"number":1,"key":"a"`)
@@ -113,7 +113,7 @@ func TestChanges(t *testing.T) {
 	answer, body := asked(t, "GET", base+"/changes", "")
 	same(t, "with too many streams", told(answer.StatusCode, strings.Contains(body, "busy")), "503 true")
 	_, text := asked(t, "GET", base+"/metrics", "")
-	same(t, "how many are open", strings.Contains(text, "pnuts_http_streams_open 3\n"), true)
+	same(t, "how many are open", strings.Contains(text, "pnuts_http_streams_open 4\n"), true)
 }
 
 // More changes at once than a region keeps: all are told, or that some are not known.
@@ -123,16 +123,20 @@ func TestManyChanges(t *testing.T) {
 	isFollowed(t, front)
 	stream := follow(t, base, "")
 	stream.nextIs(t, "missed", "")
-	count := 0
-	for part := 0; part < 30; part++ {
-		images := make([]string, 1000)
-		for at := range images {
-			count++
-			images[at] = image(fmt.Sprintf("k%06d", count), "x", 0)
+	const parts, each = 10, 1000
+	written := make(chan bool)
+	go func() {
+		defer close(written)
+		for part := 0; part < parts; part++ {
+			images := make([]string, each)
+			for at := range images {
+				images[at] = image(fmt.Sprintf("k%06d", part*each+at+1), "x", 0)
+			}
+			region.write(t, part*each+1, images...)
 		}
-		region.write(t, count-999, images...)
-	}
-	number := 0
+	}()
+	defer func() { <-written }()
+	number, count := 0, parts*each
 	for found := (event{}); !strings.HasSuffix(found.id, fmt.Sprintf(".%d", count)); {
 		if found = stream.next(t); found.kind == "missed" {
 			fmt.Sscanf(found.id[strings.IndexByte(found.id, '.')+1:], "%d", &number)

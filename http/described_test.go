@@ -28,12 +28,15 @@ func (n node) resolved() node {
 	return n
 }
 
+var whole node
+
 func described() node {
-	var found node
-	if err := json.Unmarshal(description, &found); err != nil {
-		panic(err)
+	if whole == nil {
+		if err := json.Unmarshal(description, &whole); err != nil {
+			panic(err)
+		}
 	}
-	return found
+	return whole
 }
 
 // operationOf is what the description says of a request, nil where it has none of this path.

@@ -109,7 +109,7 @@ type route struct {
 var routes = map[string]route{
 	"/records/":     {"record", "GET", "read", []string{"at-least"}, "requests", (*answer).record},
 	"/records":      {"page", "GET", "read", []string{"from", "to", "after", "limit", "where"}, "pages", (*answer).page},
-	"/get":          {"get", "POST", "read", nil, "pages", (*answer).get},
+	"/get":          {"get", "POST", "read", nil, "requests", (*answer).get},
 	"/copies/":      {"copy", "GET", "copy", []string{"range"}, "copies", (*answer).copy},
 	"/changes":      {"changes", "GET", "changes", nil, "requests", (*answer).changes},
 	"/healthz":      {"healthz", "GET", "", nil, "requests", (*answer).health},
@@ -120,7 +120,7 @@ var routes = map[string]route{
 // ServeHTTP answers a request.
 func (f *front) ServeHTTP(writer http.ResponseWriter, request *http.Request) {
 	a := &answer{front: f, writer: writer, request: request, ctx: request.Context(), route: "none", entry: entryOf(request)}
-	defer a.end()
+	defer func() { f.ended(a.route, a.entry) }()
 	if request.ContentLength != 0 && request.ProtoMajor < 2 {
 		// The library waits for a whole body, also where nobody reads it.
 		_ = connectionOf(a.ctx).SetReadDeadline(a.entry.start.Add(patience))
@@ -180,15 +180,13 @@ func (a *answer) readQuery(known []string) (err error) {
 // enter waits a second for a place, and gives what leaves it again.
 func (a *answer) enter(among string) (leave func(), err error) {
 	places := a.places[among]
-	late := time.NewTimer(time.Second)
-	defer late.Stop()
+	ctx, stop := context.WithTimeout(a.ctx, time.Second)
+	defer stop()
 	select {
 	case places <- struct{}{}:
 		return func() { <-places }, nil
-	case <-late.C:
+	case <-ctx.Done():
 		return nil, faulty(http.StatusServiceUnavailable, "busy", among, fmt.Sprintf("%d are answered already", cap(places)))
-	case <-a.ctx.Done():
-		return nil, ofRegions(a.ctx.Err(), "request", nil)
 	}
 }
 

@@ -4,6 +4,7 @@ package main
 import (
 	"context"
 	"crypto/tls"
+	_ "embed" // for the help
 	"encoding/json"
 	"errors"
 	"flag"
@@ -24,29 +25,23 @@ const (
 	version = "0.2.0"
 	// lastTime is how long what was asked is still answered once it is told to stop.
 	lastTime = 10 * time.Second
-	help     = `Answers HTTP by what regions of pnuts have: records, pages of them, and their changes as they come.
-
-  pnuts-http [OPTION ..] REGION[,REGION ..] ..
-
-REGION is tcp://HOST:PORT, tls://HOST:PORT or unix:PATH. Regions with commas between them have the same streams, and any of them may fail.
-With --bounds, each further word has the regions of a further range of keys.
-
-Options:
-`
 )
+
+//go:embed help.txt
+var help string
 
 // Words are what the program was started with: among them, of each range the control socket and the regions.
 type words struct {
 	listen, certificate, key, tokens        string
 	sessions, connections, streams, seconds int
-	isQuiet, isVersion                      bool
+	isQuiet                                 bool
 	bounds, controls                        []string
 	regions                                 [][]string
 }
 
-// parsed reads the words. The error of --help is flag.ErrHelp.
+// parsed reads the words. Where they ask for help or the version, that is told, and the error is flag.ErrHelp.
 func parsed(given []string) (told words, err error) {
-	options := flag.NewFlagSet("pnuts-http", flag.ContinueOnError)
+	isVersion, options := false, flag.NewFlagSet("pnuts-http", flag.ContinueOnError)
 	options.SetOutput(io.Discard)
 	options.StringVar(&told.listen, "listen", "127.0.0.1:8080", "`ADDRESS:PORT` to listen on")
 	options.StringVar(&told.certificate, "certificate", "", "`FILE` of the certificates for HTTPS and HTTP/2, read again at SIGHUP")
@@ -64,7 +59,7 @@ func parsed(given []string) (told words, err error) {
 	options.IntVar(&told.streams, "streams", 15_000, "`NUMBER` of streams of changes at once")
 	options.IntVar(&told.seconds, "timeout", 10, "`SECONDS` that regions have for a request")
 	options.BoolVar(&told.isQuiet, "quiet", false, "write no line for each request to standard output")
-	options.BoolVar(&told.isVersion, "version", false, "print the version")
+	options.BoolVar(&isVersion, "version", false, "print the version")
 	if err = options.Parse(given); errors.Is(err, flag.ErrHelp) {
 		fmt.Print(help)
 		options.SetOutput(os.Stdout)
@@ -73,7 +68,10 @@ func parsed(given []string) (told words, err error) {
 	for _, word := range options.Args() {
 		told.regions = append(told.regions, strings.Split(word, ","))
 	}
-	if err == nil && !told.isVersion {
+	if err == nil && isVersion {
+		fmt.Println("pnuts-http " + version)
+		return told, flag.ErrHelp
+	} else if err == nil {
 		err = told.check()
 	}
 	return told, err
@@ -99,40 +97,36 @@ func say(text string, of ...any) { fmt.Fprintf(os.Stderr, "pnuts-http: "+text+"\
 func main() {
 	// Where nobody reads what it says, that is lost, and no reason to end.
 	signal.Ignore(syscall.SIGPIPE)
+	stopping, stop := signal.NotifyContext(context.Background(), syscall.SIGTERM, syscall.SIGINT)
 	told, err := parsed(os.Args[1:])
-	switch {
-	case errors.Is(err, flag.ErrHelp):
-	case err != nil:
-		say("%v; --help tells more", err)
-		os.Exit(2)
-	case told.isVersion:
-		fmt.Println("pnuts-http " + version)
-	default:
-		if err = serve(told); err != nil {
-			say("%v", err)
-			os.Exit(1)
-		}
+	if errors.Is(err, flag.ErrHelp) {
+		return
+	}
+	front, status := (*front)(nil), 2
+	if err == nil {
+		front, err = newFront(told, stopping)
+	}
+	if err == nil {
+		status, err = 1, front.serve(stop)
+	}
+	if err != nil {
+		say("%v", err)
+		os.Exit(status)
 	}
 }
 
-// serve answers until SIGTERM or SIGINT.
-func serve(told words) error {
-	stopping, stop := signal.NotifyContext(context.Background(), syscall.SIGTERM, syscall.SIGINT)
-	defer stop()
-	front, err := newFront(told, stopping)
+// serve answers until it is told to stop.
+func (f *front) serve(stop func()) error {
+	listener, err := net.Listen("tcp", f.words.listen)
 	if err != nil {
 		return err
 	}
-	listener, err := net.Listen("tcp", told.listen)
-	if err != nil {
-		return err
-	}
-	listener = &places{listener, make(chan struct{}, told.connections), front.counts}
-	server := &http.Server{Handler: front, ReadHeaderTimeout: patience, IdleTimeout: idle, MaxHeaderBytes: mostHeader,
+	listener = &places{listener, make(chan struct{}, f.words.connections), f.counts}
+	server := &http.Server{Handler: f, ReadHeaderTimeout: patience, IdleTimeout: idle, MaxHeaderBytes: mostHeader,
 		ConnContext: withConnection, ErrorLog: log.New(complaints{}, "", 0)}
+	get := func(*tls.ClientHelloInfo) (*tls.Certificate, error) { return f.certificate.Load(), nil }
 	serving := func() error { return server.Serve(listener) }
-	if told.certificate != "" {
-		get := func(*tls.ClientHelloInfo) (*tls.Certificate, error) { return front.certificate.Load(), nil }
+	if f.words.certificate != "" {
 		server.TLSConfig = &tls.Config{MinVersion: tls.VersionTLS12, GetCertificate: get}
 		serving = func() error { return server.ServeTLS(listener, "", "") }
 	}
@@ -145,11 +139,11 @@ func serve(told words) error {
 		case err = <-ended:
 			return err
 		case <-again:
-			say("tokens and certificates are read again, error %v", front.load())
-		case <-stopping.Done():
+			say("tokens and certificates are read again, error %v", f.load())
+		case <-f.stopping.Done():
 			// Another signal ends it at once.
 			stop()
-			front.end(server)
+			f.end(server)
 			return nil
 		}
 	}

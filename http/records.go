@@ -25,7 +25,7 @@ const (
 )
 
 // versionForm is that of a version. Regions say what is beyond their limits.
-var versionForm = regexp.MustCompile(`^(\d{1,16})\.(\d{1,16})$`)
+var versionForm = regexp.MustCompile(`^\d{1,16}\.\d{1,16}$`)
 
 // checkKey says what is wrong with a key.
 func checkKey(where, key string) error {
@@ -41,14 +41,11 @@ func (a *answer) record() error {
 		return err
 	}
 	var least *pnuts.Version
-	if a.query.Has("at-least") {
-		parts := versionForm.FindStringSubmatch(a.query.Get("at-least"))
-		if parts == nil {
-			return bad("at-least", "a version is GENERATION.NUMBER")
-		}
+	if text := a.query.Get("at-least"); versionForm.MatchString(text) {
 		least = &pnuts.Version{}
-		least[0], _ = strconv.ParseInt(parts[1], 10, 64)
-		least[1], _ = strconv.ParseInt(parts[2], 10, 64)
+		_, _ = fmt.Sscanf(text, "%d.%d", &least[0], &least[1])
+	} else if a.query.Has("at-least") {
+		return bad("at-least", "a version is GENERATION.NUMBER")
 	}
 	row, err := a.regions.Of(a.last).ReadRow(a.ctx, a.last, least)
 	switch {
@@ -77,10 +74,10 @@ func (a *answer) record() error {
 // rows answers with records.
 func (a *answer) rows(records []*pnuts.Record) error {
 	text, err := json.Marshal(map[string]any{"rows": append([]*pnuts.Record{}, records...)})
-	if err != nil {
-		return err
+	if err == nil {
+		err = a.reply(http.StatusOK, asJSON, append(text, '\n'))
 	}
-	return a.reply(http.StatusOK, asJSON, append(text, '\n'))
+	return err
 }
 
 // decoded reads a text that is one JSON value.
@@ -110,6 +107,12 @@ func (a *answer) get() error {
 			return err
 		}
 	}
+	// The body has come: who sends it slowly holds up nobody.
+	leave, err := a.enter("pages")
+	if err != nil {
+		return err
+	}
+	defer leave()
 	records, err := a.regions.Get(a.ctx, asked.Keys)
 	if err != nil {
 		return ofRegions(err, "regions of the keys", nil)

@@ -14,7 +14,7 @@ def parts(program: str, scripts: str, live: str, soak: str) -> list[Part]:
               "json-lines": [program, "--lines", "100000"], "random-scripts": [scripts, "--scripts", "3000"], "random-words": [program],
               "rising-keys": [program], "locks": [program], "readme": [program], "words": [], "links": [], "naming": [], "types": []}
     wide = {"sessions": [program], "out-of-memory": [program, live], "failing-calls": [program], "damaged-input": [program],
-            "damaged-streams": [program], "clients": [program],
+            "damaged-streams": [program], "clients": [program], "http-front": [program],
             "limits": [program], "stay": [program], "unkept": [program], "streams": [program], "control": [program], "ends": [program],
             "signals": [program], "copies": [program], "exporter": [program], "full-disk": [program],
             "abuse": [program, "--seconds", soak]}

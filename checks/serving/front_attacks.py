@@ -7,10 +7,9 @@ import time
 
 from common.resting import rests, sockets
 from common.served import SECONDS, same
-from serving.controlled import written
+from serving.controlled import given, region_in, written
 from serving.fronts import Frames, Front, Stream, certified, front_in
-from serving.controlled import region_in
-from serving.staying import until
+from serving.staying import messages, until
 
 READ = b"GET /records/k001 HTTP/1.1\r\nHost: x\r\n\r\n"
 PAGE = b"GET /records?limit=1000 HTTP/1.1\r\nHost: x\r\n\r\n"
@@ -74,6 +73,7 @@ def check_slow_senders(program: str, folder: str) -> None:
             for client in clients[::4]:
                 client.sendall(b"x")
             is_well(front)
+            same("an honest page", front.asked("/records")[0], 200)
             time.sleep(0.5)
         for client in clients:
             ended(client, SECONDS)
@@ -97,11 +97,12 @@ def check_slow_readers(program: str, folder: str) -> None:
         same("how many clients were slow", front.metric("slow_total") >= len(slow), True)
         took = front.memory()
         same(f"whether {took} KB are at most 200,000", took <= 200_000, True)
+        given(path, number - 1, messages(number, 100, "x" * 4_000), number + 99)
         readers = [stack.enter_context(front.connect(receive=4096)) for _ in range(10)]
         for client in readers:
-            client.sendall(PAGE * 2_000)
+            client.sendall(PAGE * 100)
         is_well(front)
-        until("slow readers of pages are ended", lambda: front.metric("slow_total") >= len(slow) + len(readers))
+        until("slow readers of pages are ended", lambda: front.metric("slow_total") >= len(slow) + len(readers), 2 * SECONDS)
         same("how many streams are left", front.metric("streams_open"), 1)
 
 

@@ -9,6 +9,8 @@ import contextlib
 import http.client
 import json
 import os
+import pathlib
+import re
 import signal
 import socket
 import subprocess
@@ -22,10 +24,12 @@ from common.tried import checks_in, checks_parser, try_checks
 from serving import front_attacks
 from serving.browser import Browser, browser
 from serving.controlled import Session, region_in, written
-from serving.fronts import Front, Stream, certified, curl, front_in, has_tools, header
+from serving.fronts import Front, Stream, built, certified, curl, front_in, has_tools, header
 from serving.staying import raise_descriptors, until
+from usage.readme import blocks, written_by
 
 TOOLS = ("go", "gofmt", "curl", "openssl")
+PAGE = TOP / "http/README.md"
 STREAMS, MOST_MEMORY = 10_000, 200_000
 # What a browser does with a stream: it keeps all that it is told.
 FOLLOW = """window.told = []; window.source = new EventSource("/changes");
@@ -37,6 +41,21 @@ def check_tests(program: str, folder: str) -> None:
     """Its own tests, whose answers are as its description says."""
     ran = subprocess.run([TOP / "http/test"], env={**os.environ, "PNUTS": program}, stdin=subprocess.DEVNULL, capture_output=True, text=True)
     same("what the tests say", (ran.returncode, "FAIL" in ran.stdout), (0, False))
+
+
+def check_readme(program: str, folder: str) -> None:
+    """What its page shows is what is said."""
+    here, count, written = pathlib.Path(folder), 0, ""
+    for name, target in (("bin/pnuts", program), ("out/pnuts-http", built())):
+        (here / name).parent.mkdir()
+        (here / name).symlink_to(target)
+    for told, shown in blocks(PAGE.read_text(encoding="utf-8").partition("\n## ")[0]):
+        if told.endswith("It prints"):
+            same("what is written", written, shown)
+            count += 1
+        elif not shown.startswith("make "):
+            written = written_by(shown, here)
+    same("whether something is shown", count > 0, True)
 
 
 def check_curl(program: str, folder: str) -> None:
@@ -60,8 +79,8 @@ def check_curl(program: str, folder: str) -> None:
         body = json.dumps({"keys": ["k002", "none"]})
         found = json.loads(curl("--json", body, f"{front.url}/get")[2])["rows"]
         same("the records of keys", found, [row_of("k002", 0, "x"), None])
-        ran = subprocess.run(["curl", "-sN", "--max-time", "1", f"{front.url}/changes"], capture_output=True, text=True)
-        same("changes", (ran.returncode, ran.stdout.split("\n")[2]), (28, "event: missed"))
+        ran = subprocess.run(["curl", "-sN", "--max-time", "3", f"{front.url}/changes"], capture_output=True, text=True)
+        same("changes", (ran.returncode, "\nevent: missed\n" in ran.stdout), (28, True))
         until("the log has the stream", lambda: any(it["path"] == "/changes" for it in front.logged()))
         same("its log", [it["status"] for it in front.logged() if it["path"] == "/records/k001"], [200, 304, 412])
 
@@ -82,8 +101,8 @@ def check_curl_in_http2(program: str, folder: str) -> None:
             same("in HTTP/1.1", curl(*asks, "--http1.1", f"{front.url}/records/k001")[0], 200)
             same("without a token", curl(*asks[:3], f"{front.url}/records/k001")[0], 401)
             for protocol in ("--http2", "--http1.1"):
-                ran = subprocess.run(["curl", "-sN", "--max-time", "1", *asks, protocol, f"{front.url}/changes"], capture_output=True, text=True)
-                same(f"changes by {protocol}", (ran.returncode, ran.stdout.split("\n")[2]), (28, "event: missed"))
+                ran = subprocess.run(["curl", "-sN", "--max-time", "3", *asks, protocol, f"{front.url}/changes"], capture_output=True, text=True)
+                same(f"changes by {protocol}", (ran.returncode, "\nevent: missed\n" in ran.stdout), (28, True))
             with open(tokens, "w", encoding="utf-8") as file:
                 file.write("fedcba9876543210 read\n")
             certified(folder)
@@ -116,6 +135,17 @@ def check_browser(program: str, folder: str) -> None:
                 session.told(do="lose", tablet=1)
             until("it is told of a loss", lambda: page.value(COUNT.format("missed")) == 2)
             page.value("source.close()")
+            (shown,) = re.findall(r"^```js\n(.*?)^```", PAGE.read_text(encoding="utf-8"), re.MULTILINE | re.DOTALL)
+            page.value(f"(() => {{ {shown} }})()")
+            until("what its page shows says to read", lambda: said(page) == ["read anew"])
+            written(path, 26, 1)
+            until("and what changes", lambda: said(page) == ["read anew", "k026"])
+
+
+def said(page: Browser) -> list[str]:
+    """What the page's scripts say so far."""
+    page.value("0")
+    return [it["params"]["args"][0]["value"] for it in page.happened if it["method"] == "Runtime.consoleAPICalled"]
 
 
 def check_idle_streams(program: str, folder: str) -> None:

@@ -20,9 +20,13 @@ FEEDS = ("check-images", "kafka", "postgres-outbox", "rabbitmq-stream", "redis-s
 FILES = {
     "bin/pnuts": 0o755,
     "bin/pnuts-ctl": 0o755,
+    "bin/pnuts-http": 0o755,
     ENVIRONMENT: 0o644,
-    **{f"lib/systemd/system/{it}": 0o644 for it in ("pnuts-exporter.service", "pnuts-feed@.service", "pnuts-save.service", "pnuts-save.timer")},
+    f"{ENVIRONMENT}-http": 0o644,
+    **{f"lib/systemd/system/{it}": 0o644 for it in ("pnuts-exporter.service", "pnuts-feed@.service", "pnuts-http.service",
+                                                            "pnuts-save.service", "pnuts-save.timer")},
     "lib/systemd/system/pnuts.service": 0o644,
+    "lib/sysusers.d/pnuts-http.conf": 0o644,
     "lib/sysusers.d/pnuts.conf": 0o644,
     **{f"share/pnuts-feeds/{name}": 0o755 for name in FEEDS},
     **{f"share/pnuts-feeds/feed/{path.name}": 0o644 for path in (TOP / "feeds/feed").glob("*.py")},
@@ -30,11 +34,14 @@ FILES = {
        if path.suffix in (".py", ".css", ".js")},
     "share/bash-completion/completions/pnuts": 0o644,
     "share/doc/pnuts-feeds/README.md": 0o644,
+    "share/doc/pnuts-http/openapi.json": 0o644,
+    "share/doc/pnuts-http/third-party": 0o644,
     "share/doc/pnuts/third-party": 0o644,
     "share/fish/vendor_completions.d/pnuts.fish": 0o644,
     "share/man/man1/pnuts.1": 0o644,
     "share/man/man5/pnuts-formats.5": 0o644,
     "share/man/man8/pnuts-ctl.8": 0o644,
+    "share/man/man8/pnuts-http.8": 0o644,
     "share/man/man8/pnuts.8": 0o644,
     "share/pnuts-feeds/postgres-outbox.sql": 0o644,
     "share/pnuts-feeds/postgres-table.sql": 0o644,
@@ -97,13 +104,16 @@ def check_unit(installed: Path) -> None:
     found = [it.split(" ")[0] for it in unit.splitlines() if it.startswith(("ExecStart=", "EnvironmentFile="))]
     same("the unit", found, [f"EnvironmentFile={PREFIX}/{ENVIRONMENT}", "EnvironmentFile=-%t/pnuts/start", f"ExecStart={PREFIX}/bin/pnuts"])
     same("whether the feeds' unit names both", [it in feed for it in (f"={PREFIX}/{ENVIRONMENT}-feed-%i\n", f" {PREFIX}/share/pnuts-feeds/$")], [True] * 2)
-    same("paths that are not filled in", re.findall("@[A-Z]+@", unit + feed + page), [])
+    front = (units / "pnuts-http.service").read_text(encoding="utf-8")
+    same("whether the front's unit names both", [it in front for it in (f"={PREFIX}/{ENVIRONMENT}-http\n", f"={PREFIX}/bin/pnuts-http $")], [True] * 2)
+    same("paths that are not filled in", re.findall("@[A-Z]+@", unit + feed + front + page), [])
     same("whether its page names the environment file", f"{PREFIX}/{ENVIRONMENT}" in page, True)
 
 
 def check_pages(share: Path) -> None:
     """The pages can be read, and `man` has nothing to say against them."""
-    pages = {"man1/pnuts.1": "EXIT STATUS", "man5/pnuts-formats.5": "REFUSALS", "man8/pnuts.8": "SIGNALS", "man8/pnuts-ctl.8": "COMMANDS"}
+    pages = {"man1/pnuts.1": "EXIT STATUS", "man5/pnuts-formats.5": "REFUSALS", "man8/pnuts.8": "SIGNALS", "man8/pnuts-ctl.8": "COMMANDS",
+             "man8/pnuts-http.8": "OPTIONS"}
     for page, words in pages.items():
         shown = run(["man", "--warnings", "--encoding=UTF-8", "--local-file", share / "man" / page])
         same(f"the page {page}", [it for it in shown.splitlines() if "warning:" in it or it == words], [words])
@@ -165,6 +175,7 @@ def check_make_install(program: Path, folder: Path) -> Iterator[str]:
     """Installs, looks at what is there, and removes it. Says what was done."""
     root = folder / "root"
     installed = root / PREFIX[1:]
+    make("http", root, program)
     make("install", root, program)
     same("installed files", files_in(installed), FILES)
     same("the installed program", (installed / "bin/pnuts").read_bytes() == program.read_bytes(), True)
@@ -186,7 +197,7 @@ def check_make_install(program: Path, folder: Path) -> Iterator[str]:
     environment.write_bytes(as_it_was)
     make("uninstall", root, program)
     same("files left", files_in(root), {})
-    own = ("share/doc/pnuts", "share/doc/pnuts-feeds", "share/pnuts-feeds", "share/pnuts-tools")
+    own = ("share/doc/pnuts", "share/doc/pnuts-feeds", "share/doc/pnuts-http", "share/pnuts-feeds", "share/pnuts-tools")
     left = [name for name in own if (installed / name).exists()]
     same("which folders of its own are left", left, [])
     yield "make uninstall: a changed environment file is kept, and all else removed"

@@ -27,6 +27,8 @@ INDENTED = re.compile(r"^    (?! )(.+)$", re.MULTILINE)
 OPTION = re.compile(r"--[a-z][a-z-]*")
 ADDED = re.compile(r"add_argument\(\s*\"(--[a-z-]+)\"")
 TARGET = re.compile(r"^([a-z][a-z-]*):(?!=)", re.MULTILINE)
+# How a program of Go adds an option.
+FLAG = re.compile(r"options\.\w+\((?:&\S+ )?\"([a-z-]+)\"")
 COMMAND = re.compile(r"command\(\w+, \"(\w+)\"")
 NAME = re.compile(r"(?:[A-Za-z]\w*::)*([a-z]\w*_\w+)")
 FUNCTION = re.compile(r"\bfn (\w+)")
@@ -41,7 +43,7 @@ ENDS = {"|", "&", ";", "&&", "||", "<", ">", "#"}
 LIMITS = ((900, r"README\.md"), (1_200, r"docs/architecture\.md"), (5_000, r"docs/guarantees\.md"), (17_000, r"(?:docs|bench)/\w+\.md"))
 FEEDS = ("redis-stream", "rabbitmq-stream", "kafka", "postgres-outbox")
 # Folders of programs that documents name by a path.
-FOLDERS = ("checks/", "bench/", "feeds/", "fuzz/", "packaging/", "clients/", "examples/", "docs/", "edits/", "crates/")
+FOLDERS = ("checks/", "bench/", "feeds/", "http/", "fuzz/", "packaging/", "clients/", "examples/", "docs/", "edits/", "crates/")
 
 
 @cache
@@ -139,6 +141,7 @@ def programs() -> dict[str, set[str]]:
     benches = {it: options_of(it) for it in tracked() if it.startswith("bench/") and "." not in it and (TOP / it).is_file()}
     return {"pnuts-ctl": options_of("clients/python/src/pnuts_client/ctl.py"), **feeds, **{f"feeds/{it}": known for it, known in feeds.items()},
             **benches, "checks/run": options_of("checks/"), "fuzz/fuzz": options_of("fuzz/fuzz"),
+            "pnuts-http": {f"--{it}" for it in FLAG.findall(text_of("http/main.go"))} | BY_ARGPARSE, "http/bench/compare": options_of("http/bench/compare"),
             "packaging/install": options_of("packaging/install"), "packaging/deb": options_of("packaging/deb"),
             "packaging/tools/pnuts-ctl": options_of("clients/python/src/pnuts_client/ctl.py")}
 

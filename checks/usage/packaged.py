@@ -18,7 +18,9 @@ from usage.fresh_system import CLEAN, PAUSE, SECONDS, System, run
 
 # What a session is read by, in another system.
 ONE_SESSION = Path(__file__).resolve().parent / "one_session.py"
-UNITS = tuple(f"/lib/systemd/system/{it}" for it in ("pnuts.service", "pnuts-feed@.service", "pnuts-exporter.service", "pnuts-save.service", "pnuts-save.timer"))
+UNITS = tuple(f"/lib/systemd/system/{it}" for it in (
+    "pnuts.service", "pnuts-feed@.service", "pnuts-exporter.service", "pnuts-http.service", "pnuts-save.service", "pnuts-save.timer"))
+HTTP_PORT = 8080
 ENVIRONMENT = "etc/default/pnuts"
 SOCKET = "/run/pnuts/east"
 COPIES = "/var/lib/pnuts/copies"
@@ -259,6 +261,30 @@ def check_feed(system: System) -> None:
     (system.root / FEED_ENVIRONMENT).unlink()
 
 
+def asked(system: System, path: str) -> str:
+    """What the front for HTTP answers."""
+    request = shlex.quote(f"GET {path} HTTP/1.0\r\n\r\n".replace("\r", "\\r").replace("\n", "\\n"))
+    return system.status("bash", "-c", f"printf {request} | socat -t 10 - TCP:127.0.0.1:{HTTP_PORT}")[1]
+
+
+def check_http(system: System) -> None:
+    """The front for HTTP, enabled, has the region's record and follows its changes, also once it was killed; then it is stopped."""
+    system.run("systemctl", "enable", "--now", "pnuts-http")
+    for is_killed in (False, True):
+        if is_killed:
+            check_killed(system, "pnuts-http")
+        last = time.monotonic() + SECONDS
+        while "pnuts_http_ranges_not_followed 0" not in asked(system, "/metrics"):
+            if time.monotonic() > last:
+                raise TimeoutError(f"the front follows no changes\n{system.journal()}")
+            time.sleep(PAUSE)
+        same("whether it has the record", '"key":"k"' in asked(system, "/records/k"), True)
+    check_bounds(system, shown(system, "MainPID", unit="pnuts-http")[0])
+    system.run("systemctl", "reload", "pnuts-http")
+    system.run("systemctl", "disable", "--now", "pnuts-http")
+    same("how it ended", shown(system, "Result", "ExecMainStatus", unit="pnuts-http"), ["success", "0"])
+
+
 def check_packages(system: System, packages: Sequence[Path]) -> Iterator[str]:
     """Installs the packages, uses them, and removes them. Says what was done."""
     before, install = trace(system.root), ["dpkg", "--install", *(f"/{package.name}" for package in packages)]
@@ -297,7 +323,9 @@ def check_packages(system: System, packages: Sequence[Path]) -> Iterator[str]:
     yield f"did the {check_operation(system)} lines that pnuts(8) shows as examples"
     check_feed(system)
     yield "a feed of Redis, enabled: it gives what is added, also once it and the region were killed"
-    system.run("dpkg", "--purge", "pnuts-tools", "pnuts-feeds", "pnuts")
+    check_http(system)
+    yield "the front for HTTP, enabled: it has the record and follows changes, also once it was killed"
+    system.run("dpkg", "--purge", "pnuts-http", "pnuts-tools", "pnuts-feeds", "pnuts")
     same("the service", system.status("systemctl", "is-active", "pnuts")[1], "inactive")
     same("whether its runtime directory is there", system.status("test", "-e", "/run/pnuts")[0], 1)
     same("whether its user is there", system.status("id", "pnuts")[0], 0)
