@@ -36,6 +36,8 @@ POISON = 1_501
 # Alerts that are waited for until they fire; others only begin to count, for a longer time than a check takes.
 FIRES = {"PnutsFeedGone", "PnutsLag", "PnutsExporterDown"}
 PATIENCE = 300.0
+# How often, in seconds, Prometheus scrapes: a busy machine may take some for an answer.
+SCRAPED = 5
 
 
 @dataclass
@@ -293,7 +295,7 @@ def site(program: str) -> Iterator[Site]:
         stack.enter_context(started("haproxy", proxy, {"PNUTS_PROXY_LISTEN": PROXY, **regions}))
         folder = HOME / "prometheus"
         folder.mkdir()
-        seen = stack.enter_context(Prometheus(str(folder), [f"{address}:9107" for address in machines]))
+        seen = stack.enter_context(Prometheus(str(folder), [f"{address}:9107" for address in machines], SCRAPED))
         readers = Readers(f"tcp://{PROXY}", [f"tcp://{address}:7070" for address in machines])
         found = Site(machines, publisher, readers, seen)
         until("the regions have all", found.is_level)

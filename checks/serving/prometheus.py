@@ -16,12 +16,15 @@ RULES = FOLDER / "pnuts.rules.yml"
 
 
 class Prometheus:
-    """A Prometheus that scrapes exporters each second and knows the alerts, until the block ends."""
+    """A Prometheus that scrapes exporters every so many seconds and knows the alerts, until the block ends.
 
-    def __init__(self, folder: str, addresses: Sequence[str]) -> None:
+    A scrape that takes longer is none, and an alert begins to count anew.
+    """
+
+    def __init__(self, folder: str, addresses: Sequence[str], seconds: int = 1) -> None:
         self.url = f"http://127.0.0.1:{free_port()}"
         scrape = {"job_name": "pnuts", "static_configs": [{"targets": list(addresses)}]}
-        told = {"global": {"evaluation_interval": "1s", "scrape_interval": "1s"}, "rule_files": [str(RULES)], "scrape_configs": [scrape]}
+        told = {"global": {"evaluation_interval": "1s", "scrape_interval": f"{seconds}s", "scrape_timeout": f"{seconds}s"}, "rule_files": [str(RULES)], "scrape_configs": [scrape]}
         path = os.path.join(folder, "prometheus.yml")
         with open(path, "w", encoding="utf-8") as file:
             json.dump(told, file)
