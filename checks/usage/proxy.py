@@ -24,7 +24,7 @@ from common.tried import program_parser
 
 PROXIES, SOURCES = TOP / "examples/proxy", TOP / "clients/python/src"
 DEBIAN = "/usr/bin/python3"
-SECONDS, HOSTS = 60.0, ("127.0.0.1", "127.0.0.2")
+SECONDS, HOSTS = 300.0, ("127.0.0.1", "127.0.0.2")
 READ = b'{"do":"read","key":"k"}\n'
 Environment = dict[str, str]
 
@@ -135,7 +135,8 @@ def check_regions(program: str, folder: Path) -> str:
             kept = client.ask({"do": "read", "key": "k"})["row"]["version"][1]
             name = ("one", "two")[kept]
             both.tell("front", f"set server regions/{name} state drain\n".encode())
-            same("who is asked", both.found(), {1 - kept})
+            same("whether one that is drained is asked", kept in both.found(), False)
+            wait_until("the other one is asked", lambda: both.found() == {1 - kept})
             same("who answers on", client.ask({"do": "read", "key": "k"})["row"]["version"][1], kept)
         both.tell("front", f"set server regions/{name} state ready\n".encode())
         wait_until("a region that is ready is asked", lambda: both.found() == {0, 1})
