@@ -15,17 +15,17 @@ import (
 	"net/http"
 	"os"
 	"os/signal"
+	"runtime/debug"
 	"strings"
 	"sync"
 	"syscall"
 	"time"
 )
 
-const (
-	version = "0.2.0"
-	// lastTime is how long what was asked is still answered once it is told to stop.
-	lastTime = 10 * time.Second
-)
+const version = "0.2.0"
+
+// lastTime is how long what was asked is still answered once it is told to stop.
+const lastTime = 10 * time.Second
 
 //go:embed help.txt
 var help string
@@ -97,6 +97,8 @@ func say(text string, of ...any) { fmt.Fprintf(os.Stderr, "pnuts-http: "+text+"\
 func main() {
 	// Where nobody reads what it says, that is lost, and no reason to end.
 	signal.Ignore(syscall.SIGPIPE)
+	// Streams that wait have much memory, of which little is garbage.
+	debug.SetGCPercent(50)
 	stopping, stop := signal.NotifyContext(context.Background(), syscall.SIGTERM, syscall.SIGINT)
 	told, err := parsed(os.Args[1:])
 	if errors.Is(err, flag.ErrHelp) {

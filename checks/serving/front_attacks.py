@@ -88,7 +88,7 @@ def check_slow_readers(program: str, folder: str) -> None:
         slow = [stack.enter_context(Stream(front, receive=4096)) for _ in range(200)]
         honest = stack.enter_context(Stream(front))
         honest.until(b"data: ")
-        number, last = 101, time.monotonic() + SECONDS
+        number, last = 101, time.monotonic() + 3 * SECONDS
         while front.metric("streams_open") > 1 and time.monotonic() < last:
             written(path, number, 5_000)
             number += 5_000
