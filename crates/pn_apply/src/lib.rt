@@ -15,6 +15,6 @@ mod working;
 
 pub use apply::apply_all;
 pub use gate::{Gate, Open};
-pub use reducing::{MAX_WORKERS, reduce, reduce_owned};
-pub use share::copy_deliveries;
+pub use reducing::{MAX_WORKERS, reduce};
+pub use share::{Share, shares_of};
 pub use slot::Slot;

@@ -9,8 +9,8 @@ ghost use Rattle.pn_region.specs.declared.marking.TheConstants.{MAX_STREAMS};
 ghost use Rattle.pn_region.specs.Marking.{with_images, last_of as the_last_of, last_of_stream as the_last_of_stream, with_deliveries, marks_after, new_marks, is_memory};
 
 use crate::RoundFault;
+use pn_apply::Share;
 use pn_join::{Dup, Marks, NoMemory, StreamName, raise_at};
-use pn_stream::Delivery;
 
 /// The most streams that a region takes.
 pub const MAX_STREAMS: usize = 16;
@@ -20,7 +20,7 @@ pub const MAX_STREAMS: usize = 16;
 ///
 /// `Gap` comes exactly where a delivery begins more than one past its stream's mark, and names the first; else
 /// `TooManyStreams` exactly where there would be more than 16 names.
-pub fn next_marks(marks: &Marks, deliveries: &[Delivery]) -> Result<Marks, RoundFault>
+pub fn next_marks(marks: &Marks, deliveries: &[Share]) -> Result<Marks, RoundFault>
     requires positions { IsTrue (are_positions marks.now) }
     ensures ok { IfOk result (λ next. new_marks marks.now deliveries.now ≡ Ok next) }
     ensures refused { IfErr result (λ fault. Refuses is_memory fault (new_marks marks.now deliveries.now)) }
@@ -32,7 +32,7 @@ pub fn next_marks(marks: &Marks, deliveries: &[Delivery]) -> Result<Marks, Round
 }
 
 // The first fault of the deliveries: a gap, or else too many streams.
-fn check(marks: &Marks, deliveries: &[Delivery]) -> Result<(), RoundFault>
+fn check(marks: &Marks, deliveries: &[Share]) -> Result<(), RoundFault>
     requires { IsTrue (are_positions marks.now) }
     ensures ok { OnOk result (new_marks marks.now deliveries.now ≡ Ok (with_deliveries marks.now deliveries.now)) }
     ensures few { OnOk result (length (with_deliveries marks.now deliveries.now) ≤ MAX_STREAMS) }
@@ -52,8 +52,8 @@ fn check(marks: &Marks, deliveries: &[Delivery]) -> Result<(), RoundFault>
 // Whether the delivery has images of a stream that neither the marks nor the deliveries before it have.
 fn is_new_stream(
     marks: &Marks,
-    before: &[Delivery],
-    delivery: &Delivery,
+    before: &[Share],
+    delivery: &Share,
 ) -> Result<bool, RoundFault>
     requires positions { IsTrue (are_positions (with_deliveries marks.now before.now)) }
     requires rising { IsTrue (is_sorted name_cmp (with_deliveries marks.now before.now)) }
@@ -65,7 +65,7 @@ fn is_new_stream(
     ensures refused { IfErr result (λ fault.
         marks_after (with_deliveries marks.now before.now) (with_images (delivery.now ∷ [])) ≡ Err fault) }
 {
-    if delivery.images().is_empty() {
+    if delivery.count() == 0 {
         return Ok(false);
     }
     let mark = mark_after(marks, before, delivery.stream());
@@ -81,7 +81,7 @@ fn is_new_stream(
 }
 
 // The mark of the stream after the deliveries, whether or not there is a gap between them.
-fn mark_after(marks: &Marks, deliveries: &[Delivery], stream: &StreamName) -> u64
+fn mark_after(marks: &Marks, deliveries: &[Share], stream: &StreamName) -> u64
     ensures { result ≡ position_of (with_deliveries marks.now deliveries.now) stream.now }
 {
     let mut mark = marks.position(stream);
@@ -92,7 +92,7 @@ fn mark_after(marks: &Marks, deliveries: &[Delivery], stream: &StreamName) -> u6
 }
 
 // The position of the delivery's last image, if it is of the stream.
-fn last_of_stream(stream: &StreamName, delivery: &Delivery) -> Option<u64>
+fn last_of_stream(stream: &StreamName, delivery: &Share) -> Option<u64>
     ensures { result ≡ the_last_of_stream stream.now delivery.now }
 {
     if delivery.stream() != stream {
@@ -102,11 +102,11 @@ fn last_of_stream(stream: &StreamName, delivery: &Delivery) -> Option<u64>
 }
 
 // The position of the delivery's last image.
-fn last_of(delivery: &Delivery) -> Option<u64>
+fn last_of(delivery: &Share) -> Option<u64>
     ensures last { result ≡ the_last_of delivery.now }
     ensures position { IfSome result (λ last. IsTrue (is_position last)) }
 {
-    let (first, count) = (delivery.first(), delivery.images().len() as u64);
+    let (first, count) = (delivery.first(), delivery.count() as u64);
     if count == 0 {
         return None;
     }
@@ -114,7 +114,7 @@ fn last_of(delivery: &Delivery) -> Option<u64>
 }
 
 // The marks after deliveries without a gap between them.
-fn raise_all(marks: &Marks, deliveries: &[Delivery]) -> Result<Marks, NoMemory>
+fn raise_all(marks: &Marks, deliveries: &[Share]) -> Result<Marks, NoMemory>
     requires { IsTrue (are_positions marks.now) }
     ensures ok { IfOk result (λ next. next ≡ with_deliveries marks.now deliveries.now) }
     ensures positions { IfOk result (λ next. IsTrue (are_positions next)) }
@@ -127,7 +127,7 @@ fn raise_all(marks: &Marks, deliveries: &[Delivery]) -> Result<Marks, NoMemory>
 }
 
 // Raises the mark of the delivery's stream.
-fn raise_by(marks: &mut Marks, delivery: &Delivery) -> Result<(), NoMemory>
+fn raise_by(marks: &mut Marks, delivery: &Share) -> Result<(), NoMemory>
     requires { IsTrue (are_positions marks.old) }
     ensures ok { OnOk result (marks.new ≡ with_deliveries marks.old (delivery.now ∷ [])) }
     ensures positions { OnOk result (IsTrue (are_positions marks.new)) }

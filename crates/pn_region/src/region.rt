@@ -21,7 +21,7 @@ mod relayout;
 
 use crate::{Log, RoundFault, Since, next_marks};
 pub use parts::recall_soundness;
-use pn_apply::{Gate, apply_all, reduce_owned};
+use pn_apply::{Gate, Share, apply_all, reduce, shares_of};
 use pn_join::{Dup, Marks, NoMemory};
 use pn_stream::Delivery;
 use pn_tablet::{Change, Layout, Range, TabletOp, TabletState};
@@ -139,7 +139,33 @@ impl Region {
         ensures left { OnErr result (IsSomeOld self.old.state.tablets self.new.state.tablets) }
         ensures broken { IfErr result (λ fault. self.new.log ≡ refused_log self.old.log fault) }
     {
-        match self.take(rt, deliveries, workers, gate) {
+        match shares_of(self.alloc, deliveries) {
+            Ok(shares) => self.join_shares(rt, &shares, workers, gate),
+            Err(NoMemory) => {
+                self.log.cut();
+                Err(RoundFault::Memory)
+            }
+        }
+    }
+
+    // Takes what deliveries bring, as `round` takes deliveries.
+    fn join_shares<R: Threads + Sync, G: Gate + Sync>(
+        &mut self,
+        rt: &R,
+        shares: &[Share],
+        workers: usize,
+        gate: &G,
+    ) -> Result<Round, RoundFault>
+        requires workers { (1 ≤ workers) × (workers ≤ MAX_WORKERS) }
+        ensures ok { OnOk result (round self.old.state shares.now ≡ Ok self.new.state) }
+        ensures changed { IfOk result (λ done. done.changed ≡ changed_count self.old.state self.new.state) }
+        ensures noted { OnOk result (self.new.log ≡ with_notices self.old.log self.old.state self.new.state) }
+        ensures refused { IfErr result (λ fault. Refuses is_memory fault (round self.old.state shares.now)) }
+        ensures err { IfErr result (λ fault. Leaves fault self.old.state shares.now self.new.state) }
+        ensures left { OnErr result (IsSomeOld self.old.state.tablets self.new.state.tablets) }
+        ensures broken { IfErr result (λ fault. self.new.log ≡ refused_log self.old.log fault) }
+    {
+        match self.take(rt, shares, workers, gate) {
             Ok(lists) => {
                 let changed = count_changes(&lists) as u64;
                 self.log.add(lists);
@@ -153,28 +179,28 @@ impl Region {
         }
     }
 
-    // Takes deliveries into the tablets and the marks, and returns the changes of each tablet. The log stays.
+    // Takes shares into the tablets and the marks, and returns the changes of each tablet. The log stays.
     fn take<R: Threads + Sync, G: Gate + Sync>(
         &mut self,
         rt: &R,
-        deliveries: Vec<Delivery>,
+        shares: &[Share],
         workers: usize,
         gate: &G,
     ) -> Result<Vec<Vec<Change>>, RoundFault>
         requires workers { (1 ≤ workers) × (workers ≤ MAX_WORKERS) }
-        ensures ok { OnOk result (round self.old.state deliveries.items ≡ Ok self.new.state) }
+        ensures ok { OnOk result (round self.old.state shares.now ≡ Ok self.new.state) }
         ensures changes { IfOk result (λ lists. flat_map (λ list. list.items) lists.items ≡ changes (all_cells self.old.state) (all_cells self.new.state)) }
         ensures few { IfOk result (λ lists. length (flat_map (λ list. list.items) lists.items) < 2 ^ 64) }
-        ensures refused { IfErr result (λ fault. Refuses is_memory fault (round self.old.state deliveries.items)) }
-        ensures err { IfErr result (λ fault. Leaves fault self.old.state deliveries.items self.new.state) }
+        ensures refused { IfErr result (λ fault. Refuses is_memory fault (round self.old.state shares.now)) }
+        ensures err { IfErr result (λ fault. Leaves fault self.old.state shares.now self.new.state) }
         ensures left { OnErr result (IsSomeOld self.old.state.tablets self.new.state.tablets) }
         ensures log { self.new.log ≡ self.old.log }
     {
-        let marks = next_marks(&self.marks, &deliveries)?;
-        let operations = reduce_owned(
+        let marks = next_marks(&self.marks, shares)?;
+        let operations = reduce(
             rt,
             self.alloc,
-            deliveries,
+            shares,
             &self.layout,
             &marks,
             workers,
