@@ -1,8 +1,9 @@
 pub mod Applied
 pub mod Cuts
+pub mod Entries
 pub mod Halves
+pub mod Parts
 pub mod Prefixes
 pub mod ReduceLaws
-pub mod Sharing
 pub mod Tables
 pub mod Turns

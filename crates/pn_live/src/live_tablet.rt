@@ -12,6 +12,7 @@ ghost use Rattle.pn_live.specs.Proofs.DraftFacts.{draft_props};
 mod attempts;
 mod closing;
 mod drafting;
+mod state_draft;
 
 use crate::publish_order::{ExtendsSeen, PairWriter, SharesView};
 use crate::publish_position::{AttemptCounter, PublishPosition, open_book};
@@ -19,7 +20,7 @@ use crate::published_state::PublishedState;
 use crate::reader_handle::ReaderHandle;
 use attempts::{begin_attempt, end_attempt};
 use core::mem::replace_with;
-pub use drafting::StateDraft;
+pub use state_draft::StateDraft;
 use left_right::writer::Writer;
 use pn_join::{Dup, NoMemory};
 use pn_tablet::{Range, TabletOp, TabletState};

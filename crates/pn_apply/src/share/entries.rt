@@ -44,13 +44,9 @@ fn entry_of(alloc: Global, image: Image) -> Result<(Key, Cell), Image>
         version,
         content,
     } = image;
-    match Cell::holding(alloc, version, content) {
+    match Cell::of(alloc, version, content) {
         Ok(cell) => Ok((key, cell)),
-        Err(content) => Err(Image {
-            key,
-            version,
-            content,
-        }),
+        Err(_) => unreachable!(),
     }
 }
 

@@ -9,7 +9,7 @@ pub returns-clause-count : goal.returns-clause-count
 returns-clause-count c =
     let m = with_deliveries c.args.marks.now c.args.before.now in
     let d = c.args.delivery.now in
-    let some : eqb (length d.images) 0 ≡ false = ap (λ xs. eqb (length xs) 0) (sym c.images.ensures) ∙ sym c.is_empty.ensures ∙ c.if-is_empty.false in
+    let some : eqb (length d.images) 0 ≡ false = ap (λ n. eqb n 0) (sym c.count.ensures) ∙ c.if-eq.false in
     let mark = c.mark_after-mark.ensures ∙ ap (position_of m) c.stream.ensures in
     taken_count m d c.requires.rising c.requires.positions (ap not some)
     ∙ ap (λ n. length m + from_bool (eqb n 0)) (sym mark)
