@@ -8,22 +8,22 @@ ghost use Rattle.pn_apply.specs.Prelude.{AreJoinsIn, HavePositions, all_stepped,
 ghost use Rattle.pn_apply.specs.declared.reducing.TheConstants.{MAX_WORKERS};
 ghost use Rattle.pn_scan.specs.Prelude.{IsStateOf};
 ghost use Rattle.pn_region.specs.declared.marking.TheConstants.{MAX_STREAMS};
-ghost use Rattle.pn_region.specs.Logged.{new_logged, with_notices, refused_log};
+ghost use Rattle.pn_region.specs.Logged.{new_logged};
 ghost use Rattle.pn_region.specs.Marking.{is_memory};
 ghost use Rattle.pn_region.specs.Regions.{IsRegion, all_cells};
-ghost use Rattle.pn_region.specs.Rounds.{round, changed_count, Leaves};
+ghost use Rattle.pn_region.specs.Rounds.{round, Leaves};
 ghost use Rattle.pn_region.specs.Since.{IsSince};
 
 mod advance;
 mod parts;
 mod recovery;
 mod relayout;
+mod rounds;
 
 use crate::{Log, RoundFault, Since, next_marks};
 pub use parts::recall_soundness;
-use pn_apply::{Gate, Share, apply_all, reduce, shares_of};
+use pn_apply::{Gate, Share, apply_all, reduce};
 use pn_join::{Dup, Marks, NoMemory};
-use pn_stream::Delivery;
 use pn_tablet::{Change, Layout, Range, TabletOp, TabletState};
 use std::alloc::Global;
 use std::marker::Model;
@@ -117,66 +117,6 @@ impl Region {
         ensures count { length self.now.state.tablets ≡ length self.now.state.layout + 1 }
     {
         &self.tablets
-    }
-
-    /// Takes deliveries, in order, by 1 to 16 workers, each of which enters the gate before each of its tablets.
-    ///
-    /// `Gap` names the first delivery that begins past its stream's next position; else `TooManyStreams` comes. Both
-    /// change nothing. After `Memory` some tablets have taken their parts, and the log has a break.
-    pub fn round<R: Threads + Sync, G: Gate + Sync>(
-        &mut self,
-        rt: &R,
-        deliveries: Vec<Delivery>,
-        workers: usize,
-        gate: &G,
-    ) -> Result<Round, RoundFault>
-        requires workers { (1 ≤ workers) × (workers ≤ MAX_WORKERS) }
-        ensures ok { OnOk result (round self.old.state deliveries.items ≡ Ok self.new.state) }
-        ensures changed { IfOk result (λ done. done.changed ≡ changed_count self.old.state self.new.state) }
-        ensures noted { OnOk result (self.new.log ≡ with_notices self.old.log self.old.state self.new.state) }
-        ensures refused { IfErr result (λ fault. Refuses is_memory fault (round self.old.state deliveries.items)) }
-        ensures err { IfErr result (λ fault. Leaves fault self.old.state deliveries.items self.new.state) }
-        ensures left { OnErr result (IsSomeOld self.old.state.tablets self.new.state.tablets) }
-        ensures broken { IfErr result (λ fault. self.new.log ≡ refused_log self.old.log fault) }
-    {
-        match shares_of(self.alloc, deliveries) {
-            Ok(shares) => self.join_shares(rt, &shares, workers, gate),
-            Err(NoMemory) => {
-                self.log.cut();
-                Err(RoundFault::Memory)
-            }
-        }
-    }
-
-    // Takes what deliveries bring, as `round` takes deliveries.
-    fn join_shares<R: Threads + Sync, G: Gate + Sync>(
-        &mut self,
-        rt: &R,
-        shares: &[Share],
-        workers: usize,
-        gate: &G,
-    ) -> Result<Round, RoundFault>
-        requires workers { (1 ≤ workers) × (workers ≤ MAX_WORKERS) }
-        ensures ok { OnOk result (round self.old.state shares.now ≡ Ok self.new.state) }
-        ensures changed { IfOk result (λ done. done.changed ≡ changed_count self.old.state self.new.state) }
-        ensures noted { OnOk result (self.new.log ≡ with_notices self.old.log self.old.state self.new.state) }
-        ensures refused { IfErr result (λ fault. Refuses is_memory fault (round self.old.state shares.now)) }
-        ensures err { IfErr result (λ fault. Leaves fault self.old.state shares.now self.new.state) }
-        ensures left { OnErr result (IsSomeOld self.old.state.tablets self.new.state.tablets) }
-        ensures broken { IfErr result (λ fault. self.new.log ≡ refused_log self.old.log fault) }
-    {
-        match self.take(rt, shares, workers, gate) {
-            Ok(lists) => {
-                let changed = count_changes(&lists) as u64;
-                self.log.add(lists);
-                Ok(Round { changed })
-            }
-            Err(RoundFault::Memory) => {
-                self.log.cut();
-                Err(RoundFault::Memory)
-            }
-            Err(fault) => Err(fault),
-        }
     }
 
     // Takes shares into the tablets and the marks, and returns the changes of each tablet. The log stays.

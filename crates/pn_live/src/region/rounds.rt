@@ -2,6 +2,7 @@
 
 ghost use Rattle.std.specs.Prelude.{◌≡◌, ◌≤◌, ◌++◌, [], length, map, vec_capacity, Ok, IfOk, IfErr, OnErr, OnOk};
 ghost use Rattle.std.specs.List.{flat_map};
+ghost use Rattle.pn_stream.specs.Prelude.{DeliveryValue};
 ghost use Rattle.pn_tablet.specs.Prelude.{changes, Refuses};
 ghost use Rattle.pn_apply.specs.Prelude.{AreJoinsIn, HavePositions, all_stepped, all_changes};
 ghost use Rattle.pn_apply.specs.declared.reducing.TheConstants.{MAX_WORKERS};
@@ -51,13 +52,26 @@ impl LiveRegion {
         ensures fits { IfOk result (λ done. AreNotesOf (tablets_in self.old) done.1) }
         ensures same { tablets_in self.new ≡ tablets_in self.old }
     {
-        match shares_of(self.alloc, deliveries) {
+        match shares_of(self.alloc(), deliveries) {
             Ok(shares) => self.join_shares(rt, &shares, workers, gate),
-            Err(NoMemory) => {
-                self.log.cut();
-                Err(RoundFault::Memory)
-            }
+            Err(NoMemory) => Err(self.break_off()),
         }
+    }
+
+    // Where rounds take memory.
+    fn alloc(&self) -> Global {
+        self.alloc
+    }
+
+    // Breaks the log off, where memory ran out before a round. The tablets stay.
+    fn break_off(&mut self) -> RoundFault
+        ensures fault { result ≡ RoundFault.Memory }
+        ensures kept { self.new ≡ record self.old { log = refused_log self.old.log RoundFault.Memory } }
+        ensures err { (deliveries : List DeliveryValue) → LeavesLive RoundFault.Memory self.old deliveries self.new }
+        ensures left { (deliveries : List DeliveryValue) → Leaves RoundFault.Memory (core self.old) deliveries (core self.new) }
+    {
+        self.log.cut();
+        RoundFault::Memory
     }
 
     /// Takes what deliveries bring, as `round` takes deliveries. After `Memory` the same shares can be taken again.
