@@ -1,6 +1,6 @@
 -- Images that become entries one after another.
 use Rattle.std.proofs.Common.{◌≡◌, ℕ, zero, suc, ◌+◌, ◌<◌, List, [], ◌∷◌, ◌++◌, map, length, take, get_or, reverse, refl, sym, ap, ◌∙◌, subst, add-one, arith}
-use Rattle.std.proofs.lemmas.List.{append_assoc, length-map, reverse-append}
+use Rattle.std.proofs.lemmas.List.{append_assoc, append-nil, length-map, reverse-append, reverse-reverse}
 use Rattle.pn_record.specs.declared.image.Image.{Image}
 use Rattle.pn_record.specs.Sets.{CellValue}
 use Rattle.pn_record.specs.CellMap.{Entries}
@@ -31,3 +31,11 @@ up_to images entries n entry d are within is =
     let many : length entries ≡ length images = ap length are ∙ length-map images entry_of in
     let found = next_image images n entry d (omega (arith, within, many)) (is ∙ ap (λ (es : Entries). get_or es n d) are) in
     (found.0, found.1.0, ap (λ (k : ℕ). take k images) (add-one n) ∙ found.1.1)
+
+-- no entry is made yet, where all images are left, last first
+pub none_made : (images left : List Image) → left ≡ reverse images → AreMade images left []
+none_made images left is = ap (λ (xs : List Image). map entry_of (reverse xs)) is ∙ ap (map entry_of) (reverse-reverse images)
+
+-- all entries are made, where no image is left
+pub all_made : (images left : List Image) (entries : Entries) → left ≡ [] → AreMade images left entries → entries ≡ map entry_of images
+all_made images left entries none made = sym (ap (λ (xs : List Image). entries ++ map entry_of (reverse xs)) none ∙ append-nil entries) ∙ made

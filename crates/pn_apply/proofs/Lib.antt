@@ -1,4 +1,5 @@
 pub mod Applied
+pub mod Crossing
 pub mod Cuts
 pub mod Entries
 pub mod Halves

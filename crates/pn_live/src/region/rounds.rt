@@ -21,6 +21,7 @@ use pn_join::{Marks, NoMemory};
 use pn_region::{Round, RoundFault, next_marks};
 use pn_stream::Delivery;
 use pn_tablet::{Change, TabletOp, TabletState};
+use std::alloc::Global;
 use std::sync::Wait;
 use std::thread::Threads;
 

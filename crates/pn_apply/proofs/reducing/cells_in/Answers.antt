@@ -15,7 +15,7 @@ loop-share-preserved c =
     let range = c.args.range.now in
     let shares = c.args.shares.now in
     record {
-      held = subst (Holds c.join_part.new.cells) (sym (images_more range shares was.share-index c.share-item.result c.loop-share-test.true (sym c.share-item.is)))
+      held = subst (Holds c.join_part.new.cells) (sym (images_more range shares was.share-index c.share-item.result c.loop-share-test.true c.share-item.is))
           (c.in_ok-join_part.ensures.held (images_in range (all_images (take was.share-index shares))) was.invariant.held);
       rising = c.in_ok-join_part.ensures.rising;
     }

@@ -9,3 +9,6 @@ invariant-loop-image l = record {
   made : (images : List Image) → AreMade images l.fn.left.items l.fn.entries.items → AreMade images l.left.items l.entries.items;
   room : length l.entries.items + length l.left.items ≤ vec_capacity l.entries;
 }
+
+abbrev pub decreases-loop-image : goal.decreases-loop-image
+decreases-loop-image l = length l.left.items
