@@ -1,4 +1,4 @@
--- Shares may be read by several threads.
+-- Shares may go to another thread, and may be read by several.
 use denote.Param.Send.{IsSend, IsSync, sendable}
 use Rattle.std.proofs.Crossing.{crosses}
 use Rattle.pn_join.specs.contracts.table.Table as table
@@ -65,3 +65,6 @@ record_table_sync = search (sendable, crosses, record_block_ref_sync, key_sync) 
 
 pub share_sync : IsSync share.the_row
 share_sync = search (sendable, crosses, record_table_sync, content_sync, cell_sync, key_sync) depth 40 fits 20000
+
+pub share_send : IsSend share.the_row
+share_send = search (sendable, crosses, record_table_send, content_send, cell_send, key_send) depth 40 fits 20000

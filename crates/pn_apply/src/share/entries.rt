@@ -44,9 +44,13 @@ fn entry_of(alloc: Global, image: Image) -> Result<(Key, Cell), Image>
         version,
         content,
     } = image;
-    match Cell::of(alloc, version, content) {
+    match Cell::holding(alloc, version, content) {
         Ok(cell) => Ok((key, cell)),
-        Err(_) => unreachable!(),
+        Err(content) => Err(Image {
+            key,
+            version,
+            content,
+        }),
     }
 }
 
