@@ -98,6 +98,7 @@ impl Share {
     }
 
     /// Makes the table of cells, unless it is made. After an error a further call goes on where memory ran out.
+    #[tactic(auto, using(crate::proofs::Entries::all_made))]
     pub fn finish(&mut self, alloc: Global) -> Result<(), NoMemory>
         ensures { self.new ≡ self.old }
     {

@@ -13,6 +13,7 @@ use pn_record::{Cell, Image, Key, Records};
 use std::alloc::Global;
 
 /// Moves the images, of which the next is the last, into cells. After an error a further call goes on.
+#[tactic(auto, using(crate::proofs::Entries::made_more))]
 pub fn make_entries(
     alloc: Global,
     left: &mut Vec<Image>,

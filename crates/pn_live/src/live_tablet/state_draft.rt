@@ -26,6 +26,10 @@ impl Model for StateDraft {
 
     ghost Value = { TabletStateValue };
 
+    ghost use Rattle.pn_tablet.specs.Proofs.Coding.{tablet_code};
+
+    ghost coded = { tablet_code };
+
     ghost view = { λ draft. caught_up draft.state draft.lacks };
 
     ghost invariant = { λ draft. IfSome draft.lacks (λ join. IsJoinIn draft.state join × HasPositions join) };

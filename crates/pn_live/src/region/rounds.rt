@@ -1,6 +1,6 @@
 //! Rounds of a live region.
 
-ghost use Rattle.std.specs.Prelude.{◌≡◌, ◌≤◌, ◌++◌, [], length, map, vec_capacity, Ok, IfOk, IfErr, OnErr, OnOk};
+ghost use Rattle.std.specs.Prelude.{◌≡◌, ◌≤◌, ◌++◌, [], List, length, map, vec_capacity, Ok, IfOk, IfErr, OnErr, OnOk};
 ghost use Rattle.std.specs.List.{flat_map};
 ghost use Rattle.pn_stream.specs.Prelude.{DeliveryValue};
 ghost use Rattle.pn_tablet.specs.Prelude.{changes, Refuses};
