@@ -4,10 +4,10 @@ use Rattle.pn_region.proofs.Common.{Ok, Err, is_sorted, Positions, name_cmp, are
 use Rattle.pn_region.proofs.MarkSteps.{marks_more, gap_met}
 use Rattle.pn_region.proofs.Following.{marked_more, marked_rising, streams_more}
 use Rattle.pn_stream.proofs.Runs.{handed_on}
-use Rattle.pn_region.proofs.marking.check.Goals as goal
+use Rattle.pn_region.proofs.marking.check_marks.Goals as goal
 
 pub returns-in_err-is_new-clause-refused : goal.returns-in_err-is_new-clause-refused
-returns-in_err-is_new-clause-refused c =
+returns-in_err-is_new-clause-refused g c =
     let m = c.args.marks.now in
     let ds = c.args.deliveries.now in
     let i = c.loop-index.index in
@@ -18,7 +18,7 @@ returns-in_err-is_new-clause-refused c =
     (subst (λ (x : DeliveryValue). marks_after n (with_images (x ∷ [])) ≡ Err fault) c.index-deliveries-index.is c.in_err-is_new.ensures.refused))
 
 pub loop-index-preserved : goal.loop-index-preserved
-loop-index-preserved c =
+loop-index-preserved g c =
     let m = c.args.marks.now in
     let ds = c.args.deliveries.now in
     let i = c.loop-index.index in
