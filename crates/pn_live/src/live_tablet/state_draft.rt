@@ -1,6 +1,6 @@
 //! States that no reader has, which are changed before they are published.
 
-ghost use Rattle.std.specs.Prelude.{◌≡◌, IfOk, OnErr};
+ghost use Rattle.std.specs.Prelude.{◌≡◌, IfOk};
 ghost use Rattle.pn_apply.specs.Applying.{IsJoinIn};
 ghost use Rattle.pn_tablet.specs.Prelude.{HasPositions};
 ghost use Rattle.pn_tablet.specs.Steps.{tablet_after};
@@ -56,40 +56,36 @@ impl StateDraft {
     }
 
     /// The state.
+    #[tactic(auto, using(crate::proofs::Joining::after_ok))]
     pub fn into_state(self) -> Result<TabletState, NoMemory>
         ensures { IfOk result (λ state. state ≡ self) }
     {
-        let mut draft = self;
-        draft.catch_up()?;
-        let StateDraft { state, .. } = draft;
-        Ok(state)
-    }
-
-    // Takes the join that it lacks.
-    fn catch_up(&mut self) -> Result<(), NoMemory>
-        ensures { self.new ≡ self.old }
-    {
-        let Some(join) = self.lacks.take() else {
-            return Ok(());
-        };
-        match self.state.apply(&join) {
-            Ok(_changes) => Ok(()),
-            Err(_) => {
-                self.lacks = Some(join);
-                Err(NoMemory)
+        let StateDraft { mut state, lacks } = self;
+        if let Some(join) = lacks {
+            if state.apply(&join).is_err() {
+                return Err(NoMemory);
             }
         }
+        Ok(state)
     }
 }
 
 impl Slot for StateDraft {
     ghost tablet = { λ draft. draft };
 
+    #[tactic(auto, using(crate::proofs::Joining::after_ok))]
     fn apply(&mut self, op: &TabletOp) -> Result<Vec<Change>, OpFault> {
-        if self.catch_up().is_err() {
-            return Err(OpFault::Memory);
+        let Some(join) = self.lacks.take() else {
+            return self.state.apply(op);
+        };
+        match self.state.apply(&join) {
+            Ok(_changes) => self.state.apply(op),
+            Err(_) => {
+                let fault = self.state.refusal(op).unwrap_or(OpFault::Memory);
+                self.lacks = Some(join);
+                Err(fault)
+            }
         }
-        self.state.apply(op)
     }
 
     fn count_waiting(&self) -> usize {

@@ -1,8 +1,7 @@
 //! Rounds of a live region.
 
-ghost use Rattle.std.specs.Prelude.{◌≡◌, ◌≤◌, ◌++◌, [], List, length, map, vec_capacity, Ok, IfOk, IfErr, OnErr, OnOk};
+ghost use Rattle.std.specs.Prelude.{◌≡◌, ◌≤◌, ◌++◌, [], length, map, vec_capacity, Ok, IfOk, IfErr, OnErr, OnOk};
 ghost use Rattle.std.specs.List.{flat_map};
-ghost use Rattle.pn_stream.specs.Prelude.{DeliveryValue};
 ghost use Rattle.pn_tablet.specs.Prelude.{changes, Refuses};
 ghost use Rattle.pn_apply.specs.Prelude.{AreJoinsIn, HavePositions, all_stepped, all_changes};
 ghost use Rattle.pn_apply.specs.declared.reducing.TheConstants.{MAX_WORKERS};
@@ -18,7 +17,7 @@ use crate::publication_order::PublicationOrder;
 use crate::published_tablet::PublishedTablet;
 use pn_apply::{Gate, Share, reduce, shares_of};
 use pn_join::{Marks, NoMemory};
-use pn_region::{Round, RoundFault, next_marks};
+use pn_region::{Round, RoundFault, check_marks, next_marks};
 use pn_stream::Delivery;
 use pn_tablet::{Change, TabletOp, TabletState};
 use std::alloc::Global;
@@ -53,6 +52,7 @@ impl LiveRegion {
         ensures fits { IfOk result (λ done. AreNotesOf (tablets_in self.old) done.1) }
         ensures same { tablets_in self.new ≡ tablets_in self.old }
     {
+        check_marks(self.marks(), &deliveries)?;
         match shares_of(self.alloc(), deliveries) {
             Ok(shares) => self.join_shares(rt, &shares, workers, gate),
             Err(NoMemory) => Err(self.break_off()),
@@ -68,8 +68,7 @@ impl LiveRegion {
     fn break_off(&mut self) -> RoundFault
         ensures fault { result ≡ RoundFault.Memory }
         ensures kept { self.new ≡ record self.old { log = refused_log self.old.log RoundFault.Memory } }
-        ensures err { (deliveries : List DeliveryValue) → LeavesLive RoundFault.Memory self.old deliveries self.new }
-        ensures left { (deliveries : List DeliveryValue) → Leaves RoundFault.Memory (core self.old) deliveries (core self.new) }
+        ensures region { IsRegion (core self.old) }
     {
         self.log.cut();
         RoundFault::Memory

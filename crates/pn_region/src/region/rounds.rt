@@ -1,16 +1,16 @@
 //! Rounds of a region.
 
-ghost use Rattle.std.specs.Prelude.{◌≡◌, ◌≤◌, List, Ok, IfOk, IfErr, OnOk, OnErr};
+ghost use Rattle.std.specs.Prelude.{◌≡◌, ◌≤◌, Ok, IfOk, IfErr, OnOk, OnErr};
 ghost use Rattle.pn_apply.specs.Prelude.{IsSomeOld};
 ghost use Rattle.pn_apply.specs.declared.reducing.TheConstants.{MAX_WORKERS};
 ghost use Rattle.pn_region.specs.Logged.{with_notices, refused_log};
 ghost use Rattle.pn_region.specs.Marking.{is_memory};
+ghost use Rattle.pn_region.specs.Regions.{IsRegion};
 ghost use Rattle.pn_region.specs.Rounds.{round, changed_count, Leaves};
-ghost use Rattle.pn_stream.specs.Prelude.{DeliveryValue};
 ghost use Rattle.pn_tablet.specs.Prelude.{Refuses};
 
 use super::{Region, Round, count_changes};
-use crate::RoundFault;
+use crate::{RoundFault, check_marks};
 use pn_apply::{Gate, Share, shares_of};
 use pn_join::NoMemory;
 use pn_stream::Delivery;
@@ -39,6 +39,7 @@ impl Region {
         ensures left { OnErr result (IsSomeOld self.old.state.tablets self.new.state.tablets) }
         ensures broken { IfErr result (λ fault. self.new.log ≡ refused_log self.old.log fault) }
     {
+        check_marks(self.marks(), &deliveries)?;
         match shares_of(self.alloc(), deliveries) {
             Ok(shares) => self.join_shares(rt, &shares, workers, gate),
             Err(NoMemory) => Err(self.break_off()),
@@ -55,8 +56,7 @@ impl Region {
         ensures fault { result ≡ RoundFault.Memory }
         ensures broken { self.new.log ≡ refused_log self.old.log RoundFault.Memory }
         ensures same { self.new.state ≡ self.old.state }
-        ensures err { (deliveries : List DeliveryValue) → Leaves RoundFault.Memory self.old.state deliveries self.new.state }
-        ensures left { IsSomeOld self.old.state.tablets self.new.state.tablets }
+        ensures region { IsRegion self.old.state }
     {
         self.log.cut();
         RoundFault::Memory
