@@ -73,7 +73,7 @@ impl StateDraft {
 impl Slot for StateDraft {
     ghost tablet = { λ draft. draft };
 
-    #[tactic(auto, using(crate::proofs::Joining::after_ok))]
+    #[tactic(auto, using(crate::proofs::Joining::after_ok, crate::proofs::Joining::stays_taken, crate::proofs::Joining::stays_refused))]
     fn apply(&mut self, op: &TabletOp) -> Result<Vec<Change>, OpFault> {
         let Some(join) = self.lacks.take() else {
             return self.state.apply(op);
