@@ -50,11 +50,7 @@ pub fn check_marks<B: Batch>(marks: &Marks, deliveries: &[B]) -> Result<(), Roun
 }
 
 // Whether the delivery has images of a stream that neither the marks nor the deliveries before it have.
-fn is_new_stream<B: Batch>(
-    marks: &Marks,
-    before: &[B],
-    delivery: &B,
-) -> Result<bool, RoundFault>
+fn is_new_stream<B: Batch>(marks: &Marks, before: &[B], delivery: &B) -> Result<bool, RoundFault>
     requires positions { IsTrue (are_positions (with_deliveries marks.now (map B.delivery before.now))) }
     requires rising { IsTrue (is_sorted name_cmp (with_deliveries marks.now (map B.delivery before.now))) }
     ensures ok { OnOk result (marks_after (with_deliveries marks.now (map B.delivery before.now)) (with_images (B.delivery delivery.now ∷ []))

@@ -137,15 +137,7 @@ impl Region {
         ensures log { self.new.log ≡ self.old.log }
     {
         let marks = next_marks(&self.marks, shares)?;
-        let operations = reduce(
-            rt,
-            self.alloc,
-            shares,
-            &self.layout,
-            &marks,
-            workers,
-            gate,
-        )?;
+        let operations = reduce(rt, self.alloc, shares, &self.layout, &marks, workers, gate)?;
         let tablets = self.tablets.as_mut_slice();
         let lists = take_joins(rt, self.alloc, tablets, &operations, workers, gate)?;
         self.marks = marks;

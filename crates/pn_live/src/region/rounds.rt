@@ -172,15 +172,7 @@ impl LiveRegion {
         ensures refused { IfErr result (λ fault. Refuses is_memory fault (round (core self.old) shares.now)) }
     {
         let marks = next_marks(&self.marks, shares)?;
-        let operations = reduce(
-            rt,
-            self.alloc,
-            shares,
-            &self.layout,
-            &marks,
-            workers,
-            gate,
-        )?;
+        let operations = reduce(rt, self.alloc, shares, &self.layout, &marks, workers, gate)?;
         let plan = plan_round(
             rt,
             self.alloc,
