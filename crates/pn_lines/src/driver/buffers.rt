@@ -1,7 +1,6 @@
 //! The buffers of a driver that waits.
 
-ghost use Rattle.std.specs.Prelude.{◌≡◌, []};
-ghost use Rattle.pn_line.specs.Prelude.{so_far};
+ghost use Rattle.std.specs.Prelude.{◌≡◌, [], IfOk};
 
 use pn_line::LineBuffer;
 use std::alloc::{AllocError, Global};
@@ -31,7 +30,9 @@ impl Model for LineBuffers {
 
 impl LineBuffers {
     /// Buffers in which nothing waits.
-    pub fn new(alloc: Global) -> Result<LineBuffers, AllocError> {
+    pub fn new(alloc: Global) -> Result<LineBuffers, AllocError>
+        ensures { IfOk result (λ buffers. buffers ≡ []) }
+    {
         Ok(LineBuffers {
             alloc,
             line: LineBuffer::new(alloc)?,
