@@ -31,10 +31,15 @@ impl LineHandler for Echo {
         line: &[u8],
         ended: EndedBy,
     ) -> Answered<Going, ReplyPieces> {
-        if line.is_empty() && ended == EndedBy::Input {
-            return answered(Reply::Silent);
+        let shown = if line.is_empty() && ended == EndedBy::Input {
+            Reply::Silent
+        } else {
+            reply_to(alloc, line)
+        };
+        Answered {
+            answer: Answer::Done(reply(shown, false)),
+            units: 1,
         }
-        answered(reply_to(alloc, line))
     }
 
     // No line is resumed.
@@ -44,7 +49,10 @@ impl LineHandler for Echo {
         _going: Going,
         _units: u32,
     ) -> Answered<Going, ReplyPieces> {
-        answered(Reply::Silent)
+        Answered {
+            answer: Answer::Done(reply(Reply::Silent, false)),
+            units: 1,
+        }
     }
 
     ghost steady = { (
@@ -57,13 +65,6 @@ impl LineHandler for Echo {
 impl RefusesLong for Echo {
     fn refuse_long(&mut self, _ended: EndedBy) -> LineReply<ReplyPieces> {
         reply(Reply::Refused(Refusal::TooLong), true)
-    }
-}
-
-fn answered(shown: Reply) -> Answered<Going, ReplyPieces> {
-    Answered {
-        answer: Answer::Done(reply(shown, false)),
-        units: 1,
     }
 }
 
