@@ -29,7 +29,7 @@ def psql(text: str) -> None:
 
 
 def add(count: int) -> None:
-    """Adds so many images."""
+    """Adds this number of images."""
     psql(f"""INSERT INTO outbox (image) SELECT json_build_object('fields', json_build_object('text', at::text), 'key', 'w' || at, 'master', 'w',
         'version', json_build_array(1, 0)) FROM generate_series(1, {count}) AS at""")
 

@@ -174,7 +174,7 @@ def check_bounds_of_other_moments(program: str, folder: str) -> None:
 
 
 def some_texts_up_to(program: str, folder: str, count: int) -> list[bytes]:
-    """The copies of a region of two tablets that took so many images of each stream."""
+    """The copies of a region of two tablets that took the first images of each stream, up to this number."""
     streams = streams_of(random.Random(7), KEYS)
     return taken(program, folder, ["--bounds", '["b"]'], {name: images[:count] for name, images in streams.items()}, 2)
 

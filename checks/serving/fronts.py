@@ -166,7 +166,7 @@ class Frames:
         context.set_alpn_protocols(["h2"])
         self.socket = context.wrap_socket(front.connect(), server_hostname="127.0.0.1")
         same("the protocol", self.socket.selected_alpn_protocol(), "h2")
-        # Each stream may have so many bytes before the client takes some.
+        # Each stream may have this number of bytes before the client takes some.
         self.socket.sendall(b"PRI * HTTP/2.0\r\n\r\nSM\r\n\r\n" + self.frame(self.SETTINGS, 0, 0, b"\0\4" + window.to_bytes(4, "big")))
         self.host, self.rest = front.address, b""
 

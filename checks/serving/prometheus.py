@@ -16,7 +16,7 @@ RULES = FOLDER / "pnuts.rules.yml"
 
 
 class Prometheus:
-    """A Prometheus that scrapes exporters every so many seconds and knows the alerts, until the block ends.
+    """A Prometheus that scrapes exporters at this interval and knows the alerts, until the block ends.
 
     A scrape that takes longer is none, and an alert begins to count anew.
     """

@@ -82,7 +82,7 @@ func (h *History) Err() error {
 	return h.err
 }
 
-// After gives at most so many changes after a mark, the mark after them, and what ends once there is more. Missed says that some are not
+// After gives at most this number of changes after a mark, the mark after them, and what ends once there is more. Missed says that some are not
 // known, so that all is to be read anew.
 func (h *History) After(from Mark, most int) (found Notices, to Mark, news <-chan struct{}) {
 	h.mutex.Lock()
