@@ -267,7 +267,9 @@ impl EventLoop {
             Some(connection) => {
                 let before = connection.unread_weight();
                 let next = connection.turn(&mut self.buffers, reader, &mut self.counted);
-                self.counters.unread.replace(before, connection.unread_weight());
+                self.counters
+                    .unread
+                    .replace(before, connection.unread_weight());
                 self.quarters.run_if(connection.unread.is_some());
                 next
             }
