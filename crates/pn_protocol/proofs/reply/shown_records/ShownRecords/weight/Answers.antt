@@ -29,4 +29,4 @@ records-smaller c =
 pub returns : goal.returns
 returns c =
     c.records.invariant.weighed
-    ∙ ap (λ n. min n (2 ^ 64 - 1)) (weighed_all found_weight (found_in c.args.self.now) c.records.index (sym c.in-None.ensures))
+    ∙ ap (λ n. min n (2 ^ 64 - 1)) (weighed_all found_weight (found_in c.args.self.now) c.records.index (sym c.in_default.ensures))
