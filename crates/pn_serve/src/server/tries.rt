@@ -11,11 +11,10 @@ ghost use Rattle.pn_serve.specs.declared.server.mailboxes.AtFault.TheVariants.{S
 use crate::ServeFault;
 use crate::server::mailboxes::AtFault;
 use crate::server::rounds::RoundInput;
-use pn_apply::{Open, copy_deliveries};
+use pn_apply::{Open, Share};
 use pn_join::StreamName;
 use pn_live::{Front, LiveRegion};
 use pn_region::{Round, RoundFault};
-use pn_stream::Delivery;
 use std::alloc::Global;
 use std::sync::Wait;
 use std::thread::Threads;
@@ -35,13 +34,15 @@ pub(crate) fn run_input<R: Threads + Wait + Sync>(
     ensures continues { IfOk result (λ back. IfSome back (λ input. All (Continues live.new.marks) input.deliveries.items)) }
     ensures same { tablets_in live.new ≡ tablets_in live.old }
 {
+    let mut input = input;
+    finish_shares(alloc, &mut input.deliveries);
     match at_fault {
         AtFault::Stop => {
             run_round(rt, live, workers, input)?;
             Ok(None)
         }
         AtFault::GoOn => {
-            if try_round(rt, alloc, live, workers, &input.deliveries)? {
+            if try_round(rt, live, workers, &input.deliveries)? {
                 Ok(None)
             } else {
                 Ok(Some(input))
@@ -50,23 +51,28 @@ pub(crate) fn run_input<R: Threads + Wait + Sync>(
     }
 }
 
-// Runs one round of copies of messages. False where memory ran out.
+// Makes the cells for which memory ran out, as far as there is memory now.
+fn finish_shares(alloc: Global, shares: &mut Vec<Share>)
+    ensures { shares.new.items ≡ shares.old.items }
+{
+    for index in 0..shares.len() {
+        let _ = shares[index].finish(alloc);
+    }
+}
+
+// Tries one round of messages. False where memory ran out.
 fn try_round<R: Threads + Wait + Sync>(
     rt: &R,
-    alloc: Global,
     live: &mut LiveRegion,
     workers: usize,
-    deliveries: &[Delivery],
+    deliveries: &[Share],
 ) -> Result<bool, ServeFault>
     requires workers { (1 ≤ workers) × (workers ≤ MAX_WORKERS) }
     requires continues { All (Continues live.old.marks) deliveries.now }
     ensures tries { TriesRound live.old deliveries.now live.new result }
     ensures same { tablets_in live.new ≡ tablets_in live.old }
 {
-    let Ok(copies) = copy_deliveries(alloc, deliveries) else {
-        return Ok(false);
-    };
-    conclude_try(live.round(rt, copies, workers, &Open))
+    conclude_try(live.join_shares(rt, deliveries, workers, &Open))
 }
 
 // Whether a try was taken, or the fault, unless memory ran out.
@@ -94,7 +100,7 @@ fn run_round<R: Threads + Wait + Sync>(
     ensures same { tablets_in live.new ≡ tablets_in live.old }
 {
     let RoundInput { deliveries, fault } = input;
-    let round = apply_deliveries(rt, live, workers, deliveries);
+    let round = apply_deliveries(rt, live, workers, &deliveries);
     conclude_round(fault, round)
 }
 
@@ -103,15 +109,15 @@ fn apply_deliveries<R: Threads + Wait + Sync>(
     rt: &R,
     live: &mut LiveRegion,
     workers: usize,
-    deliveries: Vec<Delivery>,
+    deliveries: &[Share],
 ) -> Result<(Round, Front), RoundFault>
     requires workers { (1 ≤ workers) × (workers ≤ MAX_WORKERS) }
-    requires continues { All (Continues live.old.marks) deliveries.items }
-    ensures taken { OnOk result (IsRoundTaken live.old deliveries.items live.new) }
-    ensures refused { OnErr result (IsRoundRefused Stop live.old deliveries.items live.new) }
+    requires continues { All (Continues live.old.marks) deliveries.now }
+    ensures taken { OnOk result (IsRoundTaken live.old deliveries.now live.new) }
+    ensures refused { OnErr result (IsRoundRefused Stop live.old deliveries.now live.new) }
     ensures same { tablets_in live.new ≡ tablets_in live.old }
 {
-    live.round(rt, deliveries, workers, &Open)
+    live.join_shares(rt, deliveries, workers, &Open)
 }
 
 // Answers how the round went, or the fault of a stream that stops all streams.
