@@ -6,3 +6,4 @@ pub mod Messages
 pub mod Reasons
 pub mod Scripted
 pub mod Servers
+pub mod Unread

@@ -18,6 +18,7 @@ mod memory;
 mod messages;
 mod polled_input;
 mod progress;
+mod quarter_clock;
 mod reasons;
 mod scripted;
 mod seldom;
@@ -27,6 +28,7 @@ mod socket;
 mod socket_file;
 mod socket_mailbox;
 mod streams;
+mod unread;
 
 pub use acceptor::SocketAcceptor;
 pub use connection::IdleTimeout;
