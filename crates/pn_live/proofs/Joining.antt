@@ -1,15 +1,16 @@
 -- What joins make of drafts.
 use Rattle.std.proofs.Common.{◌≡◌, Bool, true, false, if◌then◌else◌, refl, sym, ap, subst, Ok, Err}
-use Rattle.std.specs.Prelude.{Option, None, Some, Result, IsOk}
+use Rattle.std.specs.Prelude.{Option, None, Some, Result, IsOk, MatchOption, unwrap_or}
 use Rattle.pn_join.specs.Marks.{Positions}
 use Rattle.pn_record.specs.CellMap.{Entries}
 use Rattle.pn_tablet.specs.Copies.{TabletCopyValue}
 use Rattle.pn_tablet.specs.Needs.{need_shortfall}
 use Rattle.pn_tablet.specs.declared.fault.Shortfall.{Shortfall}
 use Rattle.pn_tablet.specs.declared.fault.OpFault.{OpFault}
-use Rattle.pn_tablet.specs.Steps.{step, tablet_after, after_step, with_copy, with_join}
+use Rattle.pn_tablet.specs.Refusals.{Refuses}
+use Rattle.pn_tablet.specs.Steps.{step, tablet_after, after_step, is_memory, with_copy, with_join}
 use Rattle.pn_tablet.specs.Tablets.{TabletStateValue, lie_in, same_range}
-use Rattle.pn_tablet.specs.declared.fault.OpFault.TheVariants.{WrongRange}
+use Rattle.pn_tablet.specs.declared.fault.OpFault.TheVariants.{WrongRange, TooOld, Memory}
 use Rattle.pn_tablet.specs.declared.state.TabletOp.{TabletOp}
 use Rattle.pn_tablet.specs.declared.state.TabletOp.TheVariants.{Join, Lose, Adopt}
 use Rattle.pn_apply.specs.Applying.{IsJoinIn}
@@ -68,3 +69,26 @@ pub stays_refused : (tablet : TabletStateValue) (join op : TabletOp) (fault : Op
 stays_refused tablet (Join cells marks) op fault fit is = subst (λ (t : TabletStateValue). step t op ≡ Err fault) (sym (after_join tablet cells marks fit)) (err_after tablet cells marks op fault is)
 stays_refused tablet Lose op fault fit is = absurd fit
 stays_refused tablet (Adopt copy) op fault fit is = absurd fit
+
+not_memory : {A : Type 0} (b : Bool) (r : Result A OpFault) → (r ≡ Err Memory → ⊥) → (if b then r else Err WrongRange) ≡ Err Memory → ⊥
+not_memory true r never is = never is
+not_memory false r never is = cc
+
+copy_not_memory : (tablet : TabletStateValue) (copy : TabletCopyValue) (short : Option Shortfall) → with_copy tablet copy short ≡ Err Memory → ⊥
+copy_not_memory tablet copy None is = cc
+copy_not_memory tablet copy (Some short) is = cc
+
+-- an operation is never refused for memory
+never_memory : (tablet : TabletStateValue) (op : TabletOp) → step tablet op ≡ Err Memory → ⊥
+never_memory tablet (Join cells marks) is = not_memory (lie_in tablet.range cells) (Ok (with_join tablet cells marks)) (λ no. cc) is
+never_memory tablet Lose is = cc
+never_memory tablet (Adopt copy) is =
+    not_memory (same_range tablet.range copy.range) _ (copy_not_memory tablet copy (need_shortfall tablet.status copy.marks)) is
+
+-- where memory runs out for the join, an operation is refused as before it
+pub refused_after : (tablet : TabletStateValue) (join op : TabletOp) (found : Option OpFault) → IsJoinIn tablet join → MatchOption found (IsOk (step tablet op)) (λ fault. step tablet op ≡ Err fault)
+    → Refuses is_memory (unwrap_or found Memory) (step (tablet_after tablet join) op)
+refused_after tablet join op None fit right = stays_taken tablet join op fit right
+refused_after tablet join op (Some Memory) fit right = absurd (never_memory tablet op right)
+refused_after tablet join op (Some WrongRange) fit right = stays_refused tablet join op WrongRange fit right
+refused_after tablet join op (Some (TooOld stream has needs)) fit right = stays_refused tablet join op (TooOld stream has needs) fit right
