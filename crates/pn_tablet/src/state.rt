@@ -143,6 +143,7 @@ impl TabletState {
         }
     }
 
+    #[tactic(auto, using(crate::proofs::Stepping::refused_step))]
     fn adopt(&mut self, copy: &TabletCopy) -> Result<(), OpFault>
         ensures ok { OnOk result (step self.old (Adopt copy.now) ≡ Ok self.new) }
         ensures refused { IfErr result (λ fault. Refuses is_memory fault (step self.old (Adopt copy.now))) }

@@ -1,12 +1,12 @@
 //! Rounds of a region.
 
-ghost use Rattle.std.specs.Prelude.{◌≡◌, ◌≤◌, Ok, IfOk, IfErr, OnOk, OnErr};
+ghost use Rattle.std.specs.Prelude.{◌≡◌, ◌≤◌, List, Ok, IsOk, IfOk, IfErr, OnOk, OnErr};
 ghost use Rattle.pn_apply.specs.Prelude.{IsSomeOld};
 ghost use Rattle.pn_apply.specs.declared.reducing.TheConstants.{MAX_WORKERS};
 ghost use Rattle.pn_region.specs.Logged.{with_notices, refused_log};
 ghost use Rattle.pn_region.specs.Marking.{is_memory};
-ghost use Rattle.pn_region.specs.Regions.{IsRegion};
 ghost use Rattle.pn_region.specs.Rounds.{round, changed_count, Leaves};
+ghost use Rattle.pn_stream.specs.Prelude.{DeliveryValue};
 ghost use Rattle.pn_tablet.specs.Prelude.{Refuses};
 
 use super::{Region, Round, count_changes};
@@ -39,11 +39,25 @@ impl Region {
         ensures left { OnErr result (IsSomeOld self.old.state.tablets self.new.state.tablets) }
         ensures broken { IfErr result (λ fault. self.new.log ≡ refused_log self.old.log fault) }
     {
-        check_marks(self.marks(), &deliveries)?;
+        self.check(&deliveries)?;
         match shares_of(self.alloc(), deliveries) {
             Ok(shares) => self.join_shares(rt, &shares, workers, gate),
-            Err(NoMemory) => Err(self.break_off()),
+            Err(NoMemory) => {
+                self.break_off();
+                Err(RoundFault::Memory)
+            }
         }
+    }
+
+    // The fault of the deliveries' positions, if there is one. It takes no memory.
+    fn check(&self, deliveries: &[Delivery]) -> Result<(), RoundFault>
+        ensures ok { OnOk result (IsOk (round self.now.state deliveries.now)) }
+        ensures refused { IfErr result (λ fault. Refuses is_memory fault (round self.now.state deliveries.now)) }
+        ensures err { IfErr result (λ fault. Leaves fault self.now.state deliveries.now self.now.state) }
+        ensures broken { IfErr result (λ fault. self.now.log ≡ refused_log self.now.log fault) }
+        ensures left { IsSomeOld self.now.state.tablets self.now.state.tablets }
+    {
+        check_marks(&self.marks, deliveries)
     }
 
     // Where rounds take memory.
@@ -52,14 +66,12 @@ impl Region {
     }
 
     // Breaks the log off, where memory ran out before a round. The tablets stay.
-    fn break_off(&mut self) -> RoundFault
-        ensures fault { result ≡ RoundFault.Memory }
+    fn break_off(&mut self)
         ensures broken { self.new.log ≡ refused_log self.old.log RoundFault.Memory }
         ensures same { self.new.state ≡ self.old.state }
-        ensures region { IsRegion self.old.state }
+        ensures err { (deliveries : List DeliveryValue) → Leaves RoundFault.Memory self.old.state deliveries self.new.state }
     {
         self.log.cut();
-        RoundFault::Memory
     }
 
     // Takes what deliveries bring, as `round` takes deliveries.

@@ -9,6 +9,7 @@ use Rattle.pn_apply.proofs.ReduceLaws.{joins_have_positions}
 use Rattle.pn_region.specs.Regions.{IsLawfulRegion}
 use Rattle.pn_region.specs.Rounds.{round, Leaves}
 use Rattle.pn_region.proofs.Common.{flat_map, TabletStateValue, changes, Change, all_changes, all_images, LoggedRegion, RegionValue, IsRegion, all_cells, Memory}
+use Rattle.pn_region.proofs.Checked.{themselves}
 use Rattle.pn_region.proofs.NewRegion.{tablet_count}
 use Rattle.pn_region.proofs.RoundEnds.{few_found, one_left, same_left, half_left, half_region, new_region_is, round_ok, told_changes, fit_found, half_found, all_found, told_found, err_as, whatever}
 use Rattle.pn_region.proofs.region.Region.take.Goals as goal
@@ -78,7 +79,7 @@ returns-in_err-lists-clause-err g c =
     let us = c.take_joins.new.tablets in
     let marks = c.in_ok-marks.marks in
     let found = c.deref.ensures.value ∙ c.in_ok-operations.ensures in
-    let accepted = c.in_ok-marks.ensures.ok in
+    let accepted = themselves inside.marks deliveries ∙ c.in_ok-marks.ensures.ok in
     let same = with_items_is inside.tablets us (omega (arith, c.take_joins.auto.tablets, c.as_mut_slice-tablets.ensures.len)) in
     err_as old c.args.self.now.state deliveries c.from_residual-in_err-lists.result _ (ap (λ (r : LoggedRegion). r.state) c.self.view_is)
     (handed_on c.from_residual-in_err-lists.result Memory _ c.from_residual-in_err-lists.ensures.1
@@ -107,7 +108,7 @@ returns-clause-ok g c =
     let us = c.take_joins.new.tablets in
     let marks = c.in_ok-marks.marks in
     let found = c.deref.ensures.value ∙ c.in_ok-operations.ensures in
-    let accepted = c.in_ok-marks.ensures.ok in
+    let accepted = themselves inside.marks deliveries ∙ c.in_ok-marks.ensures.ok in
     let same = with_items_is inside.tablets us (omega (arith, c.take_joins.auto.tablets, c.as_mut_slice-tablets.ensures.len)) in
     let taken = same ∙ all_found _ deliveries c.self.invariant.is_region marks c.as_mut_slice-tablets.result.now us c.deref.result.now c.as_mut_slice-tablets.ensures.value found c.in_ok-lists.ensures.ok in
     ap (λ (r : RegionValue). round r deliveries) (sym (ap (λ (r : LoggedRegion). r.state) c.self.view_is))
