@@ -142,7 +142,14 @@ fn unread<'w>(alloc: Global) -> Arg<'w>
     ensures rule { rule_of result ≡ unread_option }
     ensures local { result.global ≡ false }
 {
-    number(alloc, "unread", "BYTES", "64000000", MAX_UNREAD, UNREAD_HELP)
+    number(
+        alloc,
+        "unread",
+        "BYTES",
+        "64000000",
+        MAX_UNREAD,
+        UNREAD_HELP,
+    )
 }
 
 // A command over a region, with its bounds and workers.

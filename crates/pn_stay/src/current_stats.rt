@@ -4,7 +4,9 @@ use crate::counters::{Counters, StreamCounters};
 use crate::socket::Socket;
 use crate::streams::status::StreamStatus;
 use pn_join::NoMemory;
-use pn_protocol::{ConnectionStats, LineCounts, LineStats, Stats, StreamStats, TabletStats, UnreadStats};
+use pn_protocol::{
+    ConnectionStats, LineCounts, LineStats, Stats, StreamStats, TabletStats, UnreadStats,
+};
 use pn_serve::{StatsSource, VERSION};
 use std::alloc::{AllocError, Global};
 use std::sync::Wait;

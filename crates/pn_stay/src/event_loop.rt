@@ -1,12 +1,13 @@
 //! The event loop of a session thread: its connections have their turns one after another.
 
-ghost use Rattle.std.specs.Prelude.{◌≡◌, ◌≢◌, ◌+◌, ◌↔◌, ℕ, None, OnErr, OnOk, IsTrue, vec_len};
+ghost use Rattle.std.specs.Prelude.{◌≡◌, ◌+◌, ℕ, None, OnErr, OnOk, vec_len};
 ghost use Rattle.pn_serve.specs.Session.Knowing.{KnowsNoLess};
-ghost use Rattle.pn_stay.specs.Loops.{ending_at, idle_at, quarter_later, EndsQuarter, IsIdleFor};
+ghost use Rattle.pn_stay.specs.Loops.{ending_at, idle_at};
 ghost use Rattle.pn_stay.specs.Unread.{unread_at};
 ghost use Rattle.slab.specs.Slab.{slab_len, Updates};
 
 mod ending;
+mod idle;
 mod unread;
 
 use crate::connection::Connection;
@@ -207,34 +208,6 @@ impl EventLoop {
         self.lingering.close(rt);
     }
 
-    // Four times a second ends the connections whose clients are idle for too long.
-    fn end_idle<R: Wait>(&mut self, rt: &R, mailbox: &SocketMailbox) {
-        let Some(idle) = self.idle else { return };
-        if mailbox.take_quarter(rt) {
-            self.end_quarter(rt, mailbox, idle);
-        }
-    }
-
-    // A quarter of a second is over for each connection.
-    fn end_quarter<R: Wait>(&mut self, rt: &R, mailbox: &SocketMailbox, idle: u32)
-        ensures { (key : ℕ) → EndsQuarter idle (idle_at self.old.connections key) (idle_at self.new.connections key) }
-    {
-        'quarters: for key in 0..self.connections.capacity() {
-            self.end_quarter_at(rt, mailbox, key, idle);
-        }
-    }
-
-    // A quarter of a second is over for the connection of a key, which ends where its client is idle for too long.
-    fn end_quarter_at<R: Wait>(&mut self, rt: &R, mailbox: &SocketMailbox, key: usize, idle: u32)
-        ensures here { EndsQuarter idle (idle_at self.old.connections key) (idle_at self.new.connections key) }
-        ensures others { (other : ℕ) → other ≢ key → idle_at self.new.connections other ≡ idle_at self.old.connections other }
-    {
-        if age(&mut self.connections, key, idle) {
-            self.counters.connections.idle.add(1);
-            self.remove(rt, mailbox, key);
-        }
-    }
-
     // Gives each connection that is ready one turn, while the thread is to answer.
     fn take_turns<R: Wait>(&mut self, rt: &R, mailbox: &SocketMailbox, reader: &mut CountingReader)
         ensures knows { KnowsNoLess reader.old reader.new }
@@ -267,26 +240,15 @@ impl EventLoop {
             Some(connection) => {
                 let before = connection.unread_weight();
                 let next = connection.turn(&mut self.buffers, reader, &mut self.counted);
-                self.counters.unread.replace(before, connection.unread_weight());
+                self.counters
+                    .unread
+                    .replace(before, connection.unread_weight());
                 self.quarters.run_if(connection.unread.is_some());
                 next
             }
             None => Some(Pause::Input),
         }
     }
-}
-
-// Makes the connection of a key a quarter of a second older. Whether its client is idle for too long.
-fn age(connections: &mut Slab<Connection>, key: usize, idle: u32) -> bool
-    ensures over { IsTrue result ↔ IsIdleFor idle (idle_at connections.new key) }
-    ensures here { idle_at connections.new key ≡ quarter_later (idle_at connections.old key) }
-    ensures others { (other : ℕ) → other ≢ key → idle_at connections.new other ≡ idle_at connections.old other }
-{
-    let Some(connection) = connections.get_mut(key) else {
-        return false;
-    };
-    connection.idle.end_quarter();
-    connection.idle.is_over(idle)
 }
 
 // Puts a connection among those that are ready, where there is memory for its key.

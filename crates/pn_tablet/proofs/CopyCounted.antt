@@ -130,9 +130,11 @@ counted_within cells rest entry was counted left =
 pub counted_all : (cells : Entries) (counted : LineCount) → IsCountedIn cells counted → length cells ≤ counted.records → (counted.images ≡ length (spell cells)) × (counted.form ≡ form_of (spell cells)) × (counted.weight ≡ entries_weight cells)
 counted_all cells counted is over =
     let all = take_all counted.records cells over in
-    let none : drop counted.records cells ≡ [] = drop_all counted.records cells over in
-    (is.images_are ∙ ap (λ (l : Entries). length (spell l)) all, is.form_is ∙ ap (λ (l : Entries). form_of (spell l)) all,
-    omega (arith, is.weight_is, is.weight_fits, ap (λ (l : Entries). sum_by record_weight l) none))
+    let none : drop counted.records cells ≡ [] = drop_all counted.records cells over in (
+      is.images_are ∙ ap (λ (l : Entries). length (spell l)) all,
+      is.form_is ∙ ap (λ (l : Entries). form_of (spell l)) all,
+      omega (arith, is.weight_is, is.weight_fits, ap (λ (l : Entries). sum_by record_weight l) none),
+    )
 
 -- ---- what counting comes to
 
