@@ -201,9 +201,10 @@ fn answer<R: Threads + Wait + Clock>(
     let mut written = Vec::new(alloc);
     let mut input = InMemory::new(lines.as_bytes());
     if let Ok(mut buffers) = LineBuffers::new(alloc) {
-        let _ = session.answer(rt, &mut buffers, reader, &mut input, &mut written);
+        let (reader, _) = session.answer(rt, &mut buffers, reader, &mut input, &mut written);
+        let mut stop = InMemory::new(STOP);
+        let _ = session.answer(rt, &mut buffers, reader, &mut stop, &mut Vec::new(alloc));
     }
-    session.mailboxes.stop(rt, 0);
     written
 }
 
