@@ -35,13 +35,13 @@ use pn_serve::{
 };
 use pn_tablet::Layout;
 use std::alloc::{AllocError, Global};
+use std::io;
 use std::io::ErrorKind;
 use std::marker::Model;
 use std::net::Net;
 use std::sync::{Arc, Wait};
 use std::thread::Threads;
 use std::time::Clock;
-use std::io;
 
 /// A live region and the threads that answer connections from it.
 pub struct StayingServer {

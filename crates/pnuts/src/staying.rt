@@ -12,15 +12,14 @@ use pn_stay::{
     ServerEnd, ServerSizes, SocketAcceptor, SocketFile, StayingServer, message_prefix,
     remove_sockets,
 };
-use std::io;
 use std::io::ErrorKind;
-use std::mem;
 use std::net::Net;
 use std::process::ExitCode;
 use std::rt::Files;
 use std::sync::{Arc, Wait};
 use std::thread::Threads;
 use std::time::Clock;
+use std::{io, mem};
 
 /// Begins to answer connections: from the region that is open, or else from a new one.
 pub(crate) fn start_server<R>(

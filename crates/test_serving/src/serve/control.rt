@@ -23,6 +23,9 @@ use test_kit::{bars, layout, newlines, spell_out};
 /// How many workers read the lines of a copy.
 const WORKERS: usize = 4;
 
+/// The line that stops the writer.
+const STOP: &[u8] = b"{\"do\":\"stop\",\"seconds\":0}\n";
+
 /// Says what a server may have done.
 #[derive(Drop)]
 struct SomeStats;
