@@ -142,6 +142,7 @@ impl StayingServer {
     /// for the threads that answer connections.
     pub fn wait<R: Threads + Wait + Clock>(self, rt: &R, alloc: Global) -> ServerEnd
         ensures stop { is_some result.stop ≡ self.controlled }
+        ensures alone { self.controlled ≡ false → Leaves self.live result.region }
         ensures region { LeavesAfter self.live result.region }
     {
         let mut server = self;
