@@ -2,5 +2,6 @@ pub mod Buffers
 pub mod Crossing
 pub mod Endings
 pub mod Held
+pub mod MessageSteps
 pub mod Pieces
 pub mod Quarters
