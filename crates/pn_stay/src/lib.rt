@@ -46,10 +46,15 @@ pub use server::starting::ServerSizes;
 pub use server::{ServerEnd, StayingServer};
 pub use shared::share;
 pub use socket_file::{ListenFault, OWNER_ALONE, SocketFile, format_lock, remove_sockets};
+pub use streams::broker::BrokerListener;
 pub use streams::files::{FileSource, OpenedFiles, StreamOpenFault, open_files};
-pub use streams::input::{StreamInput, StreamSource};
+pub use streams::input::{SocketInput, StreamInput, StreamSource};
 pub use streams::listener::StreamListener;
+pub use streams::message_input::{MessageInput, NewestListener};
 pub use streams::opening::{OpenedStreams, StreamSetting, open_origins};
 pub use streams::origin::StreamOrigin;
+pub use streams::remarks::{
+    MAX_IDENTITY_BYTES, RemarkFault, format_other_stream, read_newest, read_stream,
+};
 pub use streams::status::StreamStatus;
 pub use streams::writer::WriterSocket;
