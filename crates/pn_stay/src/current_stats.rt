@@ -90,6 +90,9 @@ fn stats_of<R: Wait + Clock>(
         state: status.state,
         since: seconds_since(rt, &status.came),
         fault: status.fault,
+        stream: status.stream,
+        newest: status.broker.map(|broker| broker.newest),
+        heard: seconds_since(rt, &status.broker.and_then(|broker| broker.heard)),
     })
 }
 

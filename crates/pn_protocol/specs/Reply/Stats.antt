@@ -1,5 +1,6 @@
 -- The reply to `stats`.
-use Rattle.std.specs.Prelude.{ℕ, List, map, codes, Option, Some, None, string_bytes}
+use Rattle.std.specs.Prelude.{ℕ, List, map, codes, Option, Some, None, String, string_bytes}
+use Rattle.std.specs.declared.alloc.Global.{Global}
 use Rattle.serde_json.specs.Data.{Data, null, number, string, array, object, unsigned, Members, no_members, member}
 use Rattle.serde_json.specs.View.{items_of}
 use Rattle.pn_protocol.specs.Reply.LineStats.{count, lines_data}
@@ -24,6 +25,11 @@ abbrev pub number_or_null : Option ℕ → Data
 number_or_null None = null
 number_or_null (Some value) = number (unsigned value)
 
+-- a text, or null where there is none
+abbrev pub text_or_null : Option (String Global) → Data
+text_or_null None = null
+text_or_null (Some text) = string (string_bytes text)
+
 -- the line of a fault, or null where there was none
 abbrev pub fault_line : Option StreamFaultStats → Data
 fault_line None = null
@@ -46,14 +52,17 @@ connections_data connections =
 unfoldable pub stream_data : StreamStats → Data
 stream_data stream =
     object (count (codes "bytes") stream.bytes
+    (member (codes "heard") (number_or_null stream.heard)
     (member (codes "line") (fault_line stream.fault)
     (count (codes "messages") stream.messages
     (member (codes "name") (string stream.name)
+    (member (codes "newest") (number_or_null stream.newest)
     (member (codes "path") (string (string_bytes stream.path))
     (count (codes "position") stream.position
     (member (codes "reason") (fault_reason stream.fault)
     (member (codes "since") (number_or_null stream.since)
-    (member (codes "state") (string (state_word stream.state)) no_members)))))))))
+    (member (codes "state") (string (state_word stream.state))
+    (member (codes "stream") (text_or_null stream.stream) no_members))))))))))))
 
 -- the records of a tablet
 unfoldable pub tablet_data : TabletStats → Data

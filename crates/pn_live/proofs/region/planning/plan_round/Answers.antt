@@ -12,4 +12,4 @@ returns-clause-changes g c =
     let slots = c.as_mut_slice-slots.result.now in
     let operations = c.args.operations.now in
     all_told slots operations c.in_ok-lists.lists.items c.in_ok-lists.ensures.changes
-    ∙ ap (λ (ts : List TabletStateValue). flat_map (λ (list : List Change). list) (all_changes ts operations)) (c.as_mut_slice-slots.ensures.value ∙ c.in_ok-nexts.ensures.states)
+    ∙ ap (λ (ts : List TabletStateValue). flat_map (λ (list : List Change). list) (all_changes ts operations)) (c.as_mut_slice-slots.ensures.value ∙ c.in_ok-drafts.ensures.drafts)
