@@ -5,7 +5,8 @@ use Rattle.std.proofs.lemmas.Bool.{cases_lt}
 use Rattle.std.proofs.lemmas.List.{get_or_past}
 use Rattle.std.specs.Option.{option_map}
 use Rattle.slab.specs.Slab.{Slab}
-use Rattle.pn_stay.specs.Unread.{EndsDeaf, UnreadValue, aged, is_deaf, quiet_at, quiet_in, unread_at, unread_in}
+use Rattle.pn_stay.specs.Unread.{EndsDeaf, UnreadValue, aged, is_deaf}
+use Rattle.pn_stay.specs.UnreadClients.{unread_at, unread_in}
 use Rattle.pn_stay.specs.declared.connection.Connection.{Connection}
 
 -- a key past the slots has no client
