@@ -16,6 +16,9 @@ unread_past connections key past = ap unread_in (get_or_past connections.slots k
 pub deaf_none : (before after : Option UnreadValue) → before ≡ None → after ≡ before → EndsDeaf before after
 deaf_none before after none same = subst (λ (b : Option UnreadValue). EndsDeaf b after) (sym none) (same ∙ none)
 
+pub same_told : {a b : Bool} → Some a ≡ Some b → a ≡ b
+same_told is = cc
+
 not_true : (b : Bool) → ¬ (b ≡ true) → b ≡ false
 not_true true no = absurd (no refl)
 not_true false no = refl
