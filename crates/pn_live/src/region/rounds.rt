@@ -16,11 +16,10 @@ use crate::front::{Front, TabletNote};
 use crate::publication_order::PublicationOrder;
 use crate::published_tablet::PublishedTablet;
 use pn_apply::{Gate, Share, reduce, shares_of};
-use pn_join::{Marks, NoMemory};
+use pn_join::Marks;
 use pn_region::{Round, RoundFault, check_marks, next_marks};
 use pn_stream::Delivery;
 use pn_tablet::{Change, TabletOp, TabletState};
-use std::alloc::Global;
 use std::sync::Wait;
 use std::thread::Threads;
 
@@ -52,26 +51,34 @@ impl LiveRegion {
         ensures fits { IfOk result (λ done. AreNotesOf (tablets_in self.old) done.1) }
         ensures same { tablets_in self.new ≡ tablets_in self.old }
     {
-        check_marks(self.marks(), &deliveries)?;
-        match shares_of(self.alloc(), deliveries) {
+        match self.shares_for(deliveries) {
             Ok(shares) => self.join_shares(rt, &shares, workers, gate),
-            Err(NoMemory) => Err(self.break_off()),
+            Err(fault) => Err(self.refuse(fault)),
         }
     }
 
-    // Where rounds take memory.
-    fn alloc(&self) -> Global {
-        self.alloc
+    // What deliveries bring, if marks and memory allow it. Nothing is begun.
+    fn shares_for(&self, deliveries: Vec<Delivery>) -> Result<Vec<Share>, RoundFault>
+        ensures shares { IfOk result (λ shares. shares.items ≡ deliveries.items) }
+        ensures refused { IfErr result (λ fault. Refuses is_memory fault (round (core self.now) deliveries.items)) }
+        ensures region { IsRegion (core self.now) }
+    {
+        check_marks(&self.marks, &deliveries)?;
+        Ok(shares_of(self.alloc, deliveries)?)
     }
 
-    // Breaks the log off, where memory ran out before a round. The tablets stay.
-    fn break_off(&mut self) -> RoundFault
-        ensures fault { result ≡ RoundFault.Memory }
-        ensures kept { self.new ≡ record self.old { log = refused_log self.old.log RoundFault.Memory } }
-        ensures region { IsRegion (core self.old) }
+    // Breaks the log off, where memory ran out. The tablets stay.
+    fn refuse(&mut self, fault: RoundFault) -> RoundFault
+        ensures fault { result ≡ fault }
+        ensures kept { self.new ≡ record self.old { log = refused_log self.old.log fault } }
     {
-        self.log.cut();
-        RoundFault::Memory
+        match fault {
+            RoundFault::Memory => {
+                self.log.cut();
+                RoundFault::Memory
+            }
+            fault => fault,
+        }
     }
 
     /// Takes what deliveries bring, as `round` takes deliveries. After `Memory` the same shares can be taken again.

@@ -19,7 +19,8 @@ use std::alloc::Global;
 use std::sync::Wait;
 use std::thread::Threads;
 
-/// Runs one round of an input. Gives it back where memory ran out, if that is waited for.
+/// Runs one round of an input, with the cells for which there is memory now. Gives it back where memory ran out, if that is
+/// waited for.
 pub(crate) fn run_input<R: Threads + Wait + Sync>(
     rt: &R,
     alloc: Global,
@@ -30,12 +31,47 @@ pub(crate) fn run_input<R: Threads + Wait + Sync>(
 ) -> Result<Option<RoundInput>, ServeFault>
     requires workers { (1 ≤ workers) × (workers ≤ MAX_WORKERS) }
     requires continues { All (Continues live.old.marks) input.deliveries.items }
-    ensures runs { RunsInput at_fault input live.old live.new result }
+    ensures runs { RunsInput at_fault (value_of input) live.old live.new result }
     ensures continues { IfOk result (λ back. IfSome back (λ input. All (Continues live.new.marks) input.deliveries.items)) }
     ensures same { tablets_in live.new ≡ tablets_in live.old }
 {
-    let mut input = input;
-    finish_shares(alloc, &mut input.deliveries);
+    run_finished(rt, live, workers, at_fault, finish_cells(alloc, input))
+}
+
+// Makes the cells for which memory ran out, as far as there is memory now.
+fn finish_cells(alloc: Global, input: RoundInput) -> RoundInput
+    ensures { value_of result ≡ value_of input }
+{
+    let RoundInput {
+        mut deliveries,
+        fault,
+    } = input;
+    finish_shares(alloc, deliveries.as_mut_slice());
+    RoundInput { deliveries, fault }
+}
+
+fn finish_shares(alloc: Global, shares: &mut [Share])
+    ensures { shares.new ≡ shares.old }
+{
+    for index in 0..shares.len() {
+        let _ = shares[index].finish(alloc);
+    }
+}
+
+// Runs one round of an input, whose cells are made as far as there was memory.
+fn run_finished<R: Threads + Wait + Sync>(
+    rt: &R,
+    live: &mut LiveRegion,
+    workers: usize,
+    at_fault: AtFault,
+    input: RoundInput,
+) -> Result<Option<RoundInput>, ServeFault>
+    requires workers { (1 ≤ workers) × (workers ≤ MAX_WORKERS) }
+    requires continues { All (Continues live.old.marks) input.deliveries.items }
+    ensures runs { RunsInput at_fault (value_of input) live.old live.new result }
+    ensures continues { IfOk result (λ back. IfSome back (λ input. All (Continues live.new.marks) input.deliveries.items)) }
+    ensures same { tablets_in live.new ≡ tablets_in live.old }
+{
     match at_fault {
         AtFault::Stop => {
             run_round(rt, live, workers, input)?;
@@ -48,15 +84,6 @@ pub(crate) fn run_input<R: Threads + Wait + Sync>(
                 Ok(Some(input))
             }
         }
-    }
-}
-
-// Makes the cells for which memory ran out, as far as there is memory now.
-fn finish_shares(alloc: Global, shares: &mut Vec<Share>)
-    ensures { shares.new.items ≡ shares.old.items }
-{
-    for index in 0..shares.len() {
-        let _ = shares[index].finish(alloc);
     }
 }
 
