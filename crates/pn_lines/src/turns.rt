@@ -1,6 +1,9 @@
 //! The driver that takes turns: it reads what is at hand, has lines answered, writes what is taken, and never waits.
 
-ghost use Rattle.std.specs.Prelude.{◌≡◌, ◌⊎◌, []};
+ghost use Rattle.std.specs.Prelude.{◌≡◌, ◌⊎◌, ◌<◌, [], true, IfNone, IfSome};
+ghost use Rattle.pn_lines.specs.Engines.{is_going as goes_on};
+ghost use Rattle.pn_lines.specs.Progress.{going_left};
+ghost use Rattle.pn_lines.specs.Standing.{StandsStill};
 ghost use Rattle.pn_lines.specs.TurnStates.{new_turns, outcome_of as comes_to};
 ghost use Rattle.pn_lines.specs.Turns.{Turned, at};
 
@@ -114,10 +117,26 @@ impl<G: Drop, T: PieceText> LineTurns<G, T> {
         self.engine.counts()
     }
 
+    /// The text of a reply of which some is still to be made.
+    pub fn unmade(&self) -> Option<&T>
+        ensures some { IfSome result (λ text. T.unmade text.now ≡ self.now.engine.left) }
+        ensures none { IfNone result (self.now.engine.left ≡ []) }
+    {
+        self.engine.unmade()
+    }
+
+    /// Whether an answer is gone on with.
+    pub fn is_going(&self) -> bool
+        ensures { result ≡ goes_on self.now.engine.stage }
+    {
+        self.engine.is_going()
+    }
+
     /// One turn: goes on where the last one stopped, with a bounded number of bytes that are read, taken, made and written, and a
     /// bounded number of units of work.
     ///
-    /// Where the sink leaves replies nothing is read and nothing is answered.
+    /// Where the sink leaves replies nothing is read and no line is begun. An answer that was begun is gone on with, so that what
+    /// waits for the sink is text.
     pub fn turn<M: RefusesLong<Going = G, Text = T>, R: Input, W: Sink>(
         &mut self,
         buffers: &mut TurnBuffers,
@@ -134,8 +153,26 @@ impl<G: Drop, T: PieceText> LineTurns<G, T> {
     {
         match send(&mut self.replies, output) {
             Sent::All => self.work_and_send(buffers, machine, input, output),
-            Sent::Waits => TurnOutcome::Goes(Pause::Output),
+            Sent::Waits => {
+                self.look_on(machine);
+                TurnOutcome::Goes(Pause::Output)
+            }
             Sent::Fails => TurnOutcome::Failed(TurnFault::Write),
+        }
+    }
+
+    // Goes on with an answer that was begun.
+    fn look_on<M: RefusesLong<Going = G, Text = T>>(&mut self, machine: &mut M)
+        requires ready { M.ready }
+        ensures stands { StandsStill M.handling machine.old self.old.engine machine.new self.new.engine }
+        ensures nearer { self.old.engine.left ≡ [] → goes_on self.old.engine.stage ≡ true
+            → going_left M.left self.new.engine.stage < going_left M.left self.old.engine.stage }
+        ensures lines { self.new.engine.counts.lines ≡ self.old.engine.counts.lines }
+        ensures others { self.new ≡ record self.old { engine = self.new.engine } }
+        ensures kept { M.keeps machine.old machine.new }
+    {
+        if !self.engine.has_text() {
+            let _ = self.engine.resume(machine, TURN_UNITS);
         }
     }
 

@@ -1,9 +1,9 @@
 //! How the parts of an engine's state change.
 
 ghost use Rattle.std.specs.Prelude.{◌≡◌, ◌≢◌, ◌+◌, ◌≤◌, ◌<◌, ◌↔◌, ◌-◌, ◌^◌};
-ghost use Rattle.std.specs.Prelude.{IsFalse, IsTrue, [], length, max, min, vec_len, vec_capacity};
+ghost use Rattle.std.specs.Prelude.{IfNone, IfSome, IsFalse, IsTrue, [], length, max, min, vec_len, vec_capacity};
 ghost use Rattle.pn_lines.specs.Answers.{answer_of};
-ghost use Rattle.pn_lines.specs.Engines.{after_answer, dropping, stage_after as next_stage, with_lines};
+ghost use Rattle.pn_lines.specs.Engines.{after_answer, dropping, is_going as goes_on, stage_after as next_stage, with_lines};
 ghost use Rattle.pn_lines.specs.Giving.{Gives};
 ghost use Rattle.pn_lines.specs.declared.engine.TheConstants.{BLOCK_BYTES};
 ghost use Rattle.pn_lines.specs.Replies.{one_if};
@@ -67,6 +67,24 @@ impl<G: Drop, T: PieceText> LineEngine<G, T> {
         self.stage = stage_after(ended);
     }
 
+    /// The text of a reply of which some is still to be made.
+    pub(crate) fn unmade(&self) -> Option<&T>
+        ensures some { IfSome result (λ text. T.unmade text.now ≡ self.now.left) }
+        ensures none { IfNone result (self.now.left ≡ []) }
+    {
+        self.text.as_ref()
+    }
+
+    /// Whether an answer is gone on with.
+    pub(crate) fn is_going(&self) -> bool
+        ensures { result ≡ goes_on self.now.stage }
+    {
+        match &self.stage {
+            Stage::Going(_, _) => true,
+            Stage::Reading(_) | Stage::Ended(_) => false,
+        }
+    }
+
     /// Whether text of a reply is still to be made.
     pub(crate) fn has_text(&self) -> bool
         ensures some { IsTrue result → self.now.left ≢ [] }
@@ -78,7 +96,8 @@ impl<G: Drop, T: PieceText> LineEngine<G, T> {
         }
     }
 
-    /// Makes text while there is room for a piece, of a block and less than a piece at most.
+    /// Makes text while there is room for a piece, of a block and less than a piece at most. What it was made of is dropped once all
+    /// is made.
     pub(crate) fn make_text(&mut self, replies: &mut Vec<u8>)
         ensures gives { Gives self.old.left self.new.left replies.old replies.new }
         ensures others { self.new ≡ record self.old { left = self.new.left } }
@@ -88,6 +107,9 @@ impl<G: Drop, T: PieceText> LineEngine<G, T> {
     {
         let Some(text) = &mut self.text else { return };
         fill(text, replies);
+        if text.is_made() {
+            self.text = None;
+        }
     }
 }
 

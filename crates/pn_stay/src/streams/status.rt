@@ -1,6 +1,6 @@
 //! The status of a stream: its state, when its last message came, and its last fault.
 
-ghost use Rattle.std.specs.Prelude.{◌≡◌, None, Some, string_bytes, IfOk};
+ghost use Rattle.std.specs.Prelude.{◌≡◌, None, Some, option_map, string_bytes, IfOk};
 
 use pn_protocol::{StreamFaultStats, StreamState};
 use std::alloc::{AllocError, Global};
@@ -21,6 +21,17 @@ struct StatusNow {
     // When the last message came.
     came: Option<Instant>,
     fault: Option<StreamFaultStats>,
+    // Whose stream it is, if a writer said so.
+    stream: Option<String>,
+    // What a writer said last of its broker.
+    broker: Option<BrokerStatus>,
+}
+
+/// How far a broker is, as a writer said, and when that was.
+#[derive(Clone, Copy, Debug)]
+pub(crate) struct BrokerStatus {
+    pub(crate) newest: u64,
+    pub(crate) heard: Option<Instant>,
 }
 
 /// The status of a stream at one moment.
@@ -30,6 +41,8 @@ pub(crate) struct StatusThen {
     pub(crate) state: StreamState,
     pub(crate) came: Option<Instant>,
     pub(crate) fault: Option<StreamFaultStats>,
+    pub(crate) stream: Option<String>,
+    pub(crate) broker: Option<BrokerStatus>,
 }
 
 impl StreamStatus {
@@ -57,6 +70,17 @@ impl StreamStatus {
         self.now.lock(rt).fail(fault);
     }
 
+    /// Notes whose stream it is.
+    pub(crate) fn note_stream<R: Wait>(&self, rt: &R, stream: String) {
+        self.now.lock(rt).stream = Some(stream);
+    }
+
+    /// Notes the broker's newest position, which a writer says now.
+    pub(crate) fn note_newest<R: Wait + Clock>(&self, rt: &R, newest: u64) {
+        let heard = Instant::now(rt).ok();
+        self.now.lock(rt).broker = Some(BrokerStatus { newest, heard });
+    }
+
     /// Whether a writer is read.
     pub(crate) fn is_open<R: Wait>(&self, rt: &R) -> bool {
         self.now.lock(rt).state == StreamState::Open
@@ -67,11 +91,14 @@ impl StreamStatus {
         let path = String::from_str(alloc, self.path.as_str())?;
         let now = self.now.lock(rt);
         let fault = copy_last(alloc, &now.fault)?;
+        let stream = copy_text(alloc, &now.stream)?;
         Ok(StatusThen {
             path,
             state: now.state,
             came: now.came,
             fault,
+            stream,
+            broker: now.broker,
         })
     }
 }
@@ -82,11 +109,15 @@ impl StatusNow {
         ensures state { result.state ≡ StreamState.Waiting }
         ensures came { result.came ≡ None }
         ensures fault { result.fault ≡ None }
+        ensures stream { result.stream ≡ None }
+        ensures broker { result.broker ≡ None }
     {
         StatusNow {
             state: StreamState::Waiting,
             came: None,
             fault: None,
+            stream: None,
+            broker: None,
         }
     }
 
@@ -95,9 +126,21 @@ impl StatusNow {
         ensures state { self.new.state ≡ StreamState.Failed }
         ensures fault { self.new.fault ≡ Some fault }
         ensures came { self.new.came ≡ self.old.came }
+        ensures stream { self.new.stream ≡ self.old.stream }
+        ensures broker { self.new.broker ≡ self.old.broker }
     {
         self.state = StreamState::Failed;
         self.fault = Some(fault);
+    }
+}
+
+// A copy of a text, if there is one.
+fn copy_text(alloc: Global, text: &Option<String>) -> Result<Option<String>, AllocError>
+    ensures { IfOk result (λ copy. option_map string_bytes copy ≡ option_map string_bytes text.now) }
+{
+    match text {
+        Some(text) => Ok(Some(String::from_str(alloc, text.as_str())?)),
+        None => Ok(None),
     }
 }
 

@@ -10,6 +10,11 @@ new-requires-clause-form c =
     let over : length c.args.copy.cells ≤ c.args.counted.records = omega (arith, c.len.ensures.count, ap (λ (copy : TabletCopyValue). length copy.cells) c.copy.view_is) in
     (counted_all c.args.copy.cells c.args.counted c.requires over).1
 
+pub new-requires-clause-weight : goal.new-requires-clause-weight
+new-requires-clause-weight c =
+    let over : length c.args.copy.cells ≤ c.args.counted.records = omega (arith, c.len.ensures.count, ap (λ (copy : TabletCopyValue). length copy.cells) c.copy.view_is) in
+    (counted_all c.args.copy.cells c.args.counted c.requires over).2
+
 pub returns-in-Ok : goal.returns-in-Ok
 returns-in-Ok c =
     let over : length c.args.copy.cells ≤ c.args.counted.records = omega (arith, c.len.ensures.count, ap (λ (copy : TabletCopyValue). length copy.cells) c.copy.view_is) in

@@ -15,7 +15,7 @@ pub invariant_of-self-2 : goal.invariant_of-self-2
 invariant_of-self-2 c =
     let joins = c.in_ok-join_and_count.ensures in
     let same : same_range c.self.inside.range c.copy.inside.range ≡ true =
-      (λ i. same_range (c.self.view_is i).range (c.copy.view_is i).range) ∙ (adopted_copy c.args.self.now c.args.copy.now c.in_default.ensures).0 in
+    (λ i. same_range (c.self.view_is i).range (c.copy.view_is i).range) ∙ (adopted_copy c.args.self.now c.args.copy.now c.in_default.ensures).0 in
     kept c.self.invariant
     (subst (λ range. lie_in range c.copy.inside.cells ≡ true) (sym (one_range c.self.inside.range c.copy.inside.range same)) c.copy.invariant.inside)
     (record { rises = joins.rising.1; rising = joins.rising.0; joined = joins.joined })

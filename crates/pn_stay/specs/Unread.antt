@@ -1,0 +1,65 @@
+-- What a client has not taken of its replies, and which clients are ended for it.
+use Rattle.std.specs.Prelude.{◌≡◌, ◌≤◌, ℕ, zero, suc, Bool, ◌||◌, nat_le, true, Option, None, Some}
+use Rattle.slab.specs.Slab.{Slab, get}
+use Rattle.pn_stay.specs.IdleTimeouts.{IdleTimeoutValue, after_quarter, new_idle_timeout}
+use Rattle.pn_stay.specs.declared.connection.Connection.{Connection}
+use Rattle.pn_stay.specs.declared.unread.TheConstants.{DEAF_QUARTERS, QUIET_QUARTERS}
+
+-- for how long the client takes no byte, and what the records weigh that its reply keeps
+pub record UnreadValue : Type 0 where
+  pub quiet : IdleTimeoutValue
+  pub weight : ℕ
+
+-- replies begin to wait for a client
+abbrev pub new_unread : ℕ → UnreadValue
+new_unread weight = record { quiet = new_idle_timeout; weight = weight }
+
+-- after a turn in which the client took a byte, or none
+abbrev pub after_turn : Bool → ℕ → UnreadValue → UnreadValue
+after_turn taken weight unread = record { quiet = record unread.quiet { has_moved = unread.quiet.has_moved || taken }; weight = weight }
+
+-- once a quarter of a second more is over
+abbrev pub aged : UnreadValue → UnreadValue
+aged unread = record unread { quiet = after_quarter unread.quiet }
+
+-- the client took no byte for half a minute
+abbrev pub is_deaf : UnreadValue → Bool
+is_deaf unread = nat_le DEAF_QUARTERS unread.quiet.quarters
+
+-- for how many quarters of a second a client took no byte, where its reply weighs something
+abbrev pub quiet_by : ℕ → IdleTimeoutValue → ℕ
+quiet_by zero quiet = 0
+quiet_by (suc weight) quiet = quiet.quarters
+
+abbrev pub quiet_of : UnreadValue → ℕ
+quiet_of unread = quiet_by unread.weight unread.quiet
+
+-- the limit is passed, and the client took no byte for longest, and for a second at least
+abbrev pub IsEnded : ℕ → ℕ → Bool → Type 0
+IsEnded quarters longest past = (past ≡ true) × (quarters ≡ longest) × (QUIET_QUARTERS ≤ longest)
+
+-- what the records weigh that a reply keeps, if one waits
+abbrev pub weight_in : Option UnreadValue → ℕ
+weight_in None = 0
+weight_in (Some unread) = unread.weight
+
+-- what the client of a key has not taken, if there is one and replies wait for it
+abbrev pub unread_in : Option Connection → Option UnreadValue
+unread_in None = None
+unread_in (Some connection) = connection.unread
+
+abbrev pub unread_at : Slab Connection → ℕ → Option UnreadValue
+unread_at connections key = unread_in (get connections key)
+
+-- for how many quarters the client of a key took no byte, where its reply weighs something
+abbrev pub quiet_in : Option UnreadValue → ℕ
+quiet_in None = 0
+quiet_in (Some unread) = quiet_of unread
+
+abbrev pub quiet_at : Slab Connection → ℕ → ℕ
+quiet_at connections key = quiet_in (unread_at connections key)
+
+-- as a quarter ends, a client that is deaf then is dropped, and another is a quarter older
+abbrev pub EndsDeaf : Option UnreadValue → Option UnreadValue → Type 0
+EndsDeaf None after = after ≡ None
+EndsDeaf (Some unread) after = (is_deaf (aged unread) ≡ true → after ≡ None) × (¬ (is_deaf (aged unread) ≡ true) → after ≡ Some (aged unread))
