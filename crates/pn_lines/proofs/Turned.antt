@@ -72,14 +72,13 @@ module _ {V G : Type 0} (handling : Handling V G) (left : G → ℕ) where
   Turned-sent known before between machine shown old new waits result same takes all is =
       subst (λ (k : TurnValue G). Turned handling left (at known before machine k) new result) same (Turned-after handling left (at known before machine shown) new between waits result takes all is)
 
-  -- the same where an answer was gone on with
-  pub Turned-going : (known before after : Option (List ℕ)) (machine now : V) (shown old kept : TurnValue G) (waits : List ℕ) → shown ≡ old → TakesFirst before after shown.replies waits → waits ≢ []
-      → kept ≡ record shown { engine = kept.engine; replies = waits } → StandsStill handling machine shown.engine now kept.engine → kept.engine.counts.lines ≡ shown.engine.counts.lines
-      → Turned handling left (at known before machine old) (at known after now kept) (outcome.Goes pause.Output)
-  Turned-going known before after machine now shown old kept waits same takes some others still lines =
-      subst (λ (k : TurnValue G). Turned handling left (at known before machine k) (at known after now kept) (outcome.Goes pause.Output)) same
-      (subst (λ (k : TurnValue G). Turned handling left (at known before machine shown) (at known after now k) (outcome.Goes pause.Output)) (sym others)
-      (Turned-looked handling left (at known before machine shown) after waits now kept.engine (outcome.Goes pause.Output) takes still lines some waits_not))
+  -- the same where the sink leaves some of it, and an answer was gone on with
+  pub Turned-going : (known before after : Option (List ℕ)) (machine now : V) (shown old : TurnValue G) (engine : EngineValue G) (waits : List ℕ) → shown ≡ old → TakesFirst before after shown.replies waits → waits ≢ []
+      → StandsStill handling machine shown.engine now engine → engine.counts.lines ≡ shown.engine.counts.lines
+      → Turned handling left (at known before machine old) (at known after now (record shown { engine = engine; replies = waits })) (outcome.Goes pause.Output)
+  Turned-going known before after machine now shown old engine waits same takes some still lines =
+      subst (λ (k : TurnValue G). Turned handling left (at known before machine k) (at known after now (record shown { engine = engine; replies = waits })) (outcome.Goes pause.Output)) same
+      (Turned-looked handling left (at known before machine shown) after waits now engine (outcome.Goes pause.Output) takes still lines some waits_not)
 
   pub Turned-waiting : (known before after : Option (List ℕ)) (machine : V) (shown old : TurnValue G) (waits : List ℕ) (result : TurnOutcome) → shown ≡ old → TakesFirst before after shown.replies waits → Rests (record shown { replies = waits }) result
       → result ≢ outcome.Goes pause.Turn → Turned handling left (at known before machine old) (at known after machine (record shown { replies = waits })) result

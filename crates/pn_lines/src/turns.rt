@@ -1,9 +1,7 @@
 //! The driver that takes turns: it reads what is at hand, has lines answered, writes what is taken, and never waits.
 
-ghost use Rattle.std.specs.Prelude.{◌≡◌, ◌⊎◌, ◌<◌, [], true, IfNone, IfSome};
+ghost use Rattle.std.specs.Prelude.{◌≡◌, ◌⊎◌, [], IfNone, IfSome};
 ghost use Rattle.pn_lines.specs.Engines.{is_going as goes_on};
-ghost use Rattle.pn_lines.specs.Progress.{going_left};
-ghost use Rattle.pn_lines.specs.Standing.{StandsStill};
 ghost use Rattle.pn_lines.specs.TurnStates.{new_turns, outcome_of as comes_to};
 ghost use Rattle.pn_lines.specs.Turns.{Turned, at};
 
@@ -154,25 +152,10 @@ impl<G: Drop, T: PieceText> LineTurns<G, T> {
         match send(&mut self.replies, output) {
             Sent::All => self.work_and_send(buffers, machine, input, output),
             Sent::Waits => {
-                self.look_on(machine);
+                self.engine.go_further(machine, TURN_UNITS);
                 TurnOutcome::Goes(Pause::Output)
             }
             Sent::Fails => TurnOutcome::Failed(TurnFault::Write),
-        }
-    }
-
-    // Goes on with an answer that was begun.
-    fn look_on<M: RefusesLong<Going = G, Text = T>>(&mut self, machine: &mut M)
-        requires ready { M.ready }
-        ensures stands { StandsStill M.handling machine.old self.old.engine machine.new self.new.engine }
-        ensures nearer { self.old.engine.left ≡ [] → goes_on self.old.engine.stage ≡ true
-            → going_left M.left self.new.engine.stage < going_left M.left self.old.engine.stage }
-        ensures lines { self.new.engine.counts.lines ≡ self.old.engine.counts.lines }
-        ensures others { self.new ≡ record self.old { engine = self.new.engine } }
-        ensures kept { M.keeps machine.old machine.new }
-    {
-        if !self.engine.has_text() {
-            let _ = self.engine.resume(machine, TURN_UNITS);
         }
     }
 

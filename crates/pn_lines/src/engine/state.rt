@@ -17,11 +17,13 @@ use crate::piece_text::{MAX_PIECE_BYTES, PieceText};
 use std::mem;
 
 impl<G: Drop, T: PieceText> LineEngine<G, T> {
-    /// What is done next. The engine then reads.
+    /// What is done next. The engine then reads, and keeps nothing of a reply whose text is made.
     pub(super) fn take_stage(&mut self) -> Stage<G>
+        requires made { self.old.left ≡ [] }
         ensures stage { result ≡ self.old.stage }
         ensures reads { self.new ≡ dropping 0 self.old }
     {
+        self.text = None;
         mem::replace(&mut self.stage, Stage::Reading(0))
     }
 
@@ -72,7 +74,10 @@ impl<G: Drop, T: PieceText> LineEngine<G, T> {
         ensures some { IfSome result (λ text. T.unmade text.now ≡ self.now.left) }
         ensures none { IfNone result (self.now.left ≡ []) }
     {
-        self.text.as_ref()
+        match &self.text {
+            Some(text) => Some(text),
+            None => None,
+        }
     }
 
     /// Whether an answer is gone on with.
@@ -96,8 +101,7 @@ impl<G: Drop, T: PieceText> LineEngine<G, T> {
         }
     }
 
-    /// Makes text while there is room for a piece, of a block and less than a piece at most. What it was made of is dropped once all
-    /// is made.
+    /// Makes text while there is room for a piece, of a block and less than a piece at most.
     pub(crate) fn make_text(&mut self, replies: &mut Vec<u8>)
         ensures gives { Gives self.old.left self.new.left replies.old replies.new }
         ensures others { self.new ≡ record self.old { left = self.new.left } }
@@ -107,9 +111,6 @@ impl<G: Drop, T: PieceText> LineEngine<G, T> {
     {
         let Some(text) = &mut self.text else { return };
         fill(text, replies);
-        if text.is_made() {
-            self.text = None;
-        }
     }
 }
 

@@ -16,8 +16,8 @@ returns-in-All-clause-turns g c =
 pub returns-in-Waits-clause-turns : goal.returns-in-Waits-clause-turns
 returns-in-Waits-clause-turns g c =
     let M = g.M.LineHandler in
-    Turned-going M.handling M.left (g.R.Input.remaining c.args.input.now) (g.W.Sink.contents c.args.output.now) (g.W.Sink.contents c.send.new.output) c.args.machine.now c.look_on.new.machine _ c.args.self.now c.look_on.new.self c.send.new.replies.items
-    c.self.view_is c.send.ensures.takes (c.in-Waits.ensures.some refl) c.look_on.ensures.others c.look_on.ensures.stands c.look_on.ensures.lines
+    Turned-going M.handling M.left (g.R.Input.remaining c.args.input.now) (g.W.Sink.contents c.args.output.now) (g.W.Sink.contents c.send.new.output) c.args.machine.now c.go_further.new.machine _ c.args.self.now c.go_further.new.self c.send.new.replies.items
+    c.self.view_is c.send.ensures.takes (c.in-Waits.ensures.some refl) c.go_further.ensures.stands c.go_further.ensures.lines
 
 pub returns-in-Fails-clause-turns : goal.returns-in-Fails-clause-turns
 returns-in-Fails-clause-turns g c =
