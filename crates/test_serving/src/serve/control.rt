@@ -87,6 +87,7 @@ fn failed_stream(alloc: Global) -> Result<StreamStats, NoMemory> {
     let name = Name::read(b"east").ok().ok_or(NoMemory)?;
     let path = String::from_str(alloc, "./east")?;
     let reason = String::from_str(alloc, "not JSON")?;
+    let stream = String::from_str(alloc, "kafka east")?;
     Ok(StreamStats {
         name,
         path,
@@ -96,6 +97,9 @@ fn failed_stream(alloc: Global) -> Result<StreamStats, NoMemory> {
         state: StreamState::Failed,
         since: Some(13),
         fault: Some(StreamFaultStats { line: 14, reason }),
+        stream: Some(stream),
+        newest: Some(20),
+        heard: Some(21),
     })
 }
 
@@ -112,6 +116,9 @@ fn new_stream(alloc: Global) -> Result<StreamStats, NoMemory> {
         state: StreamState::Waiting,
         since: None,
         fault: None,
+        stream: None,
+        newest: None,
+        heard: None,
     })
 }
 
