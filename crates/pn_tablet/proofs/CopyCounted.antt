@@ -111,7 +111,8 @@ counted_more cells rest entry was now counted left records images form weight =
       within = omega (arith, more.0, records);
       weight_is =
           let left_now : drop now.records cells ≡ rest = ap (λ (k : ℕ). drop k cells) records ∙ sym more.1 in
-          omega (arith, weight, counted.weight_is, ap (λ (l : Entries). sum_by record_weight l) left, ap (λ (l : Entries). sum_by record_weight l) left_now);
+          let first : sum_by record_weight (entry ∷ rest) ≡ record_weight entry + sum_by record_weight rest = refl in
+          omega (arith, weight, counted.weight_is, first, ap (λ (l : Entries). sum_by record_weight l) left, ap (λ (l : Entries). sum_by record_weight l) left_now);
       weight_fits = omega (arith, weight);
       images_are = omega (arith, images, counted.images_are, ap length all, length-append before (spell_cell entry), length-map (keys entry.1.1) (image_of entry));
       form_is =
