@@ -13,7 +13,7 @@ pub record Lacks (draft : TabletStateValue) (op : TabletOp) (shown : TabletState
   pub makes : tablet_after draft op ≡ shown
 
 -- the operation is a join that the state takes
-pub record Takes (state : TabletStateValue) (op : TabletOp) : Type 0 where
+pub record TakesJoin (state : TabletStateValue) (op : TabletOp) : Type 0 where
   pub join : IsJoinIn state op
   pub positions : HasPositions op
 

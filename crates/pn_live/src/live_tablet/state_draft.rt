@@ -2,7 +2,7 @@
 
 ghost use Rattle.std.specs.Prelude.{◌≡◌, None, Ok, IfOk, IfErr, IfSome, OnOk, OnErr};
 ghost use Rattle.pn_apply.specs.Applying.{IsJoinIn};
-ghost use Rattle.pn_live.specs.Drafts.{Takes, caught_up};
+ghost use Rattle.pn_live.specs.Drafts.{TakesJoin, caught_up};
 ghost use Rattle.pn_tablet.specs.Prelude.{HasPositions, Refuses, step, answer};
 ghost use Rattle.pn_tablet.specs.Steps.{is_memory, tablet_after};
 
@@ -20,7 +20,7 @@ pub struct StateDraft {
 
 impl Model for StateDraft {
     ghost use Rattle.std.specs.Prelude.{IfSome};
-    ghost use Rattle.pn_live.specs.Drafts.{Takes, caught_up};
+    ghost use Rattle.pn_live.specs.Drafts.{TakesJoin, caught_up};
     ghost use Rattle.pn_tablet.specs.Tablets.{TabletStateValue};
 
     ghost Value = { TabletStateValue };
@@ -31,7 +31,7 @@ impl Model for StateDraft {
 
     ghost view = { λ draft. caught_up draft.state draft.lacks };
 
-    ghost invariant = { λ draft. IfSome draft.lacks (λ join. Takes draft.state join) };
+    ghost invariant = { λ draft. IfSome draft.lacks (λ join. TakesJoin draft.state join) };
 }
 
 impl StateDraft {
@@ -83,7 +83,7 @@ impl Slot for StateDraft {
 
 // What a join makes of a state.
 fn take_join(state: TabletState, join: &TabletOp) -> Result<TabletState, NoMemory>
-    requires { Takes state join.now }
+    requires { TakesJoin state join.now }
     ensures { IfOk result (λ after. after ≡ tablet_after state join.now) }
 {
     let mut state = state;
@@ -99,13 +99,13 @@ fn apply_to(
     lacks: &mut Option<TabletOp>,
     op: &TabletOp,
 ) -> Result<Vec<Change>, OpFault>
-    requires takes { IfSome lacks.old (λ join. Takes state.old join) }
+    requires takes { IfSome lacks.old (λ join. TakesJoin state.old join) }
     requires positions { HasPositions op.now }
     ensures ok { OnOk result (step (caught_up state.old lacks.old) op.now ≡ Ok (caught_up state.new lacks.new)) }
     ensures changes { IfOk result (λ list. list.items ≡ answer op.now (caught_up state.old lacks.old) (caught_up state.new lacks.new)) }
     ensures refused { IfErr result (λ fault. Refuses is_memory fault (step (caught_up state.old lacks.old) op.now)) }
     ensures err { OnErr result (caught_up state.new lacks.new ≡ caught_up state.old lacks.old) }
-    ensures takes { IfSome lacks.new (λ join. Takes state.new join) }
+    ensures takes { IfSome lacks.new (λ join. TakesJoin state.new join) }
 {
     match lacks.take() {
         None => state.apply(op),
@@ -121,13 +121,13 @@ fn apply_both(
     op: &TabletOp,
 ) -> Result<Vec<Change>, OpFault>
     requires none { lacks.old ≡ None }
-    requires takes { Takes state.old join }
+    requires takes { TakesJoin state.old join }
     requires positions { HasPositions op.now }
     ensures ok { OnOk result (step (tablet_after state.old join) op.now ≡ Ok (caught_up state.new lacks.new)) }
     ensures changes { IfOk result (λ list. list.items ≡ answer op.now (tablet_after state.old join) (caught_up state.new lacks.new)) }
     ensures refused { IfErr result (λ fault. Refuses is_memory fault (step (tablet_after state.old join) op.now)) }
     ensures err { OnErr result (caught_up state.new lacks.new ≡ tablet_after state.old join) }
-    ensures takes { IfSome lacks.new (λ join. Takes state.new join) }
+    ensures takes { IfSome lacks.new (λ join. TakesJoin state.new join) }
 {
     match state.apply(&join) {
         Ok(_changes) => state.apply(op),

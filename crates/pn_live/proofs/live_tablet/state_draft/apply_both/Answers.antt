@@ -6,7 +6,7 @@ use Rattle.pn_tablet.specs.Steps.{step, tablet_after, is_memory}
 use Rattle.pn_tablet.specs.Tablets.{TabletStateValue}
 use Rattle.pn_tablet.specs.declared.fault.OpFault.{OpFault}
 use Rattle.pn_tablet.specs.declared.state.TabletOp.{TabletOp}
-use Rattle.pn_live.specs.Drafts.{Takes, caught_up}
+use Rattle.pn_live.specs.Drafts.{TakesJoin, caught_up}
 use Rattle.pn_live.proofs.Joining.{after_ok, applies_as, refused_after}
 use Rattle.pn_live.proofs.live_tablet.state_draft.apply_both.Goals as goal
 
@@ -24,7 +24,7 @@ returns-in-Ok c =
       changes = applies.changes;
       refused = applies.refused;
       err = applies.err;
-      takes = subst (λ (lacks : Option TabletOp). IfSome lacks (λ join. Takes new join)) (sym c.requires.none) tt;
+      takes = subst (λ (lacks : Option TabletOp). IfSome lacks (λ join. TakesJoin new join)) (sym c.requires.none) tt;
     }
 
 pub returns-in-Err : goal.returns-in-Err
@@ -41,5 +41,5 @@ returns-in-Err c =
       changes = tt;
       refused = subst (λ (fault : OpFault). Refuses is_memory fault (step (tablet_after old join) op)) (sym c.unwrap_or-fault.ensures) (refused_after old join op found c.requires.takes.join right);
       err = ap (λ (t : TabletStateValue). tablet_after t join) same;
-      takes = subst (λ (t : TabletStateValue). Takes t join) (sym same) c.requires.takes;
+      takes = subst (λ (t : TabletStateValue). TakesJoin t join) (sym same) c.requires.takes;
     }

@@ -3,7 +3,7 @@ use Rattle.std.proofs.Common.{◌≡◌, sym, ap, ◌∙◌, subst}
 use Rattle.std.specs.Prelude.{Option, None, Some, IfSome}
 use Rattle.pn_tablet.specs.Tablets.{TabletStateValue}
 use Rattle.pn_tablet.specs.declared.state.TabletOp.{TabletOp}
-use Rattle.pn_live.specs.Drafts.{Takes, caught_up}
+use Rattle.pn_live.specs.Drafts.{TakesJoin, caught_up}
 use Rattle.pn_live.proofs.Joining.{Applies, applies_as}
 use Rattle.pn_live.proofs.live_tablet.state_draft.apply_to.Goals as goal
 
@@ -21,7 +21,7 @@ returns-in-None c =
       changes = applies.changes;
       refused = applies.refused;
       err = applies.err;
-      takes = subst (λ (lacks : Option TabletOp). IfSome lacks (λ join. Takes new join)) (sym c.take.ensures.after) tt;
+      takes = subst (λ (lacks : Option TabletOp). IfSome lacks (λ join. TakesJoin new join)) (sym c.take.ensures.after) tt;
     }
 
 pub returns-in-Some : goal.returns-in-Some
