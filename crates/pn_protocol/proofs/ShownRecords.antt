@@ -1,7 +1,7 @@
 -- The records that a reply shows, by their indices.
-use Rattle.std.proofs.Common.{◌≡◌, ℕ, zero, suc, ◌+◌, ◌<◌, ◌≤◌, List, [], ◌∷◌, length, take, zip, Some, None, refl, ap, ◌∙◌, arith, ◌-◌}
+use Rattle.std.proofs.Common.{◌≡◌, ℕ, zero, suc, ◌+◌, ◌<◌, ◌≤◌, List, [], ◌∷◌, length, take, zip, Some, None, refl, sym, ap, ◌∙◌, arith, ◌-◌}
 use Rattle.std.specs.List.{slice_get, sum_by}
-use Rattle.std.proofs.lemmas.List.Sums.{sum_by_more}
+use Rattle.std.proofs.lemmas.List.Sums.{sum_by-cons, sum_by_more}
 use Rattle.std.proofs.lemmas.Option.{get_or_from_slice_get, slice_get_within}
 
 -- a record, or the only one
@@ -46,4 +46,5 @@ pub weighed_all : {X : Type 0} (weigh : X → ℕ) (xs : List X) (i : ℕ) → s
 weighed_all weigh [] zero none = refl
 weighed_all weigh [] (suc i) none = refl
 weighed_all weigh (x ∷ xs) zero none = absurd (cc)
-weighed_all weigh (x ∷ xs) (suc i) none = ap (λ n. weigh x + n) (weighed_all weigh xs i none)
+weighed_all weigh (x ∷ xs) (suc i) none =
+    sum_by-cons weigh x (take i xs) ∙ ap (λ n. weigh x + n) (weighed_all weigh xs i none) ∙ sym (sum_by-cons weigh x xs)

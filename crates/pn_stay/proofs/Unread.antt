@@ -5,7 +5,8 @@ use Rattle.std.proofs.lemmas.Bool.{cases_lt}
 use Rattle.std.proofs.lemmas.List.{get_or_past}
 use Rattle.std.specs.Option.{option_map}
 use Rattle.slab.specs.Slab.{Slab}
-use Rattle.pn_stay.specs.Unread.{EndsDeaf, UnreadValue, aged, is_deaf, quiet_at, quiet_in, unread_at, unread_in}
+use Rattle.pn_stay.specs.Unread.{EndsDeaf, UnreadValue, aged, is_deaf}
+use Rattle.pn_stay.specs.UnreadClients.{unread_at, unread_in}
 use Rattle.pn_stay.specs.declared.connection.Connection.{Connection}
 
 -- a key past the slots has no client
@@ -14,6 +15,9 @@ unread_past connections key past = ap unread_in (get_or_past connections.slots k
 
 pub deaf_none : (before after : Option UnreadValue) → before ≡ None → after ≡ before → EndsDeaf before after
 deaf_none before after none same = subst (λ (b : Option UnreadValue). EndsDeaf b after) (sym none) (same ∙ none)
+
+pub same_told : {a b : Bool} → Some a ≡ Some b → a ≡ b
+same_told is = cc
 
 not_true : (b : Bool) → ¬ (b ≡ true) → b ≡ false
 not_true true no = absurd (no refl)

@@ -9,3 +9,4 @@ pub mod Remarks
 pub mod Scripted
 pub mod Servers
 pub mod Unread
+pub mod UnreadClients

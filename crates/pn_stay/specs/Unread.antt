@@ -1,8 +1,6 @@
 -- What a client has not taken of its replies, and which clients are ended for it.
-use Rattle.std.specs.Prelude.{◌≡◌, ◌≤◌, ℕ, zero, suc, Bool, ◌||◌, nat_le, true, Option, None, Some}
-use Rattle.slab.specs.Slab.{Slab, get}
+use Rattle.std.specs.Prelude.{◌≡◌, ◌==◌, ◌≤◌, ℕ, Bool, ◌||◌, if◌then◌else◌, nat_le, true, Option, None, Some}
 use Rattle.pn_stay.specs.IdleTimeouts.{IdleTimeoutValue, after_quarter, new_idle_timeout}
-use Rattle.pn_stay.specs.declared.connection.Connection.{Connection}
 use Rattle.pn_stay.specs.declared.unread.TheConstants.{DEAF_QUARTERS, QUIET_QUARTERS}
 
 -- for how long the client takes no byte, and what the records weigh that its reply keeps
@@ -27,12 +25,8 @@ abbrev pub is_deaf : UnreadValue → Bool
 is_deaf unread = nat_le DEAF_QUARTERS unread.quiet.quarters
 
 -- for how many quarters of a second a client took no byte, where its reply weighs something
-abbrev pub quiet_by : ℕ → IdleTimeoutValue → ℕ
-quiet_by zero quiet = 0
-quiet_by (suc weight) quiet = quiet.quarters
-
 abbrev pub quiet_of : UnreadValue → ℕ
-quiet_of unread = quiet_by unread.weight unread.quiet
+quiet_of unread = if unread.weight == 0 then 0 else unread.quiet.quarters
 
 -- the limit is passed, and the client took no byte for longest, and for a second at least
 abbrev pub IsEnded : ℕ → ℕ → Bool → Type 0
@@ -43,21 +37,10 @@ abbrev pub weight_in : Option UnreadValue → ℕ
 weight_in None = 0
 weight_in (Some unread) = unread.weight
 
--- what the client of a key has not taken, if there is one and replies wait for it
-abbrev pub unread_in : Option Connection → Option UnreadValue
-unread_in None = None
-unread_in (Some connection) = connection.unread
-
-abbrev pub unread_at : Slab Connection → ℕ → Option UnreadValue
-unread_at connections key = unread_in (get connections key)
-
--- for how many quarters the client of a key took no byte, where its reply weighs something
+-- for how many quarters a client took no byte, if there is one whose reply weighs something
 abbrev pub quiet_in : Option UnreadValue → ℕ
 quiet_in None = 0
 quiet_in (Some unread) = quiet_of unread
-
-abbrev pub quiet_at : Slab Connection → ℕ → ℕ
-quiet_at connections key = quiet_in (unread_at connections key)
 
 -- as a quarter ends, a client that is deaf then is dropped, and another is a quarter older
 abbrev pub EndsDeaf : Option UnreadValue → Option UnreadValue → Type 0

@@ -3,7 +3,8 @@
 ghost use Rattle.std.specs.Prelude.{◌≡◌, ◌||◌, ◌+◌, ◌-◌, ◌^◌, ◌≤◌, ◌↔◌, min, true, IsTrue};
 ghost use Rattle.pn_serve.specs.Session.Knowing.{KnowsNoLess};
 ghost use Rattle.pn_stay.specs.IdleTimeouts.{new_idle_timeout, after_quarter};
-ghost use Rattle.pn_stay.specs.Unread.{weight_in};
+ghost use Rattle.std.specs.Option.{option_map};
+ghost use Rattle.pn_stay.specs.Unread.{aged, is_deaf, weight_in};
 
 use crate::polled_input::PolledInput;
 use crate::socket::{Socket, TrackedSocket};
@@ -109,6 +110,20 @@ impl Connection {
         match &self.unread {
             Some(unread) => unread.weight(),
             None => 0,
+        }
+    }
+
+    /// A quarter of a second is over for the client, if replies wait for it. Whether it took no byte for half a minute.
+    pub(crate) fn age_unread(&mut self) -> Option<bool>
+        ensures aged { self.new.unread ≡ option_map aged self.old.unread }
+        ensures deaf { result ≡ option_map is_deaf self.new.unread }
+    {
+        match &mut self.unread {
+            Some(unread) => {
+                unread.end_quarter();
+                Some(unread.is_deaf())
+            }
+            None => None,
         }
     }
 

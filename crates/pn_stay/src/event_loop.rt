@@ -3,7 +3,7 @@
 ghost use Rattle.std.specs.Prelude.{◌≡◌, ◌+◌, ℕ, None, OnErr, OnOk, vec_len};
 ghost use Rattle.pn_serve.specs.Session.Knowing.{KnowsNoLess};
 ghost use Rattle.pn_stay.specs.Loops.{ending_at, idle_at};
-ghost use Rattle.pn_stay.specs.Unread.{unread_at};
+ghost use Rattle.pn_stay.specs.UnreadClients.{unread_at};
 ghost use Rattle.slab.specs.Slab.{slab_len, Updates};
 
 mod ending;

@@ -16,7 +16,7 @@ const PAUSE: u64 = 50;
 /// Whether quarters are counted, and when the one began that is not over.
 #[derive(Drop)]
 pub(crate) struct QuarterClock {
-    is_running: bool,
+    pub(crate) is_running: bool,
     began: Option<Instant>,
 }
 

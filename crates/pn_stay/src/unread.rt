@@ -64,7 +64,7 @@ impl UnreadReply {
     pub(crate) fn is_deaf(&self) -> bool
         ensures { result ≡ deaf self.now }
     {
-        self.quiet.is_over(DEAF_QUARTERS)
+        DEAF_QUARTERS <= self.quiet.quarters()
     }
 
     /// For how many quarters of a second the client took no byte, where its reply keeps records.

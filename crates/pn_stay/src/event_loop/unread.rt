@@ -1,8 +1,9 @@
 //! How an event loop ends clients that take nothing of what waits for them.
 
-ghost use Rattle.std.specs.Prelude.{◌≡◌, ◌≢◌, ◌⊎◌, ◌≤◌, ℕ, None};
+ghost use Rattle.std.specs.Prelude.{◌≡◌, ◌≢◌, ◌⊎◌, ◌≤◌, ℕ, None, false, true};
 ghost use Rattle.std.specs.Option.{option_map};
-ghost use Rattle.pn_stay.specs.Unread.{EndsDeaf, aged, is_deaf, quiet_at, quiet_in, unread_at};
+ghost use Rattle.pn_stay.specs.Unread.{EndsDeaf, aged, is_deaf as deaf, quiet_in};
+ghost use Rattle.pn_stay.specs.UnreadClients.{quiet_at, unread_at};
 ghost use Rattle.slab.specs.Slab.{Updates};
 
 use crate::connection::Connection;
@@ -46,11 +47,31 @@ impl EventLoop {
         ensures here { EndsDeaf (unread_at self.old.connections key) (unread_at self.new.connections key) }
         ensures others { (other : ℕ) → other ≢ key → unread_at self.new.connections other ≡ unread_at self.old.connections other }
     {
-        match age_unread(&mut self.connections, &mut self.ready, key) {
-            Some(true) => self.end_client(rt, mailbox, key),
-            Some(false) => self.quarters.run_if(true),
+        match age_at(&mut self.connections, key) {
+            Some(is_deaf) => self.end_or_try(rt, mailbox, key, is_deaf),
             None => {}
         }
+    }
+
+    // Ends a client that is deaf. Another has a turn.
+    fn end_or_try<R: Wait>(&mut self, rt: &R, mailbox: &SocketMailbox, key: usize, is_deaf: bool)
+        ensures deaf { is_deaf ≡ true → unread_at self.new.connections key ≡ None }
+        ensures hears { is_deaf ≡ false → unread_at self.new.connections key ≡ unread_at self.old.connections key }
+        ensures others { (other : ℕ) → other ≢ key → unread_at self.new.connections other ≡ unread_at self.old.connections other }
+    {
+        if is_deaf {
+            self.end_client(rt, mailbox, key);
+            return;
+        }
+        self.try_again(key);
+    }
+
+    // A client that replies wait for has a turn: it may have taken too little for the system to report it.
+    fn try_again(&mut self, key: usize)
+        ensures { (other : ℕ) → unread_at self.new.connections other ≡ unread_at self.old.connections other }
+    {
+        self.quarters.run_if(true);
+        make_ready(&mut self.connections, &mut self.ready, key);
     }
 
     // Ends a client for what it has not taken.
@@ -83,25 +104,16 @@ impl EventLoop {
     }
 }
 
-// Makes what the client of a key has not taken a quarter of a second older, if anything waits for it. Whether it took no byte for
-// half a minute. Else it is to try again: it may have taken too little for the system to report it.
-fn age_unread(
-    connections: &mut Slab<Connection>,
-    ready: &mut Vec<usize>,
-    key: usize,
-) -> Option<bool>
-    ensures deaf { result ≡ option_map is_deaf (unread_at connections.new key) }
+// A quarter of a second is over for the client of a key, if replies wait for it. Whether it took no byte for half a minute.
+fn age_at(connections: &mut Slab<Connection>, key: usize) -> Option<bool>
+    ensures deaf { result ≡ option_map deaf (unread_at connections.new key) }
     ensures here { unread_at connections.new key ≡ option_map aged (unread_at connections.old key) }
     ensures others { (other : ℕ) → other ≢ key → unread_at connections.new other ≡ unread_at connections.old other }
 {
-    let connection = connections.get_mut(key)?;
-    let unread = connection.unread.as_mut()?;
-    unread.end_quarter();
-    let is_deaf = unread.is_deaf();
-    if !is_deaf {
-        make_ready(connections, ready, key);
+    match connections.get_mut(key) {
+        Some(connection) => connection.age_unread(),
+        None => None,
     }
-    Some(is_deaf)
 }
 
 // For how many quarters a client took no byte that took none for longest, of those whose replies keep records.

@@ -16,3 +16,9 @@ nearer left false (Ended end) now less none going = absurd (cc)
 
 pub returns-clause-nearer : goal.returns-clause-nearer
 returns-clause-nearer g c = λ made. nearer g.M.LineHandler.left c.resume.result _ _ c.resume.ensures.nearer c.resume.ensures.none
+
+pub returns-then-has_text-clause-stands : goal.returns-then-has_text-clause-stands
+returns-then-has_text-clause-stands g c = λ start taken given ahead last is. is
+
+pub returns-clause-stands : goal.returns-clause-stands
+returns-clause-stands g c = c.resume.ensures.stands

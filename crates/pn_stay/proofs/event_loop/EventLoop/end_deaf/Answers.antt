@@ -1,7 +1,8 @@
 -- One key after another.
 use Rattle.std.proofs.Common.{◌≤◌, length, ⊎_elim, arith}
 use Rattle.std.proofs.lemmas.Bool.{cases_lt}
-use Rattle.pn_stay.specs.Unread.{EndsDeaf, unread_at}
+use Rattle.pn_stay.specs.Unread.{EndsDeaf}
+use Rattle.pn_stay.specs.UnreadClients.{unread_at}
 use Rattle.pn_stay.proofs.Keys.{done_more, rest_less}
 use Rattle.pn_stay.proofs.Unread.{deaf_none, unread_past}
 use Rattle.pn_stay.proofs.event_loop.EventLoop.end_deaf.Goals as goal
