@@ -56,7 +56,7 @@ says_nothing bytes more no =
     not_not false is = sym is
 
 -- the bytes of a line are read into it
-into_line : (so_far line rest : List ℕ) → IsUnbroken line → messages_after so_far (line ++ rest) ≡ messages_after (so_far ++ line) rest
+pub into_line : (so_far line rest : List ℕ) → IsUnbroken line → messages_after so_far (line ++ rest) ≡ messages_after (so_far ++ line) rest
 into_line so_far [] rest unbroken = ap (λ l. messages_after l rest) (sym (append-nil so_far))
 into_line so_far (b ∷ line) rest unbroken =
     ap (λ test. if test then (if says_newest so_far then messages_after [] (line ++ rest) else so_far ++ 10 ∷ messages_after [] (line ++ rest)) else messages_after (so_far ++ b ∷ []) (line ++ rest))
