@@ -1,8 +1,10 @@
 -- What joins make of drafts.
 use Rattle.std.proofs.Common.{◌≡◌, Bool, true, false, if◌then◌else◌, refl, sym, ap, subst, Ok, Err}
-use Rattle.std.specs.Prelude.{Option, None, Some, Result, IsOk, MatchOption, unwrap_or}
+use Rattle.std.specs.Prelude.{Option, None, Some, Result, Vec, IsOk, IfOk, IfErr, OnOk, OnErr, MatchOption, unwrap_or}
+use Rattle.std.specs.declared.alloc.Global.{Global}
 use Rattle.pn_join.specs.Marks.{Positions}
 use Rattle.pn_record.specs.CellMap.{Entries}
+use Rattle.pn_tablet.specs.Changes.{answer}
 use Rattle.pn_tablet.specs.Copies.{TabletCopyValue}
 use Rattle.pn_tablet.specs.Needs.{need_shortfall}
 use Rattle.pn_tablet.specs.declared.fault.Shortfall.{Shortfall}
@@ -11,6 +13,7 @@ use Rattle.pn_tablet.specs.Refusals.{Refuses}
 use Rattle.pn_tablet.specs.Steps.{step, tablet_after, after_step, is_memory, with_copy, with_join}
 use Rattle.pn_tablet.specs.Tablets.{TabletStateValue, lie_in, same_range}
 use Rattle.pn_tablet.specs.declared.fault.OpFault.TheVariants.{WrongRange, Memory}
+use Rattle.pn_tablet.specs.declared.change.Change.{Change}
 use Rattle.pn_tablet.specs.declared.state.TabletOp.{TabletOp}
 use Rattle.pn_tablet.specs.declared.state.TabletOp.TheVariants.{Join, Lose, Adopt}
 use Rattle.pn_tablet.proofs.Stepping.{refused_step}
@@ -80,3 +83,15 @@ pub refused_after : (tablet : TabletStateValue) (join op : TabletOp) (found : Op
     → Refuses is_memory (unwrap_or found Memory) (step (tablet_after tablet join) op)
 refused_after tablet join op None fit right = stays_taken tablet join op fit right
 refused_after tablet join op (Some fault) fit right = refused_step (tablet_after tablet join) op fault (stays_refused tablet join op fault fit right)
+
+-- what an operation makes of a state
+pub record Applies (old new : TabletStateValue) (op : TabletOp) (result : Result (Vec Change Global) OpFault) : Type 0 where
+  pub ok : OnOk result (step old op ≡ Ok new)
+  pub changes : IfOk result (λ list. list.items ≡ answer op old new)
+  pub refused : IfErr result (λ fault. Refuses is_memory fault (step old op))
+  pub err : OnErr result (new ≡ old)
+
+-- the same of states by other names
+pub applies_as : (old new was now : TabletStateValue) (op : TabletOp) (result : Result (Vec Change Global) OpFault) → was ≡ old → now ≡ new → Applies old new op result → Applies was now op result
+applies_as old new was now op result was_is now_is applies =
+    subst (λ (t : TabletStateValue). Applies t now op result) (sym was_is) (subst (λ (t : TabletStateValue). Applies old t op result) (sym now_is) applies)

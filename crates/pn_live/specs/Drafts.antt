@@ -12,6 +12,11 @@ pub record Lacks (draft : TabletStateValue) (op : TabletOp) (shown : TabletState
   pub positions : HasPositions op
   pub makes : tablet_after draft op ≡ shown
 
+-- the operation is a join that the state takes
+pub record TakesJoin (state : TabletStateValue) (op : TabletOp) : Type 0 where
+  pub join : IsJoinIn state op
+  pub positions : HasPositions op
+
 -- a state after the join that it lacks, if it lacks one
 abbrev pub caught_up : TabletStateValue → Option TabletOp → TabletStateValue
 caught_up state None = state

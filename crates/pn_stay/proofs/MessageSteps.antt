@@ -1,16 +1,19 @@
 -- What goes on of a writer's bytes, a line at a time.
-use Rattle.std.proofs.Common.{◌≡◌, ◌≢◌, ℕ, ◌+◌, ◌<◌, ◌≤◌, ◌==◌, ◌&&◌, not, Bool, true, false, List, [], ◌∷◌, ◌++◌, length, take, drop, min, All, refl, sym, ap, ◌∙◌, append_assoc, append-nil, ne_eqb, arith, length-append, ⊎_elim, if◌then◌else◌, ltb-true, lt-ltb}
-use Rattle.std.specs.Prelude.{nat_lt, Result, Ok, Err}
+use Rattle.std.proofs.Common.{◌≡◌, ◌≢◌, ℕ, ◌+◌, ◌-◌, ◌<◌, ◌≤◌, ◌==◌, ◌&&◌, Bool, true, false, List, [], ◌∷◌, ◌++◌, length, take, drop, refl, sym, ap, ◌∙◌, subst, append_assoc, append-nil, ne_eqb, arith, length-append, inl, inr, ⊎_elim, if◌then◌else◌, ltb-true, lt-ltb}
+use Rattle.std.specs.Prelude.{nat_lt, not, Result, Ok, Err}
 use Rattle.std.proofs.lemmas.Bool.{cases_eq, and_cases, and_left, and_right, true≢false, false≢true}
-use Rattle.std.proofs.lemmas.List.{take-append-drop}
-use Rattle.std.proofs.lemmas.List.Elements.{All-head, All-tail}
+use Rattle.std.proofs.lemmas.List.{take-append-drop, take-take, take_all}
+use Rattle.std.proofs.lemmas.List.Elements.{All-head, All-tail, All-take}
 use Rattle.pn_line.specs.Reads.{IsUnbroken}
 use Rattle.pn_record.specs.Prelude.{max_line_bytes, reading, value_at}
 use Rattle.pn_record.specs.declared.fault.ImageFault.TheVariants.{TooLong, NotJson}
 use Rattle.std.specs.Option.{ok_or}
 use Rattle.pn_json.specs.Answers.{◌>>=◌, fault_as}
-use Rattle.pn_stay.specs.MessageSteps.{is_read, says_newest, messages_after, messages_in, rest_of_line}
+use Rattle.pn_stay.specs.MessageSteps.{FirstLine, IsKind, IsStep, Passes, is_read, says_newest, messages_after, messages_in, rest_of_line}
 use Rattle.pn_stay.specs.Remarks.{agrees, may_go_on, newest_at, newest_in, newest_words}
+use Rattle.pn_stay.specs.declared.streams.message_steps.LineKind.TheVariants.{Message}
+use Rattle.pn_stay.specs.declared.streams.message_steps.Step.{Step}
+use Rattle.pn_stay.specs.declared.streams.message_steps.Step.TheVariants.{Give, Hear}
 use Rattle.pn_stay.specs.declared.streams.remarks.RemarkFault.{RemarkFault}
 use Rattle.pn_stay.specs.declared.streams.remarks.RemarkFault.TheVariants.{Other}
 
@@ -53,7 +56,7 @@ says_nothing bytes more no =
     not_not false is = sym is
 
 -- the bytes of a line are read into it
-into_line : (so_far line rest : List ℕ) → IsUnbroken line → messages_after so_far (line ++ rest) ≡ messages_after (so_far ++ line) rest
+pub into_line : (so_far line rest : List ℕ) → IsUnbroken line → messages_after so_far (line ++ rest) ≡ messages_after (so_far ++ line) rest
 into_line so_far [] rest unbroken = ap (λ l. messages_after l rest) (sym (append-nil so_far))
 into_line so_far (b ∷ line) rest unbroken =
     ap (λ test. if test then (if says_newest so_far then messages_after [] (line ++ rest) else so_far ++ 10 ∷ messages_after [] (line ++ rest)) else messages_after (so_far ++ b ∷ []) (line ++ rest))
@@ -121,3 +124,53 @@ pub part_goes : (bytes rest : List ℕ) (count : ℕ) → IsUnbroken (take count
 part_goes bytes rest count unbroken =
     ap (λ l. rest_of_line (l ++ rest)) (sym (take-append-drop count bytes)) ∙ ap rest_of_line (append_assoc (take count bytes) (drop count bytes) rest)
     ∙ line_goes (take count bytes) (drop count bytes ++ rest) unbroken
+
+-- steps after one another
+pub passes_on : (a b c : Bool) (x y z g h : List ℕ) → Passes a x g b y → Passes b y h c z → Passes a x (g ++ h) c z
+passes_on a b c x y z g h first second = λ rest. first rest ∙ ap (λ l. g ++ l) (second rest) ∙ sym (append_assoc g h (messages_in c (z ++ rest)))
+
+-- a step of the rest of a line is one of a whole line that says nothing
+pub step_as : (inside : Bool) (bytes : List ℕ) (room : ℕ) (step : Step) → ((rest : List ℕ) → messages_in inside (bytes ++ rest) ≡ rest_of_line (bytes ++ rest)) → IsStep true bytes room step
+    → IsStep inside bytes room step
+step_as inside bytes room (Give count after) same is = (is.0, is.1, is.2, λ rest. same rest ∙ is.3 rest)
+step_as inside bytes room (Hear count newest) same is = absurd (true≢false is.2)
+
+-- a line that goes on goes on as the rest of a line does
+pub kind_same : (inside ended : Bool) (bytes : List ℕ) (count : ℕ) → FirstLine bytes count ended → IsKind inside (take count bytes) ended Message
+    → (rest : List ℕ) → messages_in inside (bytes ++ rest) ≡ rest_of_line (bytes ++ rest)
+kind_same true ended bytes count line kind rest = refl
+kind_same false true bytes count line kind rest =
+    let split = split_line bytes rest count line.2 in
+    let same = same_whole (take count bytes) (drop (count + 1) bytes ++ rest) line.1 (silent kind) in
+    ap (messages_after []) split ∙ same ∙ ap rest_of_line (sym split)
+  where
+    silent : IsKind false (take count bytes) true Message → says_newest (take count bytes) ≡ false
+    silent (inl inside) = absurd (false≢true inside)
+    silent (inr (inl says)) = says.1
+    silent (inr (inr no)) = ap says_newest (sym (append-nil (take count bytes))) ∙ says_nothing (take count bytes) [] no
+kind_same false false bytes count line kind rest = same_open bytes rest line.1 (other kind)
+  where
+    other : IsKind false (take count bytes) false Message → may_go_on newest_words bytes ≡ false
+    other (inl inside) = absurd (false≢true inside)
+    other (inr (inl says)) = absurd (false≢true says.0)
+    other (inr (inr no)) = ap (may_go_on newest_words) (sym (take_all count bytes (omega (arith, line.0)))) ∙ no
+
+-- a whole line is a step where there is room for it, and its newline
+pub step_whole : (bytes : List ℕ) (count room : ℕ) → FirstLine bytes count true → count < room → IsStep true bytes room (Give (count + 1) false)
+step_whole bytes count room line fits = (omega arith, omega (arith, fits), omega (arith, line.0), λ rest. whole_goes bytes rest count line.1 line.2)
+
+-- a part of a line is a step
+pub step_part : (bytes : List ℕ) (count n room : ℕ) → IsUnbroken (take count bytes) → 1 ≤ n → n ≤ count → n ≤ room → n ≤ length bytes → IsStep true bytes room (Give n true)
+step_part bytes count n room unbroken some few fits within =
+    (some, fits, within, λ rest. part_goes bytes rest n (subst IsUnbroken (take-take n count bytes few) (All-take (λ x. x ≢ 10) n (take count bytes) unbroken)))
+
+-- a line that says how far the broker is is a step
+pub step_heard : (bytes : List ℕ) (count room newest : ℕ) → FirstLine bytes count true → newest_at (take count bytes) ≡ Ok newest → IsStep false bytes room (Hear (count + 1) newest)
+step_heard bytes count room newest line read =
+    let whole : count + 1 - 1 ≡ count = omega arith in (
+      omega arith,
+      omega (arith, line.0),
+      refl,
+      rw whole read,
+      λ rest. ap (messages_after []) (split_line bytes rest count line.2) ∙ is_heard (take count bytes) (drop (count + 1) bytes ++ rest) line.1 (ap is_read read),
+    )

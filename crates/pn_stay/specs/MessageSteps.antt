@@ -1,5 +1,6 @@
 -- What a writer's bytes come to without the lines that say how far its broker is.
-use Rattle.std.specs.Prelude.{◌≡◌, ℕ, ◌+◌, ◌-◌, ◌<◌, ◌≤◌, ◌==◌, ◌⊎◌, Bool, true, false, if◌then◌else◌, List, [], ◌∷◌, ◌++◌, length, take, drop, Result, Ok, Err}
+use Rattle.std.specs.Prelude.{◌≡◌, ℕ, ◌+◌, ◌-◌, ◌<◌, ◌≤◌, ◌==◌, ◌⊎◌, Bool, true, false, if◌then◌else◌, List, [], ◌∷◌, ◌++◌, length, take, drop, Option, option_map, Result, Ok, Err}
+use Rattle.std.specs.Io.KnownBytes.{prepend_known}
 use Rattle.pn_line.specs.Prelude.{IsUnbroken}
 use Rattle.pn_stay.specs.Remarks.{may_go_on, newest_at, newest_words}
 use Rattle.pn_stay.specs.declared.streams.message_steps.LineKind.{LineKind}
@@ -33,6 +34,14 @@ abbrev pub messages_in : Bool → List ℕ → List ℕ
 messages_in true bytes = rest_of_line bytes
 messages_in false bytes = messages_after [] bytes
 
+-- the messages of bytes that are held and of those that are left, where these are known
+abbrev pub messages_known : Bool → List ℕ → Option (List ℕ) → Option (List ℕ)
+messages_known inside held left = option_map (messages_in inside) (prepend_known held left)
+
+-- these bytes go on, and the messages of what was held are they and the messages of what is held then, whatever follows
+abbrev pub Passes : Bool → List ℕ → List ℕ → Bool → List ℕ → Type 0
+Passes inside held given after left = (rest : List ℕ) → messages_in inside (held ++ rest) ≡ given ++ messages_in after (left ++ rest)
+
 -- the first line has so many bytes, and its newline is there or not
 abbrev pub FirstLine : List ℕ → ℕ → Bool → Type 0
 FirstLine bytes count true = (count < length bytes) × IsUnbroken (take count bytes) × (take (count + 1) bytes ≡ take count bytes ++ 10 ∷ [])
@@ -46,7 +55,6 @@ IsKind inside line ended Unknown = (ended ≡ false) × (may_go_on newest_words 
 
 -- the step takes some of the bytes, and what goes on is what the messages begin with
 abbrev pub IsStep : Bool → List ℕ → ℕ → Step → Type 0
-IsStep inside bytes room (Give count after) = (1 ≤ count) × (count ≤ room) × (count ≤ length bytes)
-    × ((rest : List ℕ) → messages_in inside (bytes ++ rest) ≡ take count bytes ++ messages_in after (drop count bytes ++ rest))
+IsStep inside bytes room (Give count after) = (1 ≤ count) × (count ≤ room) × (count ≤ length bytes) × Passes inside bytes (take count bytes) after (drop count bytes)
 IsStep inside bytes room (Hear count newest) = (1 ≤ count) × (count ≤ length bytes) × (inside ≡ false) × (newest_at (take (count - 1) bytes) ≡ Ok newest)
-    × ((rest : List ℕ) → messages_in false (bytes ++ rest) ≡ messages_in false (drop count bytes ++ rest))
+    × Passes false bytes [] false (drop count bytes)

@@ -91,8 +91,8 @@ fn stats_of<R: Wait + Clock>(
         since: seconds_since(rt, &status.came),
         fault: status.fault,
         stream: status.stream,
-        newest: status.broker.map(|broker| broker.newest),
-        heard: seconds_since(rt, &status.broker.and_then(|broker| broker.heard)),
+        newest: status.newest,
+        heard: seconds_since(rt, &status.heard),
     })
 }
 

@@ -1,10 +1,12 @@
 //! Rounds of a live region.
 
-ghost use Rattle.std.specs.Prelude.{◌≡◌, ◌≤◌, ◌++◌, [], length, map, vec_capacity, Ok, IfOk, IfErr, OnErr, OnOk};
+ghost use Rattle.std.specs.Prelude.{◌≡◌, ◌≤◌, ◌++◌, [], length, map, vec_capacity, Ok, IfOk, IfErr, OnErr, OnOk, IsTrue};
 ghost use Rattle.std.specs.List.{flat_map};
+ghost use Rattle.pn_join.specs.Prelude.{are_positions};
 ghost use Rattle.pn_tablet.specs.Prelude.{changes, Refuses};
 ghost use Rattle.pn_apply.specs.Prelude.{AreJoinsIn, HavePositions, all_stepped, all_changes};
 ghost use Rattle.pn_apply.specs.declared.reducing.TheConstants.{MAX_WORKERS};
+ghost use Rattle.pn_region.specs.declared.marking.TheConstants.{MAX_STREAMS};
 ghost use Rattle.pn_region.specs.Prelude.{with_notices, refused_log, is_memory, new_marks, AreRegionMarks, IsRegion, all_cells, joins, round, changed_count, Leaves};
 ghost use Rattle.pn_live.specs.LiveRegions.{core, tablets_after_round, LeavesLive, tablets_in};
 ghost use Rattle.pn_live.specs.PublishedTablets.{books_of, notes_of, state_at, with_ops};
@@ -178,7 +180,7 @@ impl LiveRegion {
         ensures same { self.new ≡ self.old }
         ensures refused { IfErr result (λ fault. Refuses is_memory fault (round (core self.old) shares.now)) }
     {
-        let marks = next_marks(&self.marks, shares)?;
+        let marks = marks_after(&self.marks, shares)?;
         let operations = reduce(rt, self.alloc, shares, &self.layout, &marks, workers, gate)?;
         let plan = plan_round(
             rt,
@@ -190,6 +192,17 @@ impl LiveRegion {
         )?;
         Ok((marks, operations, plan))
     }
+}
+
+// The marks after what the shares bring.
+fn marks_after(marks: &Marks, shares: &[Share]) -> Result<Marks, RoundFault>
+    requires { IsTrue (are_positions marks.now) }
+    ensures ok { IfOk result (λ next. new_marks marks.now shares.now ≡ Ok next) }
+    ensures refused { IfErr result (λ fault. Refuses is_memory fault (new_marks marks.now shares.now)) }
+    ensures positions { IfOk result (λ next. IsTrue (are_positions next)) }
+    ensures few { IfOk result (λ next. length next ≤ MAX_STREAMS) }
+{
+    next_marks(marks, shares)
 }
 
 // Publishes the next state of each tablet, in the order of the tablets.

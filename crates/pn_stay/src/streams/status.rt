@@ -23,15 +23,9 @@ struct StatusNow {
     fault: Option<StreamFaultStats>,
     // Whose stream it is, if a writer said so.
     stream: Option<String>,
-    // What a writer said last of its broker.
-    broker: Option<BrokerStatus>,
-}
-
-/// How far a broker is, as a writer said, and when that was.
-#[derive(Clone, Copy, Debug)]
-pub(crate) struct BrokerStatus {
-    pub(crate) newest: u64,
-    pub(crate) heard: Option<Instant>,
+    // The broker's newest position, as a writer said it last, and when that was.
+    newest: Option<u64>,
+    heard: Option<Instant>,
 }
 
 /// The status of a stream at one moment.
@@ -42,7 +36,8 @@ pub(crate) struct StatusThen {
     pub(crate) came: Option<Instant>,
     pub(crate) fault: Option<StreamFaultStats>,
     pub(crate) stream: Option<String>,
-    pub(crate) broker: Option<BrokerStatus>,
+    pub(crate) newest: Option<u64>,
+    pub(crate) heard: Option<Instant>,
 }
 
 impl StreamStatus {
@@ -78,7 +73,9 @@ impl StreamStatus {
     /// Notes the broker's newest position, which a writer says now.
     pub(crate) fn note_newest<R: Wait + Clock>(&self, rt: &R, newest: u64) {
         let heard = Instant::now(rt).ok();
-        self.now.lock(rt).broker = Some(BrokerStatus { newest, heard });
+        let mut now = self.now.lock(rt);
+        now.newest = Some(newest);
+        now.heard = heard;
     }
 
     /// Whether a writer is read.
@@ -98,7 +95,8 @@ impl StreamStatus {
             came: now.came,
             fault,
             stream,
-            broker: now.broker,
+            newest: now.newest,
+            heard: now.heard,
         })
     }
 }
@@ -110,14 +108,16 @@ impl StatusNow {
         ensures came { result.came ≡ None }
         ensures fault { result.fault ≡ None }
         ensures stream { result.stream ≡ None }
-        ensures broker { result.broker ≡ None }
+        ensures newest { result.newest ≡ None }
+        ensures heard { result.heard ≡ None }
     {
         StatusNow {
             state: StreamState::Waiting,
             came: None,
             fault: None,
             stream: None,
-            broker: None,
+            newest: None,
+            heard: None,
         }
     }
 
@@ -127,7 +127,8 @@ impl StatusNow {
         ensures fault { self.new.fault ≡ Some fault }
         ensures came { self.new.came ≡ self.old.came }
         ensures stream { self.new.stream ≡ self.old.stream }
-        ensures broker { self.new.broker ≡ self.old.broker }
+        ensures newest { self.new.newest ≡ self.old.newest }
+        ensures heard { self.new.heard ≡ self.old.heard }
     {
         self.state = StreamState::Failed;
         self.fault = Some(fault);

@@ -99,6 +99,7 @@ fn failed_stream(alloc: Global) -> Result<StreamStats, NoMemory> {
     let name = Name::read(b"east").ok().ok_or(NoMemory)?;
     let path = String::from_str(alloc, "./east")?;
     let reason = String::from_str(alloc, "not JSON")?;
+    let stream = String::from_str(alloc, "kafka east")?;
     Ok(StreamStats {
         name,
         path,
@@ -108,6 +109,9 @@ fn failed_stream(alloc: Global) -> Result<StreamStats, NoMemory> {
         state: StreamState::Failed,
         since: Some(13),
         fault: Some(StreamFaultStats { line: 14, reason }),
+        stream: Some(stream),
+        newest: Some(20),
+        heard: Some(21),
     })
 }
 
@@ -124,6 +128,9 @@ fn new_stream(alloc: Global) -> Result<StreamStats, NoMemory> {
         state: StreamState::Waiting,
         since: None,
         fault: None,
+        stream: None,
+        newest: None,
+        heard: None,
     })
 }
 

@@ -3,10 +3,11 @@ use Rattle.std.proofs.Common.{◌≡◌, List, sym, ap, ◌∙◌, subst, Ok}
 use Rattle.std.specs.Prelude.{OnOk, IfErr}
 use Rattle.pn_stream.specs.Positions.{DeliveryValue}
 use Rattle.pn_tablet.specs.Refusals.{Refuses}
+use Rattle.pn_region.specs.Logged.{refused_log}
 use Rattle.pn_region.specs.Marking.{is_memory}
 use Rattle.pn_region.specs.Rounds.{round, Leaves}
 use Rattle.pn_region.specs.declared.fault.RoundFault.{RoundFault}
-use Rattle.pn_live.specs.LiveRegions.{LiveRegionValue, core, tablets_after_round, LeavesLive}
+use Rattle.pn_live.specs.LiveRegions.{LiveRegionValue, core, tablets_after_round, tablets_in, LeavesLive}
 use Rattle.pn_live.proofs.Rounds.{leaves_live, leaves}
 use Rattle.pn_live.proofs.region.LiveRegion.round.Goals as goal
 
@@ -47,3 +48,15 @@ returns-in-Err-clause-left g c =
     let was = c.args.self.now in
     subst (λ (fault : RoundFault). Leaves fault (core was) c.args.deliveries.items (core c.refuse.new.self)) (sym c.refuse.ensures.fault)
     (leaves was c.args.deliveries.items c.shares_for.ensures.region c.refuse.new.self c.in-Err.fault c.refuse.ensures.kept)
+
+pub returns-in-Err-clause-broken : goal.returns-in-Err-clause-broken
+returns-in-Err-clause-broken g c = ap (λ (live : LiveRegionValue). live.log) c.refuse.ensures.kept ∙ ap (refused_log c.args.self.now.log) (sym c.refuse.ensures.fault)
+
+pub returns-in-Err-clause-kept : goal.returns-in-Err-clause-kept
+returns-in-Err-clause-kept g c =
+    let was = c.args.self.now in
+    let with_fault : RoundFault → LiveRegionValue = λ fault. record was { log = refused_log was.log fault } in
+    c.refuse.ensures.kept ∙ ap with_fault (sym c.refuse.ensures.fault)
+
+pub returns-in-Err-clause-same : goal.returns-in-Err-clause-same
+returns-in-Err-clause-same g c = ap tablets_in c.refuse.ensures.kept

@@ -25,5 +25,5 @@ returns-in_err-shares_of-clause-refused c =
     let deliveries = c.args.deliveries.items in
     let same : map (λ (d : DeliveryValue). d) c.deref.result.now ≡ deliveries = map-id c.deref.result.now ∙ c.deref.ensures.value in
     let marks = ap (λ (l : LiveRegionValue). new_marks l.marks deliveries) c.self.view_is in
-    handed_on c.from_residual-2.result Memory _ c.from_residual-2.ensures.1
+    handed_on c.from_residual-in_err-shares_of.result Memory _ c.from_residual-in_err-shares_of.ensures.1
     (round_passes (core was) deliveries _ (sym marks ∙ sym (ap (new_marks c.self.inside.marks) same) ∙ c.in_ok-check_marks.ensures.ok))
