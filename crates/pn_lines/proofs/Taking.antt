@@ -1,5 +1,5 @@
 -- What each way of taking lines does to where an engine stands.
-use Rattle.std.proofs.Common.{◌≡◌, ◌≢◌, ◌+◌, ◌<◌, ◌≤◌, ℕ, Bool, List, [], ◌∷◌, ◌++◌, length, max, inr, refl, sym, ap, ◌∙◌, arith, append_assoc, append-nil, length-append, ⊎_elim}
+use Rattle.std.proofs.Common.{◌≡◌, ◌≢◌, ◌+◌, ◌<◌, ◌≤◌, ℕ, Bool, List, [], ◌∷◌, ◌++◌, length, max, inl, inr, refl, sym, ap, ◌∙◌, arith, append_assoc, append-nil, length-append, ⊎_elim}
 use Rattle.std.proofs.lemmas.List.Elements.{All-append}
 use Rattle.pn_line.specs.declared.line_buffer.TheConstants.{ENDLESS, MAX_KEPT_BYTES, MAX_LINE_BYTES}
 use Rattle.pn_line.specs.Reads.{IsUnbroken}

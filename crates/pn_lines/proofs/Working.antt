@@ -7,7 +7,7 @@ use Rattle.pn_lines.specs.Giving.{Adds}
 use Rattle.pn_lines.specs.Progress.{Advances, Costs, IsNearer, IsPartAt, NextIs}
 use Rattle.pn_lines.specs.Handling.{Handling}
 use Rattle.pn_lines.specs.Standing.{Stands, StandsStill}
-use Rattle.pn_lines.specs.TurnStates.{BufferValue, Comes, IsKept, IsStored, Rests, TakesFirst, TurnValue, Works, held_in, is_last, next_work, outcome_of}
+use Rattle.pn_lines.specs.TurnStates.{BufferValue, Comes, IsKept, IsStored, Rests, TakesFirst, TurnValue, WantsInput, Works, held_in, is_last, next_work, outcome_of}
 use Rattle.pn_lines.specs.Turns.{Moment, Turned, Worked, WorkedIn, at}
 use Rattle.pn_lines.specs.declared.engine.Next.{Next}
 use Rattle.pn_lines.specs.declared.engine.Next.TheVariants as next
@@ -28,7 +28,7 @@ use Rattle.pn_lines.specs.declared.turns.working.TheConstants.{TURN_UNITS}
 use Rattle.pn_lines.specs.declared.turns.working.Work.{Work}
 use Rattle.pn_lines.specs.declared.turns.working.Work.TheVariants as work
 use Rattle.pn_lines.proofs.Left.{IsNearer-trans}
-use Rattle.pn_lines.proofs.Turning.{Moves-came, Moves-then, Moves-took, Moves-went, both_none, only_came, only_took, only_went, then_moved}
+use Rattle.pn_lines.proofs.Turning.{Moves-came, Moves-then, Moves-took, Moves-went, both_none, none_moved, only_came, only_took, only_went, then_moved}
 
 -- bytes came, units were used, or there was a reason to use none
 abbrev IsUsed : ℕ → ℕ → ℕ → ℕ → Type 0

@@ -1,6 +1,7 @@
 -- What the records that a reply shows weigh.
-use Rattle.std.specs.Prelude.{ℕ, ◌-◌, ◌^◌, min, List, Some, None}
+use Rattle.std.specs.Prelude.{ℕ, ◌-◌, ◌^◌, min, List, Option, Some, None}
 use Rattle.std.specs.List.{sum_by}
+use Rattle.pn_record.specs.Sets.{CellValue}
 use Rattle.pn_tablet.specs.Weights.{record_weight}
 use Rattle.pn_protocol.specs.Reply.Making.{Found}
 

@@ -1,5 +1,5 @@
 -- A call of the engine, and then perhaps a read.
-use Rattle.std.proofs.Common.{None, inl, arith}
+use Rattle.std.proofs.Common.{◌≤◌, None, length, inl, arith}
 use Rattle.pn_lines.specs.TurnStates.{held_in}
 use Rattle.pn_lines.specs.Turns.{at}
 use Rattle.pn_lines.specs.declared.turns.working.TheConstants.{TURN_UNITS}

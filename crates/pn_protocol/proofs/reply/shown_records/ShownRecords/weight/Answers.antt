@@ -1,5 +1,5 @@
 -- One record more is weighed.
-use Rattle.std.proofs.Common.{◌-◌, ◌^◌, ◌∙◌, min, sym, ap, arith}
+use Rattle.std.proofs.Common.{◌≡◌, ◌-◌, ◌^◌, ◌∙◌, min, sym, ap, arith}
 use Rattle.std.proofs.lemmas.Option.{slice_get_within}
 use Rattle.std.specs.Option.{option_copied}
 use Rattle.pn_protocol.specs.Reply.Making.{Found, found_in}
