@@ -19,10 +19,14 @@ import resource
 import subprocess
 from collections.abc import Iterator
 
+import pytest
+
 from common.served import piped
-from common.tried import Case, Cases, damaged, prefixes, try_cases
+from common.tried import Case, Cases, damaged, prefixes, try_group
 from replies.slow import slow_replies
 from replies.stored import stored
+
+pytestmark = pytest.mark.damaged_input
 
 SECONDS = 60
 TRUNCATED = b'{"error":"truncated"}\n'
@@ -141,5 +145,6 @@ def cases(program: str, folder: str) -> Iterator[Cases]:
     yield "a full output", lambda _: full_fault(program), [("full", b"")]
 
 
-def main(words: list[str]) -> int:
-    return try_cases(__doc__, words, cases, "cases, as they should be")
+def check_damaged_input(program: str, folder: str, group: str) -> None:
+    """Each reply and each end is as it should be."""
+    try_group(cases(program, folder), group)

@@ -14,10 +14,14 @@ import threading
 import time
 from collections.abc import Iterator
 
+import pytest
+
 from common.served import Client, Served, message, written
-from common.tried import Case, Cases, damaged, prefixes, try_cases
+from common.tried import Case, Cases, damaged, prefixes, try_group
 from replies.slow_lines import Json
 from replies.slow_streams import copy_of, read_stream
+
+pytestmark = pytest.mark.damaged_streams
 
 SECONDS, PAUSE = 60, 0.002
 LONGEST = 65_536
@@ -117,5 +121,6 @@ def cases(program: str, folder: str) -> Iterator[Cases]:
     yield "lines of a session", answered, ((f"{count} lines", b"%d" % count) for count in counts)
 
 
-def main(words: list[str]) -> int:
-    return try_cases(__doc__, words, cases, "cases, as they should be")
+def check_damaged_streams(program: str, folder: str, group: str) -> None:
+    """What is served, and each end, is as it should be."""
+    try_group(cases(program, folder), group)

@@ -6,12 +6,16 @@ import subprocess
 import time
 from collections.abc import Iterator
 
+import pytest
+
 from common.served import Client, same
 from serving.controlled import region_in, written
-from serving.exporting import Exporter, answered
+from serving.exporting import NEEDS, Exporter, answered
 from serving.prometheus import FOLDER, RULES, Prometheus
 from serving.staying import until
 from serving.writers import Writer
+
+pytestmark = [pytest.mark.exporter, NEEDS]
 
 ALERT = re.compile(r"- alert: (\w+)")
 # What a dashboard leaves open, and what Grafana puts there.

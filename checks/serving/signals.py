@@ -10,17 +10,18 @@ import os
 import signal
 import socket
 import subprocess
-import sys
 import time
-from collections.abc import Callable
+
+import pytest
 
 from common.served import SECONDS, Client, Served, message, piped, row_of, same, written
-from common.tried import checks_in, checks_parser, try_checks
 from serving.controlled import Session, region_in
 from serving.staying import CHUNK, KEYS, PAGE, Staying, key_of, messages, until
 from serving.staying_clients import deaf_client
 from serving.stream_fifos import opens, wait_for
 from serving.writers import Writer, made, said_of_faults, socket_in
+
+pytestmark = pytest.mark.signals
 
 # How often a program is stopped, and for how long.
 TIMES, STOPPED = 4, 0.03
@@ -222,9 +223,3 @@ def check_copies(program: str, folder: str) -> None:
         until("all is taken", lambda: answer(client, b'{"do":"read","key":"k007"}\n') != NO_ROW)
         client.close()
         same("how it ends", [*served.communicate(timeout=SECONDS), served.returncode], [b"served 1\n", b"", 0])
-
-
-def main(words: list[str]) -> int:
-    checks: dict[str, Callable[[str, str], None]] = checks_in(sys.modules[__name__])
-    given = checks_parser(__doc__, checks).parse_args(words)
-    return try_checks(given.program, checks, given.names or checks)

@@ -16,8 +16,12 @@ from collections.abc import Iterable, Iterator
 from functools import cache
 from pathlib import Path
 
+import pytest
+
 from common.crates import TOP
-from common.tried import parser_of
+from common.tried import none_of
+
+pytestmark = pytest.mark.links
 
 LINK = re.compile(r"\[[^\]]*\]\(([^)\s]+)\)")
 HEADING = re.compile(r"^#+ (.+)$", re.MULTILINE)
@@ -235,10 +239,7 @@ def once(faults: Iterable[str]) -> list[str]:
     return list(dict.fromkeys(faults))
 
 
-def main(words: list[str]) -> int:
-    parser_of(__doc__).parse_args(words)
-    faults = once(all_faults())
-    for fault in faults:
-        print(f"links: {fault}")
-    print(f"links: {len(documents())} documents, and nothing is missing" if not faults else f"links: {len(faults)} are missing")
-    return 1 if faults else 0
+def check_links() -> None:
+    """Nothing that documents name is missing, and they tell of all."""
+    none_of(once(all_faults()))
+    print(f"{len(documents())} documents")

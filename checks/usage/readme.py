@@ -9,17 +9,18 @@ Exit status 0 where that is what is written, or skipped.
 """
 import os
 import pathlib
-import shutil
 import subprocess
-import tempfile
 from collections.abc import Iterator
 
+import pytest
+
 from common.crates import TOP
+from common.needs import needs
 from common.served import same
-from common.tried import program_parser
+
+pytestmark = [pytest.mark.readme, needs("unshare", "ip", "bash")]
 
 START, END, INDENT = "## Quick start\n", "\n## ", "    "
-TOOLS = ["unshare", "ip", "bash"]
 SECONDS = 120
 
 
@@ -46,24 +47,24 @@ def written_by(script: str, folder: pathlib.Path) -> str:
     return ran.stdout
 
 
-def main(words: list[str]) -> int:
-    given = program_parser(__doc__).parse_args(words)
-    lacks = [tool for tool in TOOLS if not shutil.which(tool)]
-    if lacks:
-        print(f"readme: skipped, for the machine lacks {', '.join(lacks)}")
-        return 0
-    text, count, written = (TOP / "README.md").read_text(encoding="utf-8").partition(START)[2].partition(END)[0], 0, ""
-    with tempfile.TemporaryDirectory() as name:
-        folder = pathlib.Path(name)
-        (folder / "bin").mkdir()
-        (folder / "bin/pnuts").symlink_to(given.program)
-        (folder / "clients").symlink_to(TOP / "clients")
-        for told, shown in blocks(text):
-            if told.endswith("It prints"):
-                same("what is written", written, shown)
-                count += 1
-            elif not shown.startswith("make "):
-                written = written_by(shown, folder)
+def count_shown(text: str, folder: pathlib.Path) -> int:
+    """How often a text shows what its lines write, which has to be that."""
+    count, written = 0, ""
+    for told, shown in blocks(text):
+        if told.endswith("It prints"):
+            same("what is written", written, shown)
+            count += 1
+        elif not shown.startswith("make "):
+            written = written_by(shown, folder)
     same("whether something is shown", count > 0, True)
-    print(f"readme: {count} times what is written is what README shows")
-    return 0
+    return count
+
+
+def check_readme(program: str, folder: str) -> None:
+    """What is shown is what is written."""
+    here = pathlib.Path(folder)
+    (here / "bin").mkdir()
+    (here / "bin/pnuts").symlink_to(program)
+    (here / "clients").symlink_to(TOP / "clients")
+    count = count_shown((TOP / "README.md").read_text(encoding="utf-8").partition(START)[2].partition(END)[0], here)
+    print(f"{count} times what is written is what README shows")
