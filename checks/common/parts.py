@@ -1,4 +1,4 @@
-"""The parts of the checks that pytest tries: the modules with a mark, and what each may be told."""
+"""The parts of the checks: programs, and modules that pytest tries, with what each may be told."""
 import argparse
 import ast
 import configparser
@@ -15,30 +15,50 @@ CHECKS = Path(__file__).resolve().parent.parent
 SETTINGS = CHECKS / "pytest.ini"
 # What runs a part by its name.
 RUN = CHECKS / "run"
-MARKS, MARK = re.compile(r"^pytestmark = .*", re.MULTILINE), re.compile(r"pytest\.mark\.(\w+)")
+# How a module says which part it is of.
+NAMED = re.compile(r"checks/run ([a-z][a-z-]*)")
+CHECK = "\ndef check_"
+MAIN = "\ndef main(words: list[str]) -> int:\n"
 PROCESSORS = len(os.sched_getaffinity(0))
 
 
-def texts() -> dict[Path, str]:
-    """The modules, each with its text."""
-    return {path: path.read_text(encoding="utf-8") for path in sorted(CHECKS.glob("*/*.py"))}
+def told(text: str) -> str:
+    """What a module says of itself."""
+    return ast.get_docstring(ast.parse(text)) or ""
 
 
-def marked() -> dict[str, list[Path]]:
-    """The modules with checks, by the parts that they are marked for."""
+def texts(mark: str) -> dict[Path, str]:
+    """The modules that have a text, each with its own."""
+    found = ((path, path.read_text(encoding="utf-8")) for path in sorted(CHECKS.glob("*/*.py")))
+    return {path: text for path, text in found if mark in text}
+
+
+def programs() -> dict[str, Path]:
+    """The modules that are parts of their own: those with a `main` of its words."""
+    return {path.stem.replace("_", "-"): path for path in texts(MAIN)}
+
+
+def modules() -> dict[str, list[Path]]:
+    """The modules with checks, by the parts that they are of."""
     found: dict[str, list[Path]] = {}
-    for path, text in texts().items():
-        for name in MARK.findall(" ".join(MARKS.findall(text))):
-            found.setdefault(name.replace("_", "-"), []).append(path)
+    for path, text in texts(CHECK).items():
+        if MAIN not in text and (named := NAMED.search(told(text))):
+            found.setdefault(named[1], []).append(path)
     return found
 
 
-def marks() -> dict[str, str]:
-    """What each part tries."""
+def abouts() -> dict[str, tuple[str, str]]:
+    """The folder of each part, and what it tries: as the module of its name says first, or as the settings of pytest do."""
     settings = configparser.ConfigParser()
     settings.read(SETTINGS, encoding="utf-8")
     lines = (line.partition(": ") for line in settings["pytest"]["markers"].strip().splitlines())
-    return {name.replace("_", "-"): about for name, _, about in lines}
+    marks = {name: about for name, _, about in lines}
+    found = dict[str, tuple[str, str]]()
+    for name, paths in [*((name, [path]) for name, path in programs().items()), *modules().items()]:
+        own = [it for it in paths if it.stem.replace("_", "-") == name]
+        about = told(own[0].read_text(encoding="utf-8")).partition("\n\n")[0] if own else marks[name]
+        found[name] = (paths[-1].parent.name, " ".join(about.split()))
+    return found
 
 
 def functions(paths: Iterable[Path]) -> Iterator[ast.FunctionDef]:
@@ -54,7 +74,7 @@ def parser_of(part: str, paths: Iterable[Path]) -> argparse.ArgumentParser:
     found = list(functions(paths))
     used = {it.arg for function in found for it in function.args.args}
     checks = (f"  {it.name[6:]}: {' '.join((ast.get_docstring(it) or '').split())}" for it in found if it.name.startswith("check_"))
-    parser = argparse.ArgumentParser(f"run {part}", description=marks()[part], epilog="\n".join(["checks:", *checks]),
+    parser = argparse.ArgumentParser(f"run {part}", description=abouts()[part][1], epilog="\n".join(["checks:", *checks]),
                                      formatter_class=argparse.RawDescriptionHelpFormatter)
     for name in (it for it in PROGRAMS if it in used):
         parser.add_argument(name, metavar=name.upper(), type=program_at, help=PROGRAMS[name])
@@ -67,7 +87,7 @@ def parser_of(part: str, paths: Iterable[Path]) -> argparse.ArgumentParser:
 def run(part: str, words: list[str]) -> int:
     """Has pytest try a part. The status."""
     own = words.index("--") if "--" in words else len(words)
-    given = vars(parser_of(part, marked()[part]).parse_intermixed_args(words[:own]))
+    given = vars(parser_of(part, modules()[part]).parse_intermixed_args(words[:own]))
     names = [f"--check={it}" for it in given.pop("check")]
     told = ((name, each) for name, value in given.items() for each in (value if isinstance(value, list) else [value]))
     options = [f"--{name}" if value is True else f"--{name}={value}" for name, value in told if value not in (None, False)]
@@ -82,7 +102,7 @@ def tried(parts: Sequence[str], words: Sequence[str], at_once: bool = False) -> 
         print("checks/run: Debian's python3-pytest is missing", file=sys.stderr)
         return 1
     os.environ["PYTHONDONTWRITEBYTECODE"] = "1"
-    found = marked()
+    found = modules()
     paths = dict.fromkeys(str(path) for part in parts for path in found[part])
     several = ["-n", str(PROCESSORS)] if at_once and importlib.util.find_spec("xdist") else []
     return int(pytest.main(["-c", str(SETTINGS), "--rootdir", str(CHECKS), *several, *words, *paths]))

@@ -8,12 +8,8 @@ import subprocess
 from collections.abc import Iterator
 from pathlib import Path
 
-import pytest
-
 from common.crates import TOP, kit
 from common.tried import none_of
-
-pytestmark = pytest.mark.format
 
 FOLDERS = ("src", "specs", "proofs")
 SUFFIXES = (".rt", ".antt")

@@ -13,8 +13,6 @@ from common.served import same
 from common.tried import none_of
 from contracts.locations import FUNCTION, SIGNATURE_END, Location, is_at, location_at, owner_of, source, sources_of
 
-pytestmark = pytest.mark.naming
-
 # The heads of impls, each after its word `impl`, and how a check names what they have.
 HEADS = {
     " KeyText": "KeyText",

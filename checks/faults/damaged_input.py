@@ -19,14 +19,10 @@ import resource
 import subprocess
 from collections.abc import Iterator
 
-import pytest
-
 from common.served import piped
 from common.tried import Case, Cases, damaged, prefixes, try_group
 from replies.slow import slow_replies
 from replies.stored import stored
-
-pytestmark = pytest.mark.damaged_input
 
 SECONDS = 60
 TRUNCATED = b'{"error":"truncated"}\n'

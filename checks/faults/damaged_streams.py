@@ -14,14 +14,10 @@ import threading
 import time
 from collections.abc import Iterator
 
-import pytest
-
 from common.served import Client, Served, message, written
 from common.tried import Case, Cases, damaged, prefixes, try_group
 from replies.slow_lines import Json
 from replies.slow_streams import copy_of, read_stream
-
-pytestmark = pytest.mark.damaged_streams
 
 SECONDS, PAUSE = 60, 0.002
 LONGEST = 65_536

@@ -17,15 +17,11 @@ import os
 import subprocess
 from collections.abc import Callable, Iterator
 
-import pytest
-
 from common.served import Client, Served, message, written
 from common.tried import Cases, try_group
 from faults.failing import environment, failing_library
 from replies.slow import slow_replies
 from replies.stored import stored
-
-pytestmark = pytest.mark.failing_calls
 
 SECONDS = 60
 # How long a client waits for the rest of a reply, until it sends the next line.

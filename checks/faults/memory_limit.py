@@ -17,11 +17,7 @@ import threading
 import time
 from collections.abc import Callable, Iterator
 
-import pytest
-
 from common.served import Client, Served, same, written
-
-pytestmark = pytest.mark.memory_limit
 
 MEGABYTE = 1 << 20
 LIMITS = [8, 16, 32, 64, 128, 256]

@@ -29,8 +29,6 @@ from faults.refusing import FOR_GOOD, IN_THREADS, ONE, FindFault, Refusals
 from replies.stored import Stored, stored, stored_scripts
 from replies.wide_rounds import wide_rounds
 
-pytestmark = pytest.mark.out_of_memory
-
 # Cases that end so whichever allocation is refused: one of live regions in which a refused call comes again, and one of a connection
 # whose input is kept between turns. There is no answer where the line is not read or answered.
 ENDS_WELL = {"live region": (b"live memory\n", b"well\n"), "kept input": (b"stay keeps on++e|tw++o|\n", b"ii of 2 lines\n")}

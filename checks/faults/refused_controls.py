@@ -5,15 +5,11 @@ import os
 import subprocess
 import time
 
-import pytest
-
 from common.served import SECONDS, Json, same
 from faults.refusing import Refusals
 from serving.controlled import Session, adoption
 from serving.staying import Staying, until
 from serving.writers import Writer
-
-pytestmark = pytest.mark.control
 
 # Refusals after which a line is asked again.
 MEMORY = (b'{"error":"memory"}\n', b'{"error":"no-entry"}\n')

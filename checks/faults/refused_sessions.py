@@ -6,13 +6,9 @@ import pathlib
 import time
 from collections.abc import Iterator
 
-import pytest
-
 from common.served import SECONDS, Client, Json, Served, same, written
 from faults.refusing import Refusals
 from replies.slow import text_of
-
-pytestmark = pytest.mark.sessions
 
 MEMORY = {"error": "memory"}
 MANY = 1_000

@@ -15,13 +15,9 @@ import resource
 import threading
 import time
 
-import pytest
-
 from common.served import SECONDS, Client, Json, same
 from serving.controlled import Session
 from serving.staying import Staying, until
-
-pytestmark = pytest.mark.waiting_rounds
 
 NAMES, KEYS = ["east", "west"], 200_000
 WAITS, GOES_ON = b"pnuts: out of memory: a round waits\n", b"pnuts: rounds go on\n"

@@ -19,15 +19,13 @@ import subprocess
 from collections.abc import Iterator
 from typing import IO
 
-import pytest
-
 from common.crates import TOP
 from common.needs import needs
 from common.tried import none_of
 from replies.stored import stored_scripts
 
 REGISTRY = "/usr/share/cargo/registry/serde_json-*"
-pytestmark = [pytest.mark.json_lines, needs("cargo", also=() if glob.glob(REGISTRY) else ("librust-serde-json-dev",))]
+pytestmark = needs("cargo", also=() if glob.glob(REGISTRY) else ("librust-serde-json-dev",))
 
 PLAIN = TOP / "out/plain/release/plain"
 NOT_JSON, COPY = b'{"error":"not-json"}\n', b'{"lines":'

@@ -13,8 +13,6 @@ import pytest
 from common.tried import none_of
 from serving import line_streams, line_ways
 
-pytestmark = pytest.mark.limits
-
 WAYS: dict[str, line_ways.Way | line_streams.StreamWay] = {**line_ways.WAYS, **line_streams.WAYS}
 
 

@@ -9,14 +9,10 @@ import random
 import subprocess
 import tempfile
 
-import pytest
-
 from common.drawn import SEEDS, st, try_drawn
 from common.served import SECONDS, Client, Json, Served, same, written
 from replies.random_streams import MOST, NAMES, Streams, copied, copy_line, streams_of
 from replies.random_values import KEYS, MANY_KEYS, bounds_of
-
-pytestmark = pytest.mark.live_copies
 
 # How many regions there are, and some that are tried each time: by the seed of all but the lengths of their streams.
 REGIONS, KEPT = 100, [(0, [1]), (7, [399, 1, 399])]

@@ -12,14 +12,10 @@ import json
 import subprocess
 from collections.abc import Iterator
 
-import pytest
-
 from common.drawn import SEEDS, seeds, st, try_drawn
 from common.tried import none_of
 from replies.random_talks import Meeting, Talk
 from replies.slow_lines import Json
-
-pytestmark = pytest.mark.random_scripts
 
 SCRIPTS, MANY = 3_000, 1_000
 MEETINGS = st.tuples(SEEDS, seeds(24))

@@ -11,14 +11,10 @@ import random
 import subprocess
 from itertools import zip_longest
 
-import pytest
-
 from common.drawn import SEEDS, seeds, st, try_drawn
 from common.served import same
 from replies.slow import slow_replies
 from replies.slow_lines import Json
-
-pytestmark = pytest.mark.rising_keys
 
 # How many scripts there are, and some that are tried each time: without lines, and with a few.
 SCRIPTS, KEPT = 300, [(0, [0] * 6), (1, [1, 2, 3, 4, 5, 6])]

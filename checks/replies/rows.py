@@ -1,16 +1,14 @@
-"""The worked rows that are kept outside the repository."""
+"""Gives the worked rows that are kept outside the repository: `checks/run rows PROGRAM`."""
 import os
 import subprocess
 from pathlib import Path
-
-import pytest
 
 from common.crates import TOP
 from common.needs import needs
 from common.served import same
 
 ROWS = Path(os.environ.get("ROWS", TOP.parent / "shared" / "rows")) / "check"
-pytestmark = [pytest.mark.rows, needs(also=() if ROWS.exists() else (str(ROWS),))]
+pytestmark = needs(also=() if ROWS.exists() else (str(ROWS),))
 
 
 def check_rows(program: str) -> None:

@@ -22,12 +22,8 @@ from collections import Counter
 from collections.abc import Callable, Iterator
 from typing import IO
 
-import pytest
-
 from common.resting import rests
 from common.served import Client, Json, Served, fifo, row_of, same
-
-pytestmark = pytest.mark.abuse
 
 SESSIONS = 16
 NAMES = ["east", "north", "south", "west"]

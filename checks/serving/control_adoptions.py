@@ -15,8 +15,6 @@ from common.served import SECONDS, Client, same
 from serving.controlled import CHUNK, Session, region_in, written
 from serving.staying import Staying, until
 
-pytestmark = pytest.mark.control
-
 MARKS = b'{"do":"marks"}\n'
 # Announced lines, of which the first is none of a copy; and how many lines one session has, more than one of clients may have.
 ADOPTED, LINES, PART = (1_000_000, 1_500_000), 1_200_000, 1_000

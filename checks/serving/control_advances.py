@@ -3,15 +3,11 @@ import contextlib
 import os
 import time
 
-import pytest
-
 from common.served import same
 from serving.controlled import BOUNDS, TABLETS, Session, adoption, given, region_in
 from serving.staying import Staying, messages, until
 from serving.stream_fifos import opens
 from serving.writers import Writer, failed, said_of_faults
-
-pytestmark = pytest.mark.control
 
 # How far the region and its peer have the stream, and a second one.
 HAS, PEER_HAS, SECOND = 20, 700, 1_300

@@ -6,14 +6,10 @@ import threading
 import time
 from pathlib import Path
 
-import pytest
-
 from common.crates import TOP
 from serving.controlled import BOUNDS, Session
 from serving.staying import Staying, messages, until
 from serving.writers import Writer
-
-pytestmark = pytest.mark.control
 
 STARTS, EACH = 300, 10
 # How many messages a writer sends at a time.

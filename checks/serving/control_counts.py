@@ -1,13 +1,9 @@
 """Checks of `checks/run control`: the counts of records and of lines in the reply to `stats`."""
 import socket
 
-import pytest
-
 from common.served import SECONDS, same
 from serving.controlled import TABLETS, Session, adoption, given, region_in, written
 from serving.staying import until
-
-pytestmark = pytest.mark.control
 
 DELETION = b'{"at":%d,"image":{"deleted":true,"key":"k%03d","master":"w","version":[2,%d]}}\n'
 RECORD = b'{"at":%d,"image":{"fields":{"v":"y"},"key":"k%03d","master":"w","version":[2,%d]}}\n'

@@ -3,13 +3,9 @@ import random
 import socket
 import threading
 
-import pytest
-
 from common.served import SECONDS, same
 from serving.control_scripts import replayed
 from serving.controlled import CHUNK, Session, region_in
-
-pytestmark = pytest.mark.control
 
 LINES = 20_000
 WHOLE = [b'{"do":"marks"}', b'{"do":"tablets"}', b'{"do":"lose","tablet":1}', b'{"do":"notices","since":3}', b'{"do":"copy","tablet":2}',

@@ -7,14 +7,10 @@ import random
 import time
 from collections.abc import Callable
 
-import pytest
-
 from common.served import Client, same
 from serving.controlled import TABLETS, Session, adoption, region_in
 from serving.staying import CHUNK, KEYS, Asker, Beside, Swarm, messages, pages, until
 from serving.writers import Writer
-
-pytestmark = pytest.mark.control
 
 READERS, PART, PAUSE = 16, 200, 0.01
 # For how long tablets are lost and recovered, where nothing else is said.

@@ -6,15 +6,11 @@ import threading
 import time
 from collections.abc import Iterator
 
-import pytest
-
 from common.served import SECONDS, Client, in_time, same, seconds_of
 from serving.controlled import TABLETS, Session, region_in, written
 from serving.staying import Staying, until
 from serving.stream_limits import BIG, TEXT
 from serving.writers import Writer
-
-pytestmark = pytest.mark.control
 
 MEMORY = b'{"error":"memory"}\n'
 # How much memory a region has besides what it has taken, and how often it is asked meanwhile.

@@ -5,14 +5,10 @@ import random
 import subprocess
 from collections.abc import Iterator
 
-import pytest
-
 from common.served import Json, same
 from serving.controlled import BOUNDS, TABLETS, Session, adoption, given
 from serving.staying import PAGE, Staying
 from serving.writers import socket_in
-
-pytestmark = pytest.mark.control
 
 SCRIPTS, TURNS, KEYS, POSITIONS = 8, 150, 100, 400
 STREAMS = ("east", "west")

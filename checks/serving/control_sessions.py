@@ -7,14 +7,10 @@ import threading
 import time
 from collections.abc import Callable
 
-import pytest
-
 from common.served import SECONDS, Json, in_time, same
 from serving.control_losses import read_on, write_on
 from serving.controlled import CHUNK, TABLETS, Session, adoption, region_in, written
 from serving.staying import Beside, until
-
-pytestmark = pytest.mark.control
 
 SESSIONS, LINES = 16, 400
 # What a thousand sessions may leave, of which some had whole copies adopted.

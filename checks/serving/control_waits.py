@@ -6,14 +6,10 @@ import stat
 import subprocess
 import time
 
-import pytest
-
 from common.served import SECONDS, in_time, same, seconds_of
 from serving.controlled import Session, region_in, written
 from serving.staying import messages, until
 from serving.writers import Writer
-
-pytestmark = pytest.mark.control
 
 REFUSED = {
     b'{"do":"deliver"}': b'{"error":"read-only"}\n', b'{"do":"relayout","bounds":1}': b'{"error":"read-only"}\n',

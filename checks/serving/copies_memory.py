@@ -5,12 +5,8 @@ import subprocess
 import threading
 from collections.abc import Iterator
 
-import pytest
-
 from common.served import SECONDS, free_port, same
 from faults.memory_limit import limited
-
-pytestmark = pytest.mark.copies
 
 # How many megabytes of address space a program has, and how many of a text it may read before it says what is wrong at its beginning.
 MEGABYTES, MOST_READ = 600, 64

@@ -11,8 +11,6 @@ import threading
 import time
 from pathlib import Path
 
-import pytest
-
 from common.at_once import at_once
 from common.crates import TOP
 from common.served import Client, Served, message, same, written
@@ -22,8 +20,6 @@ from replies.random_values import KEYS, MANY_KEYS, bounds_of
 from serving.controlled import Session
 from serving.copies_texts import exchanged, fault_of, least_marks, messages_from, part_of, refusal, taken
 from serving.staying import Staying, until
-
-pytestmark = pytest.mark.copies
 
 REGIONS = 100
 KILLS, STARTS, RECUT = 1_000, 200, 60

@@ -7,14 +7,10 @@ import threading
 import time
 from collections.abc import Iterator
 
-import pytest
-
 from common.served import SECONDS, in_time, same, seconds_of
 from serving.controlled import CHUNK, Session, region_in, written
 from serving.control_stops import HALF, READ, SCAN, Pipelining
 from serving.staying import KEYS, Staying
-
-pytestmark = pytest.mark.ends
 
 CLIENTS, RUNS = 60, 24
 # Which of so many clients have gone before a stop: every second one, the first half, the last half, and all but one.

@@ -6,8 +6,6 @@ import subprocess
 import time
 from collections.abc import Iterator
 
-import pytest
-
 from common.served import SECONDS, free_port, piped, same
 from serving.control_stops import SCAN
 from serving.controlled import Session
@@ -15,8 +13,6 @@ from serving.end_stops import QUICK, ends, idle_of
 from serving.staying import Staying, messages, until
 from serving.staying_words import connected
 from serving.writers import Writer, written_by
-
-pytestmark = pytest.mark.ends
 
 IN_USE = b" in use\n"
 # The files of a region's sockets.

@@ -10,8 +10,6 @@ import contextlib
 import signal
 import socket
 
-import pytest
-
 from common.served import SECONDS, in_time, same, seconds_of
 from serving.controlled import Session, adoption, region_in, written
 from serving.exporting import NEEDS, Exporter
@@ -19,7 +17,7 @@ from serving.prometheus import Prometheus
 from serving.staying import until
 from serving.writers import Writer
 
-pytestmark = [pytest.mark.exporter, NEEDS]
+pytestmark = NEEDS
 
 
 

@@ -6,8 +6,6 @@ import subprocess
 import time
 from collections.abc import Iterator
 
-import pytest
-
 from common.served import Client, same
 from serving.controlled import region_in, written
 from serving.exporting import NEEDS, Exporter, answered
@@ -15,7 +13,7 @@ from serving.prometheus import FOLDER, RULES, Prometheus
 from serving.staying import until
 from serving.writers import Writer
 
-pytestmark = [pytest.mark.exporter, NEEDS]
+pytestmark = NEEDS
 
 ALERT = re.compile(r"- alert: (\w+)")
 # What a dashboard leaves open, and what Grafana puts there.

@@ -1,8 +1,6 @@
 """What the page of an exporter shows in a browser: checks of `checks/run exporter`."""
 import re
 
-import pytest
-
 from common.needs import needs
 from common.served import Client, same
 from serving.browser import Browser
@@ -10,7 +8,7 @@ from serving.controlled import Session, region_in, written
 from serving.exporting import NEEDS, Exporter
 from serving.staying import until
 
-pytestmark = [pytest.mark.exporter, NEEDS, needs("chromium", "chromedriver", modules=("selenium",))]
+pytestmark = [NEEDS, needs("chromium", "chromedriver", modules=("selenium",))]
 
 PHONE, DESK = 360, 1200
 # A stream's path that would be elements, if it were not escaped.

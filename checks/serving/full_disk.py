@@ -8,15 +8,13 @@ import os
 import subprocess
 import sys
 
-import pytest
-
 from common.crates import TOP
 from common.needs import needs
 from common.served import SECONDS, same
 from serving.controlled import given, region_in
 from serving.staying import messages
 
-pytestmark = [pytest.mark.full_disk, needs("unshare", "mount", also=() if os.path.exists("/proc/self/ns/mnt") else ("namespaces",))]
+pytestmark = needs("unshare", "mount", also=() if os.path.exists("/proc/self/ns/mnt") else ("namespaces",))
 
 CLIENT, FEEDS = TOP / "clients/python/src", TOP / "feeds"
 KEPT = "what was there before"

@@ -16,8 +16,6 @@ import socket
 import subprocess
 import time
 
-import pytest
-
 from common.crates import TOP
 from common.needs import needs
 from common.resting import sockets
@@ -28,7 +26,7 @@ from serving.fronts import NEEDS, Front, Stream, built, certified, curl, front_i
 from serving.staying import until
 from usage.readme import count_shown
 
-pytestmark = [pytest.mark.http_front, NEEDS]
+pytestmark = NEEDS
 
 PAGE = TOP / "http/README.md"
 STREAMS, MOST_MEMORY = 10_000, 200_000

@@ -18,7 +18,7 @@ import pytest
 from common.needs import needs
 from common.served import SECONDS, free_port, piped, same
 
-pytestmark = [pytest.mark.locks, needs("setpriv", root=True)]
+pytestmark = needs("setpriv", root=True)
 
 # A user that is nobody, and how a program is started as it.
 USER = 65534

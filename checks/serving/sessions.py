@@ -13,13 +13,9 @@ import threading
 import time
 from collections.abc import Iterator
 
-import pytest
-
 from common.resting import rests
 from common.served import Client, Json, Served, fifo, free_port, image, message, row_of, same, written
 from serving.staying import until
-
-pytestmark = pytest.mark.sessions
 
 MANY = 10_000
 

@@ -9,12 +9,8 @@ import struct
 import time
 from collections.abc import Callable, Iterator
 
-import pytest
-
 from common.served import SECONDS, Client, row_of, same, written
 from serving.staying import CHUNK, KEYS, PAGE, Beside, Staying, Swarm, feed, key_of, messages, until
-
-pytestmark = pytest.mark.stay
 
 IDLE, BUSY, TURNS = 10_000, 256, 20_000
 IDLE_KB, LEAK_KB = 4, 1_024

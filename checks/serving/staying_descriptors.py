@@ -8,16 +8,12 @@ import subprocess
 import time
 from collections.abc import Callable, Iterator
 
-import pytest
-
 from common.at_once import at_once
 from common.served import SECONDS, free_port, piped, same
 from serving.controlled import Session
 from serving.staying import Staying, messages, until
 from serving.staying_limits import connected, is_answered, none, same_limit
 from serving.writers import Writer
-
-pytestmark = pytest.mark.stay
 
 # The limits that are tried, the last of which is enough, and what a program is started with that has to have all of it.
 LIMITS, CONNECTIONS, CONTROLS = range(12, 140), 24, 16

@@ -10,13 +10,9 @@ import threading
 import time
 from collections.abc import Iterator
 
-import pytest
-
 from common.served import SECONDS, Client, free_port, piped, same, written
 from faults.failing import environment, failing_library
 from serving.staying import CHUNK, PAGE, Staying, until
-
-pytestmark = pytest.mark.stay
 
 NO_ROW = b'{"row":null}\n'
 READ = b'{"do":"read","key":"z"}\n'

@@ -9,14 +9,10 @@ import sys
 import time
 from collections.abc import Callable, Iterator
 
-import pytest
-
 from common.crates import TOP
 from common.served import SECONDS, Client, Json, in_time, row_of, same, seconds_of, written
 from serving.staying import Beside, Staying, messages, until
 from serving.staying_limits import none
-
-pytestmark = pytest.mark.stay
 
 # Clients that send one long line each, and go. A region that spins has fewer threads than they are.
 CLIENTS, SIZES = 1_100, (65_536, 66_000, 81_920, 98_304, 131_071, 150_000)

@@ -4,12 +4,8 @@ import json
 import os
 from collections.abc import Callable
 
-import pytest
-
 from common.served import Client, Json, same
 from serving.staying import PART, Beside, Staying, until
-
-pytestmark = pytest.mark.stay
 
 # This many keys take several turns; each MARKED-th record is shown, so that one page has gone past all.
 KEYS, MARKED = 5_000, 5

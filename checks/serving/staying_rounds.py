@@ -4,13 +4,9 @@ import re
 import time
 from collections.abc import Callable
 
-import pytest
-
 from common.served import Client, Served, message, row_of, same, written
 from faults.preloaded import Watched
 from serving.staying import Staying, messages, until
-
-pytestmark = pytest.mark.stay
 
 MANY = 20_000
 # A round takes 1,000 messages of a stream, if they are at hand.

@@ -7,14 +7,9 @@ import tempfile
 import time
 from collections.abc import Callable, Iterator
 
-import pytest
-
 from common.served import SECONDS, Client, Served, row_of, same, written
-from common.tried import Check
 from serving.staying import CHUNK, KEYS, PAGE, Staying, messages, until
 from serving.staying_clients import deaf_client
-
-pytestmark = pytest.mark.stay
 
 # A slow client's pauses, the seconds for which it may be idle, and how many times as long as an idle one it has to last.
 PAUSE, IDLE, TIMES = 0.12, 1.0, 4
@@ -23,6 +18,9 @@ TRIES = 5
 FEW_BYTES = 4_096
 READ, NO_ROW = b'{"do":"read","key":"z"}\n', b'{"row":null}\n'
 PAGES = 100
+
+
+Check = Callable[[str, str], None]
 
 
 class Paused(AssertionError):

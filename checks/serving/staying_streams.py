@@ -6,12 +6,8 @@ import time
 from collections import Counter
 from collections.abc import Callable
 
-import pytest
-
 from common.served import Client, fifo, message, row_of, same, written
 from serving.staying import Beside, Staying, messages, pages, replayed, until, watch
-
-pytestmark = pytest.mark.stay
 
 LIVES, MESSAGES = 20, 20_000
 

@@ -10,13 +10,9 @@ import subprocess
 import threading
 import time
 
-import pytest
-
 from common.served import SECONDS, Client, Served, fifo, message, piped, row_of, same, written
 from faults.preloaded import Watched
 from serving.staying import KEYS, Staying, key_of, messages, until
-
-pytestmark = pytest.mark.stay
 
 UMASK = 0o022
 IN_USE = "Address already in use"

@@ -7,13 +7,9 @@ import signal
 import threading
 import time
 
-import pytest
-
 from common.served import Client, Json, image, message, row_of, same, written
 from serving.staying import KEYS, Staying, key_of, messages, until
 from serving.writers import Writer, failed, made, said_of_faults, socket_in, written_by
-
-pytestmark = pytest.mark.streams
 
 LONG, MUCH = 70_000, 5_000_000
 # The faults of a message, and the reason that the writer gets for each.

@@ -8,14 +8,10 @@ import socket
 import time
 from collections.abc import Iterator
 
-import pytest
-
 from common.resting import rests
 from common.served import SECONDS, Client, row_of, same, seconds_of
 from serving.staying import Staying, key_of, messages, until
 from serving.writers import Writer, failed, made, said_of_faults, socket_in
-
-pytestmark = pytest.mark.streams
 
 ENDED = b"pnuts: stream east ended\n"
 LIVES, RESTARTS, QUIET_LIVES = 200, 50, 300

@@ -8,13 +8,9 @@ import threading
 import time
 from collections.abc import Iterator
 
-import pytest
-
 from common.served import SECONDS, Client, row_of, same
 from serving.staying import Staying, key_of, messages, until
 from serving.writers import Writer, made, said_of_faults, socket_in
-
-pytestmark = pytest.mark.streams
 
 # How many writers are at fault. Each but the first gives two lines: more than the mailbox and a pipe hold.
 AT_FAULT = 3_000

@@ -4,13 +4,9 @@ import random
 import time
 from collections.abc import Callable, Iterator
 
-import pytest
-
 from common.served import Client, same, written
 from serving.staying import Beside, Staying, messages, pages, replayed, until, watch
 from serving.writers import Writer, said_of_faults, socket_in
-
-pytestmark = pytest.mark.streams
 
 MESSAGES, CUTS, CLIENTS = 20_000, 1_000, 32
 KILLED, STREAMS, OF_EACH = 60, 16, 2_000

@@ -5,14 +5,10 @@ import socket
 import stat
 import time
 
-import pytest
-
 from common.served import Client, in_time, row_of, same, seconds_of, written
 from serving.staying import Staying, key_of, messages, until
 from serving.stream_fifos import opens, wait_for
 from serving.writers import Writer, made, said_of_faults, socket_in, written_by
-
-pytestmark = pytest.mark.streams
 
 # Within how many seconds a region listens again, and how often its path is removed.
 AGAIN, TIMES = 1.0, 5

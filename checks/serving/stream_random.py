@@ -7,15 +7,11 @@ import tempfile
 from collections.abc import Iterable
 from dataclasses import dataclass
 
-import pytest
-
 from common.drawn import seeds, try_drawn
 from common.served import Client, Json, same
 from serving.staying import Staying, until
 from serving.stream_faults import faults_at, line_of
 from serving.writers import Writer, failed, said_of_faults, socket_in
-
-pytestmark = pytest.mark.streams
 
 WRITERS, LIVES, MOST, BACK, JUNK = 1_000, 50, 30, 30, 400_000
 # Lives that are tried each time, by their seeds.

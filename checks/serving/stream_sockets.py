@@ -9,13 +9,9 @@ import subprocess
 import termios
 import time
 
-import pytest
-
 from common.served import SECONDS, Client, fifo, free_port, message, row_of, same, written
 from serving.staying import Staying, key_of, messages, until
 from serving.writers import Writer, said_of_faults, socket_in, wait_for_after, written_by
-
-pytestmark = pytest.mark.streams
 
 UMASK = 0o022
 WARM, MANY, LEAK_KB = 500, 10_000, 1_024

@@ -13,12 +13,8 @@ import json
 import resource
 import threading
 
-import pytest
-
 from common.served import Client, Json, fifo, in_time, message, row_of, same, seconds_of
 from serving.staying import Staying
-
-pytestmark = pytest.mark.unkept
 
 RECORDS, SPARE_KB, CLIENTS = 20_000, 256, 2_000
 MEMORY, TOO_LONG = {"error": "memory"}, {"error": "too-long"}

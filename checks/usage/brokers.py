@@ -11,8 +11,6 @@ import pytest
 from common.crates import TOP
 from common.parts import RUN
 
-pytestmark = pytest.mark.brokers
-
 # The status of a command that misses what it needs.
 MISSING = 2
 COMMANDS = {

@@ -18,8 +18,6 @@ from common.crates import TOP
 from common.needs import needs
 from common.tried import none_of
 
-pytestmark = pytest.mark.clients
-
 # What the test of each client needs.
 CLIENTS = {"python": ["openssl"], "go": ["go", "gofmt"], "javascript": ["node", "openssl"]}
 SECONDS = 600

@@ -11,12 +11,8 @@ import threading
 from collections.abc import Iterator
 from typing import IO
 
-import pytest
-
 from common.served import Client, Served, message, piped, written
 from common.tried import none_of
-
-pytestmark = pytest.mark.exit_statuses
 
 SCAN = b'{"do":"scan","query":{}}\n'
 NO_ROWS = b'{"next":null,"rows":[]}\n'

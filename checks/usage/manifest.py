@@ -8,13 +8,11 @@ import re
 from collections.abc import Iterator
 from typing import Any
 
-import pytest
-
 from common.crates import TOP
 from common.needs import needs
 from common.tried import none_of
 
-pytestmark = [pytest.mark.manifest, needs(modules=("kubernetes", "yaml"))]
+pytestmark = needs(modules=("kubernetes", "yaml"))
 
 MANIFEST = TOP / "examples/kubernetes/pnuts.yaml"
 KINDS = {"Service": "V1Service", "PodDisruptionBudget": "V1PodDisruptionBudget", "StatefulSet": "V1StatefulSet"}

@@ -16,13 +16,11 @@ from collections.abc import Callable
 from contextlib import ExitStack
 from pathlib import Path
 
-import pytest
-
 from common.crates import TOP
 from common.needs import needs
 from common.served import Client, free_port, message, same
 
-pytestmark = [pytest.mark.brokers, pytest.mark.proxy, needs("haproxy", "openssl", modules=("prometheus_client",))]
+pytestmark = needs("haproxy", "openssl", modules=("prometheus_client",))
 
 PROXIES, SOURCES = TOP / "examples/proxy", TOP / "clients/python/src"
 SECONDS, HOSTS = 300.0, ("127.0.0.1", "127.0.0.2")

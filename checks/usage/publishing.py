@@ -12,15 +12,13 @@ import subprocess
 import tempfile
 from pathlib import Path
 
-import pytest
-
 from common.crates import TOP
 from common.needs import needs
 from common.tried import none_of
 
 BIN = Path("/usr/lib/postgresql/15/bin")
 NEEDS = needs("unshare", "ip", "setpriv", "redis-server", "psql", modules=("redis", "psycopg2"), root=True, also=() if BIN.is_dir() else ("postgresql",))
-pytestmark = [pytest.mark.brokers, pytest.mark.publishing, NEEDS]
+pytestmark = NEEDS
 
 CODE = re.compile(r"```python\n(.*?)```", re.DOTALL)
 SHOWN = re.compile(r"(?:^    .+\n)+", re.MULTILINE)

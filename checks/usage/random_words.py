@@ -15,13 +15,9 @@ from collections import Counter
 from collections.abc import Callable, Iterator
 from typing import NamedTuple
 
-import pytest
-
 from common.drawn import SEEDS, seeds, st, try_drawn
 from common.served import SECONDS, same
 from common.tried import none_of
-
-pytestmark = pytest.mark.random_words
 
 RUNS, MANY = 3_000, 1_000
 # Words that are tried each time: none that are refused, and sixteen streams and one more.

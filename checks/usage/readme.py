@@ -12,13 +12,11 @@ import pathlib
 import subprocess
 from collections.abc import Iterator
 
-import pytest
-
 from common.crates import TOP
 from common.needs import needs
 from common.served import same
 
-pytestmark = [pytest.mark.readme, needs("unshare", "ip", "bash")]
+pytestmark = needs("unshare", "ip", "bash")
 
 START, END, INDENT = "## Quick start\n", "\n## ", "    "
 SECONDS = 120

@@ -10,13 +10,11 @@ import subprocess
 from collections.abc import Iterator
 from pathlib import Path
 
-import pytest
-
 from common.crates import TOP
 from common.needs import needs
 from common.tried import none_of
 
-pytestmark = [pytest.mark.types, needs("mypy")]
+pytestmark = needs("mypy")
 
 # Folders whose programs are read together: a program is of the last that it is in. The rest is read from the top.
 FOLDERS = ("", "bench", "bin", "checks", "clients", "clients/python", "docs/pictures", "examples", "examples/postgres", "examples/regions",

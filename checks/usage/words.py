@@ -15,12 +15,8 @@ import subprocess
 from collections.abc import Iterable, Iterator
 from pathlib import Path
 
-import pytest
-
 from common.crates import TOP
 from common.tried import none_of
-
-pytestmark = pytest.mark.words
 
 COMMAND = re.compile(r'"(\w+)" => Some\(CommandWord::(\w+)\)')
 # A row of the table of commands.
