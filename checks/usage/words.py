@@ -3,7 +3,7 @@
   checks/run words
 
 Commands, members, refusals, options and the reasons that writers of streams are told are read off the sources. Each has to stand
-in docs/formats.md; commands also in README.md, the slow program and the fuzzer's words; what sessions have, by the table of commands, in
+in the pages of docs/ that it is for; commands also in README.md, the slow program and the fuzzer's words; what sessions have, by the table of commands, in
 clients/README.md and in each client; what control sessions have besides in the client for Python.
 Commands and options that README.md, docs/ or the packages name have to be those of the program, and its version is the same in
 all files (bin/version).
@@ -92,11 +92,13 @@ def all_faults() -> Iterator[str]:
     controls, refusals = found(CONTROL, protocol), found(REFUSAL, protocol)
     options = {f"--{it}" for it in found(OPTION, sources("pn_arguments"))}
     reasons = found(REASON, sources("pn_stay"))
-    formats, readme = (TOP / "docs/formats.md").read_text(), (TOP / "README.md").read_text()
+    readme = (TOP / "README.md").read_text()
     if min(map(len, (commands, members, refusals, options, reasons))) < 5 or not lookups or not of_controls:
         yield "the sources do not say their words in the way that this script reads them"
-    for kind, words in (("command", commands | controls), ("member", members), ("refusal", refusals), ("option", options), ("reason", reasons)):
-        yield from missing(kind, words, "docs/formats.md", formats)
+    for kind, words, pages in (("command", commands | controls, "lines control"), ("member", members, "lines"), ("refusal", refusals, "lines"),
+                               ("option", options, "program"), ("reason", reasons, "streams")):
+        where = [f"docs/{it}.md" for it in pages.split()]
+        yield from missing(kind, words, " and ".join(where), text_of(TOP / it for it in where))
     yield from missing("command", commands, "README.md", readme)
     yield from missing("command", commands, "the slow program (checks)", text_of(below("checks")))
     yield from missing("command", commands, "fuzz/words.dict", (TOP / "fuzz/words.dict").read_text())
