@@ -2,8 +2,8 @@
 
   checks/run http-front PROGRAM [CHECK ..]
 
-It needs Debian's golang-go, curl and openssl, and is skipped without; so is the browser without chromium. Exit status 0 where each
-holds.
+It needs Debian's golang-go, curl and openssl, and is skipped without; so is the browser without chromium-driver and
+python3-selenium. Exit status 0 where each holds.
 """
 import contextlib
 import http.client
@@ -22,7 +22,7 @@ from common.resting import sockets
 from common.served import SECONDS, free_port, row_of, same
 from common.tried import checks_in, checks_parser, try_checks
 from serving import front_attacks
-from serving.browser import Browser, browser
+from serving.browser import Browser, lacking
 from serving.controlled import Session, region_in, written
 from serving.fronts import Front, Stream, built, certified, curl, front_in, has_tools, header
 from serving.staying import raise_descriptors, until
@@ -137,15 +137,9 @@ def check_browser(program: str, folder: str) -> None:
             page.value("source.close()")
             (shown,) = re.findall(r"^```js\n(.*?)^```", PAGE.read_text(encoding="utf-8"), re.MULTILINE | re.DOTALL)
             page.value(f"(() => {{ {shown} }})()")
-            until("what its page shows says to read", lambda: said(page) == ["read anew"])
+            until("what its page shows says to read", lambda: page.said() == ["read anew"])
             written(path, 26, 1)
-            until("and what changes", lambda: said(page) == ["read anew", "k026"])
-
-
-def said(page: Browser) -> list[str]:
-    """What the page's scripts say so far."""
-    page.value("0")
-    return [it["params"]["args"][0]["value"] for it in page.happened if it["method"] == "Runtime.consoleAPICalled"]
+            until("and what changes", lambda: page.said() == ["read anew", "k026"])
 
 
 def check_idle_streams(program: str, folder: str) -> None:
@@ -222,7 +216,7 @@ def main(words: list[str]) -> int:
         return 0
     raise_descriptors()
     names = given.names or [*checks]
-    if browser() is None and "browser" in names:
+    if lacking() and "browser" in names:
         names.remove("browser")
-        print("browser: skipped, for the machine lacks chromium")
+        print(f"browser: skipped, for the machine lacks {', '.join(lacking())}")
     return try_checks(given.program, checks, names)

@@ -5,20 +5,15 @@
 Each container's command has to be in the image, and its words those of the program. Exit status 0 where nothing is wrong, 1 where
 something is, 2 where a package of Debian is missing.
 """
-import os
 import re
-import subprocess
 import sys
 from collections.abc import Iterator
 from typing import Any
 
 from common.crates import TOP
-from common.parts import RUN
 from common.tried import parser_of
 
 MANIFEST = TOP / "examples/kubernetes/pnuts.yaml"
-# What Debian's packages are for, where another Python runs the check.
-DEBIAN = "/usr/bin/python3"
 PACKAGES = "python3-kubernetes python3-yaml"
 KINDS = {"Service": "V1Service", "PodDisruptionBudget": "V1PodDisruptionBudget", "StatefulSet": "V1StatefulSet"}
 PLAIN: dict[str, tuple[type, ...]] = {"str": (str,), "int": (int,), "bool": (bool,), "float": (int, float), "object": (str, int, dict, list)}
@@ -93,8 +88,6 @@ def main(words: list[str]) -> int:
         import yaml
         from kubernetes.client import models
     except ImportError:
-        if not os.path.samefile(sys.executable, DEBIAN):
-            return subprocess.run([DEBIAN, RUN, "manifest"]).returncode
         print(f"manifest: missing: {PACKAGES}", file=sys.stderr)
         return 2
     manifests = [it for it in yaml.safe_load_all(MANIFEST.read_text(encoding="utf-8")) if it is not None]
