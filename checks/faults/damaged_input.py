@@ -6,7 +6,7 @@ program (checks/replies/slow.py).
 Of the checks only those are tried whose names have the text.
 
 - Worked copies, cut at every proper prefix, are truncated; with each byte in turn replaced by `x`, a newline or 0xff, or left
-  out, they are read as docs/formats.md says, and the next commands are answered.
+  out, they are read as docs/lines.md says, and the next commands are answered.
 - Scripts are cut at every byte; what is left without its newline is a line.
 - Commands and lines of a copy have 65,536 bytes, and one more.
 - The replies go to outputs that break at every byte: just those before it are written, and the end is status 1 with its line.

@@ -14,6 +14,7 @@ import re
 import signal
 import socket
 import subprocess
+import textwrap
 import time
 
 from common.crates import TOP
@@ -24,11 +25,11 @@ from serving.browser import Browser
 from serving.controlled import Session, region_in, written
 from serving.fronts import NEEDS, Front, Stream, built, certified, curl, front_in, header
 from serving.staying import until
-from usage.readme import count_shown
+from usage.readme import written_by
 
 pytestmark = NEEDS
 
-PAGE = TOP / "http/README.md"
+PAGE, SHOWN = TOP / "http/README.md", re.compile(r"(?:^    .+\n)+", re.MULTILINE)
 STREAMS, MOST_MEMORY = 10_000, 200_000
 # What a browser does with a stream: it keeps all that it is told.
 FOLLOW = """window.told = []; window.source = new EventSource("/changes");
@@ -48,7 +49,8 @@ def check_readme(program: str, folder: str) -> None:
     for name, target in (("bin/pnuts", program), ("out/pnuts-http", built())):
         (here / name).parent.mkdir()
         (here / name).symlink_to(target)
-    count_shown(PAGE.read_text(encoding="utf-8").partition("\n## ")[0], here)
+    _, script, shown = map(textwrap.dedent, SHOWN.findall(PAGE.read_text(encoding="utf-8").partition("\n## ")[0]))
+    same("what is written", written_by(script, here), shown)
 
 
 def check_curl(program: str, folder: str) -> None:

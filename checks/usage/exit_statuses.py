@@ -29,7 +29,7 @@ End = tuple[int, bytes | bool | None, bytes]
 
 # By name, words, and the end that they make; of standard error its first line. Of two faults the first by rank is said.
 WORDS: dict[str, tuple[list[str], End]] = {
-    "the version": (["--version"], (0, b"pnuts 0.2.0\n", b"")),
+    "the version": (["--version"], (0, b"pnuts 0.3.0\n", b"")),
     "a command's version": (["replay", "--version"], (2, b"", b"error: unexpected argument '--version' found")),
     "unknown arguments": (["replay", "--fast"], (2, b"", b"error: unexpected argument '--fast' found")),
     "an address of a script": (["replay", "--listen", "::1"], (2, b"", b"error: unexpected argument '--listen' found")),

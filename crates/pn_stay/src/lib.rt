@@ -18,6 +18,7 @@ mod memory;
 mod messages;
 mod polled_input;
 mod progress;
+mod quarter_clock;
 mod reasons;
 mod scripted;
 mod seldom;
@@ -27,6 +28,7 @@ mod socket;
 mod socket_file;
 mod socket_mailbox;
 mod streams;
+mod unread;
 
 pub use acceptor::SocketAcceptor;
 pub use connection::IdleTimeout;
@@ -40,14 +42,19 @@ pub use messages::{MAX_WAITING, MessagePrinter, Messages, Shortages, WaitingLine
 pub use progress::{message_prefix, tell_progress};
 pub use reasons::{describe_error, format_after, format_failure, format_refusal, format_taken};
 pub use scripted::{ScriptedSink, ScriptedSource};
-pub use server::StayingServer;
 pub use server::starting::ServerSizes;
+pub use server::{ServerEnd, StayingServer};
 pub use shared::share;
 pub use socket_file::{ListenFault, OWNER_ALONE, SocketFile, format_lock, remove_sockets};
+pub use streams::broker::BrokerListener;
 pub use streams::files::{FileSource, OpenedFiles, StreamOpenFault, open_files};
-pub use streams::input::{StreamInput, StreamSource};
+pub use streams::input::{SocketInput, StreamInput, StreamSource};
 pub use streams::listener::StreamListener;
+pub use streams::message_input::{MessageInput, NewestListener};
 pub use streams::opening::{OpenedStreams, StreamSetting, open_origins};
 pub use streams::origin::StreamOrigin;
+pub use streams::remarks::{
+    MAX_IDENTITY_BYTES, RemarkFault, format_other_stream, read_newest, read_stream,
+};
 pub use streams::status::StreamStatus;
 pub use streams::writer::WriterSocket;

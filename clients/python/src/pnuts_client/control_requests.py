@@ -2,7 +2,7 @@
 
 from __future__ import annotations
 
-from dataclasses import dataclass, fields
+from dataclasses import MISSING, dataclass, fields
 from typing import Any, TypeVar
 
 from . import requests
@@ -87,7 +87,8 @@ class StreamStats:
 
     `position` is up to which it was taken; `messages` and `bytes` were read. `since` is the seconds since the last
     message, None before the first. `reason` and `line` are of the last fault, None where there was none: why, and in
-    which line of what the writer sent.
+    which line of what the writer sent. `stream` is whose stream a writer said it is, and `newest` the broker's newest
+    position that one told, `heard` seconds ago; None where none did.
     """
 
     name: str
@@ -99,6 +100,9 @@ class StreamStats:
     since: int | None
     reason: str | None
     line: int | None
+    stream: str | None = None
+    newest: int | None = None
+    heard: int | None = None
 
 
 @dataclass(frozen=True, slots=True)
@@ -200,5 +204,5 @@ def _lines(reply: Any) -> Lines:
 
 
 def _of(kind: type[Kind], reply: Any) -> Kind:
-    """A value of the members that it knows."""
-    return kind(**{it.name: reply[it.name] for it in fields(kind)})
+    """A value of the members that it knows. An earlier region may lack those that have a default."""
+    return kind(**{it.name: reply[it.name] for it in fields(kind) if it.name in reply or it.default is MISSING})

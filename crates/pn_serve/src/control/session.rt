@@ -9,6 +9,7 @@ ghost use Rattle.pn_serve.specs.Session.Knowing.{KnowsNoLess};
 use crate::RunFault;
 use crate::control::handler::ControlHandler;
 use crate::control::mailboxes::ControlMailboxes;
+use crate::control::stop::StopSaid;
 use crate::script::MAX_LINES;
 use pn_join::NoMemory;
 use pn_line::{Sink, Source};
@@ -55,7 +56,8 @@ impl<C: StatsSource + Drop> ControlSession<C> {
         input: &mut S,
         output: &mut W,
     ) -> (LiveReader, Result<(), RunFault>)
-        ensures ends { AnswersClient (control_start reader (S.left input.old) (W.contents output.old)) (S.left input.new) (W.contents output.new) result.0 result.1 }
+        ensures ends { AnswersClient (control_start reader (S.left input.old) (W.contents output.old))
+            (S.left input.new) (W.contents output.new) result.0 result.1 }
         ensures read { IsErrOf result.1 RunFault.Read → S.may_fail }
         ensures write { IsErrOf result.1 RunFault.Write → W.may_fail }
         ensures memory { IsErrOf result.1 RunFault.Memory → ⊥ }
@@ -65,8 +67,8 @@ impl<C: StatsSource + Drop> ControlSession<C> {
         let mut handler = ControlHandler::new(rt, self, reader);
         let ended = answer_lines(rt, &mut handler, buffers, input, output);
         let (reader, stop) = handler.end();
-        if let Some(seconds) = stop {
-            self.stop_server(rt, seconds, &ended, &*output);
+        if let Some(said) = stop {
+            self.stop_server(rt, said, &ended, &*output);
         }
         (reader, ended)
     }
@@ -75,13 +77,13 @@ impl<C: StatsSource + Drop> ControlSession<C> {
     fn stop_server<R: Wait + Clock, W: Sink>(
         &self,
         rt: &R,
-        seconds: u64,
+        said: StopSaid,
         ended: &Result<(), RunFault>,
         output: &W,
     )
         requires { HandsOn ended.now (W.is_handed_on output.now) }
     {
-        self.mailboxes.stop(rt, seconds);
+        self.mailboxes.stop(rt, said);
     }
 }
 

@@ -7,7 +7,7 @@ use pn_lines::LineBuffers;
 use pn_live::{LiveReader, LiveRegion};
 use pn_protocol::{
     ConnectionStats, LineCounts, LineKinds, LineStats, Stats, StreamFaultStats, StreamState,
-    StreamStats, TabletStats,
+    StreamStats, TabletStats, UnreadStats,
 };
 use pn_serve::{
     ControlMailboxes, ControlSession, StatsSource, Stream, close_region, open_region, take_commands,
@@ -22,6 +22,9 @@ use test_kit::{bars, layout, newlines, spell_out};
 
 /// How many workers read the lines of a copy.
 const WORKERS: usize = 4;
+
+/// The line that stops the writer.
+const STOP: &[u8] = b"{\"do\":\"stop\",\"seconds\":0}\n";
 
 /// Says what a server may have done.
 #[derive(Drop)]
@@ -40,6 +43,7 @@ impl StatsSource for SomeStats {
             rounds: 8,
             streams,
             tablets,
+            unread: unread(),
             uptime: 9,
             version: "0",
         })
@@ -56,6 +60,14 @@ fn connections() -> ConnectionStats {
         idle: 3,
         open: 4,
         refused: 5,
+    }
+}
+
+fn unread() -> UnreadStats {
+    UnreadStats {
+        bytes: 20,
+        ended: 21,
+        limit: 22,
     }
 }
 
@@ -87,6 +99,7 @@ fn failed_stream(alloc: Global) -> Result<StreamStats, NoMemory> {
     let name = Name::read(b"east").ok().ok_or(NoMemory)?;
     let path = String::from_str(alloc, "./east")?;
     let reason = String::from_str(alloc, "not JSON")?;
+    let stream = String::from_str(alloc, "kafka east")?;
     Ok(StreamStats {
         name,
         path,
@@ -96,6 +109,9 @@ fn failed_stream(alloc: Global) -> Result<StreamStats, NoMemory> {
         state: StreamState::Failed,
         since: Some(13),
         fault: Some(StreamFaultStats { line: 14, reason }),
+        stream: Some(stream),
+        newest: Some(20),
+        heard: Some(21),
     })
 }
 
@@ -112,6 +128,9 @@ fn new_stream(alloc: Global) -> Result<StreamStats, NoMemory> {
         state: StreamState::Waiting,
         since: None,
         fault: None,
+        stream: None,
+        newest: None,
+        heard: None,
     })
 }
 
@@ -201,9 +220,10 @@ fn answer<R: Threads + Wait + Clock>(
     let mut written = Vec::new(alloc);
     let mut input = InMemory::new(lines.as_bytes());
     if let Ok(mut buffers) = LineBuffers::new(alloc) {
-        let _ = session.answer(rt, &mut buffers, reader, &mut input, &mut written);
+        let (reader, _) = session.answer(rt, &mut buffers, reader, &mut input, &mut written);
+        let mut stop = InMemory::new(STOP);
+        let _ = session.answer(rt, &mut buffers, reader, &mut stop, &mut Vec::new(alloc));
     }
-    session.mailboxes.stop(rt, 0);
     written
 }
 

@@ -1,0 +1,116 @@
+//! What comes next of a writer's bytes: messages, which go on byte for byte, or a line that says how far the broker is.
+
+ghost use Rattle.std.specs.Prelude.{◌≡◌, ◌≤◌, ◌⊎◌, true, length, None, IfOk, IfSome};
+ghost use Rattle.pn_line.specs.Prelude.{IsUnbroken};
+ghost use Rattle.pn_record.specs.Prelude.{max_line_bytes};
+ghost use Rattle.pn_stay.specs.MessageSteps.{FirstLine, IsKind, IsStep};
+ghost use Rattle.pn_stay.specs.Remarks.{may_go_on};
+
+use crate::streams::remarks::{NEWEST, RemarkFault, begins_as, read_newest};
+use memchr::memchr;
+use pn_join::NoMemory;
+use pn_line::MAX_LINE_BYTES;
+use std::alloc::Global;
+
+/// What comes next of a writer's bytes.
+#[derive(Clone, Copy, Debug, PartialEq, Eq)]
+pub enum Step {
+    /// So many bytes go on as they are. Whether the next ones belong to a line whose beginning went on.
+    Give { count: usize, is_inside: bool },
+    /// A line that says how far the broker is, with its newline.
+    Hear { count: usize, newest: u64 },
+}
+
+/// What a line is, or the beginning of one.
+#[derive(Clone, Copy, Debug, PartialEq, Eq)]
+pub enum LineKind {
+    /// It goes on.
+    Message,
+    /// It says how far the broker is.
+    Newest(u64),
+    /// It may go on to say so.
+    Unknown,
+}
+
+/// What comes next of these bytes, where there is room for so many. None where there are none, no room, or a part of a line that
+/// may say how far the broker is.
+pub fn next_step(
+    alloc: Global,
+    bytes: &[u8],
+    is_inside: bool,
+    room: usize,
+) -> Result<Option<Step>, NoMemory>
+    ensures step { IfOk result (λ next. IfSome next (IsStep is_inside bytes.now room)) }
+    ensures waits { IfOk result (λ next. next ≡ None → (room ≡ 0) ⊎ (IsUnbroken bytes.now × (length bytes.now ≤ max_line_bytes))) }
+{
+    if bytes.is_empty() || room == 0 {
+        return Ok(None);
+    }
+    let (count, is_ended) = first_line(bytes);
+    match kind_of_line(alloc, &bytes[..count], is_inside, is_ended)? {
+        LineKind::Message => Ok(Some(give_line(bytes, count, is_ended, room))),
+        LineKind::Newest(newest) => Ok(Some(Step::Hear {
+            count: count + 1,
+            newest,
+        })),
+        LineKind::Unknown => Ok(None),
+    }
+}
+
+// How many bytes the first line has, and whether its newline is there.
+fn first_line(bytes: &[u8]) -> (usize, bool)
+    ensures { FirstLine bytes.now result.0 result.1 }
+{
+    match memchr(b'\n', bytes) {
+        Some(end) => (end, true),
+        None => (bytes.len(), false),
+    }
+}
+
+// What a line is, of which the beginning went on or not, and whose newline is there or not.
+fn kind_of_line(
+    alloc: Global,
+    line: &[u8],
+    is_inside: bool,
+    is_ended: bool,
+) -> Result<LineKind, NoMemory>
+    ensures { IfOk result (IsKind is_inside line.now is_ended) }
+{
+    if is_inside || !may_go_on_as(NEWEST, line) {
+        return Ok(LineKind::Message);
+    }
+    if !is_ended {
+        return Ok(LineKind::Unknown);
+    }
+    match read_newest(alloc, line) {
+        Ok(newest) => Ok(LineKind::Newest(newest)),
+        Err(RemarkFault::Other) => Ok(LineKind::Message),
+        Err(RemarkFault::Memory) => Err(NoMemory),
+    }
+}
+
+// As much of the first line as there is room for, with its newline if that is there.
+fn give_line(bytes: &[u8], count: usize, is_ended: bool, room: usize) -> Step
+    requires some { 1 ≤ length bytes.now }
+    requires room { 1 ≤ room }
+    requires line { FirstLine bytes.now count is_ended }
+    ensures { IsStep true bytes.now room result }
+{
+    if is_ended && count < room {
+        return Step::Give {
+            count: count + 1,
+            is_inside: false,
+        };
+    }
+    Step::Give {
+        count: count.min(room),
+        is_inside: true,
+    }
+}
+
+/// Whether bytes may be the beginning of a line that begins with the first ones.
+pub(crate) fn may_go_on_as(first: &[u8], bytes: &[u8]) -> bool
+    ensures { result ≡ may_go_on first.now bytes.now }
+{
+    bytes.len() <= MAX_LINE_BYTES && begins_as(first, bytes)
+}
