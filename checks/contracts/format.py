@@ -1,8 +1,6 @@
 """Looks whether the sources, definitions and proofs of all crates are formatted as `rt fmt` formats them.
 
   checks/run format
-
-Exit status 0 where nothing is to be changed, 1 where something is: `rt fmt` in the folder of the crate that is named.
 """
 import subprocess
 from collections.abc import Iterator

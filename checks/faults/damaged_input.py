@@ -10,8 +10,6 @@ Of the checks only those are tried whose names have the text.
 - Scripts are cut at every byte; what is left without its newline is a line.
 - Commands and lines of a copy have 65,536 bytes, and one more.
 - The replies go to outputs that break at every byte: just those before it are written, and the end is status 1 with its line.
-
-Exit status 0 where each reply and each end is as it should be.
 """
 import functools
 import os

@@ -6,8 +6,6 @@
 Of the checks only those are tried whose names have the text. A stream of five messages is cut at every byte, and each byte in
 turn is replaced by `x`, a newline or 0xff, or left out. Its messages up to the first fault are served, and where there is one,
 the end is status 1 with its line. A session answers 1,000,000 lines, and no line more.
-
-Exit status 0 where each is as it should be.
 """
 import os
 import threading

@@ -8,8 +8,6 @@ Of the checks only those are tried whose names have the text. Each call takes a 
 - Where a write fails, just the bytes before it are written, and the end is status 1 with `pnuts: write`.
 - Where a session's socket fails, its replies are those, and the end is status 0 with `served 1`.
 - Where it fails once, its connection ends: no second session answers what the client sends on.
-
-Exit status 0 where that holds for every k.
 """
 import contextlib
 import functools

@@ -7,8 +7,6 @@ limits of the address space (as `prlimit --as` sets them), from one in which the
 keys. Then four streams are served under such limits, while four clients ask. Every reply is right or `memory`: a record that was
 taken is shown, and a refused delivery may have been taken in part; once a client was shown a record, no later reply lacks it.
 The program ends by a status and a line that the documents have, never by a signal.
-
-Exit status 0 where that holds.
 """
 import json
 import resource

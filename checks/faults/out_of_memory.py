@@ -14,8 +14,6 @@ Some scripts are also sent in one input, each command twice; in one a refused ro
 changed; and in others all allocations are refused from one on, so that commands do not come again. Rounds as wide as a line
 allows, where threads are started, have each allocation refused from the start of a thread on. A case of live regions, and one of a
 connection that keeps input, end well whichever allocation is refused, unless the line that asks for it cannot be read or answered.
-
-Exit status 0 where that holds for each allocation.
 """
 import functools
 import subprocess

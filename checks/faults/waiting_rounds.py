@@ -5,8 +5,6 @@
 Two streams are read while a client and a control session ask. The address space is limited (as `prlimit --as` does) until a round
 waits for memory, and the marks stand still; both who ask are answered meanwhile. Then the limit is lifted, and both streams are
 taken to their ends. As often as it is said that a round waits, it is said that rounds go on.
-
-Exit status 0 where that holds.
 """
 import json
 import os

@@ -7,8 +7,6 @@ The program has to answer `not-json` to just those that bench/plain, which is bu
 are read that have 17 digits or more, or an exponent of three, is not fixed, and changes from one `serde_json` to the next: lines
 with such a number may be read otherwise, and are counted. Needs cargo and Debian's librust-serde-json-dev; where these are
 missing nothing is compared.
-
-Exit status 0 where both agree on each other line, or where nothing was compared.
 """
 import glob
 import os

@@ -6,8 +6,6 @@ The program is started again and again, until the time is over. Each time 16 cli
 without a newline, nested arrays or pages that they never read, and many reset their connections; one that is late is never
 accepted. An honest client asks meanwhile: what it is shown is right, and never older than before. The program's greatest
 resident memory is less than where the honest client is alone, and 16 times what a session may take. The end is status 0 and its line.
-
-Exit status 0 where that holds each time.
 """
 import contextlib
 import itertools

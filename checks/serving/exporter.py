@@ -4,7 +4,7 @@ has scraped and alerts of, and the other shows.
   checks/run exporter PROGRAM [CHECK ..]
 
 It needs Debian's prometheus and python3-prometheus-client, and is skipped without; so is the page without chromium-driver and
-python3-selenium. Exit status 0 where each holds.
+python3-selenium.
 """
 import contextlib
 import signal

@@ -2,7 +2,7 @@
 
   checks/run full-disk PROGRAM [CHECK ..]
 
-Each disk is one in memory, of a namespace of its own. Needs unshare and mount. Exit status 0 where each holds, or is skipped.
+Each disk is one in memory, of a namespace of its own. Needs unshare and mount.
 """
 import os
 import subprocess

@@ -3,7 +3,7 @@
   checks/run http-front PROGRAM [CHECK ..]
 
 It needs Debian's golang-go, curl and openssl, and is skipped without; so is the browser without chromium-driver and
-python3-selenium. Exit status 0 where each holds.
+python3-selenium.
 """
 import contextlib
 import http.client

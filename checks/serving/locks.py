@@ -2,7 +2,7 @@
 
   checks/run locks PROGRAM [CHECK ..]
 
-Needs root and `setpriv`, and is skipped without them. Exit status 0 where each holds.
+Needs root and `setpriv`, and is skipped without them.
 """
 import contextlib
 import fcntl

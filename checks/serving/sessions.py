@@ -1,8 +1,6 @@
 """Serves sessions by a built program, brings it to each of its ends, and looks at what its clients see.
 
   checks/run sessions PROGRAM [CHECK ..]
-
-Exit status 0 where each holds.
 """
 import contextlib
 import json

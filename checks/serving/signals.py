@@ -1,8 +1,6 @@
 """Stops a built program by a signal and lets it go on, in each state of each kind of connection: none is ended by that.
 
   checks/run signals PROGRAM [CHECK ..]
-
-Exit status 0 where each holds.
 """
 import contextlib
 import json

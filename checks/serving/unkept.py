@@ -5,8 +5,6 @@
 One session thread. Once 20,000 records are read in and all clients are answered, memory is limited to what it has and 256 KB. Each client
 sends most of a line, and some are too long. Each line is answered in its order, as it should be or by `memory`, one too long by `too-long`,
 until the client's connection ends. An honest client reads beside them all the while, and is not ended.
-
-Exit status 0 where all of that holds, and some of them were ended.
 """
 import contextlib
 import json

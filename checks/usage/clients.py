@@ -5,8 +5,6 @@ language has to say of its form and types.
 
 Needs Debian's golang-go, nodejs and openssl; mypy and node-typescript check types where they are there. A client without its
 language is skipped.
-
-Exit status 0 where all hold, or are skipped.
 """
 import os
 import signal

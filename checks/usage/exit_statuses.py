@@ -1,8 +1,6 @@
 """Brings a built program to each of its ends but out of memory, and looks at its status and what it says.
 
   checks/run exit-statuses PROGRAM
-
-Exit status 0 where each end is the one that it should be.
 """
 import os
 import subprocess

@@ -7,8 +7,6 @@
 - Each `make` TARGET, part of `checks/run`, command of `pnuts-ctl`, path of a program and option of one that a document names is there.
 - The documents have at most as many words as they may.
 - Each target, command of `pnuts-ctl` and example is told of in a document, and each option of a feed in feeds/README.md.
-
-Exit status: 0 where nothing is missing, 1 where something is, 2 for a wrong argument.
 """
 import re
 import subprocess

@@ -2,8 +2,7 @@
 
   checks/run proxy PROGRAM
 
-Needs Debian's haproxy, openssl and python3-prometheus-client. Exit status 0 where all is as it should be, 1 where something is wrong, 2
-where a package is missing.
+Needs Debian's haproxy, openssl and python3-prometheus-client.
 """
 import os
 import signal

@@ -3,8 +3,7 @@ and regions have the record.
 
   checks/run publishing PROGRAM
 
-Needs unshare, ip, and Debian's postgresql, python3-psycopg2, redis-server and python3-redis. Exit status 0 where that is so, 1 where it is
-not, 2 where something is missing.
+Needs unshare, ip, and Debian's postgresql, python3-psycopg2, redis-server and python3-redis.
 """
 import os
 import re

@@ -3,7 +3,6 @@
   checks/run types
 
 `mypy --strict` reads each folder by itself, and the modules of other folders that its programs load. Needs Debian's mypy.
-Exit status 0 where nothing is wrong, or skipped; 1 where something is wrong.
 """
 import os
 import subprocess

@@ -8,8 +8,6 @@ have, by the table of commands, with its members in clients/README.md and in eac
 for Python.
 Commands and options that README.md, docs/ or the packages name have to be those of the program, and its version is the same in
 all files (bin/version).
-
-Exit status: 0 where nothing is missing, 1 where something is, 2 for a wrong argument.
 """
 import re
 import subprocess
