@@ -1,4 +1,4 @@
-"""How pytest tries the checks: what they are told, a folder for each, which are tried, and what is shown of them."""
+"""How pytest tries the checks: what they are told, a folder for each, and what is shown of them."""
 import tempfile
 from collections.abc import Iterator
 from typing import Any
@@ -11,7 +11,6 @@ from serving.staying import raise_descriptors
 
 def pytest_addoption(parser: pytest.Parser) -> None:
     group = parser.getgroup("checks")
-    group.addoption("--check", action="append", default=[], help="a check that is tried, by its name; all without any")
     for name, about in PROGRAMS.items():
         group.addoption(f"--{name}", type=program_at, help=about)
     for name, words in OPTIONS.items():
@@ -20,26 +19,6 @@ def pytest_addoption(parser: pytest.Parser) -> None:
 
 def pytest_configure() -> None:
     raise_descriptors()
-
-
-def names_of(item: pytest.Function) -> str:
-    """What a check may be named by: its own name, and that of its case."""
-    return f"{item.originalname.removeprefix('check_')} {item.callspec.id if hasattr(item, 'callspec') else ''}"
-
-
-def pytest_collection_modifyitems(config: pytest.Config, items: list[pytest.Function]) -> None:
-    """Leaves the checks that are named, or whose case has a text."""
-    names, known = config.getoption("check"), {it: names_of(it) for it in items}
-    if unknown := [name for name in names if not any(is_named(it, name) for it in known.values())]:
-        raise pytest.UsageError(f"there is no check {', '.join(unknown)}")
-    chosen = [it for it in items if not names or any(is_named(known[it], name) for name in names)]
-    config.hook.pytest_deselected(items=[it for it in items if it not in chosen])
-    items[:] = chosen
-
-
-def is_named(item: str, name: str) -> bool:
-    own, _, case = item.partition(" ")
-    return own == name or bool(case) and name in case
 
 
 def pytest_generate_tests(metafunc: pytest.Metafunc) -> None:

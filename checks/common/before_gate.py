@@ -31,6 +31,6 @@ def main(words: list[str]) -> int:
         status = tried(TEXTS, [], at_once=True)
     if status or build.returncode:
         return 1
-    told, names = f"--program={PROGRAM}", [f"--check={it}" for it in CHECKS.split()]
+    told = f"--program={PROGRAM}"
     return max(tried(("rows", "random-scripts"), [told, f"--scripts={PROGRAM}", "--replay", "--cases=402"], at_once=True),
-               tried(SERVING, [told, *names]), tried(("ends", "limits"), [told]))
+               tried(SERVING, [told], CHECKS.split()), tried(("ends", "limits"), [told]))

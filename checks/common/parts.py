@@ -6,7 +6,7 @@ import importlib.util
 import os
 import re
 import sys
-from collections.abc import Iterable, Iterator, Sequence
+from collections.abc import Iterable, Sequence
 from pathlib import Path
 
 from common.options import OPTIONS, PROGRAMS, program_at
@@ -61,24 +61,22 @@ def abouts() -> dict[str, tuple[str, str]]:
     return found
 
 
-def functions(paths: Iterable[Path]) -> Iterator[ast.FunctionDef]:
-    """The checks and fixtures of modules."""
-    for path in paths:
-        for it in ast.parse(path.read_text(encoding="utf-8")).body:
-            if isinstance(it, ast.FunctionDef) and (it.name.startswith("check_") or "fixture" in " ".join(map(ast.unparse, it.decorator_list))):
-                yield it
+def functions(path: Path) -> list[ast.FunctionDef]:
+    """The checks and fixtures of a module."""
+    return [it for it in ast.parse(path.read_text(encoding="utf-8")).body
+            if isinstance(it, ast.FunctionDef) and (it.name.startswith("check_") or "fixture" in " ".join(map(ast.unparse, it.decorator_list)))]
 
 
 def parser_of(part: str, paths: Iterable[Path]) -> argparse.ArgumentParser:
     """The words of a part: the programs and options that its checks use, and the names of checks."""
-    found = list(functions(paths))
+    found = [it for path in paths for it in functions(path)]
     used = {it.arg for function in found for it in function.args.args}
     checks = (f"  {it.name[6:]}: {' '.join((ast.get_docstring(it) or '').split())}" for it in found if it.name.startswith("check_"))
     parser = argparse.ArgumentParser(f"run {part}", description=abouts()[part][1], epilog="\n".join(["checks:", *checks]),
                                      formatter_class=argparse.RawDescriptionHelpFormatter)
     for name in (it for it in PROGRAMS if it in used):
         parser.add_argument(name, metavar=name.upper(), type=program_at, help=PROGRAMS[name])
-    parser.add_argument("check", metavar="CHECK", nargs="*", help="the checks or cases that are tried; all without any")
+    parser.add_argument("names", metavar="CHECK", nargs="*", help="checks, or words of their cases' names; all without any")
     for name in (it for it in OPTIONS if it in used):
         parser.add_argument(f"--{name}", **OPTIONS[name])
     return parser
@@ -88,13 +86,23 @@ def run(part: str, words: list[str]) -> int:
     """Has pytest try a part. The status."""
     own = words.index("--") if "--" in words else len(words)
     given = vars(parser_of(part, modules()[part]).parse_intermixed_args(words[:own]))
-    names = [f"--check={it}" for it in given.pop("check")]
+    names = given.pop("names")
     told = ((name, each) for name, value in given.items() for each in (value if isinstance(value, list) else [value]))
     options = [f"--{name}" if value is True else f"--{name}={value}" for name, value in told if value not in (None, False)]
-    return tried([part], [*names, *options, *words[own + 1 :]])
+    return tried([part], [*options, *words[own + 1 :]], names)
 
 
-def tried(parts: Sequence[str], words: Sequence[str], at_once: bool = False) -> int:
+def chosen(parts: Sequence[str], names: Sequence[str]) -> list[str]:
+    """What pytest is told to try of parts: all, or the checks of these names, and of those the cases with these words."""
+    found = modules()
+    paths = list(dict.fromkeys(path for part in parts for path in found[part]))
+    checks = {it.name[6:]: f"{path}::{it.name}" for path in paths for it in functions(path)}
+    cases = [it for it in names if it not in checks]
+    nodes = [checks[it] for it in names if it in checks] or [str(it) for it in paths]
+    return [*nodes, *(["-k", " or ".join(cases)] if cases else [])]
+
+
+def tried(parts: Sequence[str], words: Sequence[str], names: Sequence[str] = (), at_once: bool = False) -> int:
     """Has pytest try parts, and several checks at once where it may and can. The status."""
     try:
         import pytest
@@ -102,7 +110,5 @@ def tried(parts: Sequence[str], words: Sequence[str], at_once: bool = False) -> 
         print("checks/run: Debian's python3-pytest is missing", file=sys.stderr)
         return 1
     os.environ["PYTHONDONTWRITEBYTECODE"] = "1"
-    found = modules()
-    paths = dict.fromkeys(str(path) for part in parts for path in found[part])
     several = ["-n", str(PROCESSORS)] if at_once and importlib.util.find_spec("xdist") else []
-    return int(pytest.main(["-c", str(SETTINGS), "--rootdir", str(CHECKS), *several, *words, *paths]))
+    return int(pytest.main(["-c", str(SETTINGS), "--rootdir", str(CHECKS), *several, *words, *chosen(parts, names)]))
