@@ -32,7 +32,9 @@ mod unread;
 
 pub use acceptor::SocketAcceptor;
 pub use connection::IdleTimeout;
-pub use counters::{ConnectionCounters, Counters, CountingSource, InputCounters, StreamCounters};
+pub use counters::{
+    ConnectionCounters, Counters, CountingSource, InputCounters, StreamCounters, UnreadCounters,
+};
 pub use descriptors::{DescriptorUses, allowed_descriptors, count_descriptors};
 pub use input_buffer::{INPUT_CAPACITY, InputBuffer};
 pub use laws::{AnsweredInTurns, every_way_of_coming_and_going};
