@@ -2,7 +2,5 @@ pub mod Buffers
 pub mod Crossing
 pub mod Endings
 pub mod Held
-pub mod MessageInputs
-pub mod MessageSteps
 pub mod Pieces
 pub mod Quarters
