@@ -1,6 +1,5 @@
 """A Chromium without a screen, which Debian's python3-selenium and chromium-driver tell what to do."""
 import base64
-import importlib.util
 import json
 import re
 import shutil
@@ -16,12 +15,6 @@ WORDS = ("--headless", "--no-sandbox", "--disable-gpu", "--disable-dev-shm-usage
 LOGS = {"browser": "ALL", "performance": "ALL"}
 # A text that a page's script says, behind where.
 SAID = re.compile(r'\S+ \S+ "(.*)"')
-
-
-def lacking() -> list[str]:
-    """The packages of Debian that are missing."""
-    tools = {BROWSER: "chromium", DRIVER: "chromium-driver"}
-    return [package for tool, package in tools.items() if not shutil.which(tool)] + ["python3-selenium"] * (importlib.util.find_spec("selenium") is None)
 
 
 class Browser:

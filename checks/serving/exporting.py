@@ -7,10 +7,12 @@ import urllib.error
 import urllib.request
 
 from common.crates import TOP
+from common.needs import needs
 from common.served import SECONDS, free_port, same
 from serving.staying import until
 
 CLIENT = TOP / "clients/python/src"
+NEEDS = needs("prometheus", "promtool", modules=("prometheus_client",))
 
 
 def answered(url: str) -> tuple[int, str]:

@@ -8,8 +8,10 @@ import time
 from common.resting import rests, sockets
 from common.served import SECONDS, same
 from serving.controlled import given, region_in, written
-from serving.fronts import Frames, Front, Stream, certified, front_in
+from serving.fronts import NEEDS, Frames, Front, Stream, certified, front_in
 from serving.staying import messages, until
+
+pytestmark = NEEDS
 
 READ = b"GET /records/k001 HTTP/1.1\r\nHost: x\r\n\r\n"
 PAGE = b"GET /records?limit=1000 HTTP/1.1\r\nHost: x\r\n\r\n"

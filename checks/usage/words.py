@@ -8,16 +8,14 @@ have, by the table of commands, with its members in clients/README.md and in eac
 for Python.
 Commands and options that README.md, docs/ or the packages name have to be those of the program, and its version is the same in
 all files (bin/version).
-
-Exit status: 0 where nothing is missing, 1 where something is, 2 for a wrong argument.
 """
-import argparse
 import re
 import subprocess
 from collections.abc import Iterable, Iterator
 from pathlib import Path
 
 from common.crates import TOP
+from common.tried import none_of
 
 COMMAND = re.compile(r'"(\w+)" => Some\(CommandWord::(\w+)\)')
 # A row of the table of commands: its name, who may say it, its kind, its members.
@@ -145,10 +143,6 @@ def all_faults() -> Iterator[str]:
     yield from versions()
 
 
-def main(words: list[str]) -> int:
-    argparse.ArgumentParser(description=__doc__, formatter_class=argparse.RawDescriptionHelpFormatter).parse_args(words)
-    faults = list(all_faults())
-    for fault in faults:
-        print(f"words: {fault}")
-    print("words: nothing is missing" if not faults else f"words: {len(faults)} are missing or wrong")
-    return 1 if faults else 0
+def check_words() -> None:
+    """No word of the sources is missing, and none is told that is not there."""
+    none_of(all_faults())

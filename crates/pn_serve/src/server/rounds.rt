@@ -12,7 +12,7 @@ ghost use Rattle.pn_serve.specs.declared.server.mailboxes.AtFault.TheVariants.{S
 
 use crate::ServeFault;
 use crate::server::mailboxes::{AtFault, StreamMailbox, StreamMailboxes};
-use crate::server::messages::RoundMessages;
+use crate::server::messages::RoundShare;
 use crate::server::reports::Report;
 use crate::server::tries::run_input;
 use pn_apply::Share;
@@ -154,7 +154,7 @@ fn add_note(
     ensures capacity { vec_capacity input.new.deliveries ≡ vec_capacity input.old.deliveries }
 {
     match report {
-        Some(Report::Messages(RoundMessages { delivery })) if !is_gap(marks, &delivery) => {
+        Some(Report::Messages(RoundShare { delivery })) if !is_gap(marks, &delivery) => {
             input.deliveries.push_reserved(delivery);
             true
         }

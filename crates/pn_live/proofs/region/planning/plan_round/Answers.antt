@@ -18,8 +18,8 @@ returns-clause-changes g c =
 pub returns-clause-nexts : goal.returns-clause-nexts
 returns-clause-nexts g c =
     let slots = c.as_mut_slice-slots.result.now in
-    let us = c.apply_all-lists.new.slots in
+    let us = c.apply_all.new.slots in
     let operations = c.args.operations.now in
-    let whole = with_items_is c.in_ok-drafts.drafts us (omega (arith, c.apply_all-lists.auto.slots, c.as_mut_slice-slots.ensures.len)) in
+    let whole = with_items_is c.in_ok-drafts.drafts us (omega (arith, c.apply_all.auto.slots, c.as_mut_slice-slots.ensures.len)) in
     c.in_ok-nexts.ensures ∙ whole ∙ sym (map-id us) ∙ c.in_ok-lists.ensures.ok
     ∙ ap (λ (ts : List TabletStateValue). all_stepped ts operations) (map-id slots ∙ c.as_mut_slice-slots.ensures.value ∙ c.in_ok-drafts.ensures.drafts)
