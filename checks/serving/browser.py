@@ -11,6 +11,8 @@ BROWSER, DRIVER = "chromium", "chromedriver"
 # It has nothing to fetch by itself, and its memory is not that of /dev/shm, which is small in containers.
 WORDS = ("--headless", "--no-sandbox", "--disable-gpu", "--disable-dev-shm-usage", "--disable-background-networking", "--disable-component-update",
          "--disable-sync", "--no-first-run", "--hide-scrollbars")
+# It begins with an empty page, and none of its own.
+START = {"session.restore_on_startup": 4, "session.startup_urls": ["about:blank"]}
 # What is kept: what the page's scripts say and what goes wrong there, and what it asks for.
 LOGS = {"browser": "ALL", "performance": "ALL"}
 # A text that a page's script says, behind where.
@@ -28,6 +30,7 @@ class Browser:
             options.add_argument(word)
         options.binary_location = shutil.which(BROWSER)
         options.set_capability("goog:loggingPrefs", LOGS)
+        options.add_experimental_option("prefs", START)
         self.driver = Chrome(service=Service(shutil.which(DRIVER), log_path=f"{folder}/browser-said"), options=options)
         self.driver.set_page_load_timeout(SECONDS)
         self._logged: dict[str, list[Json]] = {name: [] for name in LOGS}
