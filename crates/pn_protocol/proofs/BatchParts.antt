@@ -17,6 +17,8 @@ use Rattle.pn_protocol.specs.declared.command.ranges.TheConstants.{MAX_BATCHES}
 use Rattle.pn_protocol.specs.Command.Meaning.{deliver}
 use Rattle.pn_protocol.specs.Command.RangeChecks.{fits, each_fits, image_fits, batch_fits, batches_fit}
 use Rattle.pn_protocol.specs.Command.ShapeChecks.{named_alone, image_shape, batch_shape}
+use Rattle.pn_protocol.specs.Command.Words.{members_of}
+use Rattle.pn_protocol.specs.declared.command.word.CommandWord.TheVariants.{Deliver}
 use Rattle.pn_protocol.specs.declared.refusal.Part.TheVariants.{Whole, Batches, First, Images, Stream}
 use Rattle.pn_protocol.specs.declared.refusal.Refusal.{Refusal}
 use Rattle.pn_protocol.specs.declared.refusal.Refusal.TheVariants.{BadShape, OutOfRange}
@@ -146,7 +148,7 @@ deliver_found d batches is =
     let members = bind_ok (ok_or (as_object d) (BadShape Whole)) _ (deliver batches) is in
     let items = bind_ok (member_as as_array (BadShape Batches) (get_member (codes "batches") members.0)) _ (deliver batches) members.2 in
     let found = bind_ok (each_in batch_shape items.0) _ (deliver batches) items.2 in
-    let named = bind_ok (named_alone (codes "batches" ∷ codes "do" ∷ []) members.0) _ (deliver batches) found.2 in
+    let named = bind_ok (named_alone (members_of Deliver) members.0) _ (deliver batches) found.2 in
     let fit = bind_ok (batches_fit found.0) _ (deliver batches) named.2 in
     let same : found.0 ≡ batches = cc fit.2 in
     let each = both_fit (fits Batches (are_few MAX_BATCHES found.0)) _ fit.1 in

@@ -27,7 +27,7 @@ use Rattle.pn_protocol.specs.Command.Tablets.{adopt_in, copy_in, lose_in, relayo
 use Rattle.pn_protocol.specs.Command.Queries.{query_at, query_shape, fitting_query}
 use Rattle.pn_protocol.specs.Command.RangeChecks.{fits, batches_fit, bounds_fit, keys_fit, fitting_version}
 use Rattle.pn_protocol.specs.Command.ShapeChecks.{named_alone, number_alone, keys_alone, batch_shape, key_shape, version_shape}
-use Rattle.pn_protocol.specs.Command.Words.{word_in}
+use Rattle.pn_protocol.specs.Command.Words.{members_of, word_in}
 use Rattle.pn_protocol.specs.declared.command.word.CommandWord.{CommandWord}
 use Rattle.pn_protocol.specs.declared.command.word.CommandWord.TheVariants.{Adopt, Copy, Deliver, Get, Lose, Marks, Notices, Read, Relayout, Scan, Tablets}
 use Rattle.pn_protocol.specs.declared.refusal.Part.{Part}
@@ -38,7 +38,7 @@ use Rattle.pn_protocol.proofs.CommandLimits.{fits_true, deliver_members, deliver
 use Rattle.pn_protocol.proofs.EachFits.{as_ok}
 use Rattle.pn_json.proofs.MembersByName.{SameAt, same_by_name}
 use Rattle.pn_record.proofs.ReadInOrder.{InOrder}
-use Rattle.pn_protocol.proofs.CommandParts.{text_at, number_at, array_at, object_of, names_of, are_named, rises, in_order, each_found, each_again, each_kept_again, array_in_order, batch_found, batch_again, text_of, word_at, key_found, key_again, after_key, version_required, query_there}
+use Rattle.pn_protocol.proofs.CommandParts.{text_at, number_at, array_at, object_of, are_named, rises, in_order, each_found, each_again, each_kept_again, array_in_order, batch_found, batch_again, text_of, word_at, key_found, key_again, after_key, version_required, query_there}
 
 -- what the members of a word's object say
 module _ (ms : Members) (order : InOrder (object ms)) where
@@ -51,10 +51,11 @@ module _ (ms : Members) (order : InOrder (object ms)) where
   named_object names ns named rise also same = ap object (same_by_name names ms ns (rises (object ms) ms refl order) rise (are_named names ms named) also same)
 
   -- the number of a command, and the names of its members
-  pub number_parts : (name : List ℕ) (part : Part) (n : ℕ) → number_alone name part ms ≡ Ok n → (get_member name ms ≡ Some (number (unsigned n))) × (named_alone (codes "do" ∷ name ∷ []) ms ≡ Ok tt)
-  number_parts name part n is =
+  pub number_parts : (name : List ℕ) (names : List (List ℕ)) (part : Part) (n : ℕ) → number_alone name names part ms ≡ Ok n
+      → (get_member name ms ≡ Some (number (unsigned n))) × (named_alone names ms ≡ Ok tt)
+  number_parts name names part n is =
       let value = bind_ok (member_as whole_number (BadShape part) (get_member name ms)) _ n is in
-      let named = bind_ok (named_alone (codes "do" ∷ name ∷ []) ms) _ n value.2 in
+      let named = bind_ok (named_alone names ms) _ n value.2 in
       let same : value.0 ≡ n = cc in
       (number_at part _ value.0 value.1 ∙ ap (λ m. Some (number (unsigned m))) same, named.1)
 
@@ -76,27 +77,27 @@ module _ (ms : Members) (order : InOrder (object ms)) where
   adopt_found : Found Adopt
   unfolding adopt_in
   adopt_found command says is =
-      let lines = bind_ok (number_alone (codes "lines") Lines ms) _ command is in
-      let parts = number_parts (codes "lines") Lines lines.0 lines.1 in
+      let lines = bind_ok (number_alone (codes "lines") (members_of Adopt) Lines ms) _ command is in
+      let parts = number_parts (codes "lines") (members_of Adopt) Lines lines.0 lines.1 in
       let fit = bind_ok (fits Lines (may_announce lines.0)) _ command lines.2 in
       let same : adopt lines.0 ≡ command = cc in
-      let whole = named_object (names_of Adopt) (member (codes "do") (string (codes "adopt")) (member (codes "lines") (number (unsigned lines.0)) no_members)) parts.1 tt refl
+      let whole = named_object (members_of Adopt) (member (codes "do") (string (codes "adopt")) (member (codes "lines") (number (unsigned lines.0)) no_members)) parts.1 tt refl
       (says, (parts.0, tt)) in
       subst (λ c. IsCommand (object ms) c) same (record { value = whole; limits = fits_true Lines (may_announce lines.0) fit.1 })
 
   copy_members : (tablet : ℕ) (o : Option Data) → get_member (codes "need") ms ≡ o → get_member (codes "do") ms ≡ Some (string (codes "copy")) → get_member (codes "tablet") ms ≡ Some (number (unsigned tablet))
-      → named_alone (names_of Copy) ms ≡ Ok tt → object ms ≡ copy_command o tablet
+      → named_alone (members_of Copy) ms ≡ Ok tt → object ms ≡ copy_command o tablet
   copy_members tablet None at says there named =
-      named_object (names_of Copy) (member (codes "do") (string (codes "copy")) (tablet_member tablet)) named tt refl (says, (at, (there, tt)))
+      named_object (members_of Copy) (member (codes "do") (string (codes "copy")) (tablet_member tablet)) named tt refl (says, (at, (there, tt)))
   copy_members tablet (Some d) at says there named =
-      named_object (names_of Copy) (member (codes "do") (string (codes "copy")) (member (codes "need") d (tablet_member tablet))) named tt refl (says, (at, (there, tt)))
+      named_object (members_of Copy) (member (codes "do") (string (codes "copy")) (member (codes "need") d (tablet_member tablet))) named tt refl (says, (at, (there, tt)))
 
   copy_found : Found Copy
   unfolding copy_in
   copy_found command says is =
       let shape = bind_ok (need_shape (need_at (get_member (codes "need") ms))) _ command is in
       let tablet = bind_ok (member_as whole_number (BadShape Tablet) (get_member (codes "tablet") ms)) _ command shape.2 in
-      let named = bind_ok (named_alone (names_of Copy) ms) _ command tablet.2 in
+      let named = bind_ok (named_alone (members_of Copy) ms) _ command tablet.2 in
       let need = bind_ok (need_at (get_member (codes "need") ms)) _ command named.2 in
       let same : copy need.0 tablet.0 ≡ command = cc in
       let there = need_found (get_member (codes "need") ms) need.0 need.1 in
@@ -108,37 +109,37 @@ module _ (ms : Members) (order : InOrder (object ms)) where
   deliver_found command says is =
       let items = bind_ok (member_as as_array (BadShape Batches) (get_member (codes "batches") ms)) _ command is in
       let batches = bind_ok (each_in batch_shape items.0) _ command items.2 in
-      let named = bind_ok (named_alone (names_of Deliver) ms) _ command batches.2 in
+      let named = bind_ok (named_alone (members_of Deliver) ms) _ command batches.2 in
       let fit = bind_ok (batches_fit batches.0) _ command named.2 in
       let same : deliver batches.0 ≡ command = cc in
       let at_batches = array_at Batches _ items.0 items.1 in
       let inside = array_in_order (codes "batches") ms items.0 (in_order (object ms) ms refl order) at_batches in
       let value : object ms ≡ deliver_command batches.0 =
-      named_object (names_of Deliver) (deliver_members batches.0) named.1 tt refl
+      named_object (members_of Deliver) (deliver_members batches.0) named.1 tt refl
       (at_batches ∙ ap (λ ds. Some (array ds)) (each_found batch_shape delivery_data batch_found items.0 batches.0 inside batches.1), (says, tt)) in
       subst (λ c. IsCommand (object ms) c) same (record { value = value; limits = deliveries_kept batches.0 (subst InOrder value order) fit.1 })
 
   get_found : Found Get
   unfolding get_in
   get_found command says is =
-      let keys = bind_ok (keys_alone (codes "keys") (names_of Get) Keys ms) _ command is in
-      let parts = keys_parts (codes "keys") (names_of Get) Keys keys.0 keys.1 in
+      let keys = bind_ok (keys_alone (codes "keys") (members_of Get) Keys ms) _ command is in
+      let parts = keys_parts (codes "keys") (members_of Get) Keys keys.0 keys.1 in
       let fit = bind_ok (keys_fit keys.0) _ command keys.2 in
       let same : meaning.get keys.0 ≡ command = cc in
-      let whole = named_object (names_of Get) (member (codes "do") (string (codes "get")) (member (codes "keys") (array (items_of (map string keys.0))) no_members)) parts.1 tt refl
+      let whole = named_object (members_of Get) (member (codes "do") (string (codes "get")) (member (codes "keys") (array (items_of (map string keys.0))) no_members)) parts.1 tt refl
       (says, (parts.0, tt)) in
       subst (λ c. IsCommand (object ms) c) same (record { value = whole; limits = keys_kept keys.0 fit.1 })
 
   lose_found : Found Lose
   unfolding lose_in
   lose_found command says is =
-      let tablet = bind_ok (number_alone (codes "tablet") Tablet ms) _ command is in
-      let parts = number_parts (codes "tablet") Tablet tablet.0 tablet.1 in
+      let tablet = bind_ok (number_alone (codes "tablet") (members_of Lose) Tablet ms) _ command is in
+      let parts = number_parts (codes "tablet") (members_of Lose) Tablet tablet.0 tablet.1 in
       let same : lose tablet.0 ≡ command = cc in
-      let whole = named_object (names_of Lose) (member (codes "do") (string (codes "lose")) (tablet_member tablet.0)) parts.1 tt refl (says, (parts.0, tt)) in
+      let whole = named_object (members_of Lose) (member (codes "do") (string (codes "lose")) (tablet_member tablet.0)) parts.1 tt refl (says, (parts.0, tt)) in
       subst (λ c. IsCommand (object ms) c) same (record { value = whole; limits = refl })
 
-  alone_found : (word : CommandWord) (said : CommandValue) → names_of word ≡ codes "do" ∷ [] → Says (object (member (codes "do") (string (text_of word)) no_members)) said → is_command said ≡ true
+  alone_found : (word : CommandWord) (said : CommandValue) → members_of word ≡ codes "do" ∷ [] → Says (object (member (codes "do") (string (text_of word)) no_members)) said → is_command said ≡ true
       → get_member (codes "do") ms ≡ Some (string (text_of word)) → named_alone (codes "do" ∷ []) ms ≡ Ok tt → IsCommand (object ms) said
   alone_found word said names value limits says named =
       let whole = named_object (codes "do" ∷ []) (member (codes "do") (string (text_of word)) no_members) named tt refl (says, tt) in
@@ -147,34 +148,34 @@ module _ (ms : Members) (order : InOrder (object ms)) where
   marks_found : Found Marks
   unfolding alone_in
   marks_found command says is =
-      let named = bind_ok (named_alone (names_of Marks) ms) _ command is in
+      let named = bind_ok (named_alone (members_of Marks) ms) _ command is in
       let same : marks ≡ command = cc in
       subst (λ c. IsCommand (object ms) c) same (alone_found Marks marks refl refl refl says named.1)
 
   notices_found : Found Notices
   unfolding notices_in
   notices_found command says is =
-      let since = bind_ok (number_alone (codes "since") Since ms) _ command is in
-      let parts = number_parts (codes "since") Since since.0 since.1 in
+      let since = bind_ok (number_alone (codes "since") (members_of Notices) Since ms) _ command is in
+      let parts = number_parts (codes "since") (members_of Notices) Since since.0 since.1 in
       let fit = bind_ok (fits Since (may_be_asked since.0)) _ command since.2 in
       let same : notices since.0 ≡ command = cc in
-      let whole = named_object (names_of Notices) (member (codes "do") (string (codes "notices")) (member (codes "since") (number (unsigned since.0)) no_members)) parts.1 tt refl
+      let whole = named_object (members_of Notices) (member (codes "do") (string (codes "notices")) (member (codes "since") (number (unsigned since.0)) no_members)) parts.1 tt refl
       (says, (parts.0, tt)) in
       subst (λ c. IsCommand (object ms) c) same (record { value = whole; limits = fits_true Since (may_be_asked since.0) fit.1 })
 
   read_members : (key : List ℕ) (o : Option Data) → get_member (codes "version") ms ≡ o → get_member (codes "do") ms ≡ Some (string (codes "read")) → get_member (codes "key") ms ≡ Some (string key)
-      → named_alone (names_of Read) ms ≡ Ok tt → object ms ≡ read_command key (after_key o)
+      → named_alone (members_of Read) ms ≡ Ok tt → object ms ≡ read_command key (after_key o)
   read_members key None at says there named =
-      named_object (names_of Read) (member (codes "do") (string (codes "read")) (member (codes "key") (string key) no_members)) named tt refl (says, (there, (at, tt)))
+      named_object (members_of Read) (member (codes "do") (string (codes "read")) (member (codes "key") (string key) no_members)) named tt refl (says, (there, (at, tt)))
   read_members key (Some d) at says there named =
-      named_object (names_of Read) (member (codes "do") (string (codes "read")) (member (codes "key") (string key) (member (codes "version") d no_members))) named tt refl (says, (there, (at, tt)))
+      named_object (members_of Read) (member (codes "do") (string (codes "read")) (member (codes "key") (string key) (member (codes "version") d no_members))) named tt refl (says, (there, (at, tt)))
 
   read_found : Found Read
   unfolding read_in
   read_found command says is =
       let text = bind_ok (member_as as_str (BadShape Key) (get_member (codes "key") ms)) _ command is in
       let numbers = bind_ok (version_shape (get_member (codes "version") ms)) _ command text.2 in
-      let named = bind_ok (named_alone (names_of Read) ms) _ command numbers.2 in
+      let named = bind_ok (named_alone (members_of Read) ms) _ command numbers.2 in
       let fit = bind_ok (fits Key (is_key text.0)) _ command named.2 in
       let version = bind_ok (fitting_version numbers.0) _ command fit.2 in
       let kept = read_kept text.0 numbers.0 version.0 fit.1 version.1 in
@@ -186,11 +187,11 @@ module _ (ms : Members) (order : InOrder (object ms)) where
   relayout_found : Found Relayout
   unfolding relayout_in
   relayout_found command says is =
-      let bounds = bind_ok (keys_alone (codes "bounds") (names_of Relayout) Bounds ms) _ command is in
-      let parts = keys_parts (codes "bounds") (names_of Relayout) Bounds bounds.0 bounds.1 in
+      let bounds = bind_ok (keys_alone (codes "bounds") (members_of Relayout) Bounds ms) _ command is in
+      let parts = keys_parts (codes "bounds") (members_of Relayout) Bounds bounds.0 bounds.1 in
       let fit = bind_ok (bounds_fit bounds.0) _ command bounds.2 in
       let same : relayout bounds.0 ≡ command = cc in
-      let whole = named_object (names_of Relayout) (member (codes "bounds") (array (items_of (map string bounds.0))) (member (codes "do") (string (codes "relayout")) no_members)) parts.1 tt refl
+      let whole = named_object (members_of Relayout) (member (codes "bounds") (array (items_of (map string bounds.0))) (member (codes "do") (string (codes "relayout")) no_members)) parts.1 tt refl
       (parts.0, (says, tt)) in
       subst (λ c. IsCommand (object ms) c) same (record { value = whole; limits = bounds_kept bounds.0 fit.1 })
 
@@ -198,17 +199,17 @@ module _ (ms : Members) (order : InOrder (object ms)) where
   unfolding scan_in
   scan_found command says is =
       let shape = bind_ok (query_shape (query_at (get_member (codes "query") ms))) _ command is in
-      let named = bind_ok (named_alone (names_of Scan) ms) _ command shape.2 in
+      let named = bind_ok (named_alone (members_of Scan) ms) _ command shape.2 in
       let query = bind_ok (fitting_query (query_at (get_member (codes "query") ms))) _ command named.2 in
       let same : scan query.0 ≡ command = cc in
       let there = query_there (get_member (codes "query") ms) query.0 (as_ok _ _ query.0 query.1) in
-      let whole = named_object (names_of Scan) (member (codes "do") (string (codes "scan")) (member (codes "query") there.0 no_members)) named.1 tt refl (says, (there.1, tt)) in
+      let whole = named_object (members_of Scan) (member (codes "do") (string (codes "scan")) (member (codes "query") there.0 no_members)) named.1 tt refl (says, (there.1, tt)) in
       subst (λ c. IsCommand (object ms) c) same (record { value = (there.0, there.2, whole); limits = there.3 })
 
   tablets_found : Found Tablets
   unfolding alone_in
   tablets_found command says is =
-      let named = bind_ok (named_alone (names_of Tablets) ms) _ command is in
+      let named = bind_ok (named_alone (members_of Tablets) ms) _ command is in
       let same : tablets ≡ command = cc in
       subst (λ c. IsCommand (object ms) c) same (alone_found Tablets tablets refl refl refl says named.1)
 

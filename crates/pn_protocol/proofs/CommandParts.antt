@@ -59,22 +59,9 @@ array_at part o ds is =
 pub object_of : (d : Data) (e : Refusal) (ms : Members) → ok_or (as_object d) e ≡ Ok ms → d ≡ object ms
 object_of d e ms is = object_from_as_object d ms (ok_or_ok (as_object d) e ms is)
 
--- the names of a batch's members, and of the members of a command with this word
+-- the names of a batch's members
 abbrev batch_names : List (List ℕ)
 batch_names = codes "first" ∷ codes "images" ∷ codes "stream" ∷ []
-
-abbrev pub names_of : CommandWord → List (List ℕ)
-names_of Adopt = codes "do" ∷ codes "lines" ∷ []
-names_of Copy = codes "do" ∷ codes "need" ∷ codes "tablet" ∷ []
-names_of Deliver = codes "batches" ∷ codes "do" ∷ []
-names_of Get = codes "do" ∷ codes "keys" ∷ []
-names_of Lose = codes "do" ∷ codes "tablet" ∷ []
-names_of Marks = codes "do" ∷ []
-names_of Notices = codes "do" ∷ codes "since" ∷ []
-names_of Read = codes "do" ∷ codes "key" ∷ codes "version" ∷ []
-names_of Relayout = codes "bounds" ∷ codes "do" ∷ []
-names_of Scan = codes "do" ∷ codes "query" ∷ []
-names_of Tablets = codes "do" ∷ []
 
 pub are_named : (names : List (List ℕ)) (ms : Members) → named_alone names ms ≡ Ok tt → only_named names ms ≡ true
 are_named names ms is = (guard_ok (only_named names ms) tt tt (BadShape Other) is).0

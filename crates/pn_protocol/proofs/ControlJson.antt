@@ -10,7 +10,7 @@ use Rattle.pn_json.specs.Members.{whole_number, member_as}
 use Rattle.pn_json.proofs.Inverses.{bind_ok, ok_or_ok, and_then_some, string_from_as_str, number_from_whole}
 use Rattle.pn_record.proofs.ReadInOrder.{InOrder}
 use Rattle.pn_protocol.specs.Command.ControlGrammar.{AreSeconds, waiting_command, stop_command, SaysControl, is_shared, is_control, IsControl}
-use Rattle.pn_protocol.specs.Command.Controls.{ControlValue, script, notices, advance, stats, stop, control_word_of, control_word_in, are_seconds, may_adopt, seconds_in, seconds_at, alone_as, adoption_in, waiting_in, stop_in, script_as, control_as, control_in}
+use Rattle.pn_protocol.specs.Command.Controls.{ControlValue, script, notices, advance, stats, stop, control_members, control_word_of, control_word_in, are_seconds, may_adopt, seconds_in, seconds_at, alone_as, adoption_in, waiting_in, stop_in, script_as, control_as, control_in}
 use Rattle.pn_protocol.specs.Command.Grammar.{Says}
 use Rattle.pn_protocol.specs.Command.Json.{adopt_command, copy_command}
 use Rattle.pn_protocol.specs.Command.Limits.{may_be_asked, is_command}
@@ -83,32 +83,33 @@ seconds_again (Some d) usual part seconds (inr says) = ap (seconds_in usual part
 -- what the members of a word's object say
 module _ (ms : Members) (order : InOrder (object ms)) where
   alone_found : (word : ControlWord) (said command : ControlValue) → SaysControl (object (member (codes "do") (string (text_of word)) no_members)) said → is_control said ≡ true
-      → get_member (codes "do") ms ≡ Some (string (text_of word)) → alone_as said ms ≡ Ok command → IsControl (object ms) command
+      → control_members word ≡ codes "do" ∷ [] → get_member (codes "do") ms ≡ Some (string (text_of word)) → alone_as word said ms ≡ Ok command → IsControl (object ms) command
   unfolding alone_as
-  alone_found word said command value limits says is =
-      let named = bind_ok (named_alone (codes "do" ∷ []) ms) _ command is in
+  alone_found word said command value limits names says is =
+      let named = bind_ok (named_alone (control_members word) ms) _ command is in
       let same : said ≡ command = cc in
-      let whole = named_object ms order (codes "do" ∷ []) (member (codes "do") (string (text_of word)) no_members) named.1 tt refl (says, tt) in
+      let whole = named_object ms order (codes "do" ∷ []) (member (codes "do") (string (text_of word)) no_members)
+      (subst (λ (ns : List (List ℕ)). named_alone ns ms ≡ Ok tt) names named.1) tt refl (says, tt) in
       subst (λ c. IsControl (object ms) c) same (record { value = subst (λ d. SaysControl d said) (sym whole) value; limits = limits })
 
   adoption_found : (command : ControlValue) → get_member (codes "do") ms ≡ Some (string (codes "adopt")) → adoption_in ms ≡ Ok command → IsControl (object ms) command
   unfolding adoption_in
   adoption_found command says is =
-      let lines = bind_ok (number_alone (codes "lines") Lines ms) _ command is in
-      let parts = number_parts ms order (codes "lines") Lines lines.0 lines.1 in
+      let lines = bind_ok (number_alone (codes "lines") (control_members Adopt) Lines ms) _ command is in
+      let parts = number_parts ms order (codes "lines") (control_members Adopt) Lines lines.0 lines.1 in
       let fit = bind_ok (fits Lines (may_adopt lines.0)) _ command lines.2 in
       let same : script (adopt lines.0) ≡ command = cc in
-      let whole = named_object ms order (codes "do" ∷ codes "lines" ∷ []) (member (codes "do") (string (codes "adopt")) (member (codes "lines") (number (unsigned lines.0)) no_members)) parts.1 tt refl
+      let whole = named_object ms order (control_members Adopt) (member (codes "do") (string (codes "adopt")) (member (codes "lines") (number (unsigned lines.0)) no_members)) parts.1 tt refl
       (says, (parts.0, tt)) in
       subst (λ c. IsControl (object ms) c) same (record { value = whole; limits = fits_true Lines (may_adopt lines.0) fit.1 })
 
   waiting_members : (since : ℕ) (o : Option Data) → get_member (codes "wait") ms ≡ o → get_member (codes "do") ms ≡ Some (string (codes "notices")) → get_member (codes "since") ms ≡ Some (number (unsigned since))
-      → named_alone (codes "do" ∷ codes "since" ∷ codes "wait" ∷ []) ms ≡ Ok tt → object ms ≡ waiting_command since o
+      → named_alone (control_members Notices) ms ≡ Ok tt → object ms ≡ waiting_command since o
   waiting_members since None at says there named =
-      named_object ms order (codes "do" ∷ codes "since" ∷ codes "wait" ∷ []) (member (codes "do") (string (codes "notices")) (member (codes "since") (number (unsigned since)) no_members)) named tt refl
+      named_object ms order (control_members Notices) (member (codes "do") (string (codes "notices")) (member (codes "since") (number (unsigned since)) no_members)) named tt refl
       (says, (there, (at, tt)))
   waiting_members since (Some d) at says there named =
-      named_object ms order (codes "do" ∷ codes "since" ∷ codes "wait" ∷ [])
+      named_object ms order (control_members Notices)
       (member (codes "do") (string (codes "notices")) (member (codes "since") (number (unsigned since)) (member (codes "wait") d no_members))) named tt refl
       (says, (there, (at, tt)))
 
@@ -117,7 +118,7 @@ module _ (ms : Members) (order : InOrder (object ms)) where
   waiting_found command says is =
       let since = bind_ok (member_as whole_number (BadShape Since) (get_member (codes "since") ms)) _ command is in
       let wait = bind_ok (seconds_at 0 Wait (get_member (codes "wait") ms)) _ command since.2 in
-      let named = bind_ok (named_alone (codes "do" ∷ codes "since" ∷ codes "wait" ∷ []) ms) _ command wait.2 in
+      let named = bind_ok (named_alone (control_members Notices) ms) _ command wait.2 in
       let asked = bind_ok (fits Since (may_be_asked since.0)) _ command named.2 in
       let fit = bind_ok (fits Wait (are_seconds wait.0)) _ command asked.2 in
       let same : notices since.0 wait.0 ≡ command = cc in
@@ -126,17 +127,17 @@ module _ (ms : Members) (order : InOrder (object ms)) where
       subst (λ c. IsControl (object ms) c) same
       (record { value = (get_member (codes "wait") ms, seconds_found _ 0 Wait wait.0 wait.1, whole); limits = kept })
 
-  stop_members : (o : Option Data) → get_member (codes "seconds") ms ≡ o → get_member (codes "do") ms ≡ Some (string (codes "stop")) → named_alone (codes "do" ∷ codes "seconds" ∷ []) ms ≡ Ok tt
+  stop_members : (o : Option Data) → get_member (codes "seconds") ms ≡ o → get_member (codes "do") ms ≡ Some (string (codes "stop")) → named_alone (control_members Stop) ms ≡ Ok tt
       → object ms ≡ stop_command o
-  stop_members None at says named = named_object ms order (codes "do" ∷ codes "seconds" ∷ []) (member (codes "do") (string (codes "stop")) no_members) named tt refl (says, (at, tt))
+  stop_members None at says named = named_object ms order (control_members Stop) (member (codes "do") (string (codes "stop")) no_members) named tt refl (says, (at, tt))
   stop_members (Some d) at says named =
-      named_object ms order (codes "do" ∷ codes "seconds" ∷ []) (member (codes "do") (string (codes "stop")) (member (codes "seconds") d no_members)) named tt refl (says, (at, tt))
+      named_object ms order (control_members Stop) (member (codes "do") (string (codes "stop")) (member (codes "seconds") d no_members)) named tt refl (says, (at, tt))
 
   stop_found : (command : ControlValue) → get_member (codes "do") ms ≡ Some (string (codes "stop")) → stop_in ms ≡ Ok command → IsControl (object ms) command
   unfolding stop_in
   stop_found command says is =
       let seconds = bind_ok (seconds_at STOP_SECONDS Seconds (get_member (codes "seconds") ms)) _ command is in
-      let named = bind_ok (named_alone (codes "do" ∷ codes "seconds" ∷ []) ms) _ command seconds.2 in
+      let named = bind_ok (named_alone (control_members Stop) ms) _ command seconds.2 in
       let fit = bind_ok (fits Seconds (are_seconds seconds.0)) _ command named.2 in
       let same : stop seconds.0 ≡ command = cc in
       let whole = stop_members _ refl says named.1 in
@@ -185,9 +186,9 @@ script_found d command order other is =
 word_found : (ms : Members) → InOrder (object ms) → (word : Option ControlWord) (command : ControlValue) → control_word_in (get_member (codes "do") ms) ≡ word → control_as word (object ms) ms ≡ Ok command
     → IsControl (object ms) command
 word_found ms order (Some Adopt) command says is = adoption_found ms order command (word_at _ Adopt says) is
-word_found ms order (Some Advance) command says is = alone_found ms order Advance advance command refl refl (word_at _ Advance says) is
+word_found ms order (Some Advance) command says is = alone_found ms order Advance advance command refl refl refl (word_at _ Advance says) is
 word_found ms order (Some Notices) command says is = waiting_found ms order command (word_at _ Notices says) is
-word_found ms order (Some Stats) command says is = alone_found ms order Stats stats command refl refl (word_at _ Stats says) is
+word_found ms order (Some Stats) command says is = alone_found ms order Stats stats command refl refl refl (word_at _ Stats says) is
 word_found ms order (Some Stop) command says is = stop_found ms order command (word_at _ Stop says) is
 word_found ms order None command says is = script_found (object ms) command order says is
 

@@ -16,14 +16,11 @@ use Rattle.pn_live.specs.Readers.{LiveReaderValue}
 use Rattle.pn_protocol.proofs.ControlLines.{too_long}
 use Rattle.pn_protocol.specs.Command.Controls.{ControlValue, control_at, script, notices, advance, stats, stop}
 use Rattle.pn_protocol.specs.Command.Lines.{is_too_long}
-use Rattle.pn_protocol.specs.Command.Meaning.{command_value}
 use Rattle.pn_protocol.specs.Command.Meaning as command
 use Rattle.pn_protocol.specs.Reply.Refusals.{Refuses}
 use Rattle.pn_protocol.specs.Reply.Stats.{stats_data}
 use Rattle.pn_protocol.specs.declared.reply.stats.Stats.{Stats}
 use Rattle.pn_protocol.specs.declared.reply.stats.TabletStats.{TabletStats}
-use Rattle.pn_protocol.specs.declared.command.Command.{Command}
-use Rattle.pn_protocol.specs.declared.command.Command.TheVariants as words
 use Rattle.pn_protocol.specs.declared.refusal.Refusal.{Refusal}
 use Rattle.pn_protocol.specs.declared.refusal.Refusal.TheVariants.{TooLong, NotJson, BadShape, ReadOnly, OutOfRange, Memory}
 use Rattle.pn_protocol.specs.declared.reply.Reply.{Reply}
@@ -31,11 +28,12 @@ use Rattle.pn_protocol.specs.declared.reply.Reply.TheVariants.{Adopted, Changed,
 use Rattle.pn_protocol.specs.declared.reply.refusals.CommandFault.TheVariants.{CopyText}
 use Rattle.pn_scan.specs.Paging.{Stays}
 use Rattle.pn_serve.specs.Control.Commands.{said_by}
-use Rattle.pn_serve.specs.Control.Steps.{AdoptsRead, ObeysControl, ObeysScript, RepliesWith, Says, ShowsCounts, StepsAs, StepsBy, StepsLast, Lasts}
+use Rattle.pn_serve.specs.Control.Steps.{AdoptsRead, DoesTask, ObeysControl, ObeysScript, RepliesWith, Says, ShowsCounts, StepsAs, StepsBy, StepsLast, Lasts, task_of}
 use Rattle.pn_serve.specs.Session.Knowing.{KnowsNoLess}
 use Rattle.pn_serve.specs.Session.Lines.{LooksUp}
 use Rattle.pn_serve.specs.declared.control.steps.ControlStep.{ControlStep}
 use Rattle.pn_serve.specs.declared.control.steps.ControlStep.TheVariants.{Replies, Announces, Stops, Ends}
+use Rattle.pn_serve.specs.declared.control.steps.ScriptTask.{ScriptTask}
 use Rattle.pn_serve.proofs.Knowing.{command_knows, knows_same, stays_knows}
 use Rattle.pn_serve.proofs.TabletCounts.{tablets_know}
 
@@ -72,20 +70,10 @@ read_fault text why Silent is refuses = inr (ap Replies refuses)
 read_fault text why (Text bytes) is refuses = inr (ap Replies refuses)
 read_fault text why (Refused refusal) is refuses = inr (ap Replies refuses)
 
--- a command that the reader does
-pub looked_up : (old new : LiveReaderValue) (asked : Command) (shown : Reply) → ((lines : ℕ) → asked ≢ words.Adopt lines) → ((tablet : ℕ) → asked ≢ words.Lose tablet) → asked ≢ words.Marks → asked ≢ words.Tablets
-    → LooksUp Stays old (command_value asked) new shown → ObeysScript old (command_value asked) new (Replies shown)
-looked_up old new (words.Adopt lines) shown adopts loses marks tablets looks = absurd (adopts lines refl)
-looked_up old new (words.Copy need tablet) shown adopts loses marks tablets looks = looks
-looked_up old new (words.Deliver deliveries) shown adopts loses marks tablets looks = looks
-looked_up old new (words.Get keys) shown adopts loses marks tablets looks = looks
-looked_up old new (words.Lose tablet) shown adopts loses marks tablets looks = absurd (loses tablet refl)
-looked_up old new words.Marks shown adopts loses marks tablets looks = absurd (marks refl)
-looked_up old new (words.Notices since) shown adopts loses marks tablets looks = looks
-looked_up old new (words.Read key version) shown adopts loses marks tablets looks = looks
-looked_up old new (words.Relayout bounds) shown adopts loses marks tablets looks = looks
-looked_up old new (words.Scan query) shown adopts loses marks tablets looks = looks
-looked_up old new words.Tablets shown adopts loses marks tablets looks = absurd (tablets refl)
+-- a command that was done by whom it is for
+pub done_as : (old : LiveReaderValue) (asked : command.CommandValue) (new : LiveReaderValue) (step : ControlStep) (found task : ScriptTask) → found ≡ task_of asked → found ≡ task → DoesTask task old asked new step
+    → ObeysScript old asked new step
+done_as old asked new step found task is same does = subst (λ (t : ScriptTask). DoesTask t old asked new step) (sym same ∙ is) does
 
 -- a line that says this command
 pub steps_said : (old new : LiveReaderValue) (line : List ℕ) (asked : ControlValue) (step : ControlStep) → control_at line ≡ Ok asked → ObeysControl old asked new step → StepsBy old line new step

@@ -8,3 +8,5 @@ pub mod Reasons
 pub mod Remarks
 pub mod Scripted
 pub mod Servers
+pub mod Unread
+pub mod UnreadClients

@@ -18,6 +18,7 @@ mod memory;
 mod messages;
 mod polled_input;
 mod progress;
+mod quarter_clock;
 mod reasons;
 mod scripted;
 mod seldom;
@@ -27,10 +28,13 @@ mod socket;
 mod socket_file;
 mod socket_mailbox;
 mod streams;
+mod unread;
 
 pub use acceptor::SocketAcceptor;
 pub use connection::IdleTimeout;
-pub use counters::{ConnectionCounters, Counters, CountingSource, InputCounters, StreamCounters};
+pub use counters::{
+    ConnectionCounters, Counters, CountingSource, InputCounters, StreamCounters, UnreadCounters,
+};
 pub use descriptors::{DescriptorUses, allowed_descriptors, count_descriptors};
 pub use input_buffer::{INPUT_CAPACITY, InputBuffer};
 pub use laws::{AnsweredInTurns, every_way_of_coming_and_going};

@@ -13,6 +13,7 @@ use Rattle.pn_protocol.specs.Command.Meaning.{CommandValue, adopt, command_value
 use Rattle.pn_protocol.specs.Command.Objects.{allowed_in}
 use Rattle.pn_protocol.specs.Command.RangeChecks.{fits}
 use Rattle.pn_protocol.specs.Command.ShapeChecks.{named_alone, number_alone}
+use Rattle.pn_protocol.specs.Command.Words.{members_of}
 use Rattle.pn_protocol.specs.declared.command.control.ControlCommand.{ControlCommand}
 use Rattle.pn_protocol.specs.declared.command.control.ControlCommand.TheVariants.{Script, Notices, Advance, Stats, Stop}
 use Rattle.pn_protocol.specs.declared.command.control.ControlWord.{ControlWord}
@@ -20,6 +21,7 @@ use Rattle.pn_protocol.specs.declared.command.control.ControlWord.TheVariants as
 use Rattle.pn_protocol.specs.declared.command.control.TheConstants.{STOP_SECONDS}
 use Rattle.pn_protocol.specs.declared.command.parse.AllowedCommands.TheVariants.{Controls}
 use Rattle.pn_protocol.specs.declared.command.ranges.TheConstants.{MAX_ADOPTED, MAX_SECONDS}
+use Rattle.pn_protocol.specs.declared.command.word.CommandWord.TheVariants.{Adopt}
 use Rattle.pn_protocol.specs.declared.refusal.Part.{Part}
 use Rattle.pn_protocol.specs.declared.refusal.Part.TheVariants.{Lines, Seconds, Since, Wait, Whole}
 use Rattle.pn_protocol.specs.declared.refusal.Refusal.{Refusal}
@@ -55,6 +57,14 @@ control_word_of text =
 abbrev pub control_word_in : Option Data → Option ControlWord
 control_word_in d = option_and_then control_word_of (option_and_then as_str d)
 
+-- the names of the members of such a command
+abbrev pub control_members : ControlWord → List (List ℕ)
+control_members word.Adopt = members_of Adopt
+control_members word.Advance = codes "do" ∷ []
+control_members word.Notices = codes "do" ∷ codes "since" ∷ codes "wait" ∷ []
+control_members word.Stats = codes "do" ∷ []
+control_members word.Stop = codes "do" ∷ codes "seconds" ∷ []
+
 -- an adoption announces at least one line, and not too many
 abbrev pub may_adopt : ℕ → Bool
 may_adopt lines = nat_le 1 lines && nat_le lines MAX_ADOPTED
@@ -74,15 +84,15 @@ seconds_at usual part None = Ok usual
 seconds_at usual part (Some d) = seconds_in usual part d
 
 -- a command whose one member is its word
-unfoldable pub alone_as : ControlValue → Members → Result ControlValue Refusal
-alone_as command members = do
-  named ← named_alone (codes "do" ∷ []) members
+unfoldable pub alone_as : ControlWord → ControlValue → Members → Result ControlValue Refusal
+alone_as said command members = do
+  named ← named_alone (control_members said) members
   Ok command
 
 -- the number of lines that an adoption announces
 unfoldable pub adoption_in : Members → Result ControlValue Refusal
 adoption_in members = do
-  lines ← number_alone (codes "lines") Lines members
+  lines ← number_alone (codes "lines") (control_members word.Adopt) Lines members
   fit ← fits Lines (may_adopt lines)
   Ok (script (adopt lines))
 
@@ -91,7 +101,7 @@ unfoldable pub waiting_in : Members → Result ControlValue Refusal
 waiting_in members = do
   since ← member_as whole_number (BadShape Since) (get_member (codes "since") members)
   wait ← seconds_at 0 Wait (get_member (codes "wait") members)
-  named ← named_alone (codes "do" ∷ codes "since" ∷ codes "wait" ∷ []) members
+  named ← named_alone (control_members word.Notices) members
   asked ← fits Since (may_be_asked since)
   fit ← fits Wait (are_seconds wait)
   Ok (notices since wait)
@@ -100,7 +110,7 @@ waiting_in members = do
 unfoldable pub stop_in : Members → Result ControlValue Refusal
 stop_in members = do
   seconds ← seconds_at STOP_SECONDS Seconds (get_member (codes "seconds") members)
-  named ← named_alone (codes "do" ∷ codes "seconds" ∷ []) members
+  named ← named_alone (control_members word.Stop) members
   fit ← fits Seconds (are_seconds seconds)
   Ok (stop seconds)
 
@@ -113,9 +123,9 @@ script_as d = do
 -- the command of a word, or else one of scripts
 abbrev pub control_as : Option ControlWord → Data → Members → Result ControlValue Refusal
 control_as (Some word.Adopt) d members = adoption_in members
-control_as (Some word.Advance) d members = alone_as advance members
+control_as (Some word.Advance) d members = alone_as word.Advance advance members
 control_as (Some word.Notices) d members = waiting_in members
-control_as (Some word.Stats) d members = alone_as stats members
+control_as (Some word.Stats) d members = alone_as word.Stats stats members
 control_as (Some word.Stop) d members = stop_in members
 control_as None d _ = script_as d
 

@@ -1,5 +1,5 @@
 -- The command that delivers batches, and the parts of a batch.
-use Rattle.std.specs.Prelude.{ℕ, [], ◌∷◌, codes, Option, option_and_then, unwrap_or, Result, Ok}
+use Rattle.std.specs.Prelude.{ℕ, codes, Option, option_and_then, unwrap_or, Result, Ok}
 use Rattle.std.specs.Option.{ok_or}
 use Rattle.serde_json.specs.Data.{Data, Items, no_items, Members}
 use Rattle.serde_json.specs.Find.{get_member, as_array, as_object}
@@ -9,6 +9,8 @@ use Rattle.pn_stream.specs.Positions.{DeliveryValue}
 use Rattle.pn_protocol.specs.Command.Meaning.{CommandValue, deliver}
 use Rattle.pn_protocol.specs.Command.RangeChecks.{batch_fits, batches_fit}
 use Rattle.pn_protocol.specs.Command.ShapeChecks.{named_alone, batch_shape}
+use Rattle.pn_protocol.specs.Command.Words.{members_of}
+use Rattle.pn_protocol.specs.declared.command.word.CommandWord.TheVariants.{Deliver}
 use Rattle.pn_protocol.specs.declared.refusal.Part.TheVariants.{Batches, Whole}
 use Rattle.pn_protocol.specs.declared.refusal.Refusal.{Refusal}
 use Rattle.pn_protocol.specs.declared.refusal.Refusal.TheVariants.{BadShape}
@@ -18,7 +20,7 @@ unfoldable pub deliver_in : Members → Result CommandValue Refusal
 deliver_in members = do
   items ← member_as as_array (BadShape Batches) (get_member (codes "batches") members)
   batches ← each_in batch_shape items
-  named ← named_alone (codes "batches" ∷ codes "do" ∷ []) members
+  named ← named_alone (members_of Deliver) members
   fit ← batches_fit batches
   Ok (deliver batches)
 

@@ -1,12 +1,12 @@
 -- The command that a JSON object is, by its word.
-use Rattle.std.specs.Prelude.{◌≡◌, ◌⊎◌, Bool, true, false, if◌then◌else◌, [], ◌∷◌, codes, Some, Result, Ok, Err, IsOk}
+use Rattle.std.specs.Prelude.{◌≡◌, ◌⊎◌, Bool, true, false, if◌then◌else◌, codes, Some, Result, Ok, Err, IsOk}
 use Rattle.std.specs.Option.{ok_or}
 use Rattle.serde_json.specs.Data.{Data, string, Members}
 use Rattle.serde_json.specs.Find.{get, get_member, as_object}
 use Rattle.pn_json.specs.Answers.{◌>>=◌}
 use Rattle.pn_json.specs.Members.{member_as}
 use Rattle.pn_protocol.specs.Command.Meaning.{CommandValue, marks, tablets}
-use Rattle.pn_protocol.specs.Command.Words.{users_of, word_in}
+use Rattle.pn_protocol.specs.Command.Words.{members_of, users_of, word_in}
 use Rattle.pn_protocol.specs.Command.ShapeChecks.{named_alone}
 use Rattle.pn_protocol.specs.Command.Tablets.{adopt_in, copy_in, lose_in, relayout_in}
 use Rattle.pn_protocol.specs.declared.command.parse.AllowedCommands.{AllowedCommands}
@@ -22,9 +22,9 @@ use Rattle.pn_protocol.specs.Command.Deliveries.{deliver_in}
 use Rattle.pn_protocol.specs.Command.Lookups.{get_in, notices_in, read_in, scan_in}
 
 -- a command whose one member is its word
-unfoldable pub alone_in : CommandValue → Members → Result CommandValue Refusal
-alone_in command members = do
-  named ← named_alone (codes "do" ∷ []) members
+unfoldable pub alone_in : CommandWord → CommandValue → Members → Result CommandValue Refusal
+alone_in word command members = do
+  named ← named_alone (members_of word) members
   Ok command
 
 -- the command of a word
@@ -34,12 +34,12 @@ command_as Copy members = copy_in members
 command_as Deliver members = deliver_in members
 command_as Get members = get_in members
 command_as Lose members = lose_in members
-command_as Marks members = alone_in marks members
+command_as Marks members = alone_in Marks marks members
 command_as Notices members = notices_in members
 command_as Read members = read_in members
 command_as Relayout members = relayout_in members
 command_as Scan members = scan_in members
-command_as Tablets members = alone_in tablets members
+command_as Tablets members = alone_in Tablets tablets members
 
 -- a command that these may say is allowed: scripts say all, control sessions what scripts do not have alone, sessions what is theirs
 abbrev pub may_say : AllowedCommands → CommandUsers → Bool

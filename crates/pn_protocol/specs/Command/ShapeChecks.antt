@@ -38,11 +38,11 @@ batch_shape d = do
 abbrev pub key_shape : Part → Data → Result (List ℕ) Refusal
 key_shape part d = ok_or (as_str d) (BadShape part)
 
--- the number of a command that has no other member than its word
-abbrev pub number_alone : List ℕ → Part → Members → Result ℕ Refusal
-number_alone name part members = do
+-- the number of a command whose members have these names
+abbrev pub number_alone : List ℕ → List (List ℕ) → Part → Members → Result ℕ Refusal
+number_alone name names part members = do
   value ← member_as whole_number (BadShape part) (get_member name members)
-  named ← named_alone (codes "do" ∷ name ∷ []) members
+  named ← named_alone names members
   Ok value
 
 -- the keys of a command whose members have these names

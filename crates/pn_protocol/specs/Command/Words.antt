@@ -1,5 +1,5 @@
 -- The words of commands.
-use Rattle.std.specs.Prelude.{ℕ, List, codes, if◌then◌else◌, Option, Some, None, option_and_then}
+use Rattle.std.specs.Prelude.{ℕ, List, [], ◌∷◌, codes, if◌then◌else◌, Option, Some, None, option_and_then}
 use Rattle.std.specs.Str.{bytes_eq}
 use Rattle.serde_json.specs.Data.{Data}
 use Rattle.serde_json.specs.Find.{as_str}
@@ -36,6 +36,20 @@ users_of Read = Sessions
 users_of Relayout = Scripts
 users_of Scan = Sessions
 users_of Tablets = Controls
+
+-- the names of the members of a command
+abbrev pub members_of : CommandWord → List (List ℕ)
+members_of Adopt = codes "do" ∷ codes "lines" ∷ []
+members_of Copy = codes "do" ∷ codes "need" ∷ codes "tablet" ∷ []
+members_of Deliver = codes "batches" ∷ codes "do" ∷ []
+members_of Get = codes "do" ∷ codes "keys" ∷ []
+members_of Lose = codes "do" ∷ codes "tablet" ∷ []
+members_of Marks = codes "do" ∷ []
+members_of Notices = codes "do" ∷ codes "since" ∷ []
+members_of Read = codes "do" ∷ codes "key" ∷ codes "version" ∷ []
+members_of Relayout = codes "bounds" ∷ codes "do" ∷ []
+members_of Scan = codes "do" ∷ codes "query" ∷ []
+members_of Tablets = codes "do" ∷ []
 
 -- the word that a value is
 abbrev pub word_in : Data → Option CommandWord

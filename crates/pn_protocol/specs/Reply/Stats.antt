@@ -4,6 +4,7 @@ use Rattle.std.specs.declared.alloc.Global.{Global}
 use Rattle.serde_json.specs.Data.{Data, null, number, string, array, object, unsigned, Members, no_members, member}
 use Rattle.serde_json.specs.View.{items_of}
 use Rattle.pn_protocol.specs.Reply.LineStats.{count, lines_data}
+use Rattle.pn_protocol.specs.Reply.UnreadStats.{unread_data}
 use Rattle.pn_protocol.specs.declared.reply.stats.ConnectionStats.{ConnectionStats}
 use Rattle.pn_protocol.specs.declared.reply.stats.Stats.{Stats}
 use Rattle.pn_protocol.specs.declared.reply.stats.StreamFaultStats.{StreamFaultStats}
@@ -76,5 +77,6 @@ stats_data stats =
     (count (codes "rounds") stats.rounds
     (member (codes "streams") (array (items_of (map stream_data stats.streams.items)))
     (member (codes "tablets") (array (items_of (map tablet_data stats.tablets.items)))
+    (member (codes "unread") (unread_data stats.unread)
     (count (codes "uptime") stats.uptime
-    (member (codes "version") (string stats.version.now) no_members))))))))
+    (member (codes "version") (string stats.version.now) no_members)))))))))

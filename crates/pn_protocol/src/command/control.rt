@@ -2,16 +2,20 @@
 
 ghost use Rattle.std.specs.Prelude.{◌≡◌, ◌<◌, ℕ, List, false, Ok, length, IfOk, IsErrOf, IsTrue};
 ghost use Rattle.serde_json.specs.View.{view, members_view};
-ghost use Rattle.pn_json.specs.Prelude.{Shows, ShowsUnless, seen};
+ghost use Rattle.pn_json.specs.Prelude.{Shows, ShowsUnless, seen, texts};
 ghost use Rattle.pn_record.specs.Prelude.{max_line_bytes};
 ghost use Rattle.pn_protocol.specs.Command.ControlGrammar.{IsControlLine};
-ghost use Rattle.pn_protocol.specs.Command.Controls.{ControlValue, adoption_in, alone_as, control_at, control_in, control_value, control_word_in, control_word_of as word_named, seconds_at, seconds_in, stop_in, waiting_in};
+ghost use Rattle.pn_protocol.specs.Command.Controls.{ControlValue, control_at, control_in, control_members, control_value};
+ghost use Rattle.pn_protocol.specs.Command.Controls.{control_word_in, control_word_of as word_named};
+ghost use Rattle.pn_protocol.specs.Command.Controls.{adoption_in, alone_as, seconds_at, seconds_in, stop_in, waiting_in};
 ghost use Rattle.pn_protocol.specs.Command.Lines.{is_too_long};
 ghost use Rattle.pn_protocol.specs.Command.Objects.{TakesMemory};
+ghost use Rattle.pn_protocol.specs.Command.ShapeChecks.{named_alone};
 
 use crate::command::members::{check_members, find_member, parse_number};
 use crate::command::parse::{AllowedCommands, parse_value};
 use crate::command::ranges::{check_adopted, check_seconds, check_since};
+use crate::command::word::CommandWord;
 use crate::{Command, Part, Refusal};
 use pn_json::whole_number_of;
 use pn_record::read_value;
@@ -59,6 +63,19 @@ impl ControlWord {
             _ => None,
         }
     }
+
+    // The names of the members of its command.
+    fn members(self) -> &'static [&'static str]
+        ensures { texts result.now ≡ control_members self }
+    {
+        match self {
+            ControlWord::Adopt => CommandWord::Adopt.row().members,
+            ControlWord::Advance => &["do"],
+            ControlWord::Notices => &["do", "since", "wait"],
+            ControlWord::Stats => &["do"],
+            ControlWord::Stop => &["do", "seconds"],
+        }
+    }
 }
 
 /// No line of a control session says two commands. A call does nothing.
@@ -97,9 +114,13 @@ fn parse_control(alloc: Global, value: Value) -> Result<ControlCommand, Refusal>
     let members = value.as_object().ok_or(Refusal::BadShape(Part::Whole))?;
     match control_word(find_member(members, "do")) {
         Some(ControlWord::Adopt) => parse_adoption(members),
-        Some(ControlWord::Advance) => parse_alone(members, ControlCommand::Advance),
+        Some(ControlWord::Advance) => parse_alone(
+            members,
+            ControlWord::Advance,
+            ControlCommand::Advance,
+        ),
         Some(ControlWord::Notices) => parse_waiting(members),
-        Some(ControlWord::Stats) => parse_alone(members, ControlCommand::Stats),
+        Some(ControlWord::Stats) => parse_alone(members, ControlWord::Stats, ControlCommand::Stats),
         Some(ControlWord::Stop) => parse_stop(members),
         None => Ok(ControlCommand::Script(parse_value(alloc, value, AllowedCommands::Controls)?)),
     }
@@ -114,16 +135,25 @@ fn control_word(value: Option<&Value>) -> Option<ControlWord>
     }
 }
 
+// Checks that each member is one of this word's command.
+fn check_control_members(members: &Map<String, Value>, word: ControlWord) -> Result<(), Refusal>
+    ensures exact { result ≡ named_alone (control_members word) (members_view members.now.entries) }
+    ensures memory { IsErrOf result Refusal.Memory → ⊥ }
+{
+    check_members(members, word.members())
+}
+
 // A command whose one member is its word.
 #[tactic(auto, unfolding(crate::specs::Command::Controls::alone_as))]
 fn parse_alone(
     members: &Map<String, Value>,
+    word: ControlWord,
     command: ControlCommand,
 ) -> Result<ControlCommand, Refusal>
-    ensures exact { Shows control_value result (alone_as (control_value command) (members_view members.now.entries)) }
+    ensures exact { Shows control_value result (alone_as word (control_value command) (members_view members.now.entries)) }
     ensures memory { IsErrOf result Refusal.Memory → ⊥ }
 {
-    check_members(members, &["do"])?;
+    check_control_members(members, word)?;
     Ok(command)
 }
 
@@ -133,7 +163,7 @@ fn parse_adoption(members: &Map<String, Value>) -> Result<ControlCommand, Refusa
     ensures exact { Shows control_value result (adoption_in (members_view members.now.entries)) }
     ensures memory { IsErrOf result Refusal.Memory → ⊥ }
 {
-    let lines = parse_number(members, "lines", Part::Lines)?;
+    let lines = parse_number(members, CommandWord::Adopt, "lines", Part::Lines)?;
     check_adopted(lines)?;
     Ok(ControlCommand::Script(Command::Adopt { lines }))
 }
@@ -148,7 +178,7 @@ fn parse_waiting(members: &Map<String, Value>) -> Result<ControlCommand, Refusal
         Refusal::BadShape(Part::Since),
     )?;
     let wait = seconds_of(find_member(members, "wait"), 0, Part::Wait)?;
-    check_members(members, &["do", "since", "wait"])?;
+    check_control_members(members, ControlWord::Notices)?;
     check_since(since)?;
     check_seconds(wait, Part::Wait)?;
     Ok(ControlCommand::Notices { since, wait })
@@ -160,7 +190,7 @@ fn parse_stop(members: &Map<String, Value>) -> Result<ControlCommand, Refusal>
     ensures memory { IsErrOf result Refusal.Memory → ⊥ }
 {
     let seconds = seconds_of(find_member(members, "seconds"), STOP_SECONDS, Part::Seconds)?;
-    check_members(members, &["do", "seconds"])?;
+    check_control_members(members, ControlWord::Stop)?;
     check_seconds(seconds, Part::Seconds)?;
     Ok(ControlCommand::Stop { seconds })
 }

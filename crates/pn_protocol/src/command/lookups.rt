@@ -8,9 +8,10 @@ ghost use Rattle.pn_protocol.specs.Command.Meaning.{command_value};
 ghost use Rattle.pn_protocol.specs.Command.Queries.{query_at, query_refusal, query_shape};
 
 use crate::command::build::build_keys;
-use crate::command::members::{check_members, find_member, parse_keys, parse_number};
+use crate::command::members::{check_members_of, find_member, parse_keys, parse_number};
 use crate::command::ranges::{check_key, check_keys, check_since, check_version};
 use crate::command::shapes::version_numbers;
+use crate::command::word::CommandWord;
 use crate::{Command, Part, Refusal};
 use pn_json::text_of;
 use pn_record::Key;
@@ -35,7 +36,7 @@ impl From<QueryFault> for Refusal {
 pub(crate) fn parse_get(alloc: Global, members: &Map<String, Value>) -> Result<Command, Refusal>
     ensures { ShowsUnless Refusal.Memory command_value result (get_in (members_view members.now.entries)) }
 {
-    let keys = parse_keys(alloc, members, "keys", &["do", "keys"], Part::Keys)?;
+    let keys = parse_keys(alloc, members, CommandWord::Get, "keys", Part::Keys)?;
     check_keys(&keys)?;
     Ok(Command::Get(build_keys(alloc, &keys)?))
 }
@@ -46,7 +47,7 @@ pub(crate) fn parse_notices(members: &Map<String, Value>) -> Result<Command, Ref
     ensures exact { Shows command_value result (notices_in (members_view members.now.entries)) }
     ensures memory { IsErrOf result Refusal.Memory → ⊥ }
 {
-    let since = parse_number(members, "since", Part::Since)?;
+    let since = parse_number(members, CommandWord::Notices, "since", Part::Since)?;
     check_since(since)?;
     Ok(Command::Notices { since })
 }
@@ -59,7 +60,7 @@ pub(crate) fn parse_read(alloc: Global, members: &Map<String, Value>) -> Result<
 {
     let text = text_of(find_member(members, "key"), Refusal::BadShape(Part::Key))?;
     let numbers = version_numbers(find_member(members, "version"))?;
-    check_members(members, &["do", "key", "version"])?;
+    check_members_of(members, CommandWord::Read)?;
     check_key(text, Part::Key)?;
     let version = check_version(numbers)?;
     let key = Key::of_fitting(alloc, text)?;
@@ -74,7 +75,7 @@ pub(crate) fn parse_scan(alloc: Global, members: &Map<String, Value>) -> Result<
 {
     let query = query_of(alloc, find_member(members, "query"));
     check_shape(&query)?;
-    check_members(members, &["do", "query"])?;
+    check_members_of(members, CommandWord::Scan)?;
     Ok(Command::Scan(query?))
 }
 

@@ -5,8 +5,10 @@ ghost use Rattle.serde_json.specs.Find.{get_member};
 ghost use Rattle.serde_json.specs.View.{members_view};
 ghost use Rattle.pn_json.specs.Prelude.{ShowsUnless, seen, texts};
 ghost use Rattle.pn_protocol.specs.Command.ShapeChecks.{keys_alone, named_alone, number_alone};
+ghost use Rattle.pn_protocol.specs.Command.Words.{members_of};
 
 use crate::command::shapes::key_texts;
+use crate::command::word::CommandWord;
 use crate::{Part, Refusal};
 use pn_json::{check_names, items_of, whole_number_of};
 use serde_json::{Map, Value};
@@ -27,32 +29,44 @@ pub(crate) fn check_members(members: &Map<String, Value>, names: &[&str]) -> Res
     check_names(members, names, Refusal::BadShape(Part::Other))
 }
 
-/// The number of a command whose one member beside its word has this name.
+/// Checks that each member is one of this command.
+pub(crate) fn check_members_of(
+    members: &Map<String, Value>,
+    word: CommandWord,
+) -> Result<(), Refusal>
+    ensures exact { result ≡ named_alone (members_of word) (members_view members.now.entries) }
+    ensures memory { IsErrOf result Refusal.Memory → ⊥ }
+{
+    check_members(members, word.row().members)
+}
+
+/// The number of a command that has no other member beside its word.
 pub(crate) fn parse_number(
     members: &Map<String, Value>,
+    word: CommandWord,
     name: &str,
     part: Part,
 ) -> Result<u64, Refusal>
-    ensures exact { result ≡ number_alone name.now part (members_view members.now.entries) }
+    ensures exact { result ≡ number_alone name.now (members_of word) part (members_view members.now.entries) }
     ensures memory { IsErrOf result Refusal.Memory → ⊥ }
 {
     let number = whole_number_of(find_member(members, name), Refusal::BadShape(part))?;
-    check_members(members, &["do", name])?;
+    check_members_of(members, word)?;
     Ok(number)
 }
 
-/// The texts of an array of keys, of a command whose members have these names.
+/// The texts of an array of keys, of a command that has no other member beside its word.
 pub(crate) fn parse_keys<'v>(
     alloc: Global,
     members: &'v Map<String, Value>,
+    word: CommandWord,
     name: &str,
-    names: &[&str],
     part: Part,
 ) -> Result<Vec<&'v str>, Refusal>
-    ensures { ShowsUnless Refusal.Memory (λ keys. texts keys.items) result (keys_alone name.now (texts names.now) part (members_view members.now.entries)) }
+    ensures { ShowsUnless Refusal.Memory (λ keys. texts keys.items) result (keys_alone name.now (members_of word) part (members_view members.now.entries)) }
 {
     let items = items_of(find_member(members, name), Refusal::BadShape(part))?;
     let keys = key_texts(alloc, items, part)?;
-    check_members(members, names)?;
+    check_members_of(members, word)?;
     Ok(keys)
 }

@@ -12,7 +12,7 @@ ghost use Rattle.pn_protocol.specs.Command.Objects.{alone_in, allowed_in, allowe
 
 use crate::command::build::{build_deliveries, items_at};
 use crate::command::lookups::{parse_get, parse_notices, parse_read, parse_scan};
-use crate::command::members::{check_members, find_member};
+use crate::command::members::{check_members_of, find_member};
 use crate::command::ranges::check_batches;
 use crate::command::shapes::{BatchShape, batches_of};
 use crate::command::tablets::{parse_adopt, parse_copy, parse_lose, parse_relayout};
@@ -103,12 +103,12 @@ pub(crate) fn parse_value(
         CommandWord::Deliver => parse_deliver(alloc, value),
         CommandWord::Get => parse_get(alloc, members),
         CommandWord::Lose => parse_lose(members),
-        CommandWord::Marks => parse_alone(members, Command::Marks),
+        CommandWord::Marks => parse_alone(members, CommandWord::Marks, Command::Marks),
         CommandWord::Notices => parse_notices(members),
         CommandWord::Read => parse_read(alloc, members),
         CommandWord::Relayout => parse_relayout(alloc, members),
         CommandWord::Scan => parse_scan(alloc, members),
-        CommandWord::Tablets => parse_alone(members, Command::Tablets),
+        CommandWord::Tablets => parse_alone(members, CommandWord::Tablets, Command::Tablets),
     }
 }
 
@@ -154,17 +154,21 @@ fn check_deliver(alloc: Global, value: &Value) -> Result<Vec<BatchShape<'_>>, Re
         Refusal::BadShape(Part::Batches),
     )?;
     let shapes = batches_of(alloc, items)?;
-    check_members(members, &["batches", "do"])?;
+    check_members_of(members, CommandWord::Deliver)?;
     check_batches(&shapes)?;
     Ok(shapes)
 }
 
 // A command whose one member is its word.
 #[tactic(auto, unfolding(crate::specs::Command::Objects::alone_in))]
-fn parse_alone(members: &Map<String, Value>, command: Command) -> Result<Command, Refusal>
-    ensures exact { Shows command_value result (alone_in (command_value command) (members_view members.now.entries)) }
+fn parse_alone(
+    members: &Map<String, Value>,
+    word: CommandWord,
+    command: Command,
+) -> Result<Command, Refusal>
+    ensures exact { Shows command_value result (alone_in word (command_value command) (members_view members.now.entries)) }
     ensures memory { IsErrOf result Refusal.Memory → ⊥ }
 {
-    check_members(members, &["do"])?;
+    check_members_of(members, word)?;
     Ok(command)
 }

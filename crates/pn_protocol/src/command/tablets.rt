@@ -8,8 +8,9 @@ ghost use Rattle.pn_protocol.specs.Command.Needs.{need_refusal, need_in, need_at
 ghost use Rattle.pn_protocol.specs.Command.Tablets.{adopt_in, copy_in, lose_in, relayout_in};
 
 use crate::command::build::build_keys;
-use crate::command::members::{check_members, find_member, parse_keys, parse_number};
+use crate::command::members::{check_members_of, find_member, parse_keys, parse_number};
 use crate::command::ranges::{check_bounds, check_lines};
+use crate::command::word::CommandWord;
 use crate::{Command, Part, Refusal};
 use pn_join::{Marks, Table};
 use pn_json::whole_number_of;
@@ -23,7 +24,7 @@ pub(crate) fn parse_adopt(members: &Map<String, Value>) -> Result<Command, Refus
     ensures exact { Shows command_value result (adopt_in (members_view members.now.entries)) }
     ensures memory { IsErrOf result Refusal.Memory → ⊥ }
 {
-    let lines = parse_number(members, "lines", Part::Lines)?;
+    let lines = parse_number(members, CommandWord::Adopt, "lines", Part::Lines)?;
     check_lines(lines)?;
     Ok(Command::Adopt { lines })
 }
@@ -34,7 +35,7 @@ pub(crate) fn parse_lose(members: &Map<String, Value>) -> Result<Command, Refusa
     ensures exact { Shows command_value result (lose_in (members_view members.now.entries)) }
     ensures memory { IsErrOf result Refusal.Memory → ⊥ }
 {
-    let tablet = parse_number(members, "tablet", Part::Tablet)?;
+    let tablet = parse_number(members, CommandWord::Lose, "tablet", Part::Tablet)?;
     Ok(Command::Lose { tablet })
 }
 
@@ -46,7 +47,13 @@ pub(crate) fn parse_relayout(
 ) -> Result<Command, Refusal>
     ensures { ShowsUnless Refusal.Memory command_value result (relayout_in (members_view members.now.entries)) }
 {
-    let bounds = parse_keys(alloc, members, "bounds", &["bounds", "do"], Part::Bounds)?;
+    let bounds = parse_keys(
+        alloc,
+        members,
+        CommandWord::Relayout,
+        "bounds",
+        Part::Bounds,
+    )?;
     check_bounds(&bounds)?;
     Ok(Command::Relayout(build_keys(alloc, &bounds)?))
 }
@@ -61,7 +68,7 @@ pub(crate) fn parse_copy(alloc: Global, members: &Map<String, Value>) -> Result<
     check_need(&need)?;
     let tablet = find_member(members, "tablet");
     let tablet = whole_number_of(tablet, Refusal::BadShape(Part::Tablet))?;
-    check_members(members, &["do", "need", "tablet"])?;
+    check_members_of(members, CommandWord::Copy)?;
     let need = need?;
     Ok(Command::Copy { need, tablet })
 }

@@ -1,9 +1,9 @@
 //! The words of commands.
 
-ghost use Rattle.std.specs.Prelude.{◌≡◌, Ok};
-ghost use Rattle.pn_json.specs.Prelude.{seen, member_as};
-ghost use Rattle.pn_protocol.specs.Command.Kinds.{kind_of_word};
-ghost use Rattle.pn_protocol.specs.Command.Words.{users_of, word_of as word_named, word_in};
+ghost use Rattle.std.specs.Prelude.{◌≡◌};
+ghost use Rattle.pn_json.specs.Prelude.{seen, member_as, texts};
+ghost use Rattle.pn_protocol.specs.Command.Kinds.{kind_of};
+ghost use Rattle.pn_protocol.specs.Command.Words.{members_of, users_of, word_of as word_named, word_in};
 ghost use Rattle.pn_protocol.specs.declared.refusal.Part.TheVariants.{Do};
 
 use crate::{LineKind, Part, Refusal};
@@ -61,36 +61,53 @@ pub(crate) enum CommandUsers {
 #[derive(Clone, Copy)]
 pub(crate) struct CommandRow {
     pub(crate) users: CommandUsers,
-    /// As what sessions count it.
+    /// As what sessions count it: by which kind of look its reply is found.
     pub(crate) kind: LineKind,
+    /// The names of its members.
+    pub(crate) members: &'static [&'static str],
 }
 
 impl CommandWord {
     /// The table of commands.
     pub(crate) fn row(self) -> CommandRow
         ensures users { result.users ≡ users_of self }
-        ensures kind { result.kind ≡ kind_of_word (Ok self) }
+        ensures kind { result.kind ≡ kind_of self }
+        ensures members { texts result.members.now ≡ members_of self }
     {
         match self {
-            CommandWord::Adopt => row(CommandUsers::Controls, LineKind::Other),
-            CommandWord::Copy => row(CommandUsers::Sessions, LineKind::Copy),
-            CommandWord::Deliver => row(CommandUsers::Scripts, LineKind::Other),
-            CommandWord::Get => row(CommandUsers::Sessions, LineKind::Get),
-            CommandWord::Lose => row(CommandUsers::Controls, LineKind::Other),
-            CommandWord::Marks => row(CommandUsers::Controls, LineKind::Other),
-            CommandWord::Notices => row(CommandUsers::Controls, LineKind::Other),
-            CommandWord::Read => row(CommandUsers::Sessions, LineKind::Read),
-            CommandWord::Relayout => row(CommandUsers::Scripts, LineKind::Other),
-            CommandWord::Scan => row(CommandUsers::Sessions, LineKind::Scan),
-            CommandWord::Tablets => row(CommandUsers::Controls, LineKind::Other),
+            CommandWord::Adopt => row(CommandUsers::Controls, LineKind::Other, &["do", "lines"]),
+            CommandWord::Copy => row(
+                CommandUsers::Sessions,
+                LineKind::Copy,
+                &["do", "need", "tablet"],
+            ),
+            CommandWord::Deliver => row(CommandUsers::Scripts, LineKind::Other, &["batches", "do"]),
+            CommandWord::Get => row(CommandUsers::Sessions, LineKind::Get, &["do", "keys"]),
+            CommandWord::Lose => row(CommandUsers::Controls, LineKind::Other, &["do", "tablet"]),
+            CommandWord::Marks => row(CommandUsers::Controls, LineKind::Other, &["do"]),
+            CommandWord::Notices => row(CommandUsers::Controls, LineKind::Other, &["do", "since"]),
+            CommandWord::Read => row(
+                CommandUsers::Sessions,
+                LineKind::Read,
+                &["do", "key", "version"],
+            ),
+            CommandWord::Relayout => row(CommandUsers::Scripts, LineKind::Other, &["bounds", "do"]),
+            CommandWord::Scan => row(CommandUsers::Sessions, LineKind::Scan, &["do", "query"]),
+            CommandWord::Tablets => row(CommandUsers::Controls, LineKind::Other, &["do"]),
         }
     }
 }
 
-fn row(users: CommandUsers, kind: LineKind) -> CommandRow
-    ensures { result ≡ record { users = users; kind = kind } }
+fn row(users: CommandUsers, kind: LineKind, members: &'static [&'static str]) -> CommandRow
+    ensures users { result.users ≡ users }
+    ensures kind { result.kind ≡ kind }
+    ensures members { result.members.now ≡ members.now }
 {
-    CommandRow { users, kind }
+    CommandRow {
+        users,
+        kind,
+        members,
+    }
 }
 
 /// Reads the value of `do`.

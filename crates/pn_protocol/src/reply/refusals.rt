@@ -11,7 +11,8 @@ ghost use Rattle.pn_tablet.specs.declared.fault.CopyFault.TheVariants.{Memory as
 ghost use Rattle.pn_tablet.specs.declared.fault.CopyTextFault.TheVariants.{Memory as no_memory_to_read};
 ghost use Rattle.pn_tablet.specs.declared.fault.OpFault.TheVariants.{Memory as no_memory_to_adopt};
 ghost use Rattle.pn_protocol.specs.Reply.Errors.{error_data, with_number};
-ghost use Rattle.pn_protocol.specs.Reply.Faults.{at_line, short_data, too_old_data, round_fault_data, lookup_fault_data, copy_fault_data, copy_text_fault_data, adopt_fault_data, relayout_fault_data, advance_fault_data};
+ghost use Rattle.pn_protocol.specs.Reply.Faults.{at_line, short_data, too_old_data, round_fault_data, lookup_fault_data};
+ghost use Rattle.pn_protocol.specs.Reply.Faults.{copy_fault_data, copy_text_fault_data, adopt_fault_data, relayout_fault_data, advance_fault_data};
 ghost use Rattle.pn_protocol.specs.Reply.Refusals.{Refuses, RefusesWith, SaysWhy};
 
 use crate::reply::errors::{Detail, error_reply};

@@ -3,7 +3,8 @@
 ghost use Rattle.std.specs.Prelude.{◌≡◌, ◌==◌, ◌&&◌, ◌+◌, ◌<◌, ◌≤◌, ◌↔◌, ◌^◌, [], false, length, nat_lt, IsTrue, Some};
 ghost use Rattle.std.specs.Option.{option_copied};
 ghost use Rattle.pn_json.specs.Prelude.{AppendsText, MakesPiece};
-ghost use Rattle.pn_protocol.specs.Reply.Making.{HasContent, IsCursorOf, MakesRecord, before_text, end_of, found_in, next_cursor, cursor_rest, row_end, rows_text};
+ghost use Rattle.pn_protocol.specs.Reply.Making.{HasContent, IsCursorOf, MakesRecord};
+ghost use Rattle.pn_protocol.specs.Reply.Making.{before_text, end_of, found_in, next_cursor, cursor_rest, row_end, rows_text};
 ghost use Rattle.pn_protocol.specs.declared.reply.rows_text.RowsCursor.TheVariants.{End, Record};
 ghost use Rattle.pn_protocol.specs.declared.reply.text.TheConstants.{MAX_PIECE_BYTES};
 
@@ -62,6 +63,11 @@ impl RowsText {
         ensures { IsTrue result ↔ (self.now ≡ []) }
     {
         is_end(self.cursor)
+    }
+
+    /// What the records weigh, as far as that has 64 bits.
+    pub(crate) fn weight(&self) -> u64 {
+        self.shown.weight()
     }
 
     /// Makes a piece after what a buffer holds that has room for it.

@@ -6,6 +6,7 @@ ghost use Rattle.pn_protocol.specs.Reply.Stats.{connections_data, fault_line, fa
 
 use crate::reply::line_stats::LineStats;
 use crate::reply::shown::{Shown, shown_line, write_array};
+use crate::reply::unread_stats::UnreadStats;
 use json::Writer;
 use pn_join::{NoMemory, StreamName};
 use pn_json::{write_null_member, write_number_member, write_text_member};
@@ -22,6 +23,7 @@ pub struct Stats {
     pub streams: Vec<StreamStats>,
     /// The tablets, in their order.
     pub tablets: Vec<TabletStats>,
+    pub unread: UnreadStats,
     /// For how many seconds the server runs.
     pub uptime: u64,
     pub version: &'static str,
@@ -116,6 +118,8 @@ impl Shown for Stats {
         write_array(writer, &self.streams)?;
         writer.key("tablets")?;
         write_array(writer, &self.tablets)?;
+        writer.key("unread")?;
+        self.unread.write(writer)?;
         write_number_member(writer, "uptime", self.uptime)?;
         write_text_member(writer, "version", self.version)?;
         writer.end_object()?;

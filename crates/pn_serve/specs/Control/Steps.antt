@@ -28,6 +28,8 @@ use Rattle.pn_serve.specs.declared.control.commands.WriterCommand.{WriterCommand
 use Rattle.pn_serve.specs.declared.control.commands.WriterCommand.TheVariants as commands
 use Rattle.pn_serve.specs.declared.control.steps.ControlStep.{ControlStep}
 use Rattle.pn_serve.specs.declared.control.steps.ControlStep.TheVariants.{Replies, Announces, Stops, Ends}
+use Rattle.pn_serve.specs.declared.control.steps.ScriptTask.{ScriptTask}
+use Rattle.pn_serve.specs.declared.control.steps.ScriptTask.TheVariants as task
 
 -- the line came to a reply of which this holds
 abbrev pub RepliesWith : (Reply → Type 0) → ControlStep → Type 0
@@ -60,13 +62,29 @@ abbrev pub AdoptsText : Option (List ℕ) → ControlStep → Type 0
 AdoptsText None step = step ≡ Replies (Refused Memory)
 AdoptsText (Some came) step = AdoptsRead (copy_at came) step ⊎ (step ≡ Replies (Refused Memory))
 
--- a command of scripts was done by the reader, or by the writer; or it announces lines
+-- who does a command of scripts that a control session gives
+abbrev pub task_of : command.CommandValue → ScriptTask
+task_of (command.adopt lines) = task.Announces lines
+task_of (command.copy need tablet) = task.LooksUp
+task_of (command.deliver deliveries) = task.LooksUp
+task_of (command.get keys) = task.LooksUp
+task_of (command.lose tablet) = task.Asks (commands.Lose tablet)
+task_of command.marks = task.Asks commands.Marks
+task_of (command.notices since) = task.LooksUp
+task_of (command.read key version) = task.LooksUp
+task_of (command.relayout bounds) = task.LooksUp
+task_of (command.scan query) = task.LooksUp
+task_of command.tablets = task.Asks commands.Tablets
+
+-- a command was done by the reader, or by the writer; or it announces lines
+abbrev pub DoesTask : ScriptTask → LiveReaderValue → command.CommandValue → LiveReaderValue → ControlStep → Type 0
+DoesTask (task.Announces lines) old asked new step = (new ≡ old) × (step ≡ Announces lines)
+DoesTask (task.Asks told) old asked new step = (new ≡ old) × Asks told step
+DoesTask task.LooksUp old asked new step = RepliesWith (λ shown. LooksUp Stays old asked new shown) step
+
+-- a command of scripts was done by whom it is for
 abbrev pub ObeysScript : LiveReaderValue → command.CommandValue → LiveReaderValue → ControlStep → Type 0
-ObeysScript old (command.adopt lines) new step = (new ≡ old) × (step ≡ Announces lines)
-ObeysScript old (command.lose tablet) new step = (new ≡ old) × Asks (commands.Lose tablet) step
-ObeysScript old command.marks new step = (new ≡ old) × Asks commands.Marks step
-ObeysScript old command.tablets new step = (new ≡ old) × Asks commands.Tablets step
-ObeysScript old asked new step = RepliesWith (λ shown. LooksUp Stays old asked new shown) step
+ObeysScript old asked new step = DoesTask (task_of asked) old asked new step
 
 -- the reply shows what some server with these counts of its tablets has done so far, or that memory ran out
 abbrev pub ShowsStats : Vec TabletStats Global → Reply → Type 0

@@ -1,8 +1,9 @@
 //! What a line of a control session comes to: its reader looks up, and the writer is asked for the rest.
 
-ghost use Rattle.std.specs.Prelude.{Ok};
+ghost use Rattle.std.specs.Prelude.{◌≡◌, Ok};
 ghost use Rattle.pn_protocol.specs.Prelude.{command_value, control_value};
-ghost use Rattle.pn_serve.specs.Control.Steps.{AdoptsText, Asks, ObeysControl, ObeysScript, RepliesWith, Reports, ShowsCounts, StepsBy, StepsLast};
+ghost use Rattle.pn_serve.specs.Control.Steps.{AdoptsText, Asks, ObeysControl, ObeysScript, task_of as task_for};
+ghost use Rattle.pn_serve.specs.Control.Steps.{RepliesWith, Reports, ShowsCounts, StepsBy, StepsLast};
 ghost use Rattle.pn_serve.specs.Machine.Modes.{bytes_of};
 
 use crate::control::commands::{WriterAnswer, WriterCommand};
@@ -31,6 +32,36 @@ pub(crate) enum ControlStep {
     Stops(u64),
     /// Nothing: the writer takes no command any more.
     Ends,
+}
+
+/// Who does a command of scripts that a control session gives.
+#[derive(Drop)]
+enum ScriptTask {
+    /// Nobody yet: this many lines are to come.
+    Announces(u64),
+    /// The writer.
+    Asks(WriterCommand),
+    /// The reader of the session, which refuses what sessions do not have.
+    LooksUp,
+}
+
+// Who does a command.
+fn task_of(command: &Command) -> ScriptTask
+    ensures { result ≡ task_for (command_value command.now) }
+{
+    match command {
+        Command::Adopt { lines } => ScriptTask::Announces(*lines),
+        Command::Lose { tablet } => ScriptTask::Asks(WriterCommand::Lose { tablet: *tablet }),
+        Command::Marks => ScriptTask::Asks(WriterCommand::Marks),
+        Command::Tablets => ScriptTask::Asks(WriterCommand::Tablets),
+        Command::Copy { .. }
+        | Command::Deliver(_)
+        | Command::Get(_)
+        | Command::Notices { .. }
+        | Command::Read { .. }
+        | Command::Relayout(_)
+        | Command::Scan(_) => ScriptTask::LooksUp,
+    }
 }
 
 impl<C: StatsSource + Drop> ControlSession<C> {
@@ -105,7 +136,7 @@ impl<C: StatsSource + Drop> ControlSession<C> {
         }
     }
 
-    // Does a command of scripts.
+    // Does a command of scripts, or has it done.
     fn obey_script<R: Wait>(
         &self,
         rt: &R,
@@ -115,12 +146,10 @@ impl<C: StatsSource + Drop> ControlSession<C> {
     ) -> ControlStep
         ensures { ObeysScript reader.old (command_value command) reader.new result }
     {
-        match command {
-            Command::Adopt { lines } => ControlStep::Announces(lines),
-            Command::Lose { tablet } => self.ask(rt, alloc, WriterCommand::Lose { tablet }),
-            Command::Marks => self.ask(rt, alloc, WriterCommand::Marks),
-            Command::Tablets => self.ask(rt, alloc, WriterCommand::Tablets),
-            command => ControlStep::Replies(look_up(alloc, reader, command)),
+        match task_of(&command) {
+            ScriptTask::Announces(lines) => ControlStep::Announces(lines),
+            ScriptTask::Asks(asked) => self.ask(rt, alloc, asked),
+            ScriptTask::LooksUp => ControlStep::Replies(look_up(alloc, reader, command)),
         }
     }
 

@@ -7,7 +7,7 @@ use pn_lines::LineBuffers;
 use pn_live::{LiveReader, LiveRegion};
 use pn_protocol::{
     ConnectionStats, LineCounts, LineKinds, LineStats, Stats, StreamFaultStats, StreamState,
-    StreamStats, TabletStats,
+    StreamStats, TabletStats, UnreadStats,
 };
 use pn_serve::{
     ControlMailboxes, ControlSession, StatsSource, Stream, close_region, open_region, take_commands,
@@ -40,6 +40,7 @@ impl StatsSource for SomeStats {
             rounds: 8,
             streams,
             tablets,
+            unread: unread(),
             uptime: 9,
             version: "0",
         })
@@ -56,6 +57,14 @@ fn connections() -> ConnectionStats {
         idle: 3,
         open: 4,
         refused: 5,
+    }
+}
+
+fn unread() -> UnreadStats {
+    UnreadStats {
+        bytes: 20,
+        ended: 21,
+        limit: 22,
     }
 }
 

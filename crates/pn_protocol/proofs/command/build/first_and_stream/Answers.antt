@@ -1,6 +1,6 @@
 -- What is found in a value that is no object is nothing, and in an object what its members have.
 use Rattle.std.proofs.Common.{◌≡◌, Some, None, codes, sym, ap, ◌∙◌, rules}
-use Rattle.serde_json.specs.Find.{get, as_object}
+use Rattle.serde_json.specs.Find.{as_object}
 use Rattle.serde_json.specs.View.{view, members_view}
 use Rattle.pn_json.specs.Members.{text_at}
 use Rattle.pn_protocol.specs.Command.Deliveries.{number_at}

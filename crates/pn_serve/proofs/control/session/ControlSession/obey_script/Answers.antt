@@ -1,6 +1,13 @@
--- A command that the reader does.
-use Rattle.pn_serve.proofs.ControlSteps.{looked_up}
+-- A command was done by whom it is for.
+use Rattle.std.proofs.Common.{refl}
+use Rattle.pn_serve.proofs.ControlSteps.{done_as}
 use Rattle.pn_serve.proofs.control.session.ControlSession.obey_script.Goals as goal
 
-pub returns-in_default : goal.returns-in_default
-returns-in_default g c = looked_up _ _ c.args.command _ c.in_default.not-Adopt c.in_default.not-Lose c.in_default.not-Marks c.in_default.not-Tablets c.look_up.ensures.looks_up
+pub returns-in-Announces : goal.returns-in-Announces
+returns-in-Announces g c = done_as _ _ _ _ c.task_of.result _ c.task_of.ensures c.in-Announces.is (refl, refl)
+
+pub returns-in-Asks : goal.returns-in-Asks
+returns-in-Asks g c = done_as _ _ _ _ c.task_of.result _ c.task_of.ensures c.in-Asks.is (refl, c.ask.ensures)
+
+pub returns-in-LooksUp : goal.returns-in-LooksUp
+returns-in-LooksUp g c = done_as _ _ _ _ c.task_of.result _ c.task_of.ensures c.in-LooksUp.is c.look_up.ensures.looks_up
