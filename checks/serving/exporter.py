@@ -66,7 +66,8 @@ def check_metrics(program: str, folder: str) -> None:
             wanted = {"pnuts_up": 1, "pnuts_connections_open": 1, "pnuts_connections_accepted_total": 1, "pnuts_lines_answered_total": 2,
                       "pnuts_lines_refused_total": 1, "pnuts_rounds_total": stats["rounds"], 'pnuts_stream_messages_total{stream="east"}': 250,
                       'pnuts_stream_bytes_total{stream="east"}': stream["bytes"], 'pnuts_stream_state{state="failed",stream="east"}': 0,
-                      'pnuts_info{version="%s"}' % stats["version"]: 1, 'pnuts_tablet_recovering{tablet="2"}': 0}
+                      'pnuts_info{version="%s"}' % stats["version"]: 1, "pnuts_unread_limit_bytes": 64_000_000, "pnuts_unread_ended_total": 0,
+                      'pnuts_tablet_recovering{tablet="2"}': 0}
             for kind, it in stats["lines"].get("kinds", {}).items():
                 wanted |= {f'pnuts_kind_lines_{name}_total{{kind="{kind}"}}': count for name, count in it.items()}
             for number, it in enumerate(stats.get("tablets", [])):

@@ -10,13 +10,14 @@ from common.served import SECONDS, Client, Json, row_of, same, written
 from serving.controlled import Session
 from serving.staying import KEYS, PAGE, Staying, messages, until
 from serving.staying_clients import deaf_client
-from serving.staying_slow import has_ended
 
 COPY = b'{"do":"copy","need":{},"tablet":0}\n'
-# The text of a record, of which 100 make a page that is more than its connection keeps.
+# The text of a record, of which 100 make a page.
 TEXT = "x" * 4_000
 # What one page of them weighs at least, and at most.
 LEAST, MOST = KEYS * 4_000, KEYS * 6_000
+# So many of these pages have more bytes than systems keep for a client that takes none.
+PAGES = 40
 # The limit of the option, and words that are refused.
 MOST_BYTES, NO_BYTES = 4_000_000_000, ("0", "-1", "4000000001", "1e6", "64M", "")
 # After how many seconds a client is ended that takes nothing, at least, and at most on a busy machine.
@@ -26,7 +27,7 @@ PAUSE, TAKING, PART = 0.2, 6.0, 1 << 17
 
 
 def rows(folder: str) -> list[tuple[str, str]]:
-    """A stream of 100 records, whose page has more bytes than systems keep for a client that takes none."""
+    """A stream of 100 records, each of which is written twice."""
     return [("east", written(folder, "east", b"".join(messages(1 + KEYS * at, KEYS, TEXT) for at in range(2))))]
 
 
@@ -46,13 +47,22 @@ def unread(session: Session) -> Json:
 
 
 @contextlib.contextmanager
-def deaf(port: int, line: bytes = PAGE, times: int = 40) -> Iterator[socket.socket]:
+def deaf(port: int, line: bytes = PAGE, times: int = PAGES) -> Iterator[socket.socket]:
     """A client that asks again and again, and takes nothing until it is asked to."""
     with deaf_client(port) as client:
         client.setblocking(True)
         client.settimeout(SECONDS)
         client.sendall(line * times)
         yield client
+
+
+def taken(client: socket.socket) -> bytes:
+    """All that a client is sent, up to the end of its connection."""
+    parts = list[bytes]()
+    with contextlib.suppress(ConnectionError):
+        while part := client.recv(PART):
+            parts.append(part)
+    return b"".join(parts)
 
 
 def check_weight(program: str, folder: str) -> None:
@@ -65,10 +75,10 @@ def check_weight(program: str, folder: str) -> None:
                 found = unread(session)["bytes"]
                 same(f"{found:,} bytes are what 100 rows have", LEAST <= found <= MOST, True)
             until("nothing is counted of a client that has gone", lambda: unread(session)["bytes"] == 0)
-        with deaf(region.port, PAGE, 4) as client:
+        with deaf(region.port) as client:
             until("it is counted again", lambda: unread(session)["bytes"] > 0)
             with client.makefile("rb") as replies:
-                same("lines that a late taker gets", sum(1 for _, _ in zip(range(4), replies)), 4)
+                same("lines that a late taker gets", sum(1 for _, _ in zip(range(PAGES), replies)), PAGES)
             until("nothing is counted of what was taken", lambda: unread(session)["bytes"] == 0)
         same("nobody was ended", unread(session)["ended"], 0)
 
@@ -81,16 +91,15 @@ def check_limit(program: str, folder: str) -> None:
     for limit, ends in ((weight, 0), (weight - 1, 1)):
         own = os.path.join(folder, str(limit))
         os.mkdir(own)
-        with region_with(program, own, "--unread", str(limit)) as (region, session), deaf(region.port) as client:
+        with region_with(program, own, "--unread", str(limit)) as (region, session), deaf(region.port):
             start = time.monotonic()
-            until("it is counted", lambda: unread(session)["bytes"] > 0 or has_ended(client))
+            until("it is counted", lambda: unread(session)["bytes"] > 0)
             if ends:
-                until("it is ended", lambda: has_ended(client), LATER)
+                until("it is ended", lambda: unread(session)["ended"] > 0, LATER)
                 same("no sooner than a second", time.monotonic() - start >= QUIET, True)
             else:
                 time.sleep(4 * QUIET)
-            same("whether it is ended", has_ended(client), bool(ends))
-            until("the ended ones are counted", lambda: unread(session) == {"bytes": 0 if ends else weight, "ended": ends, "limit": limit})
+            same("what is counted", unread(session), {"bytes": 0 if ends else weight, "ended": ends, "limit": limit})
 
 
 def check_takers(program: str, folder: str) -> None:
@@ -107,9 +116,9 @@ def check_takers(program: str, folder: str) -> None:
                 same("a taker is sent something", len(client.recv(PART)) > 0, True)
             same("an honest one is answered", honest.read("k001")["row"]["key"], "k001")
             time.sleep(PAUSE)
-        for client in quiet:
-            same("one that takes nothing is ended", has_ended(client), True)
         same("how many were ended", unread(session)["ended"], len(quiet))
+        for client in quiet:
+            same("one that took nothing is sent no more than its system held", len(taken(client)) < PAGES * LEAST, True)
         same("the silent one is answered", silent.read("k001")["row"]["key"], "k001")
 
 
@@ -117,9 +126,9 @@ def check_half_minute(program: str, folder: str) -> None:
     """A client that takes nothing for half a minute is ended, far below the limit; one that is silent is not."""
     with region_with(program, folder) as (region, session), deaf(region.port) as client, Client(region.port) as silent:
         start = time.monotonic()
-        until("it is ended", lambda: has_ended(client), DEAF + LATER)
+        until("it is ended", lambda: unread(session)["ended"] == 1, DEAF + LATER)
         same("no sooner than half a minute", time.monotonic() - start >= DEAF - QUIET, True)
-        until("it is counted", lambda: unread(session)["ended"] == 1)
+        same("what it was sent", len(taken(client)) < PAGES * LEAST, True)
         same("the silent one is answered", silent.read("k001")["row"]["key"], "k001")
 
 

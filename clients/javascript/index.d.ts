@@ -153,6 +153,8 @@ export interface Stats {
   readonly streams: readonly StreamStats[];
   /** What each tablet holds, where the region says it: records, and how many of them are deletions. */
   readonly tablets?: readonly { readonly deleted: number; readonly records: number }[];
+  /** Bytes of the records that unread replies keep, their limit, and how many clients were ended for it, where the region says it. */
+  readonly unread?: { readonly bytes: number; readonly ended: number; readonly limit: number };
 }
 
 /** The control socket of a region, as unix:/run/pnuts/control. It reads records, too. */

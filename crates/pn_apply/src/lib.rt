@@ -5,7 +5,6 @@
 #![tactic(auto)]
 
 mod apply;
-mod batch;
 mod cut;
 mod gate;
 pub mod laws;
@@ -15,8 +14,7 @@ mod slot;
 mod working;
 
 pub use apply::apply_all;
-pub use batch::Batch;
 pub use gate::{Gate, Open};
-pub use reducing::{MAX_WORKERS, reduce};
-pub use share::{Share, shares_of};
+pub use reducing::{MAX_WORKERS, reduce, reduce_owned};
+pub use share::copy_deliveries;
 pub use slot::Slot;

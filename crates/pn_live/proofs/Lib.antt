@@ -24,6 +24,7 @@ pub mod Events
 pub mod TabletReaderLaws
 pub mod HonestLists
 pub mod Joining
+pub mod Drafting
 pub mod Crossing
 pub mod StartFaults
 pub mod Starting

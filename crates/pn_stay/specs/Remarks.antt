@@ -1,5 +1,6 @@
 -- What a writer says of its stream, and which writers of a stream are taken.
-use Rattle.std.specs.Prelude.{ℕ, nat_lt, Bool, true, ◌&&◌, ◌==◌, not, if◌then◌else◌, List, [], ◌∷◌, length, codes, Option, Some, None, Result, Ok, Err}
+use Rattle.std.specs.Prelude.{ℕ, nat_eq, nat_lt, Bool, true, ◌&&◌, not, if◌then◌else◌, List, [], ◌∷◌, length, codes, Option, Some, None, Result, Ok, Err}
+use Rattle.std.specs.List.{starts_with}
 use Rattle.std.specs.Option.{ok_or}
 use Rattle.std.specs.Str.{bytes_eq}
 use Rattle.serde_json.specs.Data.{Data, object, string, no_members, member}
@@ -23,9 +24,11 @@ newest_words = codes "{\"newest\":"
 
 -- the bytes begin with the first ones, or are the beginning of them
 abbrev pub agrees : List ℕ → List ℕ → Bool
-agrees [] bytes = true
-agrees (byte ∷ first) [] = true
-agrees (byte ∷ first) (b ∷ bytes) = byte == b && agrees first bytes
+agrees first bytes = if nat_lt (length bytes) (length first) then starts_with nat_eq first bytes else starts_with nat_eq bytes first
+
+-- the value of a line that begins with the first bytes
+unfoldable pub remark_at : List ℕ → List ℕ → Result Data RemarkFault
+remark_at first line = if agrees first line then fault_as (λ fault. Other) (value_at line) else Err Other
 
 -- the bytes may be the beginning of a line that begins with the first ones
 abbrev pub may_go_on : List ℕ → List ℕ → Bool
@@ -45,7 +48,7 @@ stream_in d = do
 
 -- whose stream a line says it is
 unfoldable pub stream_at : List ℕ → Result (List ℕ) RemarkFault
-stream_at line = if agrees stream_words line then fault_as (λ fault. Other) (value_at line) >>= stream_in else Err Other
+stream_at line = remark_at stream_words line >>= stream_in
 
 -- the newest position that a value says
 unfoldable pub newest_in : Data → Result ℕ RemarkFault
@@ -57,7 +60,7 @@ newest_in d = do
 
 -- the newest position that a line says
 unfoldable pub newest_at : List ℕ → Result ℕ RemarkFault
-newest_at line = if agrees newest_words line then fault_as (λ fault. Other) (value_at line) >>= newest_in else Err Other
+newest_at line = remark_at newest_words line >>= newest_in
 
 -- that the region has another stream than its writer's
 abbrev pub other_stream_data : List ℕ → List ℕ → Data

@@ -32,7 +32,9 @@ mod unread;
 
 pub use acceptor::SocketAcceptor;
 pub use connection::IdleTimeout;
-pub use counters::{ConnectionCounters, Counters, CountingSource, InputCounters, StreamCounters};
+pub use counters::{
+    ConnectionCounters, Counters, CountingSource, InputCounters, StreamCounters, UnreadCounters,
+};
 pub use descriptors::{DescriptorUses, allowed_descriptors, count_descriptors};
 pub use input_buffer::{INPUT_CAPACITY, InputBuffer};
 pub use laws::{AnsweredInTurns, every_way_of_coming_and_going};
@@ -42,8 +44,8 @@ pub use messages::{MAX_WAITING, MessagePrinter, Messages, Shortages, WaitingLine
 pub use progress::{message_prefix, tell_progress};
 pub use reasons::{describe_error, format_after, format_failure, format_refusal, format_taken};
 pub use scripted::{ScriptedSink, ScriptedSource};
+pub use server::StayingServer;
 pub use server::starting::ServerSizes;
-pub use server::{ServerEnd, StayingServer};
 pub use shared::share;
 pub use socket_file::{ListenFault, OWNER_ALONE, SocketFile, format_lock, remove_sockets};
 pub use streams::broker::BrokerListener;

@@ -7,6 +7,7 @@ use Rattle.std.proofs.lemmas.Grind.{flat_map-append}
 use Rattle.std.proofs.lemmas.List.{drop_all, length-map, take_all, take-append-drop}
 use Rattle.std.proofs.lemmas.List.Elements.{All-nil, All-cons}
 use Rattle.std.proofs.lemmas.List.Folds.{list_any-append}
+use Rattle.std.proofs.lemmas.List.Sums.{sum_by-cons}
 use Rattle.serde_json.specs.Written.{compact_text}
 use Rattle.pn_line.specs.Reads.{IsUnbroken}
 use Rattle.pn_line.specs.Text.{lines_of}
@@ -100,6 +101,10 @@ cell_numbered entry =
     or_none true = refl
     or_none false = refl
 
+-- a weight more, and what is left
+weighed_on : (was more left now all : ℕ) → now ≡ min (was + more) (2 ^ 64 - 1) → min (was + (more + left)) (2 ^ 64 - 1) ≡ all → min (now + left) (2 ^ 64 - 1) ≡ all
+weighed_on was more left now all is whole = omega (arith, is, whole)
+
 pub counted_more : (cells rest : Entries) (entry : List ℕ × CellValue) (was now : LineCount) → IsCountedIn cells was → drop was.records cells ≡ entry ∷ rest → now.records ≡ was.records + 1
     → now.images ≡ was.images + length (keys entry.1.1) → now.form ≡ cond (list_any holds_number (keys entry.1.1)) Numbers was.form
     → now.weight ≡ min (was.weight + record_weight entry) (2 ^ 64 - 1) → IsCountedIn cells now
@@ -111,8 +116,9 @@ counted_more cells rest entry was now counted left records images form weight =
       within = omega (arith, more.0, records);
       weight_is =
           let left_now : drop now.records cells ≡ rest = ap (λ (k : ℕ). drop k cells) records ∙ sym more.1 in
-          let first : sum_by record_weight (entry ∷ rest) ≡ record_weight entry + sum_by record_weight rest = refl in
-          omega (arith, weight, counted.weight_is, first, ap (λ (l : Entries). sum_by record_weight l) left, ap (λ (l : Entries). sum_by record_weight l) left_now);
+          let split : sum_by record_weight (drop was.records cells) ≡ record_weight entry + sum_by record_weight rest = ap (sum_by record_weight) left ∙ sum_by-cons record_weight entry rest in
+          ap (λ (l : Entries). min (now.weight + sum_by record_weight l) (2 ^ 64 - 1)) left_now
+          ∙ weighed_on was.weight (record_weight entry) (sum_by record_weight rest) now.weight (entries_weight cells) weight (ap (λ n. min (was.weight + n) (2 ^ 64 - 1)) (sym split) ∙ counted.weight_is);
       weight_fits = omega (arith, weight);
       images_are = omega (arith, images, counted.images_are, ap length all, length-append before (spell_cell entry), length-map (keys entry.1.1) (image_of entry));
       form_is =

@@ -106,10 +106,19 @@ class StreamStats:
 
 
 @dataclass(frozen=True, slots=True)
+class Unread:
+    """Replies that clients have not taken: the bytes of the records that these keep, their limit, and how many clients were ended for it."""
+
+    bytes: int
+    ended: int
+    limit: int
+
+
+@dataclass(frozen=True, slots=True)
 class Stats:
     """What a region has done so far; `uptime` is in seconds, `bytes` its memory. `reply` is the whole reply.
 
-    `tablets` are in their order, and none where the region does not say what they hold.
+    `tablets` are in their order, and none where the region does not say what they hold; `unread` likewise.
     """
 
     version: str
@@ -120,6 +129,7 @@ class Stats:
     lines: Lines
     streams: list[StreamStats]
     tablets: list[TabletStats]
+    unread: Unread | None
     reply: dict[str, Any]
 
 
@@ -194,6 +204,7 @@ def _stats(reply: Any) -> Stats:
         lines=_lines(reply["lines"]),
         streams=[_of(StreamStats, it) for it in reply["streams"]],
         tablets=[_of(TabletStats, it) for it in reply.get("tablets", [])],
+        unread=_of(Unread, reply["unread"]) if "unread" in reply else None,
         reply=reply,
     )
 

@@ -1,6 +1,6 @@
 //! The handler of a control session's lines.
 
-ghost use Rattle.std.specs.Prelude.{◌≡◌, ℕ, List, option_map};
+ghost use Rattle.std.specs.Prelude.{◌≡◌, ℕ, List};
 ghost use Rattle.pn_line.specs.Prelude.{kept_bytes};
 ghost use Rattle.pn_serve.specs.Control.Lines.{AnswersControl, EndsControl, after_step, at_rest, is_closed, reply_of};
 ghost use Rattle.pn_serve.specs.Lines.Handled.{by_end};
@@ -8,7 +8,6 @@ ghost use Rattle.pn_serve.specs.Session.Knowing.{KnowsNoLess};
 
 use crate::control::session::{ControlSession, StatsSource};
 use crate::control::steps::ControlStep;
-use crate::control::stop::StopSaid;
 use crate::machine::adoption::{AnnouncedText, GatherOutcome};
 use crate::machine::line_answers::{Answer, ReplyPieces, answered};
 use crate::sessions::going::Going;
@@ -29,14 +28,13 @@ pub(crate) struct ControlHandler<'a, R, C: Drop> {
     reader: LiveReader,
     // The lines that are still to come. None: the next line is a command.
     announced: Option<AnnouncedText>,
-    // That the server is to end, once the client has asked for that.
-    stop: Option<StopSaid>,
+    // Within how many seconds the server is to end, once the client has asked for that.
+    stop: Option<u64>,
     // Whether the writer takes no command any more.
     is_over: bool,
 }
 
 impl<'a, R, C: Drop> Model for ControlHandler<'a, R, C> {
-    ghost use Rattle.std.specs.Prelude.{option_map};
     ghost use Rattle.pn_serve.specs.Control.Lines.{ControlState};
     ghost use Rattle.pn_serve.specs.Machine.Modes.{mode_of};
 
@@ -49,7 +47,7 @@ impl<'a, R, C: Drop> Model for ControlHandler<'a, R, C> {
     ghost view = { λ session. record {
       reader = session.reader;
       mode = mode_of session.announced;
-      stop = option_map (λ said. said.seconds) session.stop;
+      stop = session.stop;
       over = session.is_over;
     } };
 }
@@ -80,10 +78,10 @@ impl<'a, R, C: Drop> ControlHandler<'a, R, C> {
         self.stop.is_some() || self.is_over
     }
 
-    /// Gives the reader back, and that the server is to end, if the client has asked for that.
-    pub(crate) fn end(self) -> (LiveReader, Option<StopSaid>)
+    /// Gives the reader back, and within how many seconds the server is to end, if the client has asked for that.
+    pub(crate) fn end(self) -> (LiveReader, Option<u64>)
         ensures reader { result.0 ≡ self.entry.reader }
-        ensures stop { option_map (λ said. said.seconds) result.1 ≡ self.entry.stop }
+        ensures stop { result.1 ≡ self.entry.stop }
     {
         let ControlHandler {
             rt: _rt,
@@ -108,9 +106,9 @@ impl<'a, R, C: Drop> ControlHandler<'a, R, C> {
                 self.announced = Some(AnnouncedText::new(alloc, lines));
                 Reply::Silent
             }
-            ControlStep::Stops(said) => {
-                self.stop = Some(said);
-                Reply::Stopping(said.seconds)
+            ControlStep::Stops(seconds) => {
+                self.stop = Some(seconds);
+                Reply::Stopping(seconds)
             }
             ControlStep::Ends => {
                 self.is_over = true;

@@ -15,9 +15,9 @@ use crate::server::mailboxes::{AtFault, StreamMailbox, StreamMailboxes};
 use crate::server::messages::RoundMessages;
 use crate::server::reports::Report;
 use crate::server::tries::run_input;
-use pn_apply::Share;
 use pn_join::{Marks, StreamName};
 use pn_live::LiveRegion;
+use pn_stream::Delivery;
 use std::alloc::{AllocError, Global};
 use std::mem;
 use std::sync::Wait;
@@ -27,7 +27,7 @@ use std::thread::Threads;
 #[derive(Drop)]
 pub(crate) struct RoundInput {
     /// The messages of the streams that have some.
-    pub(crate) deliveries: Vec<Share>,
+    pub(crate) deliveries: Vec<Delivery>,
     /// The first stream with a fault.
     pub(crate) fault: Option<StreamName>,
 }
@@ -177,7 +177,7 @@ fn add_fault(fault: &mut Option<StreamName>, name: &StreamName)
 }
 
 // Whether a delivery begins past the position after its stream's mark.
-fn is_gap(marks: &Marks, delivery: &Share) -> bool
+fn is_gap(marks: &Marks, delivery: &Delivery) -> bool
     ensures { result ≡ leaves_gap marks.now delivery.now }
 {
     marks.position(delivery.stream()) < delivery.first() - 1

@@ -2,15 +2,13 @@
 
 ghost use Rattle.std.specs.Prelude.{◌≡◌, ◌+◌, max, min, None, Some, IsSome};
 ghost use Rattle.pn_join.specs.declared.marks.TheConstants.{LAST_POSITION};
-ghost use Rattle.pn_serve.specs.Server.Messages.{FitRound};
 ghost use Rattle.pn_serve.specs.Server.Writers.{Gives, IsReaderFrom, line_after};
 
 use crate::server::messages::{MAX_MESSAGES, RoundMessages};
 use crate::server::writers::{NextWriter, WriterEnd};
-use pn_apply::Share;
 use pn_join::{LAST_POSITION, StreamName};
 use pn_line::Source;
-use pn_stream::{Delivery, ReaderMemory, ResumeFault, StreamReader};
+use pn_stream::{ReaderMemory, ResumeFault, StreamReader};
 use std::alloc::Global;
 use std::thread::Threads;
 
@@ -106,7 +104,7 @@ impl<S: Source + Drop> WriterInput<S> {
             .next_ready_by(rt, memory, self.workers, MAX_MESSAGES)
         {
             Ok(delivery) if delivery.images().is_empty() => Given::Ended(WriterEnd::End),
-            Ok(delivery) => Given::Messages(messages_of(memory.alloc(), delivery)),
+            Ok(delivery) => Given::Messages(RoundMessages { delivery }),
             Err(fault) => Given::Ended(self.fault(ResumeFault::Stream(fault))),
         }
     }
@@ -121,7 +119,7 @@ impl<S: Source + Drop> WriterInput<S> {
         match self.reader.resume(memory) {
             Ok(Some(delivery)) => {
                 self.before = Some(self.reader.position().saturating_sub(1));
-                Given::Messages(messages_of(memory.alloc(), delivery))
+                Given::Messages(RoundMessages { delivery })
             }
             Ok(None) => Given::Ended(WriterEnd::End),
             Err(fault) => Given::Ended(self.fault(fault)),
@@ -152,14 +150,4 @@ impl<S: Source + Drop> WriterInput<S> {
     {
         self.last = self.last.max(self.reader.position());
     }
-}
-
-// Messages for a round, with their cells, as far as there is memory for them. A round makes those that are left.
-fn messages_of(alloc: Global, delivery: Delivery) -> RoundMessages
-    requires { FitRound delivery }
-    ensures { result.delivery ≡ delivery }
-{
-    let mut share = Share::of(alloc, delivery);
-    let _ = share.finish(alloc);
-    RoundMessages { delivery: share }
 }

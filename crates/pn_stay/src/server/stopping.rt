@@ -2,8 +2,6 @@
 
 ghost use Rattle.std.specs.Prelude.{◌≡◌};
 ghost use Rattle.pn_live.specs.Prelude.{tablets_in};
-ghost use Rattle.pn_serve.specs.Server.Events.{RunsCommands};
-ghost use Rattle.pn_serve.specs.declared.server.mailboxes.AtFault.TheVariants.{GoOn};
 
 use crate::counters::{Counters, StreamCounters};
 use crate::listener::Listener;
@@ -53,8 +51,7 @@ impl Stopping {
         controls: &ControlMailboxes,
         asked: StopAsked,
     ) -> ControlsClosed
-        ensures runs { RunsCommands GoOn live.old live.new }
-        ensures same { tablets_in live.new ≡ tablets_in live.old }
+        ensures { tablets_in live.new ≡ tablets_in live.old }
     {
         self.end_connections(rt);
         self.await_connections(rt, alloc, live, controls, &asked);
@@ -81,8 +78,7 @@ impl Stopping {
         controls: &ControlMailboxes,
         asked: &StopAsked,
     )
-        ensures runs { RunsCommands GoOn live.old live.new }
-        ensures same { tablets_in live.new ≡ tablets_in live.old }
+        ensures { tablets_in live.new ≡ tablets_in live.old }
     {
         let began = Instant::now(rt).ok();
         for _ in rt.forever() {
@@ -152,8 +148,7 @@ impl Stopping {
         controls: &ControlMailboxes,
         asked: &StopAsked,
     )
-        ensures runs { RunsCommands GoOn live.old live.new }
-        ensures same { tablets_in live.new ≡ tablets_in live.old }
+        ensures { tablets_in live.new ≡ tablets_in live.old }
     {
         let began = Instant::now(rt).ok();
         for _ in rt.forever() {

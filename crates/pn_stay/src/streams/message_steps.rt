@@ -1,9 +1,8 @@
 //! What comes next of a writer's bytes: messages, which go on byte for byte, or a line that says how far the broker is.
 
-ghost use Rattle.std.specs.Prelude.{◌≡◌, ◌≤◌, ◌⊎◌, true, length, None, IfOk, IfSome};
-ghost use Rattle.pn_line.specs.Prelude.{IsUnbroken};
+ghost use Rattle.std.specs.Prelude.{◌≡◌, ◌<◌, ◌≤◌, ◌⊎◌, true, false, length, None, IfOk, IfSome};
 ghost use Rattle.pn_record.specs.Prelude.{max_line_bytes};
-ghost use Rattle.pn_stay.specs.MessageSteps.{FirstLine, IsKind, IsStep};
+ghost use Rattle.pn_stay.specs.MessageSteps.{IsKind, IsStep};
 ghost use Rattle.pn_stay.specs.Remarks.{may_go_on};
 
 use crate::streams::remarks::{NEWEST, RemarkFault, begins_as, read_newest};
@@ -17,8 +16,8 @@ use std::alloc::Global;
 pub enum Step {
     /// So many bytes go on as they are. Whether the next ones belong to a line whose beginning went on.
     Give { count: usize, is_inside: bool },
-    /// A line that says how far the broker is, with its newline.
-    Hear { count: usize, newest: u64 },
+    /// A line of this length says how far the broker is, and its newline follows.
+    Hear { line: usize, newest: u64 },
 }
 
 /// What a line is, or the beginning of one.
@@ -41,16 +40,19 @@ pub fn next_step(
     room: usize,
 ) -> Result<Option<Step>, NoMemory>
     ensures step { IfOk result (λ next. IfSome next (IsStep is_inside bytes.now room)) }
-    ensures waits { IfOk result (λ next. next ≡ None → (room ≡ 0) ⊎ (IsUnbroken bytes.now × (length bytes.now ≤ max_line_bytes))) }
+    ensures waits { IfOk result (λ next. next ≡ None → (room ≡ 0) ⊎ (length bytes.now ≤ max_line_bytes)) }
 {
     if bytes.is_empty() || room == 0 {
         return Ok(None);
     }
     let (count, is_ended) = first_line(bytes);
     match kind_of_line(alloc, &bytes[..count], is_inside, is_ended)? {
-        LineKind::Message => Ok(Some(give_line(bytes, count, is_ended, room))),
+        LineKind::Message => {
+            let (count, is_inside) = give_line(bytes, count, is_ended, room);
+            Ok(Some(Step::Give { count, is_inside }))
+        }
         LineKind::Newest(newest) => Ok(Some(Step::Hear {
-            count: count + 1,
+            line: count,
             newest,
         })),
         LineKind::Unknown => Ok(None),
@@ -59,7 +61,9 @@ pub fn next_step(
 
 // How many bytes the first line has, and whether its newline is there.
 fn first_line(bytes: &[u8]) -> (usize, bool)
-    ensures { FirstLine bytes.now result.0 result.1 }
+    ensures within { result.0 ≤ length bytes.now }
+    ensures ended { result.1 ≡ true → result.0 < length bytes.now }
+    ensures whole { result.1 ≡ false → result.0 ≡ length bytes.now }
 {
     match memchr(b'\n', bytes) {
         Some(end) => (end, true),
@@ -89,23 +93,25 @@ fn kind_of_line(
     }
 }
 
-// As much of the first line as there is room for, with its newline if that is there.
-fn give_line(bytes: &[u8], count: usize, is_ended: bool, room: usize) -> Step
+// How much of the first line goes on: as much as there is room for, with its newline if that is there. Whether the next bytes
+// belong to the same line.
+fn give_line(bytes: &[u8], count: usize, is_ended: bool, room: usize) -> (usize, bool)
     requires some { 1 ≤ length bytes.now }
     requires room { 1 ≤ room }
-    requires line { FirstLine bytes.now count is_ended }
-    ensures { IsStep true bytes.now room result }
+    requires within { count ≤ length bytes.now }
+    requires ended { is_ended ≡ true → count < length bytes.now }
+    requires whole { is_ended ≡ false → count ≡ length bytes.now }
+    ensures some { 1 ≤ result.0 }
+    ensures room { result.0 ≤ room }
+    ensures within { result.0 ≤ length bytes.now }
 {
-    if is_ended && count < room {
-        return Step::Give {
-            count: count + 1,
-            is_inside: false,
-        };
+    if count >= room {
+        return (room, true);
     }
-    Step::Give {
-        count: count.min(room),
-        is_inside: true,
+    if is_ended {
+        return (count + 1, false);
     }
+    (count, true)
 }
 
 /// Whether bytes may be the beginning of a line that begins with the first ones.

@@ -3,7 +3,7 @@
 ghost use Rattle.std.specs.Prelude.{◌≡◌, IfOk, string_bytes};
 ghost use Rattle.serde_json.specs.View.{view};
 ghost use Rattle.pn_json.specs.Prelude.{IsUnless, Shows, ShowsUnless, line_of};
-ghost use Rattle.pn_stay.specs.Remarks.{agrees, is_identity as names_a_stream, newest_at, newest_in, other_stream_data, stream_at, stream_in};
+ghost use Rattle.pn_stay.specs.Remarks.{agrees, is_identity as names_a_stream, newest_at, newest_in, other_stream_data, remark_at, stream_at, stream_in};
 
 use pn_join::{LAST_POSITION, NoMemory};
 use pn_json::{begin_line, check_names, finish_line, text_of, whole_number_of, write_text_member};
@@ -33,10 +33,7 @@ pub enum RemarkFault {
 pub fn read_stream(alloc: Global, line: &[u8]) -> Result<String, RemarkFault>
     ensures { ShowsUnless RemarkFault.Memory string_bytes result (stream_at line.now) }
 {
-    if !begins_as(STREAM, line) {
-        return Err(RemarkFault::Other);
-    }
-    let value = read_value(alloc, line).map_err(fault_of)?;
+    let value = read_remark(alloc, STREAM, line)?;
     let stream = stream_of(&value)?;
     match String::from_str(alloc, stream) {
         Ok(stream) => Ok(stream),
@@ -49,26 +46,36 @@ pub fn read_stream(alloc: Global, line: &[u8]) -> Result<String, RemarkFault>
 pub fn read_newest(alloc: Global, line: &[u8]) -> Result<u64, RemarkFault>
     ensures { IsUnless RemarkFault.Memory result (newest_at line.now) }
 {
-    if !begins_as(NEWEST, line) {
+    let value = read_remark(alloc, NEWEST, line)?;
+    newest_of(&value)
+}
+
+// The value of a line that begins with the first bytes.
+#[tactic(auto, unfolding(crate::specs::Remarks::remark_at))]
+fn read_remark(alloc: Global, first: &[u8], line: &[u8]) -> Result<Value, RemarkFault>
+    ensures { ShowsUnless RemarkFault.Memory view result (remark_at first.now line.now) }
+{
+    if !begins_as(first, line) {
         return Err(RemarkFault::Other);
     }
-    let value = read_value(alloc, line).map_err(fault_of)?;
-    newest_of(&value)
+    match read_value(alloc, line) {
+        Ok(value) => Ok(value),
+        Err(ImageFault::Memory) => Err(RemarkFault::Memory),
+        Err(ImageFault::TooLong) => Err(RemarkFault::Other),
+        Err(ImageFault::NotJson) => Err(RemarkFault::Other),
+        Err(ImageFault::BadShape(_)) => Err(RemarkFault::Other),
+        Err(ImageFault::OutOfRange(_)) => Err(RemarkFault::Other),
+    }
 }
 
 /// Whether bytes begin with the first ones, or are the beginning of them.
 pub(crate) fn begins_as(first: &[u8], bytes: &[u8]) -> bool
     ensures { result ≡ agrees first.now bytes.now }
 {
-    let count = first.len().min(bytes.len());
-    first[..count] == bytes[..count]
-}
-
-fn fault_of(fault: ImageFault) -> RemarkFault {
-    match fault {
-        ImageFault::Memory => RemarkFault::Memory,
-        _ => RemarkFault::Other,
+    if bytes.len() < first.len() {
+        return first.starts_with(bytes);
     }
+    bytes.starts_with(first)
 }
 
 #[tactic(auto, unfolding(crate::specs::Remarks::stream_in))]
