@@ -28,7 +28,6 @@ def mark_of(part: str) -> str:
     return part.replace("-", "_")
 
 
-@pytest.hookimpl(tryfirst=True)
 def pytest_collection_modifyitems(items: list[pytest.Item]) -> None:
     """Marks each check with its part."""
     marks = {path: mark_of(part) for part, paths in modules().items() for path in paths}
