@@ -5,4 +5,4 @@ pub mod Held
 pub mod Keys
 pub mod Pieces
 pub mod Quarters
-pub mod Unread
+pub mod UnreadClients

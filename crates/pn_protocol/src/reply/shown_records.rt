@@ -89,7 +89,7 @@ impl ShownRecords {
 
 // What the record of a key weighs, if there is one.
 fn found_weight(key: &Key, cell: Option<&Cell>) -> u64
-    ensures { result ≡ min (weighs (key.now, option_copied cell)) (2 ^ 64 - 1) }
+    ensures { result ≡ min (weighs (key.now, option_copied cell.entry)) (2 ^ 64 - 1) }
 {
     match cell {
         Some(cell) => record_weight(key, cell),
