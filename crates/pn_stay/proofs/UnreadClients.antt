@@ -20,8 +20,8 @@ pub same_told : {a b : Bool} → Some a ≡ Some b → a ≡ b
 same_told is = cc
 
 not_true : (b : Bool) → ¬ (b ≡ true) → b ≡ false
-not_true true no = absurd (no refl)
-not_true false no = refl
+not_true true isnt = absurd (isnt refl)
+not_true false isnt = refl
 
 -- by whether the client is deaf once it is a quarter older
 pub deaf_by : (before between after : Option UnreadValue) (told : Option Bool) → between ≡ option_map aged before → told ≡ option_map is_deaf between
