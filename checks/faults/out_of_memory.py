@@ -62,6 +62,10 @@ def talks() -> Iterator[Stored]:
 Case = tuple[str, Callable[[], FindFault], dict[str, str]]
 
 
+def fault_of_case(live: str, line: bytes, answer: bytes) -> FindFault:
+    return functools.partial(case_fault, live, line, answer)
+
+
 def fault_of_talk(program: str, script: Stored, is_repeated: bool) -> FindFault:
     return functools.partial(Script(program, script).fault, is_repeated=is_repeated)
 
@@ -79,7 +83,7 @@ def cases(program: str, live: str) -> Iterator[Case]:
     for name in SENT_FOR_GOOD:
         yield f"{name}, for good", functools.partial(fault_of_talk, program, stored(name), False), FOR_GOOD
     for name, (line, answer) in ENDS_WELL.items():
-        yield name, functools.partial(functools.partial, case_fault, live, line, answer), ONE
+        yield name, functools.partial(fault_of_case, live, line, answer), ONE
 
 
 @pytest.fixture(scope="module")

@@ -19,8 +19,8 @@ from replies.slow_lines import Json
 
 SCRIPTS, MANY = 3_000, 1_000
 MEETINGS = st.tuples(SEEDS, seeds(24))
-# Meetings that are tried each time, by their seeds and those of their events: without events, and over 64 tablets.
-KEPT: list[tuple[int, list[int]]] = [(0, []), (6, [1, 2, 3])]
+# Meetings that are tried each time, by their seeds and those of their events: without events, over 64 tablets that change, of 18 streams.
+KEPT: list[tuple[int, list[int]]] = [(0, []), (7, [1, 2, 3]), (3, [1, 2, 3])]
 REFUSED = ["gap", "too-many-streams", "recovering", "still-recovering", "wrong-range", "too-old", "too-long", "not-json", "truncated", "bad-end",
            "bad-line", "outside-range", "not-rising", "behind null", "behind version", "behind stream"]
 SHAPES = ["whole", "do", "batches", "bounds", "deleted", "fields", "first", "images", "key", "keys", "lines", "master", "need", "query",
