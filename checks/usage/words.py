@@ -3,8 +3,8 @@
   checks/run words
 
 Commands, members, refusals, options and the reasons that writers of streams are told are read off the sources. Each has to stand
-in docs/formats.md; commands also in README.md, the slow program and the fuzzer's words; what sessions have, by the table of commands, in
-clients/README.md and in each client; what control sessions have besides in the client for Python.
+in docs/formats.md; commands also in README.md, the slow program and, with their members, the fuzzer's words; what sessions have, by the
+table of commands, with its members in clients/README.md and in each client; what control sessions have besides in the client for Python.
 Commands and options that README.md, docs/ or the packages name have to be those of the program, and its version is the same in
 all files (bin/version).
 
@@ -19,10 +19,11 @@ from pathlib import Path
 from common.crates import TOP
 
 COMMAND = re.compile(r'"(\w+)" => Some\(CommandWord::(\w+)\)')
-# A row of the table of commands.
-ROW = re.compile(r"CommandWord::(\w+) => row\(CommandUsers::(\w+)")
-# What control sessions have besides.
-CONTROL = re.compile(r'"(\w+)" => Some\(ControlWord::')
+# A row of the table of commands: its name, who may say it, its kind, its members.
+ROW = re.compile(r"CommandWord::(\w+) => row\(\s*CommandUsers::(\w+),\s*LineKind::(\w+),\s*&\[([^\]]*)\]")
+# What control sessions have besides, and the members of that.
+CONTROL = re.compile(r'"(\w+)" => Some\(ControlWord::(\w+)\)')
+CONTROL_ROW = re.compile(r"ControlWord::(\w+) => &\[([^\]]*)\]")
 MEMBER = re.compile(r'(?:Part|Member)::\w+ => "(\w+)"')
 ERROR = r'\\?"error\\?":\\?"([a-z-]+)'
 REFUSAL = re.compile(rf'\b\w+_(?:error|reply)\(\s*alloc,\s*"([a-z-]+)"|{ERROR}')
@@ -78,10 +79,34 @@ def versions() -> list[str]:
     return ran.stdout.splitlines() if ran.returncode else []
 
 
-def commands_of(users: str, protocol: str) -> set[str]:
-    """The words of the commands that these may say, by the table."""
+def members_in(listed: str) -> set[str]:
+    """The names in a list of members, but for that of the word."""
+    return set(re.findall(r'"(\w+)"', listed)) - {"do"}
+
+
+def commands_of(users: str, protocol: str) -> dict[str, set[str]]:
+    """The words of the commands that these may say, with their members, by the table."""
     words = {name: word for word, name in COMMAND.findall(protocol)}
-    return {words[name] for name, row_users in ROW.findall(protocol) if row_users == users}
+    return {words[name]: members_in(listed) for name, row_users, _kind, listed in ROW.findall(protocol) if row_users == users}
+
+
+def commands_of_controls(protocol: str) -> dict[str, set[str]]:
+    """The words of the commands that control sessions have besides, with their members."""
+    members = {name: members_in(listed) for name, listed in CONTROL_ROW.findall(protocol)}
+    return {word: members.get(name, set()) for word, name in CONTROL.findall(protocol)}
+
+
+def all_members(*commands: dict[str, set[str]]) -> set[str]:
+    return {member for them in commands for members in them.values() for member in members}
+
+
+def uneven(protocol: str, refused: set[str], commands: set[str]) -> Iterator[str]:
+    """What the tables and the words beside them do not have in common."""
+    by_users = [commands_of(users, protocol) for users in ("Scripts", "Controls", "Sessions")]
+    if set().union(*by_users) != commands:
+        yield "the table of commands does not have a row for each word"
+    members = all_members(*by_users, commands_of_controls(protocol))
+    yield from (f"the member {it} of a command has no word in a refusal" for it in sorted(members - refused))
 
 
 def all_faults() -> Iterator[str]:
@@ -89,23 +114,30 @@ def all_faults() -> Iterator[str]:
     commands = found(COMMAND, protocol)
     lookups, of_controls = commands_of("Sessions", protocol), commands_of("Controls", protocol)
     members = found(MEMBER, protocol + sources("pn_record")) - {"whole", "other"}
-    controls, refusals = found(CONTROL, protocol), found(REFUSAL, protocol)
+    controls, refusals = commands_of_controls(protocol), found(REFUSAL, protocol)
     options = {f"--{it}" for it in found(OPTION, sources("pn_arguments"))}
     reasons = found(REASON, sources("pn_stay"))
     formats, readme = (TOP / "docs/formats.md").read_text(), (TOP / "README.md").read_text()
     if min(map(len, (commands, members, refusals, options, reasons))) < 5 or not lookups or not of_controls:
         yield "the sources do not say their words in the way that this script reads them"
-    for kind, words in (("command", commands | controls), ("member", members), ("refusal", refusals), ("option", options), ("reason", reasons)):
+    yield from uneven(protocol, members, commands)
+    for kind, words in (("command", commands | set(controls)), ("member", members), ("refusal", refusals), ("option", options), ("reason", reasons)):
         yield from missing(kind, words, "docs/formats.md", formats)
     yield from missing("command", commands, "README.md", readme)
     yield from missing("command", commands, "the slow program (checks)", text_of(below("checks")))
-    yield from missing("command", commands, "fuzz/words.dict", (TOP / "fuzz/words.dict").read_text())
+    words_of_fuzzer = (TOP / "fuzz/words.dict").read_text()
+    yield from missing("command", commands, "fuzz/words.dict", words_of_fuzzer)
+    of_scripts = commands_of("Scripts", protocol)
+    yield from missing("member", all_members(lookups, of_controls, of_scripts), "fuzz/words.dict", words_of_fuzzer)
     for where, paths in clients().items():
         yield from missing("command", lookups, where, text_of(paths))
+        yield from missing("member", all_members(lookups), where, text_of(paths))
         yield from missing("refusal", refusals - OF_SCRIPTS, where, text_of(paths))
-    yield from missing("command", controls | of_controls, "the client for Python", text_of(clients()["the client for Python"]))
+    client = text_of(clients()["the client for Python"])
+    yield from missing("command", set(controls) | set(of_controls), "the client for Python", client)
+    yield from missing("member", all_members(controls, of_controls), "the client for Python", client)
     told = readme + text_of(sorted((TOP / "docs").glob("*.md")))
-    yield from unknown("command", TOLD_COMMAND.findall(told), commands | controls, "README.md or docs/")
+    yield from unknown("command", TOLD_COMMAND.findall(told), commands | set(controls), "README.md or docs/")
     yield from unknown("option", TOLD_OPTION.findall(told + text_of(below("packaging"))), options | BY_CLAP, "README.md, docs/ or packaging/")
     yield from versions()
 

@@ -1,5 +1,5 @@
 -- Where control sessions end, one run of the engine for lines after another.
-use Rattle.std.proofs.Common.{◌≡◌, ◌≢◌, ◌≤◌, ℕ, true, List, [], ◌∷◌, ◌++◌, Option, None, Some, length, refl, ap, ◌∙◌, subst, sym, inl, inr, append_assoc}
+use Rattle.std.proofs.Common.{◌≡◌, ◌≢◌, ℕ, List, [], ◌∷◌, ◌++◌, Option, None, Some, refl, ap, ◌∙◌, subst, sym, inl, inr, append_assoc}
 use Rattle.std.specs.Prelude.{Result, Ok, Err, IfSome, IsErrOf}
 use Rattle.std.specs.Io.KnownBytes.{Appends}
 use Rattle.std.proofs.KnownBytes.{Appends-nil, Appends-trans}
@@ -21,7 +21,7 @@ use Rattle.pn_protocol.specs.Reply.Texts.{reply_text}
 use Rattle.pn_protocol.specs.declared.reply.Reply.{Reply}
 use Rattle.pn_serve.specs.Control.Ends.{AnsweredAll, AnsweredSome, ControlEnds, Endless, EndsIn, uncounted}
 use Rattle.pn_serve.specs.Control.Handling.{HasClosed, controls}
-use Rattle.pn_serve.specs.Control.Lines.{ControlState, at_rest, is_closed, AnswersControl, EndsControl}
+use Rattle.pn_serve.specs.Control.Lines.{ControlState, at_rest, AnswersControl, EndsControl}
 use Rattle.pn_serve.specs.Lines.Ends.{Ended}
 use Rattle.pn_serve.specs.Lines.Replies.{texts_of}
 use Rattle.pn_serve.specs.Lines.Running.{counts_of}
@@ -31,7 +31,6 @@ use Rattle.pn_serve.specs.Lines.Waiting.{HandsOn}
 use Rattle.pn_serve.specs.Script.Parts.{parts_of}
 use Rattle.pn_serve.specs.Session.Knowing.{KnowsNoLess}
 use Rattle.pn_serve.specs.declared.script.Counts as runs
-use Rattle.pn_serve.specs.declared.script.RunFault.{RunFault}
 use Rattle.pn_serve.specs.declared.script.RunFault.TheVariants.{Read, Write, Memory}
 use Rattle.pn_serve.specs.declared.script.TheConstants.{MAX_LINES}
 use Rattle.pn_serve.proofs.Ending.{cut_alone, ended_alone, stopped_alone}

@@ -28,11 +28,12 @@ use Rattle.pn_protocol.specs.declared.reply.Reply.TheVariants.{Adopted, Changed,
 use Rattle.pn_protocol.specs.declared.reply.refusals.CommandFault.TheVariants.{CopyText}
 use Rattle.pn_scan.specs.Paging.{Stays}
 use Rattle.pn_serve.specs.Control.Commands.{said_by}
-use Rattle.pn_serve.specs.Control.Steps.{AdoptsRead, ObeysControl, ObeysScript, RepliesWith, Says, ShowsCounts, StepsAs, StepsBy, StepsLast, Lasts}
+use Rattle.pn_serve.specs.Control.Steps.{AdoptsRead, DoesTask, ObeysControl, ObeysScript, RepliesWith, Says, ShowsCounts, StepsAs, StepsBy, StepsLast, Lasts, task_of}
 use Rattle.pn_serve.specs.Session.Knowing.{KnowsNoLess}
 use Rattle.pn_serve.specs.Session.Lines.{LooksUp}
 use Rattle.pn_serve.specs.declared.control.steps.ControlStep.{ControlStep}
 use Rattle.pn_serve.specs.declared.control.steps.ControlStep.TheVariants.{Replies, Announces, Stops, Ends}
+use Rattle.pn_serve.specs.declared.control.steps.ScriptTask.{ScriptTask}
 use Rattle.pn_serve.proofs.Knowing.{command_knows, knows_same, stays_knows}
 use Rattle.pn_serve.proofs.TabletCounts.{tablets_know}
 
@@ -68,6 +69,11 @@ read_fault text why (Stopping seconds) is refuses = inr (ap Replies refuses)
 read_fault text why Silent is refuses = inr (ap Replies refuses)
 read_fault text why (Text bytes) is refuses = inr (ap Replies refuses)
 read_fault text why (Refused refusal) is refuses = inr (ap Replies refuses)
+
+-- a command that was done by whom it is for
+pub done_as : (old : LiveReaderValue) (asked : command.CommandValue) (new : LiveReaderValue) (step : ControlStep) (found task : ScriptTask) → found ≡ task_of asked → found ≡ task → DoesTask task old asked new step
+    → ObeysScript old asked new step
+done_as old asked new step found task is same does = subst (λ (t : ScriptTask). DoesTask t old asked new step) (sym same ∙ is) does
 
 -- a line that says this command
 pub steps_said : (old new : LiveReaderValue) (line : List ℕ) (asked : ControlValue) (step : ControlStep) → control_at line ≡ Ok asked → ObeysControl old asked new step → StepsBy old line new step

@@ -1,5 +1,5 @@
 -- The end of a run whose handler is alone, by what the engine for lines ended with.
-use Rattle.std.proofs.Common.{◌≡◌, ◌≢◌, ◌⊎◌, ◌≤◌, ◌<◌, ◌+◌, ℕ, Bool, true, false, Option, Some, List, [], ◌∷◌, ◌++◌, length, All, inl, inr, refl, sym, ap, ◌∙◌, subst, arith, length-append}
+use Rattle.std.proofs.Common.{◌≡◌, ◌≢◌, ◌≤◌, ◌+◌, ℕ, Bool, true, false, Option, Some, List, [], ◌∷◌, ◌++◌, length, All, inl, inr, refl, sym, ap, ◌∙◌, subst, arith, length-append}
 use Rattle.std.specs.Prelude.{Result, Ok, Err, IsErrOf, IfOk, IfErr, OnOk}
 use Rattle.std.specs.Io.KnownBytes.{Appends}
 use Rattle.std.proofs.lemmas.List.Elements.{All-nil, All-cons, All-append, All-weaker}
@@ -17,7 +17,7 @@ use Rattle.pn_lines.specs.declared.driver.LinesFault.TheVariants as fault
 use Rattle.pn_lines.specs.declared.engine.Counts.{Counts}
 use Rattle.pn_lines.specs.declared.handler.EndedBy.{EndedBy}
 use Rattle.pn_lines.specs.declared.handler.EndedBy.TheVariants.{Newline, Input}
-use Rattle.pn_protocol.specs.Reply.Texts.{is_refusal, reply_text}
+use Rattle.pn_protocol.specs.Reply.Texts.{is_refusal}
 use Rattle.pn_protocol.specs.declared.reply.Reply.{Reply}
 use Rattle.pn_scan.specs.Paging.{Stays}
 use Rattle.pn_serve.specs.Lines.Ends.{Ended, EndsBy}
@@ -31,7 +31,7 @@ use Rattle.pn_serve.specs.Script.Parts.{parts_of}
 use Rattle.pn_serve.specs.Script.Written.{one_if}
 use Rattle.pn_serve.specs.declared.script.Counts as runs
 use Rattle.pn_serve.specs.declared.script.RunFault.{RunFault}
-use Rattle.pn_serve.specs.declared.script.RunFault.TheVariants.{Read, Write, TooManyTurns, Memory}
+use Rattle.pn_serve.specs.declared.script.RunFault.TheVariants.{Read, Write, Memory}
 use Rattle.pn_serve.specs.declared.script.TheConstants.{MAX_LINES}
 use Rattle.pn_serve.proofs.Serving.{OnTold, as_many_replies, few_refusals, lines_in, parts_read}
 use Rattle.pn_serve.proofs.Stopping.{Exceeded_bytes, Exceeded_lines}

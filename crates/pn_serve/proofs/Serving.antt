@@ -1,5 +1,5 @@
 -- Lines that were read to their end, and their replies.
-use Rattle.std.proofs.Common.{◌≡◌, ℕ, ◌≤◌, ◌≢◌, Bool, true, false, Option, None, Some, List, [], ◌∷◌, ◌++◌, length, All, IfSome, refl, sym, ap, ◌∙◌, subst, arith, append-nil}
+use Rattle.std.proofs.Common.{◌≡◌, ℕ, ◌≤◌, Bool, true, false, Option, None, Some, List, [], ◌∷◌, ◌++◌, length, IfSome, refl, sym, ap, ◌∙◌, subst, arith, append-nil}
 use Rattle.pn_line.specs.LinesRead.{PartRead}
 use Rattle.pn_line.specs.Reads.{IsUnbroken}
 use Rattle.pn_line.specs.Text.{lines_of, text_of, last_line}

@@ -1,6 +1,6 @@
 //! Runs the commands of lines over a region.
 
-ghost use Rattle.std.specs.Prelude.{◌≡◌, ◌≤◌};
+ghost use Rattle.std.specs.Prelude.{◌≤◌};
 ghost use Rattle.pn_apply.specs.declared.reducing.TheConstants.{MAX_WORKERS};
 ghost use Rattle.pn_protocol.specs.Prelude.{command_value, deliver as asking};
 ghost use Rattle.pn_serve.specs.Machine.Modes.{IsAnswer, with_mode};

@@ -119,7 +119,8 @@ pub(crate) fn answer_lines<M: LineHandler, S: Source, W: Sink>(
 ) -> Result<Counts, RunFault>
     requires ready { M.ready }
     requires unclosed { (state : M) → M.handling.closed state → ⊥ }
-    ensures ends { HasRun M.handling (start_at machine.old (S.left input.old) (W.contents output.old)) (S.left input.new) (W.contents output.new) machine.new result }
+    ensures ends { HasRun M.handling (start_at machine.old (S.left input.old) (W.contents output.old))
+        (S.left input.new) (W.contents output.new) machine.new result }
     ensures read { IsErrOf result RunFault.Read → S.may_fail }
     ensures write { IsErrOf result RunFault.Write → W.may_fail }
     ensures kept { M.keeps machine.old machine.new }

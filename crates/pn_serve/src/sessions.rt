@@ -31,7 +31,8 @@ pub fn session<S: Source, W: Sink>(
     input: &mut S,
     output: &mut W,
 ) -> Result<Counts, RunFault>
-    ensures ends { EndsBy (AnswersLine Stays) (EndsLines Stays) (session_start reader.old (S.left input.old) (W.contents output.old)) (S.left input.new) (W.contents output.new) reader.new result }
+    ensures ends { EndsBy (AnswersLine Stays) (EndsLines Stays) (session_start reader.old (S.left input.old) (W.contents output.old))
+        (S.left input.new) (W.contents output.new) reader.new result }
     ensures read { IsErrOf result RunFault.Read → S.may_fail }
     ensures write { IsErrOf result RunFault.Write → W.may_fail }
     ensures knows { KnowsNoLess reader.old reader.new }

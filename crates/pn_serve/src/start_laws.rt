@@ -19,7 +19,8 @@ ghost use Rattle.pn_serve.specs.declared.server.mailboxes.AtFault.{AtFault};
 /// commands that bring honest copies, has exactly what these brought once all its tablets serve and no round waits for
 /// memory.
 pub fn a_start_from_copies_leaves_what_was_taken()
-    ensures { (broker : BrokerRecord) (copies : List TabletCopyValue) (bounds : Bounds) (at_fault : AtFault) (names : List (List ℕ)) (started : LiveRegionValue) (events : List WriterEvent) (left : List (List ℕ)) (live : LiveRegionValue)
+    ensures { (broker : BrokerRecord) (copies : List TabletCopyValue) (bounds : Bounds) (at_fault : AtFault)
+        (names : List (List ℕ)) (started : LiveRegionValue) (events : List WriterEvent) (left : List (List ℕ)) (live : LiveRegionValue)
         → IsLayout bounds → map (λ copy. copy.range) copies ≡ ranges bounds → StartsLive copies bounds started → AreHonestCopies broker copies
         → AllDone at_fault names None started events left None live → AreHonestEvents broker (region_events events) → AllServe (core live)
         → all_cells (core live) ≡ table_of (all_taken broker (start_events copies ++ region_events events)) }

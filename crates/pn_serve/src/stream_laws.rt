@@ -28,7 +28,8 @@ ghost use Rattle.pn_stream.specs.declared.fault.StreamFault.{StreamFault};
 ///
 /// What is read of an honest writer is honest, wherever it begins, and what is left of its input is honest too.
 pub fn streams_that_resume_leave_what_was_published()
-    ensures honest { (broker : BrokerRecord) (name text part : List ℕ) (least most position : ℕ) (images : List Image) (fault : Option StreamFault) (left : Option (List ℕ))
+    ensures honest { (broker : BrokerRecord) (name text part : List ℕ) (least most position : ℕ) (images : List Image)
+        (fault : Option StreamFault) (left : Option (List ℕ))
         → IsHonestWriter broker name text → Batch least most position text images fault part left
         → IsHonest broker (record { stream = name; first = position + 1; images = images }) }
     ensures further { (broker : BrokerRecord) (name text rest : List ℕ) (position : ℕ) (images : List Image)
@@ -43,11 +44,13 @@ pub fn streams_that_resume_leave_what_was_published()
 /// copies are honest, a region whose tablets all serve has exactly the records of what it took, whatever else was done
 /// meanwhile; and a record that its tablet serves before and after is still held.
 pub fn streams_beside_commands_leave_what_was_taken()
-    ensures events { (at_fault : AtFault) (names : List (List ℕ)) (waiting : Option RoundInputValue) (old : LiveRegionValue) (events : List WriterEvent) (left : List (List ℕ)) (waits : Option RoundInputValue) (new : LiveRegionValue)
+    ensures events { (at_fault : AtFault) (names : List (List ℕ)) (waiting : Option RoundInputValue) (old : LiveRegionValue)
+        (events : List WriterEvent) (left : List (List ℕ)) (waits : Option RoundInputValue) (new : LiveRegionValue)
         → AllDone at_fault names waiting old events left waits new → AllLeadTo (region_events events) (core old) (core new) }
     ensures records { (broker : BrokerRecord) (live : LiveRegionValue) (did : DidHonestly broker live) → AllServe (core live)
         → all_cells (core live) ≡ table_of (all_taken broker (region_events did.events)) }
-    ensures served { (broker : BrokerRecord) (at_fault : AtFault) (names : List (List ℕ)) (waiting : Option RoundInputValue) (old : LiveRegionValue) (events : List WriterEvent) (left : List (List ℕ)) (waits : Option RoundInputValue) (new : LiveRegionValue) (key : List ℕ)
+    ensures served { (broker : BrokerRecord) (at_fault : AtFault) (names : List (List ℕ)) (waiting : Option RoundInputValue)
+        (old : LiveRegionValue) (events : List WriterEvent) (left : List (List ℕ)) (waits : Option RoundInputValue) (new : LiveRegionValue) (key : List ℕ)
         → IsRegion (core old) → AreFaithful broker (core old).tablets → AllDone at_fault names waiting old events left waits new
         → AreHonestEvents broker (region_events events) → ServesAt (core old) key → ServesAt (core new) key
         → HoldsStill (find bytes_cmp key (all_cells (core old))) (find bytes_cmp key (all_cells (core new))) }

@@ -67,10 +67,7 @@ pub(crate) fn text_reply(text: &str) -> ShortReply
 }
 
 /// The reply to a line that was refused, as `{"error":"bad-shape","member":"key"}`.
-#[tactic(auto, unfolding(
-    pn_json::specs::Lines::line_of,
-    crate::specs::Reply::Short::refusal_data,
-    serde_json::proofs::OnLiterals::serde_json_on_literals))]
+#[tactic(auto, unfolding(pn_json::specs::Lines::line_of, crate::specs::Reply::Short::refusal_data, serde_json::proofs::OnLiterals::serde_json_on_literals))]
 pub fn refusal_reply(refusal: &Refusal) -> ShortReply
     ensures { result ≡ line_of (refusal_data refusal.now) }
 {
@@ -95,11 +92,7 @@ pub fn refusal_reply(refusal: &Refusal) -> ShortReply
 }
 
 /// What the number of a reply says.
-#[derive(Clone,
-    Copy,
-    Debug,
-    PartialEq,
-    Eq)]
+#[derive(Clone, Copy, Debug, PartialEq, Eq)]
 pub enum NumberName {
     /// The tablet that took a copy.
     Adopted,
@@ -115,18 +108,8 @@ pub enum NumberName {
     Tablets,
 }
 
-/// The reply of one number,
-    as `{"changed":3}`.
-#[tactic(auto,
-    unfolding(pn_json::specs::Lines::line_of,
-    crate::specs::Reply::Short::adopted_data,
-    crate::specs::Reply::Short::changed_data,
-    crate::specs::Reply::Short::lines_data,
-    crate::specs::Reply::Short::lost_data,
-    crate::specs::Reply::Short::relaid_data,
-    crate::specs::Reply::Short::stopping_data,
-    serde_json::proofs::OnLiterals::serde_json_on_literals,
-))]
+/// The reply of one number, as `{"changed":3}`.
+#[tactic(auto, unfolding(pn_json::specs::Lines::line_of, crate::specs::Reply::Short::adopted_data, crate::specs::Reply::Short::changed_data, crate::specs::Reply::Short::lines_data, crate::specs::Reply::Short::lost_data, crate::specs::Reply::Short::relaid_data, crate::specs::Reply::Short::stopping_data, serde_json::proofs::OnLiterals::serde_json_on_literals))]
 pub fn number_reply(name: NumberName, number: u64) -> ShortReply
     ensures { result ≡ line_of (number_reply_data name number) }
 {

@@ -8,7 +8,7 @@ use Rattle.pn_lines.specs.declared.handler.EndedBy.{EndedBy}
 use Rattle.pn_live.proofs.Knowing.{all_know_themselves, all_know_on}
 use Rattle.pn_live.specs.Readers.{LiveReaderValue}
 use Rattle.pn_scan.specs.Paging.{Moving, Stays}
-use Rattle.pn_serve.specs.Control.Lines.{ControlState, KeepsKnowing}
+use Rattle.pn_serve.specs.Control.Lines.{KeepsKnowing}
 use Rattle.pn_serve.specs.Lines.Handled.{Replies}
 use Rattle.pn_serve.specs.Session.Alone.{KeepsReader, alone_reads, reader_of}
 use Rattle.pn_serve.specs.Session.Handling.{reads_by, reads_lines}

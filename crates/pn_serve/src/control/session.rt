@@ -55,7 +55,8 @@ impl<C: StatsSource + Drop> ControlSession<C> {
         input: &mut S,
         output: &mut W,
     ) -> (LiveReader, Result<(), RunFault>)
-        ensures ends { AnswersClient (control_start reader (S.left input.old) (W.contents output.old)) (S.left input.new) (W.contents output.new) result.0 result.1 }
+        ensures ends { AnswersClient (control_start reader (S.left input.old) (W.contents output.old))
+            (S.left input.new) (W.contents output.new) result.0 result.1 }
         ensures read { IsErrOf result.1 RunFault.Read → S.may_fail }
         ensures write { IsErrOf result.1 RunFault.Write → W.may_fail }
         ensures memory { IsErrOf result.1 RunFault.Memory → ⊥ }

@@ -2,7 +2,8 @@
 
 ghost use Rattle.std.specs.Prelude.{◌≡◌, Ok};
 ghost use Rattle.pn_protocol.specs.Prelude.{command_value, control_value};
-ghost use Rattle.pn_serve.specs.Control.Steps.{AdoptsText, Asks, ObeysControl, ObeysScript, RepliesWith, Reports, ShowsCounts, StepsBy, StepsLast, task_of as task_for};
+ghost use Rattle.pn_serve.specs.Control.Steps.{AdoptsText, Asks, ObeysControl, ObeysScript, task_of as task_for};
+ghost use Rattle.pn_serve.specs.Control.Steps.{RepliesWith, Reports, ShowsCounts, StepsBy, StepsLast};
 ghost use Rattle.pn_serve.specs.Machine.Modes.{bytes_of};
 
 use crate::control::commands::{WriterAnswer, WriterCommand};

@@ -4,7 +4,6 @@ ghost use Rattle.std.specs.Prelude.{◌≡◌, ◌≢◌, ◌≤◌, ◌<◌, �
 ghost use Rattle.pn_json.specs.Prelude.{IsUnless};
 ghost use Rattle.pn_tablet.specs.declared.layout.TheConstants.{MAX_BOUNDS};
 ghost use Rattle.pn_serve.specs.Copies.Reading.{AreAdded, AreRead, CopiesReaderValue, HasRead, StopsAt, StopsReading, copy_in_cut, told_in};
-ghost use Rattle.pn_serve.specs.declared.copies.fault.CopiesFault.TheVariants.{Memory as no_memory};
 
 use crate::CopiesFault;
 use crate::copies::texts::{CopyCut, CopyTexts};

@@ -2,7 +2,6 @@
 
 ghost use Rattle.std.specs.Prelude.{◌≡◌, ◌≢◌, ◌≤◌, [], map, length, slice_get, Ok, IfOk, IfErr, IsSomeAnd};
 ghost use Rattle.pn_tablet.specs.Prelude.{copy_of};
-ghost use Rattle.pn_region.specs.Relayouts.{after_relayout};
 ghost use Rattle.pn_region.specs.Serving.{AllServe};
 ghost use Rattle.pn_serve.specs.Copies.Recutting.{AreGiven, AreRecut, GivesNone, IsShortAt, StopsGiving, StopsRecut};
 ghost use Rattle.pn_serve.specs.declared.copies.fault.CopiesFault.TheVariants.{Memory as no_memory};
@@ -69,7 +68,8 @@ fn copies_of(alloc: Global, region: &Region) -> Result<Vec<TabletCopy>, CopiesFa
 fn copy_of_tablet(alloc: Global, region: &Region, tablet: usize) -> Result<TabletCopy, CopiesFault>
     requires within { tablet ≤ length region.now.state.layout }
     ensures given { IfOk result (λ copy. IsSomeAnd (slice_get region.now.state.tablets tablet) (λ state. copy_of state [] ≡ Ok copy)) }
-    ensures fault { IfErr result (λ fault. fault ≢ no_memory → IsSomeAnd (slice_get region.now.state.tablets tablet) (λ state. IsShortAt tablet (copy_of state []) fault)) }
+    ensures fault { IfErr result (λ fault. fault ≢ no_memory
+        → IsSomeAnd (slice_get region.now.state.tablets tablet) (λ state. IsShortAt tablet (copy_of state []) fault)) }
 {
     match region.copy(tablet, &Marks::new(alloc)) {
         Ok(copy) => Ok(copy),

@@ -1,6 +1,6 @@
 //! A region that is not served and starts from copies.
 
-ghost use Rattle.std.specs.Prelude.{◌≡◌, IfOk, IfErr, OnOk};
+ghost use Rattle.std.specs.Prelude.{IfOk, IfErr, OnOk};
 ghost use Rattle.pn_tablet.specs.Prelude.{Refuses};
 ghost use Rattle.pn_tablet.specs.Steps.{is_memory};
 ghost use Rattle.pn_region.specs.Events.{AllLeadTo, IsAdoption};

@@ -1,6 +1,6 @@
 //! Answers to losses and copies of tablets, and to changes of the layout.
 
-ghost use Rattle.std.specs.Prelude.{◌≡◌, length, ◌+◌};
+ghost use Rattle.std.specs.Prelude.{length, ◌+◌};
 ghost use Rattle.pn_protocol.specs.Prelude.{copy as copy_asked, lose as lose_asked, relayout as relayout_asked};
 ghost use Rattle.pn_serve.specs.Machine.Outcomes.{machine_over};
 ghost use Rattle.pn_region.specs.Relayouts.{after_relayout};

@@ -10,7 +10,8 @@ ghost use Rattle.pn_scan.specs.Prelude.{Stays};
 ghost use Rattle.pn_serve.specs.Lines.Going.{answer_left};
 ghost use Rattle.pn_serve.specs.declared.sessions.going.Going.{Going as GoingOn};
 ghost use Rattle.pn_serve.specs.Session.Knowing.{KnowsNoLess};
-ghost use Rattle.pn_serve.specs.Session.Looking.{AreNewKeys, CopyAnswer, CountsLooks, CountsStep, HasFew, IsNewPage, KeysAnswer, LooksOn, LooksTo, PageAnswer, going_left, kind_of};
+ghost use Rattle.pn_serve.specs.Session.Looking.{AreNewKeys, CopyAnswer, CountsLooks, CountsStep, HasFew, IsNewPage, KeysAnswer};
+ghost use Rattle.pn_serve.specs.Session.Looking.{LooksOn, LooksTo, PageAnswer, going_left, kind_of};
 ghost use Rattle.pn_tablet.specs.CopyCounts.{CountsOn};
 ghost use Rattle.pn_tablet.specs.CopyMaking.{CopyCountValue};
 ghost use Rattle.pn_tablet.specs.Layouts.{Bounds};
@@ -74,8 +75,10 @@ impl Going {
 
     /// Goes on for this number of units of work, or for few. Returns how many that were.
     pub(crate) fn go_on(self, alloc: Global, reader: &mut LiveReader, units: u32) -> (Answer, u32)
-        ensures alone { (was between : LiveReaderValue) (command : CommandValue) → LooksOn Stays was command between self → Stays between reader.old → LooksTo Stays was command reader.new result.0 }
-        ensures shared { (was between : LiveReaderValue) (command : CommandValue) → LooksOn KnowsNoLess was command between self → KnowsNoLess between reader.old → LooksTo KnowsNoLess was command reader.new result.0 }
+        ensures alone { (was between : LiveReaderValue) (command : CommandValue) → LooksOn Stays was command between self
+            → Stays between reader.old → LooksTo Stays was command reader.new result.0 }
+        ensures shared { (was between : LiveReaderValue) (command : CommandValue) → LooksOn KnowsNoLess was command between self
+            → KnowsNoLess between reader.old → LooksTo KnowsNoLess was command reader.new result.0 }
         ensures nearer { 0 < units → answer_left result.0 ≤ going_left self }
         ensures few { result.1 ≤ max units MAX_ANSWER_UNITS }
         ensures counted { CountsLooks result.0 self result.1 }
@@ -150,7 +153,8 @@ fn page_answer(alloc: Global, query: Query, step: Result<PageStep, ScanFault>) -
 
 // The answer of a get, once all keys are read.
 fn keys_answer(alloc: Global, walk: Result<GetWalk, ScanFault>) -> Answer
-    ensures answers { (bounds : Bounds) (trace : List (LookMade LiveReaderValue)) → IfOk walk (λ keys. IsOnGet bounds keys trace) → KeysAnswer bounds trace walk result }
+    ensures answers { (bounds : Bounds) (trace : List (LookMade LiveReaderValue)) → IfOk walk (λ keys. IsOnGet bounds keys trace)
+        → KeysAnswer bounds trace walk result }
     ensures some { IfOk walk (λ keys. (going : GoingOn) → result ≡ Answer.Going going → (going ≡ Going.Keys keys) × (keys.read < length keys.keys)) }
     ensures fault { IfErr walk (λ _. answer_left result ≡ 0) }
 {

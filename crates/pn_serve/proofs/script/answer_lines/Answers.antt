@@ -1,10 +1,10 @@
 -- A run ends as the engine for lines does.
 use Rattle.std.proofs.Common.{subst, sym, ◌∙◌}
-use Rattle.std.specs.Prelude.{Result, IsErrOf, IfErr, IfOk, OnOk, ◌≢◌, ◌≤◌}
+use Rattle.std.specs.Prelude.{Result, IfErr, IfOk, OnOk, ◌≢◌, ◌≤◌}
 use Rattle.pn_serve.specs.Lines.Waiting.{HandsOn}
 use Rattle.pn_serve.specs.declared.script.Counts.{Counts}
 use Rattle.pn_serve.specs.declared.script.RunFault.{RunFault}
-use Rattle.pn_serve.specs.declared.script.RunFault.TheVariants.{Read, Write, Memory}
+use Rattle.pn_serve.specs.declared.script.RunFault.TheVariants.{Memory}
 use Rattle.pn_serve.specs.declared.script.TheConstants.{MAX_LINES}
 use Rattle.pn_serve.proofs.Ending.{never_closed, run_begun, run_end, run_few, run_out, run_read, run_write}
 use Rattle.pn_serve.proofs.script.answer_lines.Goals as goal

@@ -1,15 +1,14 @@
 -- A run begins, ends, or is followed by another.
-use Rattle.std.proofs.Common.{refl, sym, subst, ◌∙◌}
-use Rattle.std.specs.Prelude.{IsErrOf, Result}
+use Rattle.std.proofs.Common.{sym, subst}
+use Rattle.std.specs.Prelude.{Result}
 use Rattle.pn_lines.specs.Ends.{HasEnded, start_at}
 use Rattle.pn_lines.specs.declared.driver.LinesFault.{LinesFault}
 use Rattle.pn_lines.specs.declared.engine.Counts.{Counts}
 use Rattle.pn_serve.specs.Control.Ends.{ControlEnds}
-use Rattle.pn_serve.specs.Control.Handling.{HasClosed, controls}
-use Rattle.pn_serve.specs.Lines.Waiting.{HandsOn}
+use Rattle.pn_serve.specs.Control.Handling.{controls}
 use Rattle.pn_serve.specs.declared.script.RunFault.{RunFault}
 use Rattle.pn_serve.specs.declared.script.TheConstants.{MAX_LINES}
-use Rattle.pn_serve.proofs.ControlEnds.{more_so_far, no_memory, none_so_far, session_ends, session_out, session_read, session_shut, session_write}
+use Rattle.pn_serve.proofs.ControlEnds.{more_so_far, none_so_far, session_ends, session_shut}
 use Rattle.pn_serve.proofs.Knowing.{knows_itself, knows_on}
 use Rattle.pn_serve.proofs.Lookups.{when_false, when_true}
 use Rattle.pn_serve.proofs.control.session.answer_lines.Goals as goal

@@ -1,5 +1,5 @@
 -- The input ended in what was announced, in a command, or after a newline.
-use Rattle.std.proofs.Common.{List, ℕ, [], refl, sym, ap, ◌∙◌, subst}
+use Rattle.std.proofs.Common.{refl, sym, ap, ◌∙◌, subst}
 use Rattle.pn_live.specs.Readers.{LiveReaderValue}
 use Rattle.pn_serve.specs.Control.Lines.{ControlState, after_step}
 use Rattle.pn_serve.specs.Control.Steps.{StepsLast}

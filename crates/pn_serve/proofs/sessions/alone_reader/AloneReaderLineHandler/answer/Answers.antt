@@ -1,6 +1,5 @@
 -- The line was answered by its first bytes, or there is none.
-use Rattle.std.proofs.Common.{Bool, refl, sym, subst, ◌≡◌, ◌≢◌, []}
-use Rattle.std.specs.Prelude.{MatchBool}
+use Rattle.std.proofs.Common.{refl, sym, subst}
 use Rattle.pn_lines.specs.Answers.{AnswerValue, AnswersBy}
 use Rattle.pn_scan.specs.Paging.{Stays}
 use Rattle.pn_serve.specs.Session.Alone.{alone_reads, reader_of}

@@ -1,5 +1,5 @@
 -- A page, a get and a copy that are resumed.
-use Rattle.std.proofs.Common.{◌≤◌, ◌*◌, refl, sym, subst, arith}
+use Rattle.std.proofs.Common.{◌≤◌, sym, subst, arith}
 use Rattle.pn_scan.specs.Paging.{Stays}
 use Rattle.pn_serve.specs.declared.sessions.going.Going.{Going}
 use Rattle.pn_serve.specs.Lines.Going.{answer_left}
