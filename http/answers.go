@@ -114,10 +114,7 @@ func faulty(status int, what, where, why string) error {
 
 func bad(where, why string) error { return faulty(http.StatusBadRequest, "bad-request", where, why) }
 
-func is[E error](err error) bool {
-	var found E
-	return errors.As(err, &found)
-}
+func is[E error](err error) bool { return errors.As(err, new(E)) }
 
 func isAny[E, F error](err error) bool { return is[E](err) || is[F](err) }
 

@@ -177,17 +177,19 @@ func (a *answer) readQuery(known []string) (err error) {
 	return nil
 }
 
-// enter waits a second for a place, and gives what leaves it again.
+// enter takes a place, for which it waits a second where none is free, and gives what leaves it again.
 func (a *answer) enter(among string) (leave func(), err error) {
 	places := a.places[among]
-	ctx, stop := context.WithTimeout(a.ctx, time.Second)
-	defer stop()
 	select {
 	case places <- struct{}{}:
-		return func() { <-places }, nil
-	case <-ctx.Done():
-		return nil, faulty(http.StatusServiceUnavailable, "busy", among, fmt.Sprintf("%d are answered already", cap(places)))
+	default:
+		select {
+		case places <- struct{}{}:
+		case <-time.After(time.Second):
+			err = faulty(http.StatusServiceUnavailable, "busy", among, fmt.Sprintf("%d are answered already", cap(places)))
+		}
 	}
+	return func() { <-places }, err
 }
 
 // Tokens are what clients show, by their digests, each with its rights.

@@ -22,7 +22,7 @@ import (
 	"time"
 )
 
-const version = "0.2.0"
+const version = "0.3.0"
 
 // lastTime is how long what was asked is still answered once it is told to stop.
 const lastTime = 10 * time.Second

@@ -1,6 +1,7 @@
 package main
 
 import (
+	"context"
 	"fmt"
 	"net/http"
 	"net/url"
@@ -194,4 +195,16 @@ func TestPlaces(t *testing.T) {
 	time.AfterFunc(100*time.Millisecond, func() { <-front.places["pages"] })
 	answer, _ = asked(t, "GET", base+"/records", "")
 	same(t, "where one is left", answer.StatusCode, http.StatusOK)
+}
+
+// A place that is free is given, however late: a machine that is busy may hold up anybody for longer than a second.
+func TestPlacesOfThoseWhoAreLate(t *testing.T) {
+	over, end := context.WithCancel(background)
+	end()
+	late := &answer{front: &front{places: map[string]chan struct{}{"copies": make(chan struct{}, 1)}}, ctx: over}
+	for tries := 0; tries < 100; tries++ {
+		leave, err := late.enter("copies")
+		must(t, err)
+		leave()
+	}
 }

@@ -1,67 +1,114 @@
-"""Runs the parts of a check, and says of each how long it took and how it ended."""
-import concurrent.futures
+"""The parts of the checks: programs, and modules that pytest tries, with what each may be told."""
+import argparse
+import ast
+import configparser
+import importlib.util
 import os
-import subprocess
-import time
-from collections.abc import Iterable
-from typing import NamedTuple
+import re
+import sys
+from collections.abc import Iterable, Sequence
+from pathlib import Path
 
-from common.crates import TOP
+from common.options import OPTIONS, PROGRAMS, program_at
 
+CHECKS = Path(__file__).resolve().parent.parent
+SETTINGS = CHECKS / "pytest.ini"
+# What runs a part by its name.
+RUN = CHECKS / "run"
+# How a module says which part it is of.
+NAMED = re.compile(r"checks/run ([a-z][a-z-]*)")
+CHECK = "\ndef check_"
+MAIN = "\ndef main(words: list[str]) -> int:\n"
 PROCESSORS = len(os.sched_getaffinity(0))
-# What runs a part of the checks by its name.
-RUN = TOP / "checks" / "run"
-# The status of a part that misses what it needs, of those that have such a status.
-MISSING = 2
 
 
-class Part(NamedTuple):
-    """A command; whether it runs alone, as it takes all processors or measures; and whether it ends with MISSING."""
-
-    name: str
-    command: list[str]
-    is_alone: bool = True
-    may_miss: bool = False
-
-    def run(self) -> "End":
-        """Runs it, and shows what it writes: line by line where it is alone, and else at its end."""
-        start, lines = time.monotonic(), list[str]()
-        command, pipe = self.command, subprocess.PIPE
-        with subprocess.Popen(command, text=True, errors="replace", stdin=subprocess.DEVNULL, stdout=pipe, stderr=subprocess.STDOUT) as process:
-            for line in process.stdout or ():
-                lines.append(line)
-                if self.is_alone:
-                    print(line, end="", flush=True)
-        is_missing = self.may_miss and process.returncode == MISSING
-        is_skipped = is_missing or any("skipped" in line for line in lines)
-        is_right = is_missing or process.returncode == 0
-        said = next((line.strip() for line in reversed(lines) if "WRONG" in line), lines[-1].strip() if lines else "nothing was written")
-        end = End(self.name, time.monotonic() - start, is_right, is_skipped, process.returncode, said)
-        print(*([] if self.is_alone else lines), f"== {end}\n", sep="", flush=True)
-        return end
+def told(text: str) -> str:
+    """What a module says of itself."""
+    return ast.get_docstring(ast.parse(text)) or ""
 
 
-class End(NamedTuple):
-    """How a part ended."""
-
-    name: str
-    seconds: float
-    is_right: bool
-    is_skipped: bool
-    status: int
-    # What it wrote of the last that is wrong, or else last.
-    said: str
-
-    def __str__(self) -> str:
-        result = f"WRONG, status {self.status}: {self.said}" if not self.is_right else "as it should be"
-        return f"{self.name:<16} {self.seconds:5.0f} s  {result}{', where it was not skipped' if self.is_skipped else ''}"
+def texts(mark: str) -> dict[Path, str]:
+    """The modules that have a text, each with its own."""
+    found = ((path, path.read_text(encoding="utf-8")) for path in sorted(CHECKS.glob("*/*.py")))
+    return {path: text for path, text in found if mark in text}
 
 
-def run_parts(parts: Iterable[Part], only: list[str]) -> int:
-    """Runs the parts of these names, or all: first those that share the processors, then each other one. The status of all."""
-    start, chosen = time.monotonic(), [part for part in parts if not only or part.name in only]
-    with concurrent.futures.ThreadPoolExecutor(PROCESSORS) as pool:
-        ends = list(pool.map(Part.run, [part for part in chosen if not part.is_alone]))
-    ends += [part.run() for part in chosen if part.is_alone]
-    print(*ends, f"{len(ends)} parts in {time.monotonic() - start:.0f} s", sep="\n")
-    return 0 if ends and all(end.is_right for end in ends) else 1
+def programs() -> dict[str, Path]:
+    """The modules that are parts of their own: those with a `main` of its words."""
+    return {path.stem.replace("_", "-"): path for path in texts(MAIN)}
+
+
+def modules() -> dict[str, list[Path]]:
+    """The modules with checks, by the parts that they are of."""
+    found: dict[str, list[Path]] = {}
+    for path, text in texts(CHECK).items():
+        if MAIN not in text and (named := NAMED.search(told(text))):
+            found.setdefault(named[1], []).append(path)
+    return found
+
+
+def abouts() -> dict[str, tuple[str, str]]:
+    """The folder of each part, and what it tries: as the module of its name says first, or as the settings of pytest do."""
+    settings = configparser.ConfigParser()
+    settings.read(SETTINGS, encoding="utf-8")
+    lines = (line.partition(": ") for line in settings["pytest"]["markers"].strip().splitlines())
+    marks = {name: about for name, _, about in lines}
+    found = dict[str, tuple[str, str]]()
+    for name, paths in [*((name, [path]) for name, path in programs().items()), *modules().items()]:
+        own = [it for it in paths if it.stem.replace("_", "-") == name]
+        about = told(own[0].read_text(encoding="utf-8")).partition("\n\n")[0] if own else marks[name]
+        found[name] = (paths[-1].parent.name, " ".join(about.split()))
+    return found
+
+
+def functions(path: Path) -> list[ast.FunctionDef]:
+    """The checks and fixtures of a module."""
+    return [it for it in ast.parse(path.read_text(encoding="utf-8")).body
+            if isinstance(it, ast.FunctionDef) and (it.name.startswith("check_") or "fixture" in " ".join(map(ast.unparse, it.decorator_list)))]
+
+
+def parser_of(part: str, paths: Iterable[Path]) -> argparse.ArgumentParser:
+    """The words of a part: the programs and options that its checks use, and the names of checks."""
+    found = [it for path in paths for it in functions(path)]
+    used = {it.arg for function in found for it in function.args.args}
+    checks = (f"  {it.name[6:]}: {' '.join((ast.get_docstring(it) or '').split())}" for it in found if it.name.startswith("check_"))
+    parser = argparse.ArgumentParser(f"run {part}", description=abouts()[part][1], epilog="\n".join(["checks:", *checks]),
+                                     formatter_class=argparse.RawDescriptionHelpFormatter)
+    for name in (it for it in PROGRAMS if it in used):
+        parser.add_argument(name, metavar=name.upper(), type=program_at, help=PROGRAMS[name])
+    parser.add_argument("names", metavar="CHECK", nargs="*", help="checks, or words of their cases' names; all without any")
+    for name in (it for it in OPTIONS if it in used):
+        parser.add_argument(f"--{name}", **OPTIONS[name])
+    return parser
+
+
+def run(part: str, words: list[str]) -> int:
+    """Has pytest try a part. The status."""
+    own = words.index("--") if "--" in words else len(words)
+    given = vars(parser_of(part, modules()[part]).parse_intermixed_args(words[:own]))
+    names = given.pop("names")
+    told = ((name, each) for name, value in given.items() for each in (value if isinstance(value, list) else [value]))
+    options = [f"--{name}" if value is True else f"--{name}={value}" for name, value in told if value not in (None, False)]
+    return tried([part], [*options, *words[own + 1 :]], names)
+
+
+def chosen(parts: Sequence[str], names: Sequence[str]) -> list[str]:
+    """What pytest is told to try of parts: all, or the checks of these names, and of those the cases with these words."""
+    found = modules()
+    paths = list(dict.fromkeys(path for part in parts for path in found[part]))
+    checks = {it.name[6:]: f"{path}::{it.name}" for path in paths for it in functions(path)}
+    cases = [it for it in names if it not in checks]
+    nodes = [checks[it] for it in names if it in checks] or [str(it) for it in paths]
+    return [*nodes, *(["-k", " or ".join(cases)] if cases else [])]
+
+
+def tried(parts: Sequence[str], words: Sequence[str], names: Sequence[str] = (), at_once: bool = False) -> int:
+    """Has pytest try parts, and several checks at once where it may and can. The status."""
+    try:
+        import pytest
+    except ImportError:
+        print("checks/run: Debian's python3-pytest is missing", file=sys.stderr)
+        return 1
+    os.environ["PYTHONDONTWRITEBYTECODE"] = "1"
+    several = ["-n", str(PROCESSORS)] if at_once and importlib.util.find_spec("xdist") else []
+    return int(pytest.main(["-c", str(SETTINGS), "--rootdir", str(CHECKS), *several, *words, *chosen(parts, names)]))

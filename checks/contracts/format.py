@@ -1,15 +1,13 @@
 """Looks whether the sources, definitions and proofs of all crates are formatted as `rt fmt` formats them.
 
   checks/run format
-
-Exit status 0 where nothing is to be changed, 1 where something is: `rt fmt` in the folder of the crate that is named.
 """
 import subprocess
 from collections.abc import Iterator
 from pathlib import Path
 
 from common.crates import TOP, kit
-from common.tried import parser_of
+from common.tried import none_of
 
 FOLDERS = ("src", "specs", "proofs")
 SUFFIXES = (".rt", ".antt")
@@ -27,11 +25,8 @@ def is_formatted(crate: Path) -> bool:
     return ran.returncode == 0
 
 
-def main(words: list[str]) -> int:
-    parser_of(__doc__).parse_args(words)
+def check_format() -> None:
+    """Nothing would be changed."""
     crates = sorted(path.parent for path in (TOP / "crates").glob("*/src"))
-    wrong = [crate.name for crate in crates if not is_formatted(crate)]
-    for name in wrong:
-        print(f"format: WRONG: crates/{name}: run rt fmt there")
-    print(f"format: {len(crates) - len(wrong)} of {len(crates)} crates are formatted")
-    return 1 if wrong else 0
+    none_of(f"crates/{crate.name}: run rt fmt there" for crate in crates if not is_formatted(crate))
+    print(f"{len(crates)} crates")

@@ -1,16 +1,16 @@
 """Tries how the functions of sources are told apart by the names that a check gives them.
 
-  checks/run naming [LOG ..]
+  checks/run naming [--log LOG]...
 
 LOG is what a check said, or the gate. Each function that it names and that stands in a source has to be one function there. (Laws,
 and what std or a macro writes, stand in none.)
-
-Exit status 0 where each name is of the function that has it, and of no other; 1 where not.
 """
 import re
-import unittest
 
-from common.tried import parser_of
+import pytest
+
+from common.served import same
+from common.tried import none_of
 from contracts.locations import FUNCTION, SIGNATURE_END, Location, is_at, location_at, owner_of, source, sources_of
 
 # The heads of impls, each after its word `impl`, and how a check names what they have.
@@ -50,23 +50,16 @@ OWN = (
 )
 
 
-class Names(unittest.TestCase):
-    """What names say of functions."""
+@pytest.mark.parametrize(("head", "word"), HEADS.items())
+def check_heads_of_impls(head: str, word: str) -> None:
+    """The head of an impl has the word that a check names it by."""
+    same("its word", owner_of(head)[0], word)
 
-    def test_heads_of_impls(self) -> None:
-        for head, word in HEADS.items():
-            with self.subTest(head):
-                self.assertEqual(owner_of(head)[0], word)
 
-    def test_own_names(self) -> None:
-        for location, name in OWN:
-            with self.subTest(name):
-                self.assertTrue(is_at(name, location))
-
-    def test_names_of_others(self) -> None:
-        for location, name in OTHERS:
-            with self.subTest(name):
-                self.assertFalse(is_at(name, location))
+@pytest.mark.parametrize(("at", "name", "is_own"), [*((*it, True) for it in OWN), *((*it, False) for it in OTHERS)])
+def check_names(at: Location, name: str, is_own: bool) -> None:
+    """A name is of the function that has it, and of no other."""
+    same("whether it is of the function", is_at(name, at), is_own)
 
 
 def functions_of(crate: str) -> set[Location]:
@@ -98,12 +91,8 @@ def faults_in(log: str) -> list[str]:
     return faults
 
 
-def main(words: list[str]) -> int:
-    parser = parser_of(__doc__)
-    parser.add_argument("logs", nargs="*", metavar="LOG", help="what a check said of all functions of its crates")
-    given = parser.parse_args(words)
-    tried = unittest.TextTestRunner().run(unittest.defaultTestLoader.loadTestsFromTestCase(Names))
-    faults = [fault for log in given.logs for fault in faults_in(log)]
-    for fault in faults:
-        print(fault)
-    return 0 if tried.wasSuccessful() and not faults else 1
+def check_logs(log: list[str] | None) -> None:
+    """Each name of a log is of one function, and each function of the sources has one."""
+    if not log:
+        pytest.skip("no log is told")
+    none_of(fault for each in log for fault in faults_in(each))

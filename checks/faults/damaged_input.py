@@ -6,12 +6,10 @@ program (checks/replies/slow.py).
 Of the checks only those are tried whose names have the text.
 
 - Worked copies, cut at every proper prefix, are truncated; with each byte in turn replaced by `x`, a newline or 0xff, or left
-  out, they are read as docs/formats.md says, and the next commands are answered.
+  out, they are read as docs/lines.md says, and the next commands are answered.
 - Scripts are cut at every byte; what is left without its newline is a line.
 - Commands and lines of a copy have 65,536 bytes, and one more.
 - The replies go to outputs that break at every byte: just those before it are written, and the end is status 1 with its line.
-
-Exit status 0 where each reply and each end is as it should be.
 """
 import functools
 import os
@@ -20,7 +18,7 @@ import subprocess
 from collections.abc import Iterator
 
 from common.served import piped
-from common.tried import Case, Cases, damaged, prefixes, try_cases
+from common.tried import Case, Cases, damaged, prefixes, try_group
 from replies.slow import slow_replies
 from replies.stored import stored
 
@@ -141,5 +139,6 @@ def cases(program: str, folder: str) -> Iterator[Cases]:
     yield "a full output", lambda _: full_fault(program), [("full", b"")]
 
 
-def main(words: list[str]) -> int:
-    return try_cases(__doc__, words, cases, "cases, as they should be")
+def check_damaged_input(program: str, folder: str, group: str) -> None:
+    """Each reply and each end is as it should be."""
+    try_group(cases(program, folder), group)

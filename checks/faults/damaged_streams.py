@@ -6,8 +6,6 @@
 Of the checks only those are tried whose names have the text. A stream of five messages is cut at every byte, and each byte in
 turn is replaced by `x`, a newline or 0xff, or left out. Its messages up to the first fault are served, and where there is one,
 the end is status 1 with its line. A session answers 1,000,000 lines, and no line more.
-
-Exit status 0 where each is as it should be.
 """
 import os
 import threading
@@ -15,7 +13,7 @@ import time
 from collections.abc import Iterator
 
 from common.served import Client, Served, message, written
-from common.tried import Case, Cases, damaged, prefixes, try_cases
+from common.tried import Case, Cases, damaged, prefixes, try_group
 from replies.slow_lines import Json
 from replies.slow_streams import copy_of, read_stream
 
@@ -117,5 +115,6 @@ def cases(program: str, folder: str) -> Iterator[Cases]:
     yield "lines of a session", answered, ((f"{count} lines", b"%d" % count) for count in counts)
 
 
-def main(words: list[str]) -> int:
-    return try_cases(__doc__, words, cases, "cases, as they should be")
+def check_damaged_streams(program: str, folder: str, group: str) -> None:
+    """What is served, and each end, is as it should be."""
+    try_group(cases(program, folder), group)

@@ -8,8 +8,6 @@ Of the checks only those are tried whose names have the text. Each call takes a 
 - Where a write fails, just the bytes before it are written, and the end is status 1 with `pnuts: write`.
 - Where a session's socket fails, its replies are those, and the end is status 0 with `served 1`.
 - Where it fails once, its connection ends: no second session answers what the client sends on.
-
-Exit status 0 where that holds for every k.
 """
 import contextlib
 import functools
@@ -18,7 +16,7 @@ import subprocess
 from collections.abc import Callable, Iterator
 
 from common.served import Client, Served, message, written
-from common.tried import Cases, try_cases
+from common.tried import Cases, try_group
 from faults.failing import environment, failing_library
 from replies.slow import slow_replies
 from replies.stored import stored
@@ -139,7 +137,8 @@ def calls(name: str, find_fault: FaultOfCall, count: int, size: int) -> Cases:
 
 
 def cases(program: str, folder: str) -> Iterator[Cases]:
-    library, replies, session = failing_library(folder), len(slow_replies(SCRIPT, [])), sum(map(len, REPLIES))
+    library = failing_library(folder) if folder else ""
+    replies, session = len(slow_replies(SCRIPT, [])), sum(map(len, REPLIES))
     for size in (1, 7, 100):
         yield calls("reads", lambda at, size: read_fault(program, library, at, size), len(SCRIPT) // size, size)
         yield calls("writes", lambda at, size: write_fault(program, library, at, size), replies // size, size)
@@ -152,5 +151,6 @@ def cases(program: str, folder: str) -> Iterator[Cases]:
         yield calls("single sends", lambda at, size: second_session_fault(program, library, folder, at, size), sends, size)
 
 
-def main(words: list[str]) -> int:
-    return try_cases(__doc__, words, cases, "calls failed in turn, as they should")
+def check_failing_calls(program: str, folder: str, group: str) -> None:
+    """Each call fails in turn, and the replies and the end are as they should be."""
+    try_group(cases(program, folder), group)

@@ -7,19 +7,15 @@ limits of the address space (as `prlimit --as` sets them), from one in which the
 keys. Then four streams are served under such limits, while four clients ask. Every reply is right or `memory`: a record that was
 taken is shown, and a refused delivery may have been taken in part; once a client was shown a record, no later reply lacks it.
 The program ends by a status and a line that the documents have, never by a signal.
-
-Exit status 0 where that holds.
 """
 import json
 import resource
 import subprocess
-import tempfile
 import threading
 import time
 from collections.abc import Callable, Iterator
 
 from common.served import Client, Served, same, written
-from common.tried import program_parser
 
 MEGABYTE = 1 << 20
 LIMITS = [8, 16, 32, 64, 128, 256]
@@ -27,6 +23,7 @@ PAGE_LIMIT, PAGE_ROWS, PAGE = 32, 1_000, b'{"do":"scan","query":{"limit":1000}}'
 SERVED_LIMITS = [32, 64, 96, 128, 160, 256, 512]
 BOUNDS = ["--bounds", '["k0250000","k0500000","k0750000"]']
 NAMES = ["east", "north", "south", "west"]
+KEYS = 1_000_000
 # How many images a line of a script has, and how many keys apart they are, so that each tablet takes its part of each line.
 IMAGES = 600
 MEMORY = b'{"error":"memory"}'
@@ -93,7 +90,7 @@ def replies_fault(lines: list[tuple[bytes, list[int]]], replies: list[bytes]) ->
     return next(filter(None, (reply_fault(*line, reply, taken) for line, reply in zip(lines, replies))), None)
 
 
-def check_replay(program: str, script: str, lines: list[tuple[bytes, list[int]]], megabytes: int) -> None:
+def try_replay(program: str, script: str, lines: list[tuple[bytes, list[int]]], megabytes: int) -> None:
     """One script under one limit."""
     with open(script, "rb") as file:
         ended = subprocess.run([program, "replay", *BOUNDS], stdin=file, capture_output=True, timeout=SECONDS,
@@ -109,7 +106,7 @@ def check_replay(program: str, script: str, lines: list[tuple[bytes, list[int]]]
         print(f"replay in {megabytes} MB: {replies.count(MEMORY)} of {len(replies)} replies are `memory`", flush=True)
 
 
-def check_page(program: str, folder: str) -> None:
+def try_page(program: str, folder: str) -> None:
     """A page of a thousand records takes little beside what it holds: under a limit of some hundred times its size it is whole."""
     deliveries = [line for line, _ in lines_of(PAGE_ROWS) if line.startswith(b'{"batches"')]
     script = written(folder, "page", b"".join(line + b"\n" for line in [*deliveries, PAGE]))
@@ -160,7 +157,7 @@ def messages(keys: range) -> bytes:
     return b"".join(f'{{"at":{at},"image":{image_of(number)}}}\n'.encode() for at, number in enumerate(keys, 1))
 
 
-def check_serve(program: str, streams: list[tuple[str, str]], keys: int, megabytes: int) -> None:
+def try_serve(program: str, streams: list[tuple[str, str]], keys: int, megabytes: int) -> None:
     """Four streams and four clients under one limit."""
     with Served(program, streams, 4, [*BOUNDS, "--workers", "4"], before=limited(megabytes)) as served:
         clients = [Asking(served.port, keys) for _ in range(4)] if served.first else []
@@ -178,18 +175,15 @@ def check_serve(program: str, streams: list[tuple[str, str]], keys: int, megabyt
     print(f"{end}; {rows} rows shown, {refused} replies are `memory`", flush=True)
 
 
-def main(words: list[str]) -> int:
-    parser = program_parser(__doc__)
-    parser.add_argument("--keys", type=int, default=1_000_000, help="how many (default: %(default)s)")
-    told = parser.parse_args(words)
-    program, lines = told.program, list(lines_of(told.keys))
-    with tempfile.TemporaryDirectory() as folder:
-        script = written(folder, "script", b"".join(line + b"\n" for line, _ in lines))
-        check_page(program, folder)
-        for megabytes in LIMITS:
-            check_replay(program, script, lines, megabytes)
-        parts = [range(at, told.keys, len(NAMES)) for at in range(len(NAMES))]
-        streams = [(name, written(folder, name, messages(part))) for name, part in zip(NAMES, parts)]
-        for megabytes in SERVED_LIMITS:
-            check_serve(program, streams, told.keys, megabytes)
-    return 0
+def check_limits_of_memory(program: str, folder: str, cases: int | None) -> None:
+    """A page, a script and four streams under limits: each reply is right or `memory`, and the end is a known one."""
+    keys = cases or KEYS
+    lines = list(lines_of(keys))
+    script = written(folder, "script", b"".join(line + b"\n" for line, _ in lines))
+    try_page(program, folder)
+    for megabytes in LIMITS:
+        try_replay(program, script, lines, megabytes)
+    parts = [range(at, keys, len(NAMES)) for at in range(len(NAMES))]
+    streams = [(name, written(folder, name, messages(part))) for name, part in zip(NAMES, parts)]
+    for megabytes in SERVED_LIMITS:
+        try_serve(program, streams, keys, megabytes)

@@ -14,17 +14,14 @@ Some scripts are also sent in one input, each command twice; in one a refused ro
 changed; and in others all allocations are refused from one on, so that commands do not come again. Rounds as wide as a line
 allows, where threads are started, have each allocation refused from the start of a thread on. A case of live regions, and one of a
 connection that keeps input, end well whichever allocation is refused, unless the line that asks for it cannot be read or answered.
-
-Exit status 0 where that holds for each allocation.
 """
 import functools
-import os
 import subprocess
 import tempfile
-import time
-from collections.abc import Iterator
+from collections.abc import Callable, Iterator
 
-from common.tried import program_parser
+import pytest
+
 from faults.refused_talks import SECONDS, Script
 from faults.refusing import FOR_GOOD, IN_THREADS, ONE, FindFault, Refusals
 from replies.stored import Stored, stored, stored_scripts
@@ -61,41 +58,41 @@ def talks() -> Iterator[Stored]:
             yield script._replace(workers=workers)
 
 
-# By name, what is to go well whichever allocation is refused, and which allocations are.
-Case = tuple[str, FindFault, dict[str, str]]
+# By name, what makes what is to go well whichever allocation is refused, and which allocations are.
+Case = tuple[str, Callable[[], FindFault], dict[str, str]]
+
+
+def fault_of_case(live: str, line: bytes, answer: bytes) -> FindFault:
+    return functools.partial(case_fault, live, line, answer)
+
+
+def fault_of_talk(program: str, script: Stored, is_repeated: bool) -> FindFault:
+    return functools.partial(Script(program, script).fault, is_repeated=is_repeated)
 
 
 def cases(program: str, live: str) -> Iterator[Case]:
-    for stored_script in talks():
-        script = Script(program, stored_script)
-        name = f"{stored_script.name.partition('-with-')[0]} by {stored_script.workers}"
-        yield name, functools.partial(script.fault, is_repeated=True), ONE
+    for script in talks():
+        name = f"{script.name.partition('-with-')[0]} by {script.workers}"
+        yield name, functools.partial(fault_of_talk, program, script, True), ONE
     for workers in WORKERS[1:]:
-        script = Script(program, wide_rounds(workers))
-        yield f"wide rounds by {workers}", functools.partial(script.fault, is_repeated=True), IN_THREADS
+        yield f"wide rounds by {workers}", functools.partial(fault_of_talk, program, wide_rounds(workers), True), IN_THREADS
     for name in SENT_TWICE:
-        yield f"{name}, each command twice", Script(program, stored(name)).fault_of_twice, ONE
+        yield f"{name}, each command twice", lambda: Script(program, stored(name)).fault_of_twice, ONE
     for name in SENT_ONCE:
-        script = Script(program, stored(name))
-        yield f"{name}, each command once", functools.partial(script.fault, is_repeated=False), ONE
+        yield f"{name}, each command once", functools.partial(fault_of_talk, program, stored(name), False), ONE
     for name in SENT_FOR_GOOD:
-        script = Script(program, stored(name))
-        yield f"{name}, for good", functools.partial(script.fault, is_repeated=False), FOR_GOOD
+        yield f"{name}, for good", functools.partial(fault_of_talk, program, stored(name), False), FOR_GOOD
     for name, (line, answer) in ENDS_WELL.items():
-        yield name, functools.partial(case_fault, live, line, answer), ONE
+        yield name, functools.partial(fault_of_case, live, line, answer), ONE
 
 
-def main(words: list[str]) -> int:
-    parser = program_parser(__doc__)
-    parser.add_argument("live")
-    parser.add_argument("--only", default="")
-    told = parser.parse_args(words)
-    total, start = 0, time.monotonic()
+@pytest.fixture(scope="module")
+def refusals() -> Iterator[Refusals]:
     with tempfile.TemporaryDirectory() as folder:
-        refusals = Refusals(folder)
-        for name, find_fault, which in cases(told.program, os.path.abspath(told.live)):
-            if told.only in name:
-                total += (count := refusals.count(name, find_fault, which))
-                print(f"{name}: {count} allocations refused in turn, and each time the replies were right", flush=True)
-    print(f"out of memory: {total} allocations refused, in {time.monotonic() - start:.0f} seconds")
-    return 0
+        yield Refusals(folder)
+
+
+def check_out_of_memory(program: str, live: str, refusals: Refusals, group: str) -> None:
+    """Each allocation is refused in turn, and each time the replies are right."""
+    make, which = next((make, which) for name, make, which in cases(program, live) if name == group)
+    print(f"{refusals.count(group, make(), which)} allocations refused")

@@ -164,8 +164,4 @@ def said_fault(said: bytes, known: tuple[bytes, ...]) -> str | None:
 
 def check_refused_allocations(program: str, folder: str) -> None:
     """Each allocation is refused in turn: each line has its reply, `memory` where it was refused, and asked again all goes well."""
-    try:
-        count = Refusals(folder).count("control", lambda given: run_fault(program, folder, given))
-    except SystemExit as fault:
-        raise AssertionError(str(fault)) from fault
-    print(f"    {count} allocations refused")
+    print(f"{Refusals(folder).count('control', lambda given: run_fault(program, folder, given))} allocations refused")

@@ -117,10 +117,7 @@ class Checked:
 def check_refused_allocations(program: str, folder: str) -> None:
     """Each allocation is refused in turn: the end is one of the lines that speak of memory, and each of them comes."""
     refusals, small, large = Refusals(folder), Checked(program, folder, SMALL), Checked(program, folder, LARGE)
-    try:
-        counts = [refusals.count("serve", checked.fault) for checked in (small, large)]
-    except SystemExit as fault:
-        raise AssertionError(str(fault)) from fault
+    counts = [refusals.count("serve", checked.fault) for checked in (small, large)]
     met = {f"{path.name}\n".encode() for checked in (small, large) for path in checked.met.iterdir()}
     same("the lines that did not come", LINES - met, set())
     print(f"{counts[0]} and {counts[1]} allocations refused, ", end="")

@@ -80,7 +80,7 @@ class Script:
             replies, state = self.states.after(state, step)
             self.due.append(replies)
         if sum(self.due[: -len(CLOSING)], []) != [reply.decode() for reply in script.replies]:
-            raise SystemExit(f"{script.name}: the slow program answers otherwise")
+            raise AssertionError(f"{script.name}: the slow program answers otherwise")
 
     def are_refusals(self, lines: Command, replies: list[str]) -> bool:
         """Whether these are replies to lines that became commands, or none where the lines were passed over."""

@@ -106,10 +106,10 @@ class Refusals:
         count, last = 0, 0
         for number, (fault, is_met) in enumerate(at_once(lambda each: self.attempt(each, find_fault, which), itertools.count(1)), 1):
             if fault is not None:
-                raise SystemExit(f"{name}: allocation {number} refused: {fault}")
+                raise AssertionError(f"{name}: allocation {number} refused: {fault}")
             count, last = count + is_met, number if is_met else last
             if number - last == NOT_THERE:
                 break
         if not count:
-            raise SystemExit(f"{name}: no allocation was refused")
+            raise AssertionError(f"{name}: no allocation was refused")
         return count

@@ -5,23 +5,19 @@
 Two streams are read while a client and a control session ask. The address space is limited (as `prlimit --as` does) until a round
 waits for memory, and the marks stand still; both who ask are answered meanwhile. Then the limit is lifted, and both streams are
 taken to their ends. As often as it is said that a round waits, it is said that rounds go on.
-
-Exit status 0 where that holds.
 """
 import json
 import os
 import pathlib
 import resource
-import tempfile
 import threading
 import time
 
 from common.served import SECONDS, Client, Json, same
-from common.tried import program_parser
 from serving.controlled import Session
 from serving.staying import Staying, until
 
-NAMES = ["east", "west"]
+NAMES, KEYS = ["east", "west"], 200_000
 WAITS, GOES_ON = b"pnuts: out of memory: a round waits\n", b"pnuts: rounds go on\n"
 # How much more than what it has when streams begin it may take, which is less than they need.
 MORE = 24 << 20
@@ -66,7 +62,9 @@ def still(asking: Session, client: Client) -> Json:
     return marks
 
 
-def check(program: str, folder: str, keys: int) -> None:
+def check_waiting_rounds(program: str, folder: str, cases: int | None) -> None:
+    """A round waits for memory, sessions are answered meanwhile, and rounds go on once there is some."""
+    keys = cases or KEYS
     streams = [(name, os.path.join(folder, name)) for name in NAMES]
     for _, path in streams:
         os.mkfifo(path)
@@ -87,12 +85,3 @@ def check(program: str, folder: str, keys: int) -> None:
         same("keys that are not there", lost, [])
         until("that rounds go on", lambda: server.said().count(WAITS) == server.said().count(GOES_ON))
         print(f"a round waited at {json.dumps(marks)}, and rounds went on to {keys} messages of each stream", flush=True)
-
-
-def main(words: list[str]) -> int:
-    parser = program_parser(__doc__)
-    parser.add_argument("--keys", type=int, default=200_000, help="how many of each stream (default: %(default)s)")
-    told = parser.parse_args(words)
-    with tempfile.TemporaryDirectory() as folder:
-        check(told.program, folder, told.keys)
-    return 0

@@ -7,30 +7,28 @@ The program has to answer `not-json` to just those that bench/plain, which is bu
 are read that have 17 digits or more, or an exponent of three, is not fixed, and changes from one `serde_json` to the next: lines
 with such a number may be read otherwise, and are counted. Needs cargo and Debian's librust-serde-json-dev; where these are
 missing nothing is compared.
-
-Exit status 0 where both agree on each other line, or where nothing was compared.
 """
 import glob
 import os
 import pathlib
 import random
 import re
-import shutil
 import subprocess
-import tempfile
-import time
 from collections.abc import Iterator
 from typing import IO
 
 from common.crates import TOP
-from common.tried import program_parser
+from common.needs import needs
+from common.tried import none_of
 from replies.stored import stored_scripts
 
-PLAIN = TOP / "out/plain/release/plain"
 REGISTRY = "/usr/share/cargo/registry/serde_json-*"
+pytestmark = needs("cargo", also=() if glob.glob(REGISTRY) else ("librust-serde-json-dev",))
+
+PLAIN = TOP / "out/plain/release/plain"
 NOT_JSON, COPY = b'{"error":"not-json"}\n', b'{"lines":'
 # A script has at most 1,000,000 lines.
-MANY, MOST_BYTES, DEEPEST = 1_000_000, 4_096, 140
+CASES, MOST_BYTES, DEEPEST = 100_000, 4_096, 140
 # A line with this word may announce lines.
 ADOPT = b"adopt"
 EDGE = re.compile(rb"[0-9]{17}|[eE][-+]?[0-9]{3}")
@@ -141,22 +139,12 @@ def compare(program: str, script: IO[bytes], folder: str) -> tuple[int, list[tup
     return refused, different
 
 
-def main(words: list[str]) -> int:
-    parser = program_parser(__doc__)
-    parser.add_argument("--lines", type=int, default=MANY, help="how many (default: %(default)s)")
-    parser.add_argument("--seed", type=int, default=1)
-    told = parser.parse_args(words)
-    if not shutil.which("cargo") or not glob.glob(REGISTRY):
-        print("json-lines: skipped, for cargo or librust-serde-json-dev is missing")
-        return 0
+def check_json_lines(program: str, folder: str, cases: int | None, seed: int) -> None:
+    """Both read the same lines, but for numbers at the edges."""
     subprocess.run(["cargo", "build", "--offline", "--release", "--quiet"], cwd=TOP / "bench/plain", check=True)
-    start, rng = time.monotonic(), random.Random(told.seed)
-    with tempfile.TemporaryDirectory() as folder, tempfile.TemporaryFile() as script:
-        write_lines(rng, told.lines, script)
-        refused, different = compare(told.program, script, folder)
+    with open(os.path.join(folder, "script"), "w+b") as script:
+        write_lines(random.Random(seed), cases or CASES, script)
+        refused, different = compare(program, script, folder)
     wrong = [each for each in different if not EDGE.search(each[0])]
-    for line, our, their in wrong[:10]:
-        print(f"{line!r}: {our!r}, and serde_json {their!r}")
-    print(f"json-lines: {told.lines} lines, {refused} of them no JSON, {len(wrong)} read otherwise than by serde_json, and "
-          f"{len(different) - len(wrong)} with numbers at the edges, in {time.monotonic() - start:.0f} seconds")
-    return 1 if wrong else 0
+    print(f"{cases or CASES} lines from seed {seed}, {refused} of them no JSON, and {len(different) - len(wrong)} with numbers at the edges read otherwise")
+    none_of(f"{line!r}: {our!r}, and serde_json {their!r}" for line, our, their in wrong[:10])

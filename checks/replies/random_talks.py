@@ -1,7 +1,7 @@
 """Random talks with regions: one that loses tablets, one that it takes copies from, and one that takes the same images anew."""
 import json
 import random
-from collections.abc import Callable
+from collections.abc import Callable, Iterable
 
 from replies.random_values import (BATCH, KEYS, MANY_KEYS, NO_BOUNDS, bent, bounds_of, damaged, image, line_of, no_json, other_bounds,
                            query, spelled)
@@ -47,9 +47,12 @@ class Talk:
 
 
 class Meeting:
-    """The talks of one seed. Those that are to be stored have no long line, and do not show 64 tablets."""
+    """The talks of one seed and of those of their events, of which 0 is none.
 
-    def __init__(self, seed: int, events: int, is_stored: bool = False) -> None:
+    Talks that are to be stored have no long line, and do not show 64 tablets.
+    """
+
+    def __init__(self, seed: int, events: Iterable[int], is_stored: bool = False) -> None:
         self.rng = rng = random.Random(seed)
         self.is_relaid, self.is_numbered = rng.random() < RELAID, rng.random() < NUMBERED
         tablets = rng.choice(TABLETS)
@@ -64,8 +67,10 @@ class Meeting:
         self.accepted: list[Json] = []
         self.copies: list[list[bytes]] = []
         self.closing = 0
-        for _ in range(events):
+        for event in filter(None, events):
+            rng.seed(event)
             self.go_on()
+        rng.seed(seed + 1)
         self.settle()
         self.take_again()
         self.close()

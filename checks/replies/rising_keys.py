@@ -1,19 +1,23 @@
 """Scripts whose keys rise, a leaf's worth and more at a time, beside others that fall among them. The replies have to be those of a
 plain, slow program (checks/replies/slow.py).
 
-  checks/run rising-keys PROGRAM [--scripts N] [--seed S]
+  checks/run rising-keys PROGRAM [--cases N] [--seed S]
 
 Tables take such keys leaf by leaf. In between, keys come again, come in the middle and are deleted; tablets are lost, and change
-their bounds. Exit status 0 only where all replies agree.
+their bounds.
 """
 import json
 import random
 import subprocess
+from itertools import zip_longest
 
-from common.tried import program_parser
+from common.drawn import SEEDS, seeds, st, try_drawn
+from common.served import same
 from replies.slow import slow_replies
 from replies.slow_lines import Json
 
+# How many scripts there are, and some that are tried each time: without lines, and with a few.
+SCRIPTS, KEPT = 300, [(0, [0] * 6), (1, [1, 2, 3, 4, 5, 6])]
 STREAMS, MASTERS, CONTENTS = "ew", "wx", "abc"
 # How many keys come at once: fewer than a leaf holds, as many, and more.
 COUNTS = [1, 5, 30, 63, 64, 65, 100, 200, 400]
@@ -26,10 +30,10 @@ def key_of(number: int) -> str:
 
 
 class Rising:
-    """A random script, line by line."""
+    """A random script: the seed of its bounds, and those of its lines, of which 0 is none."""
 
-    def __init__(self, seed: int) -> None:
-        self.random = random.Random(seed)
+    def __init__(self, seed: int, lines: list[int]) -> None:
+        self.random, self.seeds = random.Random(seed), lines
         self.top = 0
         self.taken = dict.fromkeys(STREAMS, 0)
         self.bounds = self.any_bounds()
@@ -60,6 +64,10 @@ class Rising:
     def known(self) -> str:
         return key_of(self.random.randrange(self.top + 1))
 
+    def seeded(self, seed: int) -> Json:
+        self.random.seed(seed)
+        return self.line()
+
     def line(self) -> Json:
         kind = self.random.random()
         if kind < 0.45:
@@ -78,30 +86,18 @@ class Rising:
         return {"do": "get", "keys": [self.known() for _ in range(20)]}
 
     def lines(self) -> bytes:
-        lines = [*(self.line() for _ in range(self.random.randint(6, 22))), *LAST]
+        lines = [*map(self.seeded, filter(None, self.seeds)), *LAST]
         return b"".join(json.dumps(line, separators=(",", ":")).encode() + b"\n" for line in lines)
 
 
-def fault_of(program: str, seed: int) -> str | None:
-    """The first line of a script whose reply is another, if there is one."""
-    script = Rising(seed)
-    bounds, lines = script.bounds, script.lines()
-    words = [program, "replay", "--workers", str(1 + seed % 3), *(["--bounds", json.dumps(bounds)] if bounds else [])]
-    found = subprocess.run(words, input=lines, capture_output=True, check=True).stdout.splitlines()
-    wanted = slow_replies(lines, bounds).splitlines()
-    if found == wanted:
-        return None
-    at = next((at for at, both in enumerate(zip(found, wanted)) if both[0] != both[1]), min(len(found), len(wanted)))
-    return f"seed {seed}: reply {at + 1} is {found[at : at + 1]}, not {wanted[at : at + 1]}"
+def check_rising_keys(program: str, cases: int | None, seed: int) -> None:
+    """All replies are those of the slow program."""
+    def agree(drawn: tuple[int, list[int]]) -> None:
+        script = Rising(*drawn)
+        bounds, lines = script.bounds, script.lines()
+        words = [program, "replay", "--workers", str(1 + drawn[0] % 3), *(["--bounds", json.dumps(bounds)] if bounds else [])]
+        found = subprocess.run(words, input=lines, capture_output=True, check=True).stdout.splitlines()
+        for at, (reply, wanted) in enumerate(zip_longest(found, slow_replies(lines, bounds).splitlines())):
+            same(f"reply {at + 1}", reply, wanted)
 
-
-def main(words: list[str]) -> int:
-    parser = program_parser(__doc__)
-    parser.add_argument("--scripts", type=int, default=300, help="how many scripts (default: %(default)s)")
-    parser.add_argument("--seed", type=int, default=1, help="the first one's seed (default: %(default)s)")
-    told = parser.parse_args(words)
-    faults = [fault for seed in range(told.seed, told.seed + told.scripts) if (fault := fault_of(told.program, seed))]
-    for fault in faults:
-        print(fault)
-    print(f"rising-keys: {told.scripts} scripts, {len(faults)} with another reply")
-    return 1 if faults else 0
+    try_drawn(agree, st.tuples(SEEDS, seeds(22, 6)), cases or SCRIPTS, seed, KEPT)

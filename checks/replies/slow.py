@@ -1,6 +1,6 @@
 """A plain, slow region: each tablet keeps all images in one list, and finds each record by going through it.
 
-docs/formats.md says what it has to reply.
+docs/lines.md says what it has to reply.
 """
 import copy
 import json

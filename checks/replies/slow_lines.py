@@ -1,4 +1,4 @@
-"""Lines as commands, images and queries, or as refusals, in the order of the tables of docs/formats.md."""
+"""Lines as commands, images and queries, or as refusals, in the order of the tables of docs/lines.md."""
 import json
 import math
 import re

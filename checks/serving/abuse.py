@@ -1,13 +1,11 @@
 """Serves 16 sessions by a built program while its clients misbehave and four streams load at full speed.
 
-  checks/run abuse PROGRAM [--seconds S] [--seed N]
+  checks/run abuse PROGRAM [--soak S] [--seed N]
 
 The program is started again and again, until the time is over. Each time 16 clients send random bytes, half lines, 100 MB
 without a newline, nested arrays or pages that they never read, and many reset their connections; one that is late is never
 accepted. An honest client asks meanwhile: what it is shown is right, and never older than before. The program's greatest
 resident memory is less than where the honest client is alone, and 16 times what a session may take. The end is status 0 and its line.
-
-Exit status 0 where that holds each time.
 """
 import contextlib
 import itertools
@@ -16,7 +14,6 @@ import random
 import select
 import socket
 import struct
-import tempfile
 import threading
 import time
 from collections import Counter
@@ -25,7 +22,6 @@ from typing import IO
 
 from common.resting import rests
 from common.served import Client, Json, Served, fifo, row_of, same
-from common.tried import program_parser
 
 SESSIONS = 16
 NAMES = ["east", "north", "south", "west"]
@@ -208,25 +204,19 @@ class Episode:
         self.messages = sum(feeder.count for feeder in feeders)
 
 
-def main(words: list[str]) -> int:
-    parser = program_parser(__doc__)
-    parser.add_argument("--seconds", type=float, default=60, help="how long (default: %(default)s)")
-    parser.add_argument("--seed", type=int, default=1)
-    told = parser.parse_args(words)
-    program, last = told.program, time.monotonic() + told.seconds
-    met, greatest, replies, messages_taken = Counter[str](), 0, 0, 0
-    with tempfile.TemporaryDirectory() as folder:
-        alone = Episode(program, folder, told.seed, 0)
-        alone.run()
-        for seed in itertools.count(told.seed):
-            episode = Episode(program, folder, seed, SESSIONS)
-            episode.run()
-            met, greatest = met + episode.met, max(greatest, episode.memory)
-            replies, messages_taken = replies + episode.replies, messages_taken + episode.messages
-            if time.monotonic() > last:
-                break
+def check_abuse(program: str, folder: str, soak: float, seed: int) -> None:
+    """The honest client is shown what is right each time, and memory stays within bounds."""
+    met, greatest, replies, messages_taken, last = Counter[str](), 0, 0, 0, time.monotonic() + soak
+    alone = Episode(program, folder, seed, 0)
+    alone.run()
+    for number in itertools.count(seed):
+        episode = Episode(program, folder, number, SESSIONS)
+        episode.run()
+        met, greatest = met + episode.met, max(greatest, episode.memory)
+        replies, messages_taken = replies + episode.replies, messages_taken + episode.messages
+        if time.monotonic() > last:
+            break
     clients = ", ".join(f"{count} {what}" for what, count in sorted(met.items()))
-    print(f"abuse: {seed - told.seed + 1} times 16 clients ({clients}); {replies} honest replies, {messages_taken} messages; "
+    print(f"{number - seed + 1} times 16 clients ({clients}); {replies} honest replies, {messages_taken} messages; "
           f"at most {greatest} KB, and {alone.memory} KB where one client is alone")
     same("the memory is within that", greatest < alone.memory + SESSIONS * SESSION_KB, True)
-    return 0

@@ -8,6 +8,8 @@ import threading
 import time
 from collections.abc import Iterator
 
+import pytest
+
 from common.crates import TOP
 from common.served import SECONDS, Client, same
 from serving.controlled import CHUNK, Session, region_in, written
@@ -80,8 +82,10 @@ def ctl(control: str, *words: str) -> str:
     return ran.stdout
 
 
-def check_big_tablets(program: str, folder: str) -> None:
+def check_big_tablets(program: str, folder: str, big: bool) -> None:
     """A tablet of 2,000,000 records is saved, lost, and recovered from a peer by `pnuts-ctl`; with --big alone, as it takes gigabytes."""
+    if not big:
+        pytest.skip("it takes gigabytes, and --big is not told")
     copies, saved = os.path.join(folder, "copies"), os.path.join(folder, "saved")
     write_copies(copies)
     controls = [os.path.join(folder, name) for name in ("control-1", "control-2")]

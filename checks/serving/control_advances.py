@@ -7,7 +7,7 @@ from common.served import same
 from serving.controlled import BOUNDS, TABLETS, Session, adoption, given, region_in
 from serving.staying import Staying, messages, until
 from serving.stream_fifos import opens
-from serving.writers import Writer, failed, said_of_faults, written_by
+from serving.writers import Writer, failed, said_of_faults
 
 # How far the region and its peer have the stream, and a second one.
 HAS, PEER_HAS, SECOND = 20, 700, 1_300

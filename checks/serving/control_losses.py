@@ -73,9 +73,9 @@ def recover(session: Session, peer: Session, tablet: int) -> int:
     return behind
 
 
-def check_losses_and_recoveries(program: str, folder: str) -> None:
+def check_losses_and_recoveries(program: str, folder: str, seconds: float | None) -> None:
     """Tablets of two regions are lost and recovered from one another beside a writer: 16 readers of each see nothing older."""
-    chance, over = random.Random(1), time.monotonic() + TIME
+    chance, over = random.Random(1), time.monotonic() + (seconds or TIME)
     count, behind, said = 0, 0, [os.path.join(folder, name) for name in ("first", "second", "last")]
     with contextlib.ExitStack() as stack:
         regions = [stack.enter_context(region_in(folder, program, name=name)) for name in ("control-1", "control-2")]

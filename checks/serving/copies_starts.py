@@ -15,7 +15,7 @@ from common.at_once import at_once
 from common.crates import TOP
 from common.served import Client, Served, message, same, written
 from faults.refusing import Refusals
-from replies.live_copies import copied, copy_line, streams_of
+from replies.random_streams import copied, copy_line, streams_of
 from replies.random_values import KEYS, MANY_KEYS, bounds_of
 from serving.controlled import Session
 from serving.copies_texts import exchanged, fault_of, least_marks, messages_from, part_of, refusal, taken
@@ -280,14 +280,10 @@ def check_refused_allocations(program: str, folder: str) -> None:
             except (OSError, ValueError):
                 return None if os.path.exists(given["REFUSED_MARK"]) else "it does not reply"
 
-    try:
-        count = Refusals(folder).count("copies", run_fault)
-    except SystemExit as fault:
-        raise AssertionError(str(fault)) from fault
-    print(f"    {count} allocations refused")
+    print(f"{Refusals(folder).count('copies', run_fault)} allocations refused")
 
 
-def check_killed_saves(program: str, folder: str, kills: int = KILLS) -> None:
+def check_killed_saves(program: str, folder: str, cases: int | None) -> None:
     """Of saves that are killed at random moments each leaves the file that was there, or a whole one."""
     sys.path.insert(0, str(TOP / "clients/python/src"))
     from pnuts_client import Client as Peer
@@ -316,7 +312,7 @@ def check_killed_saves(program: str, folder: str, kills: int = KILLS) -> None:
             same("how a save ends", os.waitpid(begin(), 0)[1], 0)
             longest = max(longest, time.monotonic() - start)
         whole = path.read_bytes()
-        for _ in range(kills):
+        for _ in range(cases or KILLS):
             path.write_bytes(b"old")
             child = begin()
             time.sleep(rng.uniform(0, longest))

@@ -3,26 +3,22 @@ has scraped and alerts of, and the other shows.
 
   checks/run exporter PROGRAM [CHECK ..]
 
-It needs Debian's prometheus and python3-prometheus-client, and is skipped without; so is the page without chromium. Exit status 0
-where each holds.
+It needs Debian's prometheus and python3-prometheus-client, and is skipped without; so is the page without chromium-driver and
+python3-selenium.
 """
 import contextlib
-import shutil
 import signal
 import socket
-import sys
 
 from common.served import SECONDS, in_time, same, seconds_of
-from common.tried import checks_in, checks_parser, try_checks
-from serving import exporter_alerts, exporter_page
-from serving.browser import browser
 from serving.controlled import Session, adoption, region_in, written
-from serving.exporting import Exporter, python
+from serving.exporting import NEEDS, Exporter
 from serving.prometheus import Prometheus
-from serving.staying import raise_descriptors, until
+from serving.staying import until
 from serving.writers import Writer
 
-TOOLS = ("prometheus", "promtool")
+pytestmark = NEEDS
+
 
 
 def check_scrapes(program: str, folder: str) -> None:
@@ -70,7 +66,8 @@ def check_metrics(program: str, folder: str) -> None:
             wanted = {"pnuts_up": 1, "pnuts_connections_open": 1, "pnuts_connections_accepted_total": 1, "pnuts_lines_answered_total": 2,
                       "pnuts_lines_refused_total": 1, "pnuts_rounds_total": stats["rounds"], 'pnuts_stream_messages_total{stream="east"}': 250,
                       'pnuts_stream_bytes_total{stream="east"}': stream["bytes"], 'pnuts_stream_state{state="failed",stream="east"}': 0,
-                      'pnuts_info{version="%s"}' % stats["version"]: 1, 'pnuts_tablet_recovering{tablet="2"}': 0}
+                      'pnuts_info{version="%s"}' % stats["version"]: 1, "pnuts_unread_limit_bytes": 64_000_000, "pnuts_unread_ended_total": 0,
+                      'pnuts_tablet_recovering{tablet="2"}': 0}
             for kind, it in stats["lines"].get("kinds", {}).items():
                 wanted |= {f'pnuts_kind_lines_{name}_total{{kind="{kind}"}}': count for name, count in it.items()}
             for number, it in enumerate(stats.get("tablets", [])):
@@ -95,18 +92,3 @@ def check_exporter_beside_silent_clients(program: str, folder: str) -> None:
         until("it answers again", lambda: exporter.metrics()["pnuts_up"] == 1.0)
         exporter.process.send_signal(signal.SIGTERM)
         same("it ends by a signal", exporter.process.wait(timeout=SECONDS), -signal.SIGTERM)
-
-
-def main(words: list[str]) -> int:
-    checks = checks_in(sys.modules[__name__], exporter_alerts, exporter_page)
-    given = checks_parser(__doc__, checks).parse_args(words)
-    lacks = [tool for tool in TOOLS if not shutil.which(tool)] + ["python3-prometheus-client"] * (python() is None)
-    if lacks:
-        print(f"exporter: skipped, for the machine lacks {', '.join(lacks)}")
-        return 0
-    raise_descriptors()
-    names = given.names or [*checks]
-    if browser() is None and "page" in names:
-        names.remove("page")
-        print("page: skipped, for the machine lacks chromium")
-    return try_checks(given.program, checks, names)

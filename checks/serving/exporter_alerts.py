@@ -8,10 +8,12 @@ from collections.abc import Iterator
 
 from common.served import Client, same
 from serving.controlled import region_in, written
-from serving.exporting import Exporter, answered
+from serving.exporting import NEEDS, Exporter, answered
 from serving.prometheus import FOLDER, RULES, Prometheus
 from serving.staying import until
 from serving.writers import Writer
+
+pytestmark = NEEDS
 
 ALERT = re.compile(r"- alert: (\w+)")
 # What a dashboard leaves open, and what Grafana puts there.

@@ -1,11 +1,14 @@
 """What the page of an exporter shows in a browser: checks of `checks/run exporter`."""
 import re
 
+from common.needs import needs
 from common.served import Client, same
 from serving.browser import Browser
 from serving.controlled import Session, region_in, written
-from serving.exporting import Exporter
+from serving.exporting import NEEDS, Exporter
 from serving.staying import until
+
+pytestmark = [NEEDS, needs("chromium", "chromedriver", modules=("selenium",))]
 
 PHONE, DESK = 360, 1200
 # A stream's path that would be elements, if it were not escaped.

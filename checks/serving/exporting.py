@@ -7,17 +7,12 @@ import urllib.error
 import urllib.request
 
 from common.crates import TOP
+from common.needs import needs
 from common.served import SECONDS, free_port, same
 from serving.staying import until
 
 CLIENT = TOP / "clients/python/src"
-PYTHONS = (sys.executable, "/usr/bin/python3")
-
-
-def python() -> str | None:
-    """A Python that has the library of exporters."""
-    found = (it for it in PYTHONS if os.access(it, os.X_OK) and not subprocess.run([it, "-c", "import prometheus_client"], stderr=-3).returncode)
-    return next(found, None)
+NEEDS = needs("prometheus", "promtool", modules=("prometheus_client",))
 
 
 def answered(url: str) -> tuple[int, str]:
@@ -34,7 +29,7 @@ class Exporter:
 
     def __init__(self, control: str, *words: str) -> None:
         self.address = f"127.0.0.1:{free_port()}"
-        line = [python() or PYTHONS[0], "-m", "pnuts_client.ctl", "--control", control, "exporter", "--listen", self.address, *words]
+        line = [sys.executable, "-m", "pnuts_client.ctl", "--control", control, "exporter", "--listen", self.address, *words]
         environment = {**os.environ, "PYTHONPATH": str(CLIENT), "PYTHONDONTWRITEBYTECODE": "1"}
         self.process = subprocess.Popen(line, env=environment, stdin=subprocess.DEVNULL)
 

@@ -8,8 +8,10 @@ import time
 from common.resting import rests, sockets
 from common.served import SECONDS, same
 from serving.controlled import given, region_in, written
-from serving.fronts import Frames, Front, Stream, certified, front_in
+from serving.fronts import NEEDS, Frames, Front, Stream, certified, front_in
 from serving.staying import messages, until
+
+pytestmark = NEEDS
 
 READ = b"GET /records/k001 HTTP/1.1\r\nHost: x\r\n\r\n"
 PAGE = b"GET /records?limit=1000 HTTP/1.1\r\nHost: x\r\n\r\n"
@@ -35,11 +37,13 @@ def ended(client: socket.socket, seconds: float) -> float:
 
 
 def is_well(front: Front, most: float = 5.0) -> None:
-    """It answers an honest client at once."""
-    start = time.monotonic()
-    same("an honest read", front.asked("/records/k001")[0], 200)
-    took = time.monotonic() - start
-    same(f"whether {took:.1f} s are at most {most}", took <= most, True)
+    """It answers an honest client at once: on a machine that is busy, one of three times."""
+    took = list[float]()
+    while len(took) < 3 and min(took, default=most + 1) > most:
+        start = time.monotonic()
+        same("an honest read", front.asked("/records/k001")[0], 200)
+        took.append(time.monotonic() - start)
+    same(f"whether one of {', '.join(f'{it:.1f}' for it in took)} s is at most {most}", min(took) <= most, True)
 
 
 def check_garbage(program: str, folder: str) -> None:

@@ -5,7 +5,6 @@ import http.client
 import json
 import os
 import re
-import shutil
 import signal
 import socket
 import ssl
@@ -14,12 +13,14 @@ import tempfile
 from collections.abc import Iterator
 
 from common.crates import TOP
+from common.needs import needs
 from common.resting import memory
 from common.served import SECONDS, Json, free_port, same
 from serving.controlled import region_in
 from serving.staying import Staying, until
 
 HTTP = TOP / "http"
+NEEDS = needs("go", "gofmt", "curl", "openssl")
 CHUNK = 1 << 16
 PAIR = ["-x509", "-newkey", "ec", "-pkeyopt", "ec_paramgen_curve:prime256v1", "-nodes", "-days", "2", "-subj", "/CN=127.0.0.1",
         "-addext", "subjectAltName=IP:127.0.0.1"]
@@ -209,8 +210,3 @@ class Frames:
         while (found := self.next())[0] != kind or found[2] != stream:
             pass
         return found[3]
-
-
-def has_tools(*names: str) -> list[str]:
-    """Which of these programs the machine lacks."""
-    return [it for it in names if not shutil.which(it)]

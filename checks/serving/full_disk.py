@@ -2,21 +2,20 @@
 
   checks/run full-disk PROGRAM [CHECK ..]
 
-Each disk is one in memory, of a namespace of its own. Needs unshare and mount. Exit status 0 where each holds, or is skipped.
+Each disk is one in memory, of a namespace of its own. Needs unshare and mount.
 """
 import os
-import pathlib
-import shutil
 import subprocess
 import sys
 
 from common.crates import TOP
+from common.needs import needs
 from common.served import SECONDS, same
-from common.tried import checks_in, checks_parser, try_checks
 from serving.controlled import given, region_in
 from serving.staying import messages
 
-TOOLS = ("unshare", "mount")
+pytestmark = needs("unshare", "mount", also=() if os.path.exists("/proc/self/ns/mnt") else ("namespaces",))
+
 CLIENT, FEEDS = TOP / "clients/python/src", TOP / "feeds"
 KEPT = "what was there before"
 COUNT = 2_000
@@ -82,13 +81,3 @@ def check_positions(program: str, folder: str) -> None:
     last, _, wanted = told.rpartition("kept up to ")[2].partition(" of ")
     same("the last position that is kept", int(last), int(wanted) - 1_000)
     same("the files", rest.splitlines()[:2], ["other", "pairs"])
-
-
-def main(words: list[str]) -> int:
-    checks = checks_in(sys.modules[__name__])
-    given_words = checks_parser(__doc__, checks).parse_args(words)
-    lacks = [tool for tool in TOOLS if not shutil.which(tool)]
-    if lacks or pathlib.Path("/proc/self/ns/mnt").exists() is False:
-        print(f"full-disk: skipped, for the machine lacks {', '.join(lacks) or 'namespaces'}")
-        return 0
-    return try_checks(given_words.program, checks, given_words.names or checks)

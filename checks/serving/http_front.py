@@ -2,8 +2,8 @@
 
   checks/run http-front PROGRAM [CHECK ..]
 
-It needs Debian's golang-go, curl and openssl, and is skipped without; so is the browser without chromium. Exit status 0 where each
-holds.
+It needs Debian's golang-go, curl and openssl, and is skipped without; so is the browser without chromium-driver and
+python3-selenium.
 """
 import contextlib
 import http.client
@@ -14,22 +14,22 @@ import re
 import signal
 import socket
 import subprocess
-import sys
+import textwrap
 import time
 
 from common.crates import TOP
+from common.needs import needs
 from common.resting import sockets
 from common.served import SECONDS, free_port, row_of, same
-from common.tried import checks_in, checks_parser, try_checks
-from serving import front_attacks
-from serving.browser import Browser, browser
+from serving.browser import Browser
 from serving.controlled import Session, region_in, written
-from serving.fronts import Front, Stream, built, certified, curl, front_in, has_tools, header
-from serving.staying import raise_descriptors, until
-from usage.readme import blocks, written_by
+from serving.fronts import NEEDS, Front, Stream, built, certified, curl, front_in, header
+from serving.staying import until
+from usage.readme import written_by
 
-TOOLS = ("go", "gofmt", "curl", "openssl")
-PAGE = TOP / "http/README.md"
+pytestmark = NEEDS
+
+PAGE, SHOWN = TOP / "http/README.md", re.compile(r"(?:^    .+\n)+", re.MULTILINE)
 STREAMS, MOST_MEMORY = 10_000, 200_000
 # What a browser does with a stream: it keeps all that it is told.
 FOLLOW = """window.told = []; window.source = new EventSource("/changes");
@@ -45,17 +45,12 @@ def check_tests(program: str, folder: str) -> None:
 
 def check_readme(program: str, folder: str) -> None:
     """What its page shows is what is said."""
-    here, count, written = pathlib.Path(folder), 0, ""
+    here = pathlib.Path(folder)
     for name, target in (("bin/pnuts", program), ("out/pnuts-http", built())):
         (here / name).parent.mkdir()
         (here / name).symlink_to(target)
-    for told, shown in blocks(PAGE.read_text(encoding="utf-8").partition("\n## ")[0]):
-        if told.endswith("It prints"):
-            same("what is written", written, shown)
-            count += 1
-        elif not shown.startswith("make "):
-            written = written_by(shown, here)
-    same("whether something is shown", count > 0, True)
+    _, script, shown = map(textwrap.dedent, SHOWN.findall(PAGE.read_text(encoding="utf-8").partition("\n## ")[0]))
+    same("what is written", written_by(script, here), shown)
 
 
 def check_curl(program: str, folder: str) -> None:
@@ -113,6 +108,7 @@ def check_curl_in_http2(program: str, folder: str) -> None:
             front.stop(SECONDS)
 
 
+@needs("chromium", "chromedriver", modules=("selenium",))
 def check_browser(program: str, folder: str) -> None:
     """A browser's EventSource has each change once, also after the front was killed and started anew, and is told where the region was."""
     with region_in(folder, program) as (region, control, path), Browser(folder) as page:
@@ -137,15 +133,9 @@ def check_browser(program: str, folder: str) -> None:
             page.value("source.close()")
             (shown,) = re.findall(r"^```js\n(.*?)^```", PAGE.read_text(encoding="utf-8"), re.MULTILINE | re.DOTALL)
             page.value(f"(() => {{ {shown} }})()")
-            until("what its page shows says to read", lambda: said(page) == ["read anew"])
+            until("what its page shows says to read", lambda: page.said() == ["read anew"])
             written(path, 26, 1)
-            until("and what changes", lambda: said(page) == ["read anew", "k026"])
-
-
-def said(page: Browser) -> list[str]:
-    """What the page's scripts say so far."""
-    page.value("0")
-    return [it["params"]["args"][0]["value"] for it in page.happened if it["method"] == "Runtime.consoleAPICalled"]
+            until("and what changes", lambda: page.said() == ["read anew", "k026"])
 
 
 def check_idle_streams(program: str, folder: str) -> None:
@@ -211,18 +201,3 @@ def check_stop(program: str, folder: str) -> None:
             until("a region is asked", lambda: front.metric("region_sessions_total") > 0)
             front.stop(15)
             same("what it says", front.said().splitlines()[1:], ["pnuts-http: some requests were not answered in 10s"])
-
-
-def main(words: list[str]) -> int:
-    checks = checks_in(sys.modules[__name__], front_attacks)
-    given = checks_parser(__doc__, checks).parse_args(words)
-    lacks = has_tools(*TOOLS)
-    if lacks:
-        print(f"http-front: skipped, for the machine lacks {', '.join(lacks)}")
-        return 0
-    raise_descriptors()
-    names = given.names or [*checks]
-    if browser() is None and "browser" in names:
-        names.remove("browser")
-        print("browser: skipped, for the machine lacks chromium")
-    return try_checks(given.program, checks, names)

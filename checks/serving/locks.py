@@ -2,7 +2,7 @@
 
   checks/run locks PROGRAM [CHECK ..]
 
-Needs root and `setpriv`, and is skipped without them. Exit status 0 where each holds.
+Needs root and `setpriv`, and is skipped without them.
 """
 import contextlib
 import fcntl
@@ -10,18 +10,29 @@ import os
 import shutil
 import signal
 import subprocess
-import sys
 import tempfile
 from collections.abc import Iterator
 
+import pytest
+
+from common.needs import needs
 from common.served import SECONDS, free_port, piped, same
-from common.tried import checks_in, checks_parser, try_checks
+
+pytestmark = needs("setpriv", root=True)
 
 # A user that is nobody, and how a program is started as it.
 USER = 65534
 AS_USER = ["setpriv", f"--reuid={USER}", f"--regid={USER}", "--clear-groups"]
 # Where a socket is told of, and how a message about it begins.
 KINDS = {"--socket": "pnuts: cannot listen: ", "--control": "pnuts: cannot listen: ", "stream": "pnuts: cannot open east: "}
+
+
+@pytest.fixture(name="program")
+def startable(program: str) -> Iterator[str]:
+    """The program where others can start it."""
+    with tempfile.TemporaryDirectory() as folder:
+        os.chmod(folder, 0o755)
+        yield shutil.copy(program, folder)
 
 
 def words_of(kind: str, path: str) -> list[str]:
@@ -137,16 +148,3 @@ def check_a_lock_whose_holder_was_killed(program: str, folder: str) -> None:
             first.wait(SECONDS)
             same("what it leaves", [os.path.exists(path), os.path.exists(f"{path}.lock")], [True, True])
             starts(program, kind, path, False, "after one that was killed")
-
-
-def main(words: list[str]) -> int:
-    checks = checks_in(sys.modules[__name__])
-    given = checks_parser(__doc__, checks).parse_args(words)
-    if os.geteuid() or not shutil.which("setpriv"):
-        print("locks: skipped, as there is no root or no setpriv")
-        return 0
-    # Others have to be able to start it.
-    with tempfile.TemporaryDirectory() as folder:
-        os.chmod(folder, 0o755)
-        program = shutil.copy(given.program, folder)
-        return try_checks(program, checks, given.names or checks)

@@ -1,23 +1,18 @@
 """Serves sessions by a built program, brings it to each of its ends, and looks at what its clients see.
 
   checks/run sessions PROGRAM [CHECK ..]
-
-Exit status 0 where each holds.
 """
 import contextlib
 import json
 import os
 import socket
 import subprocess
-import sys
 import threading
 import time
 from collections.abc import Iterator
 
 from common.resting import rests
 from common.served import Client, Json, Served, fifo, free_port, image, message, row_of, same, written
-from common.tried import checks_in, checks_parser, try_checks
-from faults import refused_sessions
 from serving.staying import until
 
 MANY = 10_000
@@ -267,9 +262,3 @@ def check_four_streams_in_one_region(program: str, folder: str) -> None:
                 time.sleep(0.01)
             same("the records", got, wanted)
         ends_with(served, 0, b"served 1\n", b"")
-
-
-def main(words: list[str]) -> int:
-    checks = checks_in(sys.modules[__name__], refused_sessions)
-    given = checks_parser(__doc__, checks).parse_args(words)
-    return try_checks(given.program, checks, given.names or checks)

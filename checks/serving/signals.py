@@ -1,8 +1,6 @@
 """Stops a built program by a signal and lets it go on, in each state of each kind of connection: none is ended by that.
 
   checks/run signals PROGRAM [CHECK ..]
-
-Exit status 0 where each holds.
 """
 import contextlib
 import json
@@ -10,12 +8,9 @@ import os
 import signal
 import socket
 import subprocess
-import sys
 import time
-from collections.abc import Callable
 
 from common.served import SECONDS, Client, Served, message, piped, row_of, same, written
-from common.tried import checks_in, checks_parser, try_checks
 from serving.controlled import Session, region_in
 from serving.staying import CHUNK, KEYS, PAGE, Staying, key_of, messages, until
 from serving.staying_clients import deaf_client
@@ -222,9 +217,3 @@ def check_copies(program: str, folder: str) -> None:
         until("all is taken", lambda: answer(client, b'{"do":"read","key":"k007"}\n') != NO_ROW)
         client.close()
         same("how it ends", [*served.communicate(timeout=SECONDS), served.returncode], [b"served 1\n", b"", 0])
-
-
-def main(words: list[str]) -> int:
-    checks: dict[str, Callable[[str, str], None]] = checks_in(sys.modules[__name__])
-    given = checks_parser(__doc__, checks).parse_args(words)
-    return try_checks(given.program, checks, given.names or checks)

@@ -161,13 +161,16 @@ def deaf_client(port: int) -> socket.socket:
 
 
 def never_read(is_over: Callable[[], bool], port: int) -> None:
-    """Clients that send pages until no more is taken, and read nothing."""
+    """Clients that send pages until no more is taken, and read nothing. One that is ended for that comes again."""
     with contextlib.ExitStack() as stay:
         clients = [stay.enter_context(deaf_client(port)) for _ in range(NEVER_READING)]
         while not is_over():
-            for client in clients:
+            for at, client in enumerate(clients):
                 with contextlib.suppress(BlockingIOError):
-                    client.send(PAGE * 100)
+                    try:
+                        client.send(PAGE * 100)
+                    except ConnectionError:
+                        clients[at] = stay.enter_context(deaf_client(port))
             time.sleep(0.1)
 
 

@@ -8,7 +8,6 @@ import time
 from collections.abc import Callable, Iterator
 
 from common.served import SECONDS, Client, Served, row_of, same, written
-from common.tried import Check
 from serving.staying import CHUNK, KEYS, PAGE, Staying, messages, until
 from serving.staying_clients import deaf_client
 
@@ -19,6 +18,9 @@ TRIES = 5
 FEW_BYTES = 4_096
 READ, NO_ROW = b'{"do":"read","key":"z"}\n', b'{"row":null}\n'
 PAGES = 100
+
+
+Check = Callable[[str, str], None]
 
 
 class Paused(AssertionError):

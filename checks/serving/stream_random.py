@@ -3,15 +3,19 @@ import contextlib
 import json
 import random
 import socket
+import tempfile
 from collections.abc import Iterable
 from dataclasses import dataclass
 
+from common.drawn import seeds, try_drawn
 from common.served import Client, Json, same
 from serving.staying import Staying, until
 from serving.stream_faults import faults_at, line_of
 from serving.writers import Writer, failed, said_of_faults, socket_in
 
-WRITERS, MOST, BACK, JUNK = 1_000, 30, 30, 400_000
+WRITERS, LIVES, MOST, BACK, JUNK = 1_000, 50, 30, 30, 400_000
+# Lives that are tried each time, by their seeds.
+KEPT = [list(range(LIVES))]
 KEYS, VERSIONS = 40, 200
 SEPARATORS, ENDS = [(",", ":"), (", ", ": "), (" ,\t", " :  ")], [b"\n", b"\n", b"\r\n", b" \n"]
 PARTS, LONG = [1, 3, 10, 100, 1_000, 100_000], 5_000
@@ -105,14 +109,12 @@ def live(rng: random.Random, path: str, has: int, life: Life) -> None:
         same("what a writer is told", writer.last_lines(), [life.reason] if life.reason else [])
 
 
-def check_random_writers(program: str, folder: str) -> None:
-    """A thousand random writers, one after another: each is told what a plain model says, and what they leave is what it says, too."""
+def live_on(program: str, folder: str, lives: Iterable[int]) -> None:
+    """Writers of these seeds, one after another, at a region of their own; 0 is none."""
     path, east = socket_in(folder)
-    seed = random.randrange(1 << 30)
-    rng, has, said = random.Random(seed), 0, list[bytes]()
-    print(f"  seed {seed}")
+    has, said = 0, list[bytes]()
     with Staying(program, folder, [east], "--bounds", '["k2"]') as region, Client(region.port) as client:
-        for _ in range(WRITERS):
+        for rng in map(random.Random, filter(None, lives)):
             life = random_life(rng, has)
             live(rng, path, has, life)
             has = life.after
@@ -125,4 +127,12 @@ def check_random_writers(program: str, folder: str) -> None:
             row = client.read(key)["row"]
             same(f"the version of {key}", row["version"], [1, number])
             same(f"the contents of {key}", sorted(map(sorted_json, row["contents"])), sorted(contents))
-        print(f"  {WRITERS:,} writers, {len(said)} at fault, left {has:,} messages")
+
+
+def check_random_writers(program: str, cases: int | None, seed: int) -> None:
+    """A thousand random writers, fifty after one another: each is told what a plain model says, and what they leave is what it says, too."""
+    def agree(lives: list[int]) -> None:
+        with tempfile.TemporaryDirectory() as folder:
+            live_on(program, folder, lives)
+
+    try_drawn(agree, seeds(LIVES), (cases or WRITERS) // LIVES, seed, KEPT)

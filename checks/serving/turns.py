@@ -8,10 +8,11 @@ a time, beside 1, 8 and 64 clients that send one kind of line without end and ta
 (16 conditions, each on the last of 64 fields with long names) and `contents` (of the one record). A row says how long its reads took, at their
 middle, for 999 of 1,000 of them, and at most.
 `stream` says how fast a stream loads alone and beside four that scan; `deaf` what 1,024 clients cost that ask for pages and copies and
-take nothing; `scarce` whether an honest client loses a reply where memory is limited, and whether a stream goes on.
+take nothing; `unread` what 200 such clients keep of 1,000 rows that are rewritten before each of them asks, where memory is limited; `scarce`
+whether an honest client loses a reply where memory is limited, and whether a stream goes on.
 
 Exit status 0 where each row is as wanted: 999 of 1,000 reads within 10 ms beside 8, and within 50 ms beside 64; the stream at least half as
-fast; at most 256 MB.
+fast; at most 256 MB, and of rows that are rewritten the limit of unread replies and 20 MB more.
 """
 import contextlib
 import json
@@ -39,6 +40,9 @@ WANTED_MS = {1: 10.0, 8: 10.0, 64: 50.0}
 STREAMED, SCANNERS, SLOWEST = 60_000, 4, 0.5
 DEAF, DEAF_BUFFER, DEAF_MB = 1_024, 1 << 12, 256
 LIMIT_MB, SCARCE_CLIENTS, SCARCE_READS = 700, 300, 200
+# Clients that each leave rows unread which are then rewritten, and what they may cost: the limit, and more.
+UNREAD, UNREAD_ROWS, UNREAD_MB, BEFORE = 200, 1_000, 64 + 20, 3
+UNREAD_PAGE = b'{"do":"scan","query":{"from":"u","limit":1000}}\n'
 SCAN = b'{"do":"scan","query":{"limit":1000,"where":[["eq","v","none has it"]]}}\n'
 PAGE = b'{"do":"scan","query":{"from":"p","limit":1000}}\n'
 COPY = b'{"do":"copy","need":{},"tablet":0}\n'
@@ -243,16 +247,50 @@ def deaf_row(program: str, folder: str, east: str, count: int) -> Row:
     return Row("deaf", f"{count:,} clients that take nothing cost {grown:,} MB above {before:,}", grown <= DEAF_MB)
 
 
+def limited_region(program: str, folder: str, streams: list[tuple[str, str]]) -> Staying:
+    """A region whose memory is limited."""
+    soft = resource.getrlimit(resource.RLIMIT_AS)
+    resource.setrlimit(resource.RLIMIT_AS, (LIMIT_MB << 20, soft[1]))
+    try:
+        return Staying(program, folder, streams, "--connections", "4096", threads=1)
+    finally:
+        resource.setrlimit(resource.RLIMIT_AS, soft)
+
+
+def rewriting(turn: int) -> bytes:
+    """Messages that write all rows anew."""
+    line = b'{"at":%%d,"image":{"fields":{"v":"%b"},"key":"u%%06d","master":"w","version":[1,%%d]}}\n' % (b"y" * BIG_TEXT)
+    return b"".join(line % (at, at % UNREAD_ROWS, at) for at in range(1 + turn * UNREAD_ROWS, 1 + (turn + 1) * UNREAD_ROWS))
+
+
+def unread_row(program: str, folder: str) -> Row:
+    """What clients keep that take nothing of rows which are then rewritten, and whether the stream goes on."""
+    path = os.path.join(folder, "unread")
+    os.mkfifo(path)
+    with limited_region(program, folder, [("west", path)]) as region, contextlib.ExitStack() as stay:
+        with open(path, "wb") as pipe:
+            for turn in range(BEFORE):
+                pipe.write(rewriting(turn))
+            pipe.flush()
+            before = memory_at_rest(region)
+            for number in range(UNREAD):
+                stay.enter_context(deaf_client(region.port, COPY if number % 2 else UNREAD_PAGE))
+                pipe.write(rewriting(BEFORE + number))
+                pipe.flush()
+            for turn in range(BEFORE):
+                pipe.write(rewriting(BEFORE + UNREAD + turn))
+        goes_on = ended_within(region, b"stream west ended", LOADING)
+        time.sleep(BEFORE)
+        grown = (region.memory() >> 10) - before
+    told = f"{UNREAD} clients keep {grown:,} MB above {before:,} of rows that are rewritten, the stream {'goes on' if goes_on else 'stopped'}"
+    return Row("unread", told, grown <= UNREAD_MB and goes_on)
+
+
 def scarce_row(program: str, folder: str, east: str) -> Row:
     """Whether an honest client loses replies, and a stream stops, where memory is limited."""
     path = os.path.join(folder, "scarce")
     os.mkfifo(path)
-    soft = resource.getrlimit(resource.RLIMIT_AS)
-    resource.setrlimit(resource.RLIMIT_AS, (LIMIT_MB << 20, soft[1]))
-    try:
-        region = Staying(program, folder, [("east", east), ("west", path)], "--connections", "4096", threads=1)
-    finally:
-        resource.setrlimit(resource.RLIMIT_AS, soft)
+    region = limited_region(program, folder, [("east", east), ("west", path)])
     lost, refused = 0, 0
     with region, contextlib.ExitStack() as stay:
         wait_until_loaded(region)
@@ -296,13 +334,15 @@ def rows(program: str, folder: str, records: int, seconds: float, names: list[st
         yield stream_row(program, folder, east)
     if not names or "deaf" in names:
         yield deaf_row(program, folder, east, DEAF)
+    if not names or "unread" in names:
+        yield unread_row(program, folder)
     if not names or "scarce" in names:
         yield scarce_row(program, folder, east)
 
 
 def main(words: list[str]) -> int:
     parser = program_parser(__doc__)
-    parser.add_argument("rows", metavar="ROW", nargs="*", choices=[[], *LINES, "stream", "deaf", "scarce"], help="only these rows")
+    parser.add_argument("rows", metavar="ROW", nargs="*", choices=[[], *LINES, "stream", "deaf", "unread", "scarce"], help="only these rows")
     parser.add_argument("--records", metavar="N", type=int, default=300_000)
     parser.add_argument("--seconds", metavar="S", type=float, default=5)
     given, failed = parser.parse_args(words), 0

@@ -5,21 +5,16 @@
 One session thread. Once 20,000 records are read in and all clients are answered, memory is limited to what it has and 256 KB. Each client
 sends most of a line, and some are too long. Each line is answered in its order, as it should be or by `memory`, one too long by `too-long`,
 until the client's connection ends. An honest client reads beside them all the while, and is not ended.
-
-Exit status 0 where all of that holds, and some of them were ended.
 """
 import contextlib
 import json
 import resource
-import subprocess
-import tempfile
 import threading
 
 from common.served import Client, Json, fifo, in_time, message, row_of, same, seconds_of
-from common.tried import program_parser
-from serving.staying import Staying, raise_descriptors
+from serving.staying import Staying
 
-RECORDS, SPARE_KB = 20_000, 256
+RECORDS, SPARE_KB, CLIENTS = 20_000, 256, 2_000
 MEMORY, TOO_LONG = {"error": "memory"}, {"error": "too-long"}
 LINE = b'{"do":"read","key":"k1"}\n'
 ROW: Json = {"row": row_of("k1", 1, "x")}
@@ -96,17 +91,8 @@ def read_until(client: Client, is_over: threading.Event, slowest: list[float]) -
         slowest[0] = max(slowest[0], seconds_of(lambda: same("an honest read", client.read("k1"), ROW)))
 
 
-def main(words: list[str]) -> int:
-    parser = program_parser(__doc__)
-    parser.add_argument("--clients", metavar="N", type=int, default=2_000)
-    given = parser.parse_args(words)
-    raise_descriptors()
-    with tempfile.TemporaryDirectory() as folder:
-        try:
-            ended = try_clients(given.program, folder, given.clients)
-            same("whether some were ended", ended > 0, True)
-        except (AssertionError, OSError, IndexError, ValueError, subprocess.SubprocessError) as fault:
-            print(f"WRONG: {fault}")
-            return 1
-    print(f"{ended:,} of {given.clients:,} clients were ended, since there was no memory to keep their input; all replies were in order: as it should be")
-    return 0
+def check_unkept(program: str, folder: str, cases: int | None) -> None:
+    """Some clients are ended, and all replies are in order."""
+    ended = try_clients(program, folder, cases or CLIENTS)
+    same("whether some were ended", ended > 0, True)
+    print(f"{ended:,} of {cases or CLIENTS:,} clients were ended, since there was no memory to keep their input")

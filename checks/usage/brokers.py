@@ -1,24 +1,34 @@
-"""Runs what needs real brokers or a proxy: the feeds' tests, 200,000 images through each feed, the proxy's files, what is shown to
-publishers, both examples, and the runbooks. Says how long each took.
+"""Runs what needs real brokers: the feeds' tests, 200,000 images through each feed, both examples, and the runbooks.
 
-  checks/run brokers PROGRAM [--only NAME]...
+  checks/run brokers PROGRAM [NAME ..]
 
-What misses a package says so, and is skipped. Exit status 0 where the others are as they should be.
+What misses a package says so, and is skipped.
 """
+import subprocess
+
+import pytest
+
 from common.crates import TOP
-from common.parts import RUN, Part, run_parts
-from common.tried import program_parser
+from common.parts import RUN
+
+# The status of a command that misses what it needs.
+MISSING = 2
+COMMANDS = {
+    "feeds": ("env", "PNUTS={program}", f"{TOP}/feeds/test"),
+    "rates": (f"{TOP}/feeds/rates", "{program}"),
+    "operate": (str(RUN), "operate", "{program}"),
+    "postgres": (f"{TOP}/examples/postgres/demo", "--program", "{program}"),
+    "regions": (f"{TOP}/examples/regions/demo", "--program", "{program}"),
+}
 
 
-def parts(program: str) -> list[Part]:
-    examples = [Part(name, [str(TOP / "examples" / name / "demo"), "--program", program], may_miss=True) for name in ("postgres", "regions")]
-    feeds = [Part("feeds", ["env", f"PNUTS={program}", str(TOP / "feeds/test")]), Part("rates", [str(TOP / "feeds/rates"), program], may_miss=True)]
-    others = [Part(name, [str(RUN), name, program], may_miss=name != "operate") for name in ("proxy", "publishing", "operate")]
-    return [*feeds, *others, *examples]
-
-
-def main(words: list[str]) -> int:
-    parser = program_parser(__doc__)
-    parser.add_argument("--only", action="append", default=[], help="the name of a part that is run; may be repeated")
-    told = parser.parse_args(words)
-    return run_parts(parts(told.program), told.only)
+@pytest.mark.parametrize("name", COMMANDS)
+def check_brokers(program: str, name: str) -> None:
+    """All is as it should be, with real brokers."""
+    command = [word.format(program=program) for word in COMMANDS[name]]
+    ran = subprocess.run(command, stdin=subprocess.DEVNULL, stdout=subprocess.PIPE, stderr=subprocess.STDOUT, text=True, errors="replace")
+    print(ran.stdout)
+    if ran.returncode == MISSING and name != "operate":
+        pytest.skip(ran.stdout.strip())
+    if ran.returncode:
+        raise AssertionError(f"{name} ends with status {ran.returncode}")

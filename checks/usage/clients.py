@@ -5,16 +5,16 @@ language has to say of its form and types.
 
 Needs Debian's golang-go, nodejs and openssl; mypy and node-typescript check types where they are there. A client without its
 language is skipped.
-
-Exit status 0 where all hold, or are skipped.
 """
 import os
-import shutil
 import signal
 import subprocess
 
+import pytest
+
 from common.crates import TOP
-from common.tried import program_parser
+from common.needs import needs
+from common.tried import none_of
 
 # What the test of each client needs.
 CLIENTS = {"python": ["openssl"], "go": ["go", "gofmt"], "javascript": ["node", "openssl"]}
@@ -36,14 +36,8 @@ def tested(name: str, program: str) -> tuple[int, str]:
                 os.killpg(test.pid, signal.SIGKILL)
 
 
-def main(words: list[str]) -> int:
-    told, failed = program_parser(__doc__).parse_args(words), 0
-    for name, tools in CLIENTS.items():
-        lacks = [tool for tool in tools if not shutil.which(tool)]
-        if lacks:
-            print(f"{name}: skipped, for the machine lacks {', '.join(lacks)}", flush=True)
-            continue
-        status, written = tested(name, told.program)
-        failed += status != 0
-        print(f"{written}\n{name}: WRONG, status {status}" if status else f"{name}: as it should be", flush=True)
-    return 1 if failed else 0
+@pytest.mark.parametrize("name", [pytest.param(name, marks=needs(*tools)) for name, tools in CLIENTS.items()])
+def check_clients(program: str, name: str) -> None:
+    """A client's tests hold."""
+    status, written = tested(name, program)
+    none_of([f"{written}\nstatus {status}"] if status else [])

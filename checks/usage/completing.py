@@ -1,4 +1,4 @@
-"""Completion as shells do it: one on a terminal of its own, in which words are typed and completed."""
+"""Completion as shells do it: one on a terminal of its own, in which words of a program are typed and completed."""
 
 from __future__ import annotations
 
@@ -30,21 +30,21 @@ shown() { printf '<%s>' "$@"; echo .; }
 """
 LINES = {
     "bash": (["bash", "--norc", "--noprofile", "-i"], BASH, "source {path}"),
-    "zsh": (["zsh", "--no-rcs", "-i"], ZSH, "source {path}; compdef _pnuts pnuts"),
+    "zsh": (["zsh", "--no-rcs", "-i"], ZSH, "source {path}; compdef _{program} {program}"),
 }
 
 
 class Shell:
-    """A bash or zsh that has read a completion, in a folder."""
+    """A bash or zsh that has read a program's completion, in a folder."""
 
-    def __init__(self, name: str, completion: Path, folder: Path) -> None:
+    def __init__(self, name: str, program: str, completion: Path, folder: Path) -> None:
         self._name = name
         line, start, read = LINES[name]
         self._pid, self._terminal = pty.fork()
         if self._pid == 0:
             os.environ.update(INPUTRC="/dev/null", TERM="dumb", COLUMNS="1000")
             os.execvp(line[0], line)
-        self._ask(f"{start}{read.format(path=completion)}; cd {folder}; echo rea''dy\n".encode(), rb"(ready)\r\n")
+        self._ask(f"{start}{read.format(path=completion, program=program)}; cd {folder}; echo rea''dy\n".encode(), rb"(ready)\r\n")
 
     def __enter__(self) -> Shell:
         return self

@@ -1,8 +1,6 @@
 """Brings a built program to each of its ends but out of memory, and looks at its status and what it says.
 
   checks/run exit-statuses PROGRAM
-
-Exit status 0 where each end is the one that it should be.
 """
 import os
 import subprocess
@@ -12,7 +10,7 @@ from collections.abc import Iterator
 from typing import IO
 
 from common.served import Client, Served, message, piped, written
-from common.tried import program_parser
+from common.tried import none_of
 
 SCAN = b'{"do":"scan","query":{}}\n'
 NO_ROWS = b'{"next":null,"rows":[]}\n'
@@ -29,7 +27,7 @@ End = tuple[int, bytes | bool | None, bytes]
 
 # By name, words, and the end that they make; of standard error its first line. Of two faults the first by rank is said.
 WORDS: dict[str, tuple[list[str], End]] = {
-    "the version": (["--version"], (0, b"pnuts 0.2.0\n", b"")),
+    "the version": (["--version"], (0, b"pnuts 0.3.0\n", b"")),
     "a command's version": (["replay", "--version"], (2, b"", b"error: unexpected argument '--version' found")),
     "unknown arguments": (["replay", "--fast"], (2, b"", b"error: unexpected argument '--fast' found")),
     "an address of a script": (["replay", "--listen", "::1"], (2, b"", b"error: unexpected argument '--listen' found")),
@@ -201,12 +199,7 @@ def ends(program: str) -> Iterator[tuple[str, End, End]]:
         yield name, end_of_words(program, *name.split()), end_of_words(program, *words)
 
 
-def main(words: list[str]) -> int:
-    given, wrong = program_parser(__doc__).parse_args(words), 0
-    for name, found, wanted in ends(given.program):
-        if found == wanted:
-            print(f"{name}: status {found[0]}, as it should be")
-        else:
-            wrong += 1
-            print(f"{name}: WRONG: status {found[0]} and {found[2]!r}, not {wanted[0]} and {wanted[2]!r}, or other replies")
-    return 1 if wrong else 0
+def check_exit_statuses(program: str) -> None:
+    """Each end has its status, its replies and its line."""
+    none_of(f"{name}: status {found[0]} and {found[2]!r}, not {wanted[0]} and {wanted[2]!r}, or other replies"
+            for name, found, wanted in ends(program) if found != wanted)

@@ -13,7 +13,7 @@ from pathlib import Path
 SECONDS = 60
 PAUSE = 0.1
 TOOLS = {"debootstrap": "debootstrap", "dh": "debhelper", "unshare": "util-linux", "nsenter": "util-linux", "man": "man-db",
-         "zsh": "zsh", "fish": "fish", "objcopy": "binutils", "rt": "the toolchain"}
+         "lowdown": "lowdown", "zsh": "zsh", "fish": "fish", "objcopy": "binutils", "rt": "the toolchain"}
 MIRROR, SUITE = "http://deb.debian.org/debian", "bookworm"
 PACKAGES = ("golang-go", "iproute2", "lintian", "nodejs", "openssl", "python3-hiredis", "python3-prometheus-client", "python3-redis", "python3-venv", "redis-server", "socat", "systemd")
 SPACES = ("--mount", "--pid", "--net", "--uts", "--ipc", "--cgroup")

@@ -32,12 +32,10 @@ FILES = {
     **{f"share/pnuts-feeds/feed/{path.name}": 0o644 for path in (TOP / "feeds/feed").glob("*.py")},
     **{f"share/pnuts-tools/pnuts_client/{path.name}": 0o644 for path in (TOP / "clients/python/src/pnuts_client").glob("*.*")
        if path.suffix in (".py", ".css", ".js")},
-    "share/bash-completion/completions/pnuts": 0o644,
     "share/doc/pnuts-feeds/README.md": 0o644,
     "share/doc/pnuts-http/openapi.json": 0o644,
     "share/doc/pnuts-http/third-party": 0o644,
     "share/doc/pnuts/third-party": 0o644,
-    "share/fish/vendor_completions.d/pnuts.fish": 0o644,
     "share/man/man1/pnuts.1": 0o644,
     "share/man/man5/pnuts-formats.5": 0o644,
     "share/man/man8/pnuts-ctl.8": 0o644,
@@ -47,12 +45,14 @@ FILES = {
     "share/pnuts-feeds/postgres-table.sql": 0o644,
     **{f"share/pnuts-tools/pnuts.{it}": 0o644 for it in ("dashboard.json", "rules.yml", "tests.yml")},
     "share/pnuts-tools/container": 0o755,
-    "share/zsh/site-functions/_pnuts": 0o644,
+    **{f"share/{shown}": 0o644 for it in ("pnuts", "pnuts-ctl")
+       for shown in (f"bash-completion/completions/{it}", f"fish/vendor_completions.d/{it}.fish", f"zsh/site-functions/_{it}")},
 }
+# Where each shell finds the completion of a program.
 SHELLS = {
-    "bash": "share/bash-completion/completions/pnuts",
-    "zsh": "share/zsh/site-functions/_pnuts",
-    "fish": "share/fish/vendor_completions.d/pnuts.fish",
+    "bash": "share/bash-completion/completions/{}",
+    "zsh": "share/zsh/site-functions/_{}",
+    "fish": "share/fish/vendor_completions.d/{}.fish",
 }
 
 # A line that is typed, and what each shell makes of its last word, in no order and without a stream's name.
@@ -78,6 +78,18 @@ COMPLETIONS = {
     "pnuts serve --stay east=listen:m": {"messages"},
     "pnuts serve east=messages --po": {"--port"},
     "pnuts steal ": set(),
+    "pnuts-ctl -": {"--control", "--help", "--json", "-h"},
+    "pnuts-ctl st": {"status", "stop"},
+    "pnuts-ctl --json st": {"status", "stop"},
+    "pnuts-ctl --control m": {"messages"},
+    "pnuts-ctl --control messages re": {"ready", "recover"},
+    "pnuts-ctl save m": {"messages"},
+    "pnuts-ctl save --f": {"--from"},
+    "pnuts-ctl save --from ": set(),
+    "pnuts-ctl save messages --e": {"--every"},
+    "pnuts-ctl tablets --copies m": {"messages"},
+    "pnuts-ctl exporter --l": {"--lag", "--listen"},
+    "pnuts-ctl steal ": set(),
 }
 
 # How `pnuts --version` ends where the program is not proved.
@@ -119,13 +131,14 @@ def check_pages(share: Path) -> None:
         same(f"the page {page}", [it for it in shown.splitlines() if "warning:" in it or it == words], [words])
 
 
-def completions_of(shell: str, completion: Path, folder: Path) -> dict[str, set[str]]:
-    """What a shell makes of the last word of each line."""
+def completions_of(shell: str, program: str, completion: Path, folder: Path) -> dict[str, set[str]]:
+    """What a shell makes of the last word of each line of a program."""
+    lines = [line for line in COMPLETIONS if line.split()[0] == program]
     if shell == "fish":
-        found = {line: completed_by_fish(completion, folder, line) for line in COMPLETIONS}
+        found = {line: completed_by_fish(completion, folder, line) for line in lines}
     else:
-        with Shell(shell, completion, folder) as running:
-            found = {line: running.completed(line)[line.count(" ") :] for line in COMPLETIONS}
+        with Shell(shell, program, completion, folder) as running:
+            found = {line: running.completed(line)[line.count(" ") :] for line in lines}
     return {line: {it.removeprefix("east=").removeprefix("listen:").removesuffix("/") for it in words} for line, words in found.items()}
 
 
@@ -133,7 +146,8 @@ def check_completions(installed: Path, folder: Path) -> None:
     (folder / "a folder").mkdir(parents=True)
     (folder / "messages").touch()
     for shell, path in SHELLS.items():
-        same(f"completions of {shell}", completions_of(shell, installed / path, folder), COMPLETIONS)
+        found = {line: words for program in ("pnuts", "pnuts-ctl") for line, words in completions_of(shell, program, installed / path.format(program), folder).items()}
+        same(f"completions of {shell}", found, COMPLETIONS)
 
 
 def check_licences(text: str, program: Path) -> int:

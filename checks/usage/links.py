@@ -7,8 +7,6 @@
 - Each `make` TARGET, part of `checks/run`, command of `pnuts-ctl`, path of a program and option of one that a document names is there.
 - The documents have at most as many words as they may.
 - Each target, command of `pnuts-ctl` and example is told of in a document, and each option of a feed in feeds/README.md.
-
-Exit status: 0 where nothing is missing, 1 where something is, 2 for a wrong argument.
 """
 import re
 import subprocess
@@ -17,7 +15,7 @@ from functools import cache
 from pathlib import Path
 
 from common.crates import TOP
-from common.tried import parser_of
+from common.tried import none_of
 
 LINK = re.compile(r"\[[^\]]*\]\(([^)\s]+)\)")
 HEADING = re.compile(r"^#+ (.+)$", re.MULTILINE)
@@ -235,10 +233,7 @@ def once(faults: Iterable[str]) -> list[str]:
     return list(dict.fromkeys(faults))
 
 
-def main(words: list[str]) -> int:
-    parser_of(__doc__).parse_args(words)
-    faults = once(all_faults())
-    for fault in faults:
-        print(f"links: {fault}")
-    print(f"links: {len(documents())} documents, and nothing is missing" if not faults else f"links: {len(faults)} are missing")
-    return 1 if faults else 0
+def check_links() -> None:
+    """Nothing that documents name is missing, and they tell of all."""
+    none_of(once(all_faults()))
+    print(f"{len(documents())} documents")

@@ -2,24 +2,19 @@
 
   checks/run manifest
 
-Each container's command has to be in the image, and its words those of the program. Exit status 0 where nothing is wrong, 1 where
-something is, 2 where a package of Debian is missing.
+Each container's command has to be in the image, and its words those of the program.
 """
-import os
 import re
-import subprocess
-import sys
 from collections.abc import Iterator
 from typing import Any
 
 from common.crates import TOP
-from common.parts import RUN
-from common.tried import parser_of
+from common.needs import needs
+from common.tried import none_of
+
+pytestmark = needs(modules=("kubernetes", "yaml"))
 
 MANIFEST = TOP / "examples/kubernetes/pnuts.yaml"
-# What Debian's packages are for, where another Python runs the check.
-DEBIAN = "/usr/bin/python3"
-PACKAGES = "python3-kubernetes python3-yaml"
 KINDS = {"Service": "V1Service", "PodDisruptionBudget": "V1PodDisruptionBudget", "StatefulSet": "V1StatefulSet"}
 PLAIN: dict[str, tuple[type, ...]] = {"str": (str,), "int": (int,), "bool": (bool,), "float": (int, float), "object": (str, int, dict, list)}
 
@@ -87,20 +82,10 @@ def faults_of_names(manifests: list[dict[str, Any]]) -> Iterator[str]:
         yield "a stop may take longer than terminationGracePeriodSeconds"
 
 
-def main(words: list[str]) -> int:
-    parser_of(__doc__).parse_args(words)
-    try:
-        import yaml
-        from kubernetes.client import models
-    except ImportError:
-        if not os.path.samefile(sys.executable, DEBIAN):
-            return subprocess.run([DEBIAN, RUN, "manifest"]).returncode
-        print(f"manifest: missing: {PACKAGES}", file=sys.stderr)
-        return 2
+def check_manifest() -> None:
+    """Each member is in the schema, and those that speak of each other agree."""
+    import yaml
+    from kubernetes.client import models
     manifests = [it for it in yaml.safe_load_all(MANIFEST.read_text(encoding="utf-8")) if it is not None]
-    faults = [fault for it in manifests for fault in faults_of(models, KINDS[it["kind"]], it, it["kind"])]
-    faults += faults_of_names(manifests)
-    for fault in faults:
-        print(f"manifest: WRONG: {fault}")
-    print(f"manifest: {len(manifests)} objects, and nothing is wrong" if not faults else f"manifest: {len(faults)} are wrong")
-    return 1 if faults else 0
+    none_of([*(fault for it in manifests for fault in faults_of(models, KINDS[it["kind"]], it, it["kind"])), *faults_of_names(manifests)])
+    print(f"{len(manifests)} objects")

@@ -2,28 +2,26 @@
 
   checks/run proxy PROGRAM
 
-Needs Debian's haproxy, openssl and python3-prometheus-client. Exit status 0 where all is as it should be, 1 where something is wrong, 2
-where a package is missing.
+Needs Debian's haproxy, openssl and python3-prometheus-client.
 """
 import os
-import shutil
 import signal
 import socket
 import ssl
 import subprocess
 import sys
-import tempfile
 import time
 from collections.abc import Callable
 from contextlib import ExitStack
 from pathlib import Path
 
 from common.crates import TOP
+from common.needs import needs
 from common.served import Client, free_port, message, same
-from common.tried import program_parser
+
+pytestmark = needs("haproxy", "openssl", modules=("prometheus_client",))
 
 PROXIES, SOURCES = TOP / "examples/proxy", TOP / "clients/python/src"
-DEBIAN = "/usr/bin/python3"
 SECONDS, HOSTS = 300.0, ("127.0.0.1", "127.0.0.2")
 READ = b'{"do":"read","key":"k"}\n'
 Environment = dict[str, str]
@@ -55,7 +53,7 @@ def run(command: list[str | Path], environment: Environment | None = None) -> No
         raise AssertionError(f"{command[0]} ended with {ran.returncode}: {ran.stderr[-1_000:]}")
 
 
-def check_files(folder: Path) -> str:
+def try_files(folder: Path) -> str:
     """HAProxy takes the files with each number of regions, plain and with TLS, without a warning."""
     count, ways = 0, list[Environment]([{}, {"PNUTS_CERTIFICATES": str(folder)}])
     for tls in ways:
@@ -77,7 +75,7 @@ class Regions:
         within = {"PYTHONPATH": str(SOURCES), "PYTHONDONTWRITEBYTECODE": "1"}
         for at, host in enumerate(HOSTS):
             words = ["-m", "pnuts_client.ctl", "--control", str(folder / f"control{at}"), "exporter", "--listen", f"{host}:{self._health}"]
-            self.run([DEBIAN, *words], within)
+            self.run([sys.executable, *words], within)
 
     def run(self, command: list[str], environment: Environment) -> subprocess.Popen[bytes]:
         quiet = subprocess.DEVNULL
@@ -119,7 +117,7 @@ class Regions:
             return None
 
 
-def check_regions(program: str, folder: Path) -> str:
+def try_regions(program: str, folder: Path) -> str:
     """A region that is not well is given nobody, and one that is drained keeps whom it has."""
     with ExitStack() as stay:
         both = Regions(program, folder, stay)
@@ -145,7 +143,7 @@ def check_regions(program: str, folder: Path) -> str:
     return "a region is asked while it is well, and one that is drained keeps whom it has"
 
 
-def check_tls(program: str, folder: Path) -> str:
+def try_tls(program: str, folder: Path) -> str:
     """By TLS who has a certificate of the authority is let in, to a region that has a proxy of its own."""
     with ExitStack() as stay:
         both, machine = Regions(program, folder, stay), free_port()
@@ -169,25 +167,8 @@ def check_tls(program: str, folder: Path) -> str:
     return "by TLS who has a certificate is let in, and nobody else"
 
 
-def missing() -> list[str]:
-    tools = [it for it in ("haproxy", "openssl") if not shutil.which(it)]
-    has = subprocess.run([DEBIAN, "-c", "import prometheus_client"], capture_output=True).returncode == 0
-    return tools + ([] if has else ["python3-prometheus-client"])
-
-
-def main(words: list[str]) -> int:
-    told = program_parser(__doc__).parse_args(words)
-    if lacks := missing():
-        print(f"checks/run proxy: missing: {' '.join(lacks)}", file=sys.stderr)
-        return 2
-    with tempfile.TemporaryDirectory() as made:
-        folder = Path(made)
-        try:
-            make_certificates(folder)
-            print(check_files(folder), flush=True)
-            print(check_regions(told.program, folder), flush=True)
-            print(check_tls(told.program, folder), flush=True)
-        except (AssertionError, OSError) as fault:
-            print(f"checks/run proxy: WRONG: {fault}")
-            return 1
-    return 0
+def check_proxy(program: str, folder: str) -> None:
+    """HAProxy reads its files, sends clients to regions that are well, and lets those in by TLS that have a certificate."""
+    here = Path(folder)
+    make_certificates(here)
+    print(try_files(here), try_regions(program, here), try_tls(program, here), sep="\n")

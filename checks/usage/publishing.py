@@ -3,23 +3,22 @@ and regions have the record.
 
   checks/run publishing PROGRAM
 
-Needs unshare, ip, and Debian's postgresql, python3-psycopg2, redis-server and python3-redis. Exit status 0 where that is so, 1 where it is
-not, 2 where something is missing.
+Needs unshare, ip, and Debian's postgresql, python3-psycopg2, redis-server and python3-redis.
 """
 import os
 import re
-import shutil
 import subprocess
-import sys
 import tempfile
 from pathlib import Path
 
 from common.crates import TOP
-from common.parts import MISSING
-from common.tried import program_parser
+from common.needs import needs
+from common.tried import none_of
 
-DEBIAN, BIN = "/usr/bin/python3", Path("/usr/lib/postgresql/15/bin")
-TOOLS = ("unshare", "ip", "setpriv", "redis-server", "psql")
+BIN = Path("/usr/lib/postgresql/15/bin")
+NEEDS = needs("unshare", "ip", "setpriv", "redis-server", "psql", modules=("redis", "psycopg2"), root=True, also=() if BIN.is_dir() else ("postgresql",))
+pytestmark = NEEDS
+
 CODE = re.compile(r"```python\n(.*?)```", re.DOTALL)
 SHOWN = re.compile(r"(?:^    .+\n)+", re.MULTILINE)
 SECONDS = 180
@@ -74,18 +73,8 @@ def faults(program: str, folder: Path) -> list[str]:
     return wrong
 
 
-def main(words: list[str]) -> int:
-    told = program_parser(__doc__).parse_args(words)
-    lacks = [it for it in TOOLS if not shutil.which(it)] + ([] if BIN.is_dir() else ["postgresql"]) + ([] if os.geteuid() == 0 else ["root"])
-    if subprocess.run([DEBIAN, "-c", "import redis, psycopg2"], capture_output=True).returncode:
-        lacks.append("python3-redis python3-psycopg2")
-    if lacks:
-        print(f"checks/run publishing: missing: {' '.join(lacks)}", file=sys.stderr)
-        return MISSING
+def check_publishing(program: str) -> None:
+    """A table of PostgreSQL and one of SQLite are published as documents show."""
     with tempfile.TemporaryDirectory(ignore_cleanup_errors=True) as made:
         Path(made).chmod(0o755)
-        wrong = faults(told.program, Path(made))
-    for fault in wrong:
-        print(f"checks/run publishing: WRONG: {fault}")
-    print("publishing: a table of PostgreSQL and one of SQLite are published as documents show" if not wrong else f"{len(wrong)} are wrong")
-    return 1 if wrong else 0
+        none_of(faults(program, Path(made)))

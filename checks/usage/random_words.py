@@ -1,11 +1,10 @@
 """Random words, whose first fault has to be the one that this file finds in them, in its own way.
 
-  checks/run random-words PROGRAM [--runs N] [--seed S]
+  checks/run random-words PROGRAM [--cases N] [--seed S]
 
 Bounds, an address, the paths and permissions of sockets and streams are drawn from small pools, half of the time with `--stay`. Words that are
 refused have to end with status 2 and that fault, with `--stay`, and of `--control`, of which text, and why. No path is there, so all
-others have to end with status 1 and the copies, or the first stream, with `--stay` and its path. Exit status 0 only where all agree and, of 1,000
-runs or more, each fault occurs.
+others have to end with status 1 and the copies, or the first stream, with `--stay` and its path. Of 1,000 runs or more, each fault has to occur.
 """
 import ipaddress
 import json
@@ -13,14 +12,16 @@ import random
 import re
 import subprocess
 from collections import Counter
-from collections.abc import Iterator
+from collections.abc import Callable, Iterator
 from typing import NamedTuple
 
-from common.at_once import at_once
-from common.tried import program_parser
+from common.drawn import SEEDS, seeds, st, try_drawn
+from common.served import SECONDS, same
+from common.tried import none_of
 
-SECONDS = 60
-MANY = 1_000
+RUNS, MANY = 3_000, 1_000
+# Words that are tried each time: none that are refused, and sixteen streams and one more.
+KEPT = [(False, [0] * 6, [0]), (True, [0] * 6, list(range(1, 18)))]
 # Sixteen faults and none, each with and without --stay, but for three of paths that are too long, and a control socket without it.
 ALL_KINDS = 30
 MOST_STREAMS = 16
@@ -43,6 +44,8 @@ NO_STREAMS = ["", "east", "-x", "listen:/none/p", "a\nb", "\u0085", 'a\tb"\\c', 
 # How a text that has characters of control is quoted.
 QUOTED = {"\n": "\\n", "\t": "\\t", "\x1b": "\\u{1b}", "\u0085": "\\u{85}", '"': '\\"', "\\": "\\\\"}
 
+# What stands in place of words of the seed 0.
+PLAIN = ("[]", "127.0.0.1", None, None, None, None)
 # A text that is refused, and why.
 Refused = tuple[str, str]
 
@@ -83,14 +86,19 @@ def drawn_stream(rng: random.Random) -> str:
     return f"{name}={rng.choice(['', '', '', 'listen:', 'listen:', 'Listen:', './listen:'])}{path}"
 
 
-def drawn(rng: random.Random) -> Words:
-    listen = rng.choice(NO_ADDRESSES) if rng.random() < 0.2 else rng.choice(ADDRESSES)
-    socket = rng.choice([None, *PATHS]) if rng.random() < 0.5 else "/none/p"
-    mode = rng.choice([None, None, None, rng.choice(MODES), rng.choice(MODES), rng.choice(NO_MODES)])
-    control = rng.choice(PATHS) if rng.random() < 0.2 else None
-    count = rng.choice([1, 1, 2, 3, 15, 16, 17])
-    copies = rng.choice(PATHS) if rng.random() < 0.1 else None
-    return Words(rng.random() < 0.5, drawn_bounds(rng), listen, socket, mode, control, copies, [drawn_stream(rng) for _ in range(count)])
+def drawn(stays: bool, given: list[int], streams: list[int]) -> Words:
+    """The words of these seeds: those of the bounds, the address, the socket, its mode, the control socket and the copies, and one of each stream."""
+    ways: list[Callable[[random.Random], str | None]] = [
+        drawn_bounds,
+        lambda rng: rng.choice(NO_ADDRESSES) if rng.random() < 0.2 else rng.choice(ADDRESSES),
+        lambda rng: rng.choice([None, *PATHS]) if rng.random() < 0.5 else "/none/p",
+        lambda rng: rng.choice([None, None, None, rng.choice(MODES), rng.choice(MODES), rng.choice(NO_MODES)]),
+        lambda rng: rng.choice(PATHS) if rng.random() < 0.2 else None,
+        lambda rng: rng.choice(PATHS) if rng.random() < 0.1 else None,
+    ]
+    bounds, listen, socket, mode, control, copies = (way(random.Random(seed)) if seed else plain for way, seed, plain in zip(ways, given, PLAIN))
+    named = [drawn_stream(random.Random(seed)) if seed else "s=/none/p" for seed in streams]
+    return Words(stays, str(bounds), str(listen), socket, mode, control, copies, named)
 
 
 def no_constant(text: str) -> None:
@@ -190,21 +198,16 @@ def kind_of(words: Words) -> str:
     return next((f"{kind}: {re.sub('bound [0-9]+ ', 'a bound ', why)}" for kind, (_, why) in faults_of(words)), "no fault")
 
 
-def main(words: list[str]) -> int:
-    parser = program_parser(__doc__)
-    parser.add_argument("--runs", type=int, default=3_000, help="how many words are drawn (default: %(default)s)")
-    parser.add_argument("--seed", type=int, default=1, help="what they are drawn by (default: %(default)s)")
-    told = parser.parse_args(words)
-    rng = random.Random(told.seed)
-    each = [drawn(rng) for _ in range(told.runs)]
-    faults = [fault for fault in at_once(lambda it: fault_of(told.program, it), each) if fault]
-    counts = Counter((kind_of(it), it.stays) for it in each)
+def check_random_words(program: str, cases: int | None, seed: int) -> None:
+    """The first fault of words is the one that is told."""
+    counts, runs = Counter[tuple[str, bool]](), cases or RUNS
+
+    def agree(case: tuple[bool, list[int], list[int]]) -> None:
+        words = drawn(*case)
+        none_of(filter(None, [fault_of(program, words)]))
+        counts[kind_of(words), words.stays] += 1
+
+    try_drawn(agree, st.tuples(st.booleans(), seeds(len(PLAIN)), st.lists(SEEDS, min_size=1, max_size=17)), runs, seed, KEPT, is_apart=False)
     for (kind, stays), count in sorted(counts.items()):
         print(f"{count:5} {'with' if stays else 'without'} --stay: {kind}")
-    for fault in faults[:10]:
-        print(f"WRONG: {fault}")
-    few = told.runs >= MANY and len(counts) < ALL_KINDS
-    if few:
-        print(f"WRONG: {len(counts)} kinds of ends occur, and there are {ALL_KINDS}")
-    print(f"{len(each)} words, {len(faults)} with another end")
-    return 1 if faults or few else 0
+    same("whether each kind of end occurs", runs < MANY or len(counts) == ALL_KINDS, True)

@@ -3,26 +3,26 @@
   checks/run types
 
 `mypy --strict` reads each folder by itself, and the modules of other folders that its programs load. Needs Debian's mypy.
-Exit status 0 where nothing is wrong, or skipped; 1 where something is wrong.
 """
 import os
-import shutil
 import subprocess
-import tempfile
 from collections.abc import Iterator
 from pathlib import Path
 
 from common.crates import TOP
-from common.tried import parser_of
+from common.needs import needs
+from common.tried import none_of
+
+pytestmark = needs("mypy")
 
 # Folders whose programs are read together: a program is of the last that it is in. The rest is read from the top.
 FOLDERS = ("", "bench", "bin", "checks", "clients", "clients/python", "docs/pictures", "examples", "examples/postgres", "examples/regions",
            "feeds", "fuzz", "packaging")
 # Where programs look for modules of other folders.
-MODULES = ("checks", "bench", "clients/python/src", "clients/python", "examples", "examples/regions", "packaging", "packaging/man")
+MODULES = ("checks", "bench", "clients/python/src", "clients/python", "examples", "examples/regions", "packaging")
 # Modules of packages and of the toolchain whose types are told nowhere, or that may be missing.
-UNTYPED = ("confluent_kafka", "kubernetes", "pika", "prometheus_client", "psycopg2", "redis", "rtlib", "yaml")
-SETTINGS = "[mypy]\n" + "".join(f"[mypy-{name}.*]\nignore_missing_imports = True\n" for name in UNTYPED)
+UNTYPED = ("confluent_kafka", "kubernetes", "pika", "prometheus_client", "psycopg2", "redis", "rtlib", "selenium", "yaml")
+SETTINGS = "[mypy]\n" + "".join(f"[mypy-{name}.*]\nignore_missing_imports = True\nfollow_imports = skip\n" for name in UNTYPED)
 WORDS = ("--strict", "--scripts-are-modules", "--explicit-package-bases", "--follow-imports", "silent",
          "--hide-error-context", "--no-error-summary")
 
@@ -61,15 +61,8 @@ def faults_of(folder: str, names: list[str], cache: str) -> Iterator[str]:
         yield f"{folder}: mypy ends with status {ran.returncode}: {ran.stderr.strip()}"
 
 
-def main(words: list[str]) -> int:
-    parser_of(__doc__).parse_args(words)
-    if not shutil.which("mypy"):
-        print("types: skipped, for the machine lacks mypy")
-        return 0
+def check_types(folder: str) -> None:
+    """mypy finds nothing wrong."""
     found = programs()
-    with tempfile.TemporaryDirectory() as cache:
-        faults = [fault for folder, names in found.items() for fault in faults_of(folder, names, cache)]
-    for fault in faults:
-        print(f"types: {fault}")
-    print(f"types: {len(faults)} are wrong" if faults else f"types: {sum(map(len, found.values()))} files, and nothing is wrong")
-    return 1 if faults else 0
+    none_of(fault for where, names in found.items() for fault in faults_of(where, names, folder))
+    print(f"{sum(map(len, found.values()))} files")

@@ -3,20 +3,19 @@
   checks/run words
 
 Commands, members, refusals, options and the reasons that writers of streams are told are read off the sources. Each has to stand
-in docs/formats.md; commands also in README.md, the slow program and, with their members, the fuzzer's words; what sessions have, by the
-table of commands, with its members in clients/README.md and in each client; what control sessions have besides in the client for Python.
+in the pages of docs/ that it is for; commands also in README.md, the slow program and, with their members, the fuzzer's words; what sessions
+have, by the table of commands, with its members in clients/README.md and in each client; what control sessions have besides in the client
+for Python.
 Commands and options that README.md, docs/ or the packages name have to be those of the program, and its version is the same in
 all files (bin/version).
-
-Exit status: 0 where nothing is missing, 1 where something is, 2 for a wrong argument.
 """
-import argparse
 import re
 import subprocess
 from collections.abc import Iterable, Iterator
 from pathlib import Path
 
 from common.crates import TOP
+from common.tried import none_of
 
 COMMAND = re.compile(r'"(\w+)" => Some\(CommandWord::(\w+)\)')
 # A row of the table of commands: its name, who may say it, its kind, its members.
@@ -117,12 +116,14 @@ def all_faults() -> Iterator[str]:
     controls, refusals = commands_of_controls(protocol), found(REFUSAL, protocol)
     options = {f"--{it}" for it in found(OPTION, sources("pn_arguments"))}
     reasons = found(REASON, sources("pn_stay"))
-    formats, readme = (TOP / "docs/formats.md").read_text(), (TOP / "README.md").read_text()
+    readme = (TOP / "README.md").read_text()
     if min(map(len, (commands, members, refusals, options, reasons))) < 5 or not lookups or not of_controls:
         yield "the sources do not say their words in the way that this script reads them"
     yield from uneven(protocol, members, commands)
-    for kind, words in (("command", commands | set(controls)), ("member", members), ("refusal", refusals), ("option", options), ("reason", reasons)):
-        yield from missing(kind, words, "docs/formats.md", formats)
+    for kind, words, pages in (("command", commands | set(controls), "lines control"), ("member", members, "lines"), ("refusal", refusals, "lines"),
+                               ("option", options, "program"), ("reason", reasons, "streams")):
+        names = [f"docs/{it}.md" for it in pages.split()]
+        yield from missing(kind, words, " and ".join(names), text_of(TOP / it for it in names))
     yield from missing("command", commands, "README.md", readme)
     yield from missing("command", commands, "the slow program (checks)", text_of(below("checks")))
     words_of_fuzzer = (TOP / "fuzz/words.dict").read_text()
@@ -142,10 +143,6 @@ def all_faults() -> Iterator[str]:
     yield from versions()
 
 
-def main(words: list[str]) -> int:
-    argparse.ArgumentParser(description=__doc__, formatter_class=argparse.RawDescriptionHelpFormatter).parse_args(words)
-    faults = list(all_faults())
-    for fault in faults:
-        print(f"words: {fault}")
-    print("words: nothing is missing" if not faults else f"words: {len(faults)} are missing or wrong")
-    return 1 if faults else 0
+def check_words() -> None:
+    """No word of the sources is missing, and none is told that is not there."""
+    none_of(all_faults())

@@ -133,6 +133,10 @@ export interface StreamStats {
   readonly since: number | null;
   readonly reason: string | null;
   readonly line: number | null;
+  /** Whose stream a writer said it is, and the broker's newest position that one told, `heard` seconds ago; null where none did. */
+  readonly stream?: string | null;
+  readonly newest?: number | null;
+  readonly heard?: number | null;
 }
 
 /** How many lines were answered, and how many of these refused. */
@@ -153,6 +157,8 @@ export interface Stats {
   readonly streams: readonly StreamStats[];
   /** What each tablet holds, where the region says it: records, and how many of them are deletions. */
   readonly tablets?: readonly { readonly deleted: number; readonly records: number }[];
+  /** Bytes of the records that unread replies keep, their limit, and how many clients were ended for it, where the region says it. */
+  readonly unread?: { readonly bytes: number; readonly ended: number; readonly limit: number };
 }
 
 /** The control socket of a region, as unix:/run/pnuts/control. It reads records, too. */

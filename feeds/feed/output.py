@@ -29,6 +29,12 @@ class Output(Protocol):
     def begin(self) -> int:
         """Waits until the region takes lines, and answers the position after which it wants them."""
 
+    def name(self, identity: str | None) -> None:
+        """Says whose stream it is, before its first line, where that is known and the region hears it."""
+
+    def tell_newest(self, newest: int) -> None:
+        """Says how far the broker is, where the region hears it, once a second at most."""
+
     def write(self, lines: bytes) -> None:
         """Hands all on, and waits while the region takes no more."""
 
@@ -62,6 +68,12 @@ class Pipe:
                 raise Unusable(f"cannot open {self._path}: {fault.strerror}") from fault
         self._poll.register(self._handle, 0)
         return 0
+
+    def name(self, identity: str | None) -> None:
+        """See `Output`. A pipe has messages alone."""
+
+    def tell_newest(self, newest: int) -> None:
+        """See `Output`. A pipe has messages alone."""
 
     def write(self, lines: bytes) -> None:
         """See `Output`."""

@@ -16,7 +16,7 @@ from .images import why_refused
 from .instead import BadInstead, Instead
 from .output import Output, RegionGone, output_of
 from .pairs import BadPairs
-from .sockets import Refused, RegionAway, Unusable
+from .sockets import OtherStream, Refused, RegionAway, Unusable
 
 
 COPIES = "Start the region from copies of another one, which has it."
@@ -96,6 +96,9 @@ def run(name: str, source: Source, output: Output, instead: Instead | None = Non
         tell(name, str(fault))
         feed.finish()
         return 2
+    except OtherStream as fault:
+        tell(name, str(fault))
+        return 2
     except KeyboardInterrupt:
         pass
     finally:
@@ -115,6 +118,7 @@ class _Feed:
         self._ids = Ids()
         self._given = Given()
         self._position = 0
+        self._newest = 0
         self._away = False
         self._is_same = False
 
@@ -137,7 +141,7 @@ class _Feed:
             self._output.finish()
         except Refused as fault:
             self.tell_refusal(fault)
-        except Unusable as fault:
+        except (OtherStream, Unusable) as fault:
             tell(self._name, str(fault))
 
     def write_figures(self) -> None:
@@ -159,7 +163,7 @@ class _Feed:
                     for messages in batches:
                         self._see_broker()
                         self._see_same()
-                        self._figures.note(self._source.newest(), self._taken())
+                        self._say(self._source.newest())
                         self._hand_on(messages)
                         self._keep()
             except Unreachable as fault:
@@ -168,6 +172,14 @@ class _Feed:
                     self._away = True
                 self._output.pause(0.2)
                 self._figures.note(None, self._taken())
+
+    def _say(self, newest: int | None) -> None:
+        """Says whose stream it is, and how far the broker is, to the region and in the figures."""
+        self._figures.note(newest, self._taken())
+        # A broker that does not tell it has at least what was read of it.
+        self._newest = max(self._newest, self._position) if newest is None else newest
+        self._output.name(self._source.identity())
+        self._output.tell_newest(self._newest)
 
     def _see_same(self) -> None:
         """That the stream is the one of the feed before, as its figures know it, where the region had something at first."""

@@ -1,11 +1,13 @@
 """The socket on which a region takes a stream.
 
-The region begins with `{"after":N}`: it has all positions up to N. Lines go to it from N + 1 on. Now and then it says `{"taken":N}`.
-Where it finds a fault it says `{"error":..}` and closes. Where it closes without a reason it is connected to again.
+The region begins with `{"after":N}`: it has all positions up to N. Lines go to it from N + 1 on, after one that says whose stream
+they are; between them it is told the broker's newest position. Now and then it says `{"taken":N}`. Where it finds a fault it says
+`{"error":..}` and closes. Where it closes without a reason it is connected to again.
 """
 
 from __future__ import annotations
 
+import hashlib
 import json
 import select
 import socket
@@ -17,6 +19,8 @@ FIRST_PAUSE, LONGEST_PAUSE = 0.05, 2.0
 # How long the region may leave a new connection without a word before the feed says so, and how long its last words are waited for.
 SOON, LAST_WORDS = 2.0, 5.0
 MAX_WORDS = 65_536
+# How many bytes say at most whose stream it is, and how often the region is told the newest position, in seconds.
+MAX_IDENTITY, TOLD_EVERY = 256, 1.0
 _NOT_THERE = (FileNotFoundError, ConnectionError, BlockingIOError)
 
 
@@ -37,6 +41,10 @@ class Refused(Exception):
         self.position = position
 
 
+class OtherStream(Exception):
+    """The region takes another stream. The reason is its own line."""
+
+
 class RegionSocket:
     """One connection after another to a region."""
 
@@ -46,6 +54,9 @@ class RegionSocket:
         self.taken = 0
         self._path = path
         self._say = say
+        # Whether a line was written in this connection, and when the newest position was told last.
+        self._has_begun = False
+        self._told_at = float("-inf")
         self._pause = 0.0
         self._socket: socket.socket | None = None
         self._rest = b""
@@ -67,8 +78,20 @@ class RegionSocket:
                 self._close()
                 raise Unusable(f"cannot connect to {self._path}: {_reason_of(fault)}") from fault
 
+    def name(self, identity: str | None) -> None:
+        """Says whose stream it is, where that is known, in the first line of a connection."""
+        if identity is not None and not self._has_begun:
+            self.write(_line({"stream": _short(identity)}))
+
+    def tell_newest(self, newest: int) -> None:
+        """Says how far the broker is, once a second at most."""
+        if time.monotonic() - self._told_at >= TOLD_EVERY:
+            self._told_at = time.monotonic()
+            self.write(_line({"newest": newest}))
+
     def write(self, lines: bytes) -> None:
         """Hands all on, and waits while the region takes no more."""
+        self._has_begun = self._has_begun or bool(lines)
         rest = memoryview(lines)
         while rest:
             self._listen()
@@ -111,7 +134,7 @@ class RegionSocket:
 
     def _connect(self) -> int:
         """Waits for the region's first words: it takes one writer at a time."""
-        self._rest = b""
+        self._rest, self._has_begun, self._told_at = b"", False, float("-inf")
         self._socket = socket.socket(socket.AF_UNIX)
         self._socket.connect(self._path)
         self._socket.setblocking(False)
@@ -160,6 +183,11 @@ class RegionSocket:
             told = None
         if not isinstance(told, dict):
             raise self._no_region(line)
+        if told.get("error") == "other-stream":
+            raise OtherStream(f"the region takes the stream {told.get('has')!r}, and this feed gives {told.get('got')!r}")
+        if told.get("error") == "bad-shape" and told.get("member") == "at":
+            # No message that a feed makes is without a position.
+            raise Unusable(f"{self._path} is of a region of an older version, which takes no line that says whose stream it is: {line.decode()}")
         if "error" in told:
             position = told.get("at", told.get("got"))
             raise Refused(line.decode(), position if isinstance(position, int) else None)
@@ -177,6 +205,19 @@ class RegionSocket:
         if self._socket is not None:
             self._socket.close()
             self._socket = None
+
+
+def _line(told: dict[str, Any]) -> bytes:
+    return json.dumps(told, separators=(",", ":")).encode() + b"\n"
+
+
+def _short(identity: str) -> str:
+    """The same text, or one that has a checksum of it in place of its end."""
+    text = identity.encode("utf-8", "surrogateescape")
+    if len(text) <= MAX_IDENTITY:
+        return text.decode("utf-8", "replace")
+    digest = hashlib.sha256(text).hexdigest()
+    return f"{text[:MAX_IDENTITY - len(digest) - 1].decode('utf-8', 'ignore')} {digest}"
 
 
 def _reason_of(fault: Exception) -> str:

@@ -24,6 +24,9 @@ class Region:
         self.again = 0
         self.faults: list[str] = []
         self.writers = 0
+        # Whose stream writers said they give, and the newest positions that they told, with the times.
+        self.streams: list[str] = []
+        self.newest: list[tuple[float, int]] = []
         self._refuses = refuses
         self._slow = slow
         self._connection: socket.socket | None = None
@@ -67,7 +70,7 @@ class Region:
 
     def _take_all(self, writer: socket.socket) -> None:
         """Takes a writer's lines until it goes or is refused."""
-        last, rest, told = 0, b"", time.monotonic()
+        last, rest, told, is_first = 0, b"", time.monotonic(), True
         writer.sendall(b'{"after":%d}\n' % self.has)
         while not self._stops:
             if select.select([writer], [], [], TOLD_EVERY)[0]:
@@ -75,6 +78,9 @@ class Region:
                     return
                 *lines, rest = (rest + part).split(b"\n")
                 for line in lines:
+                    is_heard, is_first = self._hear(line, is_first), False
+                    if is_heard:
+                        continue
                     last, reason = self._take(line, last)
                     if reason:
                         writer.sendall(json.dumps(reason, separators=(",", ":")).encode() + b"\n")
@@ -84,6 +90,18 @@ class Region:
             if time.monotonic() - told >= TOLD_EVERY and self._told != self.has:
                 self._told, told = self.has, time.monotonic()
                 writer.sendall(b'{"taken":%d}\n' % self.has)
+
+    def _hear(self, line: bytes, is_first: bool) -> bool:
+        """Whether a line is what a writer says of its stream."""
+        if line.startswith(b'{"stream":'):
+            self.streams.append(json.loads(line)["stream"])
+            if not is_first:
+                self.faults.append("a line that is not the first says whose stream it is")
+            return True
+        if line.startswith(b'{"newest":'):
+            self.newest.append((time.monotonic(), json.loads(line)["newest"]))
+            return True
+        return False
 
     def _take(self, line: bytes, last: int) -> tuple[int, dict[str, object] | None]:
         """The position of a line, and why it is refused."""

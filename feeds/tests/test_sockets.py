@@ -3,6 +3,7 @@
 from __future__ import annotations
 
 import io
+import json
 import socket
 import tempfile
 import threading
@@ -12,7 +13,7 @@ from contextlib import redirect_stderr
 from pathlib import Path
 
 from feed.running import Lost, Unreachable, run
-from feed.sockets import Refused, RegionAway, RegionSocket, Unusable
+from feed.sockets import OtherStream, Refused, RegionAway, RegionSocket, Unusable
 
 from .region import Region
 from .support import image, wait_until
@@ -68,6 +69,7 @@ class Sockets(unittest.TestCase):
             (b'{"error":"gap","got":9,"wanted":8}', 9),
             (b'{"at":8,"error":"bad-shape","member":"key"}', 8),
             (b'{"at":8,"error":"out-of-step","got":10}', 8),
+            (b'{"at":8,"error":"out-of-range","member":"at"}', 8),
             (b'{"error":"memory"}', None),
         ):
             with self.subTest(reason):
@@ -77,6 +79,46 @@ class Sockets(unittest.TestCase):
                     region.pause(10)
                 self.assertEqual((refused.exception.reason, refused.exception.position), (reason.decode(), position))
                 self.path.unlink()
+
+    def test_another_stream(self) -> None:
+        region = self.listens(lambda writer: writer.sendall(b'{"after":7}\n{"error":"other-stream","got":"a b","has":"c"}\n'))
+        with self.assertRaisesRegex(OtherStream, "takes the stream 'c', and this feed gives 'a b'"):
+            region.begin()
+            region.pause(10)
+
+    def test_a_region_of_an_older_version(self) -> None:
+        region = self.listens(lambda writer: writer.sendall(b'{"after":7}\n{"at":8,"error":"bad-shape","member":"at"}\n'))
+        with self.assertRaisesRegex(Unusable, "of an older version"):
+            region.begin()
+            region.pause(10)
+
+    def test_what_it_says_of_its_stream(self) -> None:
+        """Whose it is comes first in each connection, in 256 bytes at most, and the newest position once a second at most."""
+        came: list[bytes] = []
+
+        def do(writer: socket.socket) -> None:
+            writer.sendall(b'{"after":0}\n')
+            read = bytearray()
+            while not read.endswith(b"end\n"):
+                read.extend(writer.recv(65_536))
+            came.append(bytes(read))
+
+        region = self.listens(do, do, do)
+        for identity in ("redis-stream e\n\u00e9\"", "\u00e9" * 200, None):
+            region.begin()
+            region.name(identity)
+            for newest in range(100):
+                region.tell_newest(newest)
+                region.name("another")
+            region.write(b"end\n")
+            with self.assertRaises(RegionAway):
+                region.pause(10)
+        self.assertEqual(came[0], b'{"stream":"redis-stream e\\n\\u00e9\\""}\n{"newest":0}\nend\n')
+        first, *others = came[1].splitlines()
+        self.assertEqual(others, [b'{"newest":0}', b"end"])
+        text = json.loads(first)["stream"]
+        self.assertTrue(text.startswith("\u00e9" * 90) and len(text.encode()) <= 256, text)
+        self.assertEqual(came[2], b'{"newest":0}\nend\n')
 
     def test_a_reason_amid_much_that_is_written(self) -> None:
         def do(writer: socket.socket) -> None:
@@ -155,8 +197,9 @@ class Scripted:
         """See `feed.running.Source`."""
         return f"number {identity}"
 
-    def identity(self) -> None:
+    def identity(self) -> str:
         """See `feed.running.Source`."""
+        return "scripted"
 
     def has(self, position: int, name: str) -> bool:
         """See `feed.running.Source`."""
@@ -179,6 +222,7 @@ class Running(unittest.TestCase):
                 self.assertEqual(run("scripted", source, RegionSocket(str(region.path), lambda _: None)), 1)
             wait_until(lambda: region.has == 20)
             self.assertEqual((region.faults, region.again, source.begun), ([], 0, [3, 4, 6, 8, 8]))
+            self.assertEqual((region.streams, [newest for _, newest in region.newest]), (["scripted"], [20]))
             told = ["waiting for the broker: away", "the broker is back"] * 2
             self.assertEqual(said.getvalue().splitlines(), [f"scripted: {line}" for line in [*told, "no more"]])
 

@@ -1,6 +1,6 @@
 //! A plain Rust region, which the figures of pnuts stand beside: one `BTreeMap` of typed cells, and `serde_json` values.
 //!
-//! It answers the commands `deliver`, `read`, `get`, `scan` and `marks` as docs/formats.md says, and serves sessions.
+//! It answers the commands `deliver`, `read`, `get`, `scan` and `marks` as docs/lines.md says, and serves sessions.
 
 mod commands;
 mod images;

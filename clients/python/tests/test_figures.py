@@ -10,7 +10,7 @@ import time
 import unittest
 from pathlib import Path
 
-from pnuts_client.figures import Beside, Figures, Lag, lag_of, read_figures
+from pnuts_client.figures import Beside, Figures, Lag, Levels, lag_of, read_figures
 from pnuts_client.history import Seen, View
 from pnuts_client.page import shown_page
 from pnuts_client.status import lags_of
@@ -44,6 +44,26 @@ class FiguresTest(unittest.TestCase):
         self.assertEqual(read_figures(self.folder / "east.json"), Figures(1.0, 2.5, None, 3))
         self.assertEqual([*Beside(self.folder).lags(stats().streams)], ["east"])
         self.assertEqual(Beside().lags(stats().streams), {})
+
+    def test_what_feeds_told_the_region(self) -> None:
+        """It comes before what they wrote into files, and a region that is asked again and again is known to lag since it had all."""
+        told = copy.deepcopy(REPLY["streams"])
+        told[0] |= {"newest": 1_450, "heard": 2, "stream": "redis-stream east"}
+        streams = stats(streams=told).streams
+        self.assertEqual([(it.stream, it.newest, it.heard) for it in streams], [("redis-stream east", 1_450, 2), (None, None, None)])
+        self.write("east", at=1, heard=2.5, level=None, newest=3)
+        self.write("west", at=1, heard=2.5, level=None, newest=3)
+        lags = Beside(self.folder).lags(streams)
+        self.assertEqual((lags["east"].newest, lags["east"].messages, lags["west"].newest), (1_450, 50, 3))
+        self.assertAlmostEqual(lags["east"].age, 2, delta=1)
+        self.assertAlmostEqual(lags["east"].seconds or 0, 2, delta=1)
+        levels = Levels()
+        for newest, heard, position, level in (
+            (10, 100.0, 10, 100.0), (10, 105.0, 10, 105.0), (20, 110.0, 10, 105.0), (30, 111.0, 19, 105.0), (30, 112.0, 20, 110.0),
+            (40, 113.0, 30, 112.0), (3, 114.0, 30, 114.0), (50, 115.0, 30, 114.0),
+        ):
+            self.assertEqual(levels.see("east", newest, heard, position), level, (newest, heard, position))
+        self.assertEqual(levels.see("west", 5, 100.0, 0), 100.0)
 
     def test_copies(self) -> None:
         path = self.folder / "copies"

@@ -19,7 +19,7 @@ from pnuts_client.sparkline import sparkline
 NASTY = "<i>&\"'</i><script>alert(1)</script>"
 REPLY: dict[str, Any] = {
     "bytes": 9_437_184, "connections": {"accepted": 3, "idle": 0, "open": 2, "refused": 0}, "lines": {"answered": 40, "refused": 1},
-    "rounds": 7, "uptime": 3_723, "version": "0.2.0",
+    "rounds": 7, "uptime": 3_723, "version": "0.3.0",
     "streams": [
         {"bytes": 310, "line": None, "messages": 1_400, "name": "east", "path": NASTY, "position": 1_400, "reason": None, "since": 12, "state": "open"},
         {"bytes": 0, "line": 3, "messages": 0, "name": "west", "path": "w", "position": 0, "reason": NASTY, "since": None, "state": "failed"},
@@ -86,7 +86,7 @@ class PageTest(unittest.TestCase):
     def test_shows(self) -> None:
         """What is wrong, how far streams are behind, and records of tablets where the region says them."""
         texts = Tags(shown_page(view(Sample(99.0, counts_of(stats())))).decode()).texts
-        for text in ("wrong", "tablet 1 is recovering", " needs east 1400", "1,400", "500", "12s ago", "9.0 MB", "Version 0.2.0, up 1h 2m, 7 rounds"):
+        for text in ("wrong", "tablet 1 is recovering", " needs east 1400", "1,400", "500", "12s ago", "9.0 MB", "Version 0.3.0, up 1h 2m, 7 rounds"):
             self.assertIn(text, texts)
         self.assertNotIn("Records", texts)
         lines = {"answered": 40, "refused": 1, "kinds": {"read": {"answered": 3_001, "refused": 77}}}

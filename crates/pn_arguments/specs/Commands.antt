@@ -9,7 +9,7 @@ use Rattle.clap.specs.ValueTests.{is_unsigned_in}
 use Rattle.clap.specs.Words.{Row, Text, all_of, first_of, one_of}
 use Rattle.pn_json.specs.Answers.{◌>>=◌}
 use Rattle.pn_apply.specs.declared.reducing.TheConstants.{MAX_WORKERS}
-use Rattle.pn_arguments.specs.declared.options.TheConstants.{MAX_CONNECTIONS, MAX_IDLE, MAX_PORT}
+use Rattle.pn_arguments.specs.declared.options.TheConstants.{MAX_CONNECTIONS, MAX_IDLE, MAX_PORT, MAX_UNREAD}
 use Rattle.pn_serve.specs.declared.server.limits.TheConstants.{MAX_SESSIONS}
 use Rattle.pn_serve.specs.Settings.{SettingsValue}
 use Rattle.pn_arguments.specs.Bounds.{bounds_in}
@@ -86,6 +86,7 @@ service_in host options = do
     stay = stay_in options;
     control = control;
     idle = idle_in options;
+    unread = number_at (codes "unread") MAX_UNREAD options;
     is_progress_told = is_set (codes "progress") options;
     copies = copies_in options;
   })

@@ -5,7 +5,7 @@ use Rattle.clap.specs.declared.builder.action.ArgAction.TheVariants.{Append, Set
 use Rattle.clap.specs.declared.builder.value_parser.ValueParser.{ValueParser}
 use Rattle.clap.specs.declared.builder.value_parser.ValueParser.TheVariants as values
 use Rattle.pn_apply.specs.declared.reducing.TheConstants.{MAX_WORKERS}
-use Rattle.pn_arguments.specs.declared.options.TheConstants.{MAX_CONNECTIONS, MAX_IDLE, MAX_PORT}
+use Rattle.pn_arguments.specs.declared.options.TheConstants.{MAX_CONNECTIONS, MAX_IDLE, MAX_PORT, MAX_UNREAD}
 use Rattle.pn_serve.specs.declared.server.limits.TheConstants.{MAX_SESSIONS}
 
 -- an option with one value, and its default
@@ -64,6 +64,10 @@ socket_mode_option = option_of (codes "socket-mode") (codes "0600")
 abbrev pub idle_option : Rule
 idle_option = plain_option (codes "idle") (values.Signed (pos 1) (pos MAX_IDLE))
 
+-- how many bytes of records unread replies may keep
+abbrev pub unread_option : Rule
+unread_option = number_option (codes "unread") (codes "64000000") MAX_UNREAD
+
 -- whether progress is written to standard error
 abbrev pub progress_flag : Rule
 progress_flag = flag_option (codes "progress")
@@ -87,7 +91,7 @@ replay = with_rule (with_rule (new_app (codes "replay")) bounds_option) workers_
 -- where and how long sessions are served
 abbrev pub with_service : App → App
 with_service app =
-    with_rule (with_rule (with_rule (with_rule (with_rule (with_rule (with_rule (with_rule (with_rule (with_rule app sessions_option) listen_option) port_option) socket_option) socket_mode_option) stay_flag) control_option) connections_option) idle_option) progress_flag
+    with_rule (with_rule (with_rule (with_rule (with_rule (with_rule (with_rule (with_rule (with_rule (with_rule (with_rule app sessions_option) listen_option) port_option) socket_option) socket_mode_option) stay_flag) control_option) connections_option) idle_option) unread_option) progress_flag
 
 -- and from which copies the region starts
 abbrev pub with_start : App → App

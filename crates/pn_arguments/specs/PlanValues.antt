@@ -16,8 +16,8 @@ pub data AddressValue : Type 0 where
   path : List ℕ → AddressValue
 
 -- the sessions, where the server listens, the permissions of its sockets, the connections of a server that stays, the socket of its
--- control sessions, the seconds of a client that is idle, whether progress is written, and the path of the copies that the region
--- starts from
+-- control sessions, the seconds of a client that is idle, the bytes of unread replies, whether progress is written, and the path of the
+-- copies that the region starts from
 pub record ServiceValue : Type 0 where
   pub sessions : ℕ
   pub address : AddressValue
@@ -25,6 +25,7 @@ pub record ServiceValue : Type 0 where
   pub stay : Option ℕ
   pub control : Option (List ℕ)
   pub idle : Option ℕ
+  pub unread : ℕ
   pub is_progress_told : Bool
   pub copies : Option (List ℕ)
 
@@ -53,6 +54,7 @@ service_value service = record {
   stay = service.stay;
   control = optional_bytes service.control;
   idle = service.idle;
+  unread = service.unread;
   is_progress_told = service.is_progress_told;
   copies = optional_bytes service.copies;
 }

@@ -4,7 +4,7 @@ ghost use Rattle.std.specs.Prelude.{◌≡◌, ◌≤◌, ℕ, List, [], None, S
 ghost use Rattle.clap.specs.Words.{Row, Text, app_of, first_of, found_of, new_app, one_of, rows_of, rule_of, with_rule};
 ghost use Rattle.clap.specs.declared.builder.command.Command.TheViews.{out-Command};
 ghost use Rattle.clap.specs.declared.builder.value_parser.ValueParser.TheVariants as values;
-ghost use Rattle.pn_arguments.specs.Options.{bounds_option, flag_option, number_option, option_of, plain_option, program, serve as serve_app, streams_words, workers_option};
+ghost use Rattle.pn_arguments.specs.Options.{bounds_option, flag_option, number_option, option_of, plain_option, program, serve as serve_app, streams_words, unread_option, workers_option};
 ghost use Rattle.pn_arguments.specs.Commands.{is_set, number_at, number_in};
 
 use clap::builder::ValueParser;
@@ -21,6 +21,9 @@ pub(crate) const MAX_CONNECTIONS: u32 = 65_536;
 
 /// The most seconds after which an idle client is ended: a day.
 pub(crate) const MAX_IDLE: u32 = 86_400;
+
+/// The most bytes of records that unread replies may keep.
+pub(crate) const MAX_UNREAD: u32 = 4_000_000_000;
 
 /// The examples of `pnuts --help`.
 const EXAMPLES: &str = "\
@@ -52,7 +55,8 @@ const BOUNDS_HELP: &str =
 
 const WORKERS_HELP: &str = "How many threads work a round: 1 to 16";
 
-const SESSIONS_HELP: &str = "How many sessions are served: 1 to 16";
+const SESSIONS_HELP: &str =
+    "How many sessions are served, or with --stay how many threads serve them: 1 to 16";
 
 const LISTEN_HELP: &str = "The address that is listened at, of IPv4 or IPv6, which is no host name";
 
@@ -76,6 +80,9 @@ const CONNECTIONS_HELP: &str = "With --stay: how many connections are served at 
 
 const IDLE_HELP: &str =
     "Ends a client that sends nothing and takes nothing for so long: 1 to 86400";
+
+const UNREAD_HELP: &str =
+    "With --stay: how many bytes of records unread replies may keep: 1 to 4000000000";
 
 const PROGRESS_HELP: &str =
     "Says on standard error how far it is, once a second while something changes";
@@ -124,9 +131,25 @@ fn serve<'w>(alloc: Global) -> Result<Command<'w>, AllocError>
             CONNECTIONS_HELP,
         ))?
         .arg(plain(alloc, "idle", up_to(MAX_IDLE), "SECONDS", IDLE_HELP))?
+        .arg(unread(alloc))?
         .arg(flag(alloc, "progress", PROGRESS_HELP))?
         .arg(path(alloc, "copies", COPIES_HELP))?
         .arg(streams(alloc))
+}
+
+// How many bytes of records unread replies may keep.
+fn unread<'w>(alloc: Global) -> Arg<'w>
+    ensures rule { rule_of result ≡ unread_option }
+    ensures local { result.global ≡ false }
+{
+    number(
+        alloc,
+        "unread",
+        "BYTES",
+        "64000000",
+        MAX_UNREAD,
+        UNREAD_HELP,
+    )
 }
 
 // A command over a region, with its bounds and workers.

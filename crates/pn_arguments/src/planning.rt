@@ -11,7 +11,7 @@ ghost use Rattle.pn_arguments.specs.PlanValues.{address_value, optional_bytes, p
 use crate::bounds::layout_of;
 use crate::faults::{OptionFault, Why};
 use crate::options::{
-    MAX_CONNECTIONS, MAX_IDLE, MAX_PORT, command, is_given, option_number, option_text,
+    MAX_CONNECTIONS, MAX_IDLE, MAX_PORT, MAX_UNREAD, command, is_given, option_number, option_text,
 };
 use crate::permissions::permissions_of;
 use crate::refusing::told_fault;
@@ -122,6 +122,7 @@ fn service_of(alloc: Global, host: IpAddr, options: &ArgMatches<'_>) -> Result<S
         stay: stay_of(options),
         control: control_path(alloc, options)?,
         idle: idle_of(options),
+        unread: option_number(options, "unread", MAX_UNREAD),
         is_progress_told: is_given(options, "progress"),
         copies: copies_path(alloc, options)?,
     })

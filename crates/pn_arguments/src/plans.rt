@@ -36,6 +36,8 @@ pub struct Service {
     pub control: Option<String>,
     /// After how many seconds a client that sends nothing and takes nothing is ended: 1 to 86,400.
     pub idle: Option<u32>,
+    /// With `--stay`, how many bytes of records unread replies may keep: 1 to 4,000,000,000.
+    pub unread: u32,
     /// Whether progress is written to standard error each second.
     pub is_progress_told: bool,
     /// The path of a text of copies that the region starts from. Bounds beside it are its layout, in place of that of the copies.

@@ -2,6 +2,7 @@
 use Rattle.std.proofs.Common.{◌≡◌, ◌≢◌, ◌⊎◌, ◌+◌, ◌*◌, ℕ, Option, List, [], inl, inr, refl, sym, ap, ◌∙◌, subst, ⊎_elim}
 use Rattle.pn_lines.specs.Engines.{EngineValue}
 use Rattle.pn_lines.specs.Handling.{Handling}
+use Rattle.pn_lines.specs.Standing.{StandsStill}
 use Rattle.pn_lines.specs.TurnStates.{BufferValue, IsKept, IsStored, Rests, TakesFirst, TurnValue, held_in, outcome_of}
 use Rattle.pn_lines.specs.Turns.{Moment, Turned, WorkedIn, at}
 use Rattle.pn_lines.specs.declared.engine.TheConstants.{MAX_STEP_UNITS}
@@ -15,7 +16,7 @@ use Rattle.pn_lines.specs.declared.turns.sending.Sent.TheVariants as sent
 use Rattle.pn_lines.specs.declared.turns.working.TheConstants.{TURN_UNITS}
 use Rattle.pn_lines.specs.declared.turns.working.Work.{Work}
 use Rattle.pn_lines.specs.declared.turns.working.Work.TheVariants as work
-use Rattle.pn_lines.proofs.Working.{Turned-after, Turned-stopped, Turned-worked}
+use Rattle.pn_lines.proofs.Working.{Turned-after, Turned-looked, Turned-stopped, Turned-worked}
 
 module _ {G : Type 0} where
   -- the source is as the turn left it
@@ -70,6 +71,14 @@ module _ {V G : Type 0} (handling : Handling V G) (left : G → ℕ) where
       → Turned handling left (at known between machine (record shown { replies = waits })) new result → Turned handling left (at known before machine old) new result
   Turned-sent known before between machine shown old new waits result same takes all is =
       subst (λ (k : TurnValue G). Turned handling left (at known before machine k) new result) same (Turned-after handling left (at known before machine shown) new between waits result takes all is)
+
+  -- the same where the sink leaves some of it, and an answer was gone on with
+  pub Turned-going : (known before after : Option (List ℕ)) (machine now : V) (shown old : TurnValue G) (engine : EngineValue G) (waits : List ℕ) → shown ≡ old → TakesFirst before after shown.replies waits → waits ≢ []
+      → StandsStill handling machine shown.engine now engine → engine.counts.lines ≡ shown.engine.counts.lines
+      → Turned handling left (at known before machine old) (at known after now (record shown { engine = engine; replies = waits })) (outcome.Goes pause.Output)
+  Turned-going known before after machine now shown old engine waits same takes some still lines =
+      subst (λ (k : TurnValue G). Turned handling left (at known before machine k) (at known after now (record shown { engine = engine; replies = waits })) (outcome.Goes pause.Output)) same
+      (Turned-looked handling left (at known before machine shown) after waits now engine (outcome.Goes pause.Output) takes still lines some waits_not)
 
   pub Turned-waiting : (known before after : Option (List ℕ)) (machine : V) (shown old : TurnValue G) (waits : List ℕ) (result : TurnOutcome) → shown ≡ old → TakesFirst before after shown.replies waits → Rests (record shown { replies = waits }) result
       → result ≢ outcome.Goes pause.Turn → Turned handling left (at known before machine old) (at known after machine (record shown { replies = waits })) result

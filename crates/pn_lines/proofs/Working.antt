@@ -6,7 +6,7 @@ use Rattle.pn_lines.specs.Engines.{EngineValue}
 use Rattle.pn_lines.specs.Giving.{Adds}
 use Rattle.pn_lines.specs.Progress.{Advances, Costs, IsNearer, IsPartAt, NextIs}
 use Rattle.pn_lines.specs.Handling.{Handling}
-use Rattle.pn_lines.specs.Standing.{Stands}
+use Rattle.pn_lines.specs.Standing.{Stands, StandsStill}
 use Rattle.pn_lines.specs.TurnStates.{BufferValue, Comes, IsKept, IsStored, Rests, TakesFirst, TurnValue, WantsInput, Works, held_in, is_last, next_work, outcome_of}
 use Rattle.pn_lines.specs.Turns.{Moment, Turned, Worked, WorkedIn, at}
 use Rattle.pn_lines.specs.declared.engine.Next.{Next}
@@ -325,6 +325,28 @@ module _ {V G : Type 0} (handling : Handling V G) (left : G → ℕ) where
         rests = is.rests;
         nearer = is.nearer;
         kept = is.kept;
+      }
+
+  -- the sink took no more, and an answer was gone on with
+  pub Turned-looked : (old : Moment V G) (after : Option (List ℕ)) (waits : List ℕ) (now : V) (engine : EngineValue G) (result : TurnOutcome) → TakesFirst old.written after old.kept.replies waits
+      → StandsStill handling old.machine old.kept.engine now engine → engine.counts.lines ≡ old.kept.engine.counts.lines → Rests (record old.kept { engine = engine; replies = waits }) result
+      → result ≢ outcome.Goes pause.Turn → Turned handling left old (at old.left after now (record old.kept { engine = engine; replies = waits })) result
+  Turned-looked old after waits now engine result takes still lines rests stops =
+      let went = Moves-went handling old.left old.written after old.machine old.kept takes.sent waits takes.appends takes.split in
+      record {
+        moved = only_went takes.sent;
+        reached = record old.kept { engine = engine; replies = waits };
+        moves = record {
+          comes = went.comes;
+          goes = went.goes;
+          unread = went.unread;
+          ends = went.ends;
+          stands = λ start taken out is. still start (taken ++ []) ((out ++ takes.sent) ++ waits) old.kept.unread (is_last old.kept.source) (went.stands start taken out is);
+        };
+        few = record { came = omega arith; made = omega (arith, ap length takes.split ∙ length-append takes.sent waits); lines = omega (arith, lines) };
+        rests = rests;
+        nearer = λ turn. absurd (stops turn);
+        kept = IsKept-same result (record old.kept { engine = engine; replies = waits });
       }
 
   -- the sink took no more

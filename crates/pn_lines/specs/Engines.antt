@@ -1,5 +1,5 @@
 -- The values of engines, and what an answer does to one.
-use Rattle.std.specs.Prelude.{ℕ, ◌+◌, ◌-◌, ◌^◌, min, Bool, List, [], Option, None, Some}
+use Rattle.std.specs.Prelude.{ℕ, ◌+◌, ◌-◌, ◌^◌, min, Bool, false, true, List, [], Option, None, Some}
 use Rattle.pn_lines.specs.Answers.{AnswerValue, done, going}
 use Rattle.pn_lines.specs.Replies.{one_if}
 use Rattle.pn_lines.specs.declared.engine.Counts.{Counts}
@@ -15,6 +15,12 @@ pub record EngineValue (G : Type 0) : Type 0 where
   pub left : List ℕ
   pub counts : Counts
   pub most : ℕ
+
+-- an answer is gone on with
+abbrev pub is_going : {G : Type 0} → Stage G → Bool
+is_going (Reading dropped) = false
+is_going (Going g ended) = true
+is_going (Ended end) = false
 
 -- an engine that has taken nothing
 abbrev pub new_engine : {G : Type 0} → ℕ → EngineValue G

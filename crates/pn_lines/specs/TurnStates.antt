@@ -114,4 +114,5 @@ IsKept (Failed fault) reached kept = (kept.engine ≡ reached.engine) × (kept.s
 
 -- it is kept as it was to be, or there is no memory for it
 abbrev pub IsStored : {G : Type 0} → TurnOutcome → TurnOutcome → TurnValue G → TurnValue G → Type 0
-IsStored wanted outcome reached kept = IsKept outcome reached kept × ((outcome ≡ wanted) ⊎ ((outcome ≡ Failed fault.Memory) × ((reached.unread ≢ []) ⊎ (reached.replies ≢ []))))
+IsStored wanted outcome reached kept =
+    IsKept outcome reached kept × ((outcome ≡ wanted) ⊎ ((outcome ≡ Failed fault.Memory) × ((reached.unread ≢ []) ⊎ (reached.replies ≢ []))))

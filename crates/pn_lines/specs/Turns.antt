@@ -40,8 +40,10 @@ pub record Moves {V G : Type 0} (handling : Handling V G) (moved : Moved) (old n
   pub goes : Appends old.written new.written moved.went
   pub unread : old.kept.unread ++ moved.came ≡ moved.took ++ new.kept.unread
   pub ends : new.kept.source ≡ AtEnd → ((old.kept.source ≡ AtEnd) × (moved.came ≡ [])) ⊎ OnSome old.left (IsAtEnd new.left)
-  pub stands : (start : V) (taken out : List ℕ) → Stands handling start taken (out ++ old.kept.replies) old.kept.unread (is_last old.kept.source) old.machine old.kept.engine
-      → Stands handling start (taken ++ moved.took) ((out ++ moved.went) ++ new.kept.replies) new.kept.unread (is_last new.kept.source) new.machine new.kept.engine
+  pub stands : (start : V) (taken out : List ℕ)
+      → Stands handling start taken (out ++ old.kept.replies) old.kept.unread (is_last old.kept.source) old.machine old.kept.engine
+      → Stands handling start (taken ++ moved.took) ((out ++ moved.went) ++ new.kept.replies)
+      new.kept.unread (is_last new.kept.source) new.machine new.kept.engine
 
 -- the most bytes that a turn takes and makes
 abbrev pub most_made : ℕ
@@ -97,4 +99,6 @@ pub record Follows {V G : Type 0} (handling : Handling V G) (start : Start V) (i
 
 -- a known input was answered in turns, until it ended so with its engine here
 abbrev pub Finishes : {V G : Type 0} → Handling V G → Start V → Option (List ℕ) → Option (List ℕ) → V → EngineValue G → TurnOutcome → Type 0
-Finishes handling start left written machine engine outcome = IfSome start.left (λ input. (reached : TurnValue _) × Rests reached outcome × (engine ≡ reached.engine) × Follows handling start input (at left written machine reached))
+Finishes handling start left written machine engine outcome =
+    IfSome start.left (λ input. (reached : TurnValue _) × Rests reached outcome × (engine ≡ reached.engine)
+    × Follows handling start input (at left written machine reached))

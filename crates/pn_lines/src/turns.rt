@@ -1,6 +1,7 @@
 //! The driver that takes turns: it reads what is at hand, has lines answered, writes what is taken, and never waits.
 
-ghost use Rattle.std.specs.Prelude.{◌≡◌, ◌⊎◌, []};
+ghost use Rattle.std.specs.Prelude.{◌≡◌, ◌⊎◌, [], IfNone, IfSome};
+ghost use Rattle.pn_lines.specs.Engines.{is_going as goes_on};
 ghost use Rattle.pn_lines.specs.TurnStates.{new_turns, outcome_of as comes_to};
 ghost use Rattle.pn_lines.specs.Turns.{Turned, at};
 
@@ -114,10 +115,26 @@ impl<G: Drop, T: PieceText> LineTurns<G, T> {
         self.engine.counts()
     }
 
+    /// The text of a reply of which some is still to be made.
+    pub fn unmade(&self) -> Option<&T>
+        ensures some { IfSome result (λ text. T.unmade text.now ≡ self.now.engine.left) }
+        ensures none { IfNone result (self.now.engine.left ≡ []) }
+    {
+        self.engine.unmade()
+    }
+
+    /// Whether an answer is gone on with.
+    pub fn is_going(&self) -> bool
+        ensures { result ≡ goes_on self.now.engine.stage }
+    {
+        self.engine.is_going()
+    }
+
     /// One turn: goes on where the last one stopped, with a bounded number of bytes that are read, taken, made and written, and a
     /// bounded number of units of work.
     ///
-    /// Where the sink leaves replies nothing is read and nothing is answered.
+    /// Where the sink leaves replies nothing is read and no line is begun. An answer that was begun is gone on with, so that what
+    /// waits for the sink is text.
     pub fn turn<M: RefusesLong<Going = G, Text = T>, R: Input, W: Sink>(
         &mut self,
         buffers: &mut TurnBuffers,
@@ -134,7 +151,10 @@ impl<G: Drop, T: PieceText> LineTurns<G, T> {
     {
         match send(&mut self.replies, output) {
             Sent::All => self.work_and_send(buffers, machine, input, output),
-            Sent::Waits => TurnOutcome::Goes(Pause::Output),
+            Sent::Waits => {
+                self.engine.go_further(machine, TURN_UNITS);
+                TurnOutcome::Goes(Pause::Output)
+            }
             Sent::Fails => TurnOutcome::Failed(TurnFault::Write),
         }
     }

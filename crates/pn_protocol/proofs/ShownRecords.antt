@@ -1,6 +1,8 @@
 -- The records that a reply shows, by their indices.
-use Rattle.std.proofs.Common.{◌≡◌, ℕ, zero, suc, ◌<◌, ◌≤◌, List, [], ◌∷◌, length, zip, Some, None, refl, arith, ◌-◌}
-use Rattle.std.specs.List.{slice_get}
+use Rattle.std.proofs.Common.{◌≡◌, ℕ, zero, suc, ◌+◌, ◌<◌, ◌≤◌, List, [], ◌∷◌, length, take, zip, Some, None, refl, sym, ap, ◌∙◌, arith, ◌-◌}
+use Rattle.std.specs.List.{slice_get, sum_by}
+use Rattle.std.proofs.lemmas.List.Sums.{sum_by-cons, sum_by_more}
+use Rattle.std.proofs.lemmas.Option.{get_or_from_slice_get, slice_get_within}
 
 -- a record, or the only one
 pub only_record : {X : Type 0} (x : X) (index : ℕ) → 0 < index → None ≡ slice_get (x ∷ []) index
@@ -34,3 +36,15 @@ zip_past_second [] ys i none = refl
 zip_past_second (z ∷ xs) [] i none = refl
 zip_past_second (z ∷ xs) (w ∷ ys) zero none = absurd (cc)
 zip_past_second (z ∷ xs) (w ∷ ys) (suc i) none = zip_past_second xs ys i none
+
+-- one more is weighed, or all are
+pub weighed_more : {X : Type 0} (weigh : X → ℕ) (xs : List X) (i : ℕ) (x : X) → slice_get xs i ≡ Some x → sum_by weigh (take (i + 1) xs) ≡ sum_by weigh (take i xs) + weigh x
+weighed_more {X = X} weigh xs i x here =
+    sum_by_more weigh xs i x (slice_get_within xs i x here) ∙ ap (λ (y : X). sum_by weigh (take i xs) + weigh y) (get_or_from_slice_get xs i x x here)
+
+pub weighed_all : {X : Type 0} (weigh : X → ℕ) (xs : List X) (i : ℕ) → slice_get xs i ≡ None → sum_by weigh (take i xs) ≡ sum_by weigh xs
+weighed_all weigh [] zero none = refl
+weighed_all weigh [] (suc i) none = refl
+weighed_all weigh (x ∷ xs) zero none = absurd (cc)
+weighed_all weigh (x ∷ xs) (suc i) none =
+    sum_by-cons weigh x (take i xs) ∙ ap (λ n. weigh x + n) (weighed_all weigh xs i none) ∙ sym (sum_by-cons weigh x xs)

@@ -14,3 +14,5 @@ pub mod Short
 pub mod Stats
 pub mod Tablets
 pub mod Texts
+pub mod UnreadStats
+pub mod Weights

@@ -7,6 +7,8 @@ ghost use Rattle.pn_record.specs.Sets.{CellValue, set_of, union, cell_joined, Ha
 ghost use Rattle.pn_record.specs.Laws.JoinedCells.{cell_joined-laws};
 ghost use Rattle.pn_record.specs.States.{state_of, is_deletion as deletes};
 
+mod holding;
+
 use crate::held_contents::{HeldContents, merge_contents};
 use crate::{Body, Content, Version};
 use pn_join::{Dup, Join, NoMemory};

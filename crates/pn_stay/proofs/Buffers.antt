@@ -1,9 +1,8 @@
 -- What is taken from the front of bytes that are held.
-use Rattle.std.proofs.Common.{◌≡◌, ◌≢◌, ◌⊎◌, ℕ, ◌+◌, ◌-◌, ◌<◌, ◌≤◌, true, false, Some, List, ◌∷◌, ◌++◌, length, take, drop, inl, inr, sym, ap, ◌∙◌, subst, arith, length-append}
-use Rattle.std.specs.Prelude.{min}
-use Rattle.std.proofs.lemmas.List.{drop-drop, drop-take, drop_all, drop_at, length-take-le, take-append-drop, take-take}
+use Rattle.std.proofs.Common.{◌≡◌, ℕ, ◌+◌, ◌-◌, ◌≤◌, Some, List, ◌++◌, length, take, drop, sym, ap, ◌∙◌, subst, arith, length-append}
+use Rattle.std.proofs.lemmas.List.{drop-drop, drop-take, drop_at}
 use Rattle.pn_line.specs.Line.{LineBufferValue}
-use Rattle.pn_line.specs.Reads.{IsUnbroken, Takes, HasMore}
+use Rattle.pn_line.specs.Reads.{Takes, HasMore}
 use Rattle.pn_line.specs.declared.piece.Piece.{Piece}
 
 -- the bytes between two places, as a slice shows them

@@ -45,7 +45,8 @@ stream_detail Failed = []
 -- the line for the writer, where the message at this position was wanted
 abbrev pub refusal_line : ResumeFault → ℕ → List ℕ
 refusal_line (Gap got wanted) position = codes "{\"error\":\"gap\",\"got\":" ++ (decimal got ++ (codes ",\"wanted\":" ++ (decimal wanted ++ codes "}\n")))
-refusal_line (Stream fault) position = codes "{\"at\":" ++ (decimal position ++ (codes ",\"error\":\"" ++ (stream_word fault ++ (codes "\"" ++ (stream_detail fault ++ codes "}\n")))))
+refusal_line (Stream fault) position =
+    codes "{\"at\":" ++ (decimal position ++ (codes ",\"error\":\"" ++ (stream_word fault ++ (codes "\"" ++ (stream_detail fault ++ codes "}\n")))))
 
 -- the image's fault in words
 abbrev pub image_words : ImageFault → List ℕ
@@ -71,4 +72,5 @@ reason_words (Stream fault) = stream_words fault
 
 -- a stream that failed at a position, on a line of its writer's input
 abbrev pub failure_words : List ℕ → ResumeFault → ℕ → ℕ → List ℕ
-failure_words name fault position line = codes "stream " ++ (name ++ (codes " failed at " ++ (decimal position ++ (codes " (line " ++ (decimal line ++ (codes "): " ++ reason_words fault))))))
+failure_words name fault position line =
+    codes "stream " ++ (name ++ (codes " failed at " ++ (decimal position ++ (codes " (line " ++ (decimal line ++ (codes "): " ++ reason_words fault))))))

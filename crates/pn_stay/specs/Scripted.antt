@@ -1,5 +1,5 @@
 -- A source whose bytes come in pieces, and a sink that takes as many bytes as a list says.
-use Rattle.std.specs.Prelude.{◌≡◌, ℕ, List, [], ◌∷◌, ◌++◌, Option, drop, min}
+use Rattle.std.specs.Prelude.{◌≡◌, ℕ, List, [], ◌∷◌, ◌++◌, drop, min}
 
 -- the bytes of pieces, one after another
 abbrev pub bytes_of : List (List ℕ) → List ℕ

@@ -12,4 +12,6 @@ pub record ServerValue : Type 0 where
 
 -- how a server is stored in a proof
 abbrev pub server_code : Coded ServerValue
-server_code = code_by (LiveRegionValue × (ℕ × Bool)) (coded× live_code (coded× coded_ℕ coded_bool)) (λ s. (s.live, (s.threads, s.controlled))) (λ p. record { live = p.0; threads = p.1.0; controlled = p.1.1 }) (λ _. refl)
+server_code =
+    code_by (LiveRegionValue × (ℕ × Bool)) (coded× live_code (coded× coded_ℕ coded_bool)) (λ s. (s.live, (s.threads, s.controlled)))
+    (λ p. record { live = p.0; threads = p.1.0; controlled = p.1.1 }) (λ _. refl)

@@ -3,9 +3,12 @@
 ghost use Rattle.std.specs.Prelude.{◌≡◌, ◌||◌, ◌+◌, ◌-◌, ◌^◌, ◌≤◌, ◌↔◌, min, true, IsTrue};
 ghost use Rattle.pn_serve.specs.Session.Knowing.{KnowsNoLess};
 ghost use Rattle.pn_stay.specs.IdleTimeouts.{new_idle_timeout, after_quarter};
+ghost use Rattle.std.specs.Option.{option_map};
+ghost use Rattle.pn_stay.specs.Unread.{aged, is_deaf, weight_in};
 
 use crate::polled_input::PolledInput;
 use crate::socket::{Socket, TrackedSocket};
+use crate::unread::UnreadReply;
 use mio::event::Event;
 use pn_lines::{Counts, LineTurns, LinesEnd, Pause, TurnBuffers, TurnOutcome};
 use pn_protocol::LineCounts;
@@ -19,8 +22,10 @@ pub(crate) struct Connection {
     socket: Socket,
     lines: LineTurns<Going, ReplyPieces>,
     pub(crate) idle: IdleTimeout,
-    /// Whether its replies wait for the socket.
-    pub(crate) is_held_up: bool,
+    /// What waits for its client, if anything does.
+    pub(crate) unread: Option<UnreadReply>,
+    // What the reply weighs that was weighed last, after the number of lines up to its own.
+    weighed: (u64, u64),
     /// Whether it is among those that are to have a turn.
     pub(crate) is_ready: bool,
     /// Whether its socket is kept until its client has taken the replies: it had as many lines as may be.
@@ -38,7 +43,8 @@ impl Connection {
             socket,
             lines: LineTurns::new(alloc, MAX_LINES),
             idle: IdleTimeout::new(),
-            is_held_up: false,
+            unread: None,
+            weighed: (0, 0),
             is_ready: false,
             lingers: false,
             is_ending: false,
@@ -80,10 +86,12 @@ impl Connection {
         let before = self.lines.counts();
         let turned = self.lines.turn(buffers, reader, &mut input, &mut output);
         add_lines(counted, before, self.lines.counts());
-        let is_busy = turned == TurnOutcome::Goes(Pause::Turn);
-        self.idle.note_activity(is_busy || output.has_moved());
-        self.is_held_up = turned == TurnOutcome::Goes(Pause::Output);
+        let has_taken = output.has_moved();
+        let is_busy = turned == TurnOutcome::Goes(Pause::Turn) || self.lines.is_going();
+        self.idle.note_activity(is_busy || has_taken);
+        self.note_unread(turned == TurnOutcome::Goes(Pause::Output), has_taken);
         match turned {
+            TurnOutcome::Goes(_) if is_busy => Some(Pause::Turn),
             TurnOutcome::Goes(pause) => Some(pause),
             TurnOutcome::Ended(end) => {
                 self.lingers = end != LinesEnd::Input;
@@ -91,6 +99,57 @@ impl Connection {
             }
             TurnOutcome::Failed(_) => None,
         }
+    }
+}
+
+impl Connection {
+    /// What the records weigh that its reply keeps, where that waits for its client.
+    pub(crate) fn unread_weight(&self) -> u64
+        ensures { result ≡ weight_in self.now.unread }
+    {
+        match &self.unread {
+            Some(unread) => unread.weight(),
+            None => 0,
+        }
+    }
+
+    /// A quarter of a second is over for the client, if replies wait for it. Whether it took no byte for half a minute.
+    pub(crate) fn age_unread(&mut self) -> Option<bool>
+        ensures aged { self.new.unread ≡ option_map aged self.old.unread }
+        ensures deaf { result ≡ option_map is_deaf self.new.unread }
+    {
+        match &mut self.unread {
+            Some(unread) => {
+                unread.end_quarter();
+                Some(unread.is_deaf())
+            }
+            None => None,
+        }
+    }
+
+    // Notes after a turn whether replies wait for the client, and whether it took a byte.
+    fn note_unread(&mut self, waits: bool, has_taken: bool) {
+        if !waits {
+            self.unread = None;
+            return;
+        }
+        let weight = self.weigh();
+        match &mut self.unread {
+            Some(unread) => unread.note_turn(has_taken, weight),
+            None => self.unread = Some(UnreadReply::new(weight)),
+        }
+    }
+
+    // What the reply weighs of which text is still to be made. It is looked over once: its line is the last that was taken.
+    fn weigh(&mut self) -> u64 {
+        let line = self.lines.counts().lines;
+        let Some(text) = self.lines.unmade() else {
+            return 0;
+        };
+        if self.weighed.0 != line {
+            self.weighed = (line, text.0.weight());
+        }
+        self.weighed.1
     }
 }
 
@@ -148,6 +207,13 @@ impl IdleTimeout {
             self.quarters.saturating_add(1)
         };
         self.has_moved = false;
+    }
+
+    /// For how many whole quarters the client was idle.
+    pub fn quarters(&self) -> u32
+        ensures { result ≡ self.now.quarters }
+    {
+        self.quarters
     }
 
     /// Whether the client was idle for `most` whole quarters.

@@ -5,12 +5,16 @@ ghost use Rattle.std.specs.Prelude.{◌≡◌};
 use crate::line_counters::KindCounters;
 use crate::memory::MemoryMeter;
 use crate::streams::status::StreamStatus;
+use crate::unread::is_past;
 use pn_join::Name;
 use pn_line::{LineBuffer, Piece, Source};
 use pn_serve::Counter;
 use std::alloc::{AllocError, Global};
 use std::io;
 use std::sync::Arc;
+
+/// How many bytes of records unread replies may keep, unless it is said.
+const DEFAULT_UNREAD: u64 = 64_000_000;
 
 /// How many lines were read, and how many bytes.
 #[derive(Drop)]
@@ -86,6 +90,40 @@ impl ConnectionCounters {
     }
 }
 
+/// What is counted of replies that clients have not taken.
+#[derive(Drop)]
+pub struct UnreadCounters {
+    /// How many bytes the records have that these replies keep.
+    pub bytes: Counter,
+    /// How many clients were ended that took nothing.
+    pub ended: Counter,
+    /// How many bytes there may be before clients are ended that take nothing for a second.
+    pub limit: u64,
+}
+
+impl UnreadCounters {
+    fn new() -> UnreadCounters {
+        UnreadCounters {
+            bytes: Counter::new(),
+            ended: Counter::new(),
+            limit: DEFAULT_UNREAD,
+        }
+    }
+
+    /// A reply that kept so many bytes keeps so many now.
+    pub(crate) fn replace(&self, before: u64, after: u64) {
+        if before != after {
+            self.bytes.add(after);
+            self.bytes.subtract(before);
+        }
+    }
+
+    /// Whether there are more bytes than the limit.
+    pub(crate) fn is_past(&self) -> bool {
+        is_past(self.bytes.get(), self.limit)
+    }
+}
+
 /// What a server counts.
 #[derive(Drop)]
 pub struct Counters {
@@ -100,6 +138,7 @@ pub struct Counters {
     /// Their lines by what they ask for.
     pub(crate) kinds: KindCounters,
     pub connections: ConnectionCounters,
+    pub unread: UnreadCounters,
     pub streams: Vec<StreamCounters>,
     pub memory: MemoryMeter,
 }
@@ -119,6 +158,7 @@ impl Counters {
             refused: Counter::new(),
             kinds: KindCounters::new(),
             connections: ConnectionCounters::new(),
+            unread: UnreadCounters::new(),
             streams,
             memory: MemoryMeter::new(),
         })

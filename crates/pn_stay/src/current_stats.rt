@@ -4,7 +4,9 @@ use crate::counters::{Counters, StreamCounters};
 use crate::socket::Socket;
 use crate::streams::status::StreamStatus;
 use pn_join::NoMemory;
-use pn_protocol::{ConnectionStats, LineCounts, LineStats, Stats, StreamStats, TabletStats};
+use pn_protocol::{
+    ConnectionStats, LineCounts, LineStats, Stats, StreamStats, TabletStats, UnreadStats,
+};
 use pn_serve::{StatsSource, VERSION};
 use std::alloc::{AllocError, Global};
 use std::sync::Wait;
@@ -40,6 +42,11 @@ impl<R: Wait + Clock> StatsSource for CurrentStats<'_, R> {
             rounds: counters.rounds.get(),
             streams: stats_of_streams(self.rt, alloc, &counters.streams)?,
             tablets,
+            unread: UnreadStats {
+                bytes: counters.unread.bytes.get(),
+                ended: counters.unread.ended.get(),
+                limit: counters.unread.limit,
+            },
             uptime: seconds_since(self.rt, self.started).unwrap_or(0),
             version: VERSION,
         })
@@ -83,6 +90,9 @@ fn stats_of<R: Wait + Clock>(
         state: status.state,
         since: seconds_since(rt, &status.came),
         fault: status.fault,
+        stream: status.stream,
+        newest: status.newest,
+        heard: seconds_since(rt, &status.heard),
     })
 }
 

@@ -1,15 +1,19 @@
 //! The event loop of a session thread: its connections have their turns one after another.
 
-ghost use Rattle.std.specs.Prelude.{◌≡◌, ◌≢◌, ◌+◌, ◌↔◌, ℕ, None, OnErr, OnOk, IsTrue, vec_len};
+ghost use Rattle.std.specs.Prelude.{◌≡◌, ◌+◌, ℕ, None, OnErr, OnOk, vec_len};
 ghost use Rattle.pn_serve.specs.Session.Knowing.{KnowsNoLess};
-ghost use Rattle.pn_stay.specs.Loops.{ending_at, idle_at, quarter_later, EndsQuarter, IsIdleFor};
+ghost use Rattle.pn_stay.specs.Loops.{ending_at, idle_at};
+ghost use Rattle.pn_stay.specs.UnreadClients.{unread_at};
 ghost use Rattle.slab.specs.Slab.{slab_len, Updates};
 
 mod ending;
+mod idle;
+mod unread;
 
 use crate::connection::Connection;
 use crate::counters::Counters;
 use crate::lingering::LingeringSockets;
+use crate::quarter_clock::QuarterClock;
 use crate::socket::Socket;
 use crate::socket_mailbox::SocketMailbox;
 use mio::{Events, Poll, Token};
@@ -56,6 +60,8 @@ pub(crate) struct EventLoop {
     spare: Vec<usize>,
     // The sockets of connections that a stop has ended, or that had as many lines as may be.
     lingering: LingeringSockets,
+    // It runs while replies wait for clients.
+    quarters: QuarterClock,
 }
 
 impl EventLoop {
@@ -83,6 +89,7 @@ impl EventLoop {
             ready: Vec::new(alloc),
             spare: Vec::new(alloc),
             lingering: LingeringSockets::new(alloc),
+            quarters: QuarterClock::new(),
         })
     }
 
@@ -103,6 +110,7 @@ impl EventLoop {
                 self.end_idle(rt, mailbox);
                 self.end_inputs(rt, mailbox);
             }
+            self.end_unread(rt, mailbox);
             self.take_turns(rt, mailbox, reader);
             self.lingering.close_ended(rt);
             if mailbox.is_cut(rt) || self.is_over(rt, mailbox) {
@@ -119,7 +127,7 @@ impl EventLoop {
     // Waits for events, unless connections are ready. Whether the mailbox has something.
     fn wait(&mut self) -> io::Result<bool> {
         let timeout = if self.ready.is_empty() {
-            self.lingering.timeout()
+            self.timeout()
         } else {
             Some(Duration::ZERO)
         };
@@ -184,6 +192,7 @@ impl EventLoop {
     {
         if let Some(connection) = self.connections.try_remove(key) {
             self.counters.connections.end();
+            self.counters.unread.replace(connection.unread_weight(), 0);
             if connection.lingers || mailbox.is_stopping(rt) {
                 self.lingering.add(connection.into_socket());
             }
@@ -197,34 +206,6 @@ impl EventLoop {
             self.remove(rt, mailbox, key);
         }
         self.lingering.close(rt);
-    }
-
-    // Four times a second ends the connections whose clients are idle for too long.
-    fn end_idle<R: Wait>(&mut self, rt: &R, mailbox: &SocketMailbox) {
-        let Some(idle) = self.idle else { return };
-        if mailbox.take_quarter(rt) {
-            self.end_quarter(rt, mailbox, idle);
-        }
-    }
-
-    // A quarter of a second is over for each connection.
-    fn end_quarter<R: Wait>(&mut self, rt: &R, mailbox: &SocketMailbox, idle: u32)
-        ensures { (key : ℕ) → EndsQuarter idle (idle_at self.old.connections key) (idle_at self.new.connections key) }
-    {
-        'quarters: for key in 0..self.connections.capacity() {
-            self.end_quarter_at(rt, mailbox, key, idle);
-        }
-    }
-
-    // A quarter of a second is over for the connection of a key, which ends where its client is idle for too long.
-    fn end_quarter_at<R: Wait>(&mut self, rt: &R, mailbox: &SocketMailbox, key: usize, idle: u32)
-        ensures here { EndsQuarter idle (idle_at self.old.connections key) (idle_at self.new.connections key) }
-        ensures others { (other : ℕ) → other ≢ key → idle_at self.new.connections other ≡ idle_at self.old.connections other }
-    {
-        if age(&mut self.connections, &mut self.ready, key, idle) {
-            self.counters.connections.idle.add(1);
-            self.remove(rt, mailbox, key);
-        }
     }
 
     // Gives each connection that is ready one turn, while the thread is to answer.
@@ -256,34 +237,25 @@ impl EventLoop {
         ensures knows { KnowsNoLess reader.old reader.new }
     {
         match self.connections.get_mut(key) {
-            Some(connection) => connection.turn(&mut self.buffers, reader, &mut self.counted),
+            Some(connection) => {
+                let before = connection.unread_weight();
+                let next = connection.turn(&mut self.buffers, reader, &mut self.counted);
+                self.counters
+                    .unread
+                    .replace(before, connection.unread_weight());
+                self.quarters.run_if(connection.unread.is_some());
+                next
+            }
             None => Some(Pause::Input),
         }
     }
-}
-
-// Makes the connection of a key a quarter of a second older. Whether its client is idle for too long. Else, where it is held
-// up, it is to try again: the client may have taken too little for the system to report it.
-fn age(connections: &mut Slab<Connection>, ready: &mut Vec<usize>, key: usize, idle: u32) -> bool
-    ensures over { IsTrue result ↔ IsIdleFor idle (idle_at connections.new key) }
-    ensures here { idle_at connections.new key ≡ quarter_later (idle_at connections.old key) }
-    ensures others { (other : ℕ) → other ≢ key → idle_at connections.new other ≡ idle_at connections.old other }
-{
-    let Some(connection) = connections.get_mut(key) else {
-        return false;
-    };
-    connection.idle.end_quarter();
-    let is_over = connection.idle.is_over(idle);
-    if connection.is_held_up && !is_over {
-        make_ready(connections, ready, key);
-    }
-    is_over
 }
 
 // Puts a connection among those that are ready, where there is memory for its key.
 fn make_ready(connections: &mut Slab<Connection>, ready: &mut Vec<usize>, key: usize)
     ensures idle { (other : ℕ) → idle_at connections.new other ≡ idle_at connections.old other }
     ensures ending { (other : ℕ) → ending_at connections.new other ≡ ending_at connections.old other }
+    ensures unread { (other : ℕ) → unread_at connections.new other ≡ unread_at connections.old other }
 {
     if let Some(connection) = connections.get_mut(key) {
         if !connection.is_ready {

@@ -30,8 +30,10 @@ pub fn every_way_of_coming_and_going<G: Drop, T: PieceText, M: RefusesLong<Going
     turns: u32,
 ) -> Result<AnsweredInTurns, NoMemory>
     requires ready { M.ready }
-    ensures finishes { IfOk result (λ answered. IfSome answered.ended (λ ended. (engine : EngineValue G) × (engine.counts.lines ≡ answered.lines) × (rest : Option (List ℕ))
-        × Finishes M.handling (start_at machine.old (Some (bytes_of (map (λ piece. piece.items) pieces.now))) (Some [])) rest (Some answered.taken.items) machine.new engine ended)) }
+    ensures finishes { IfOk result (λ answered. IfSome answered.ended (λ ended.
+        (engine : EngineValue G) × (engine.counts.lines ≡ answered.lines) × (rest : Option (List ℕ))
+        × Finishes M.handling (start_at machine.old (Some (bytes_of (map (λ piece. piece.items) pieces.now))) (Some []))
+        rest (Some answered.taken.items) machine.new engine ended)) }
 {
     let mut buffers = TurnBuffers::new(alloc)?;
     let mut lines = LineTurns::new(alloc, MAX_LINES);

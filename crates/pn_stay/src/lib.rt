@@ -18,6 +18,7 @@ mod memory;
 mod messages;
 mod polled_input;
 mod progress;
+mod quarter_clock;
 mod reasons;
 mod scripted;
 mod seldom;
@@ -27,10 +28,13 @@ mod socket;
 mod socket_file;
 mod socket_mailbox;
 mod streams;
+mod unread;
 
 pub use acceptor::SocketAcceptor;
 pub use connection::IdleTimeout;
-pub use counters::{ConnectionCounters, Counters, CountingSource, InputCounters, StreamCounters};
+pub use counters::{
+    ConnectionCounters, Counters, CountingSource, InputCounters, StreamCounters, UnreadCounters,
+};
 pub use descriptors::{DescriptorUses, allowed_descriptors, count_descriptors};
 pub use input_buffer::{INPUT_CAPACITY, InputBuffer};
 pub use laws::{AnsweredInTurns, every_way_of_coming_and_going};
@@ -44,10 +48,15 @@ pub use server::StayingServer;
 pub use server::starting::ServerSizes;
 pub use shared::share;
 pub use socket_file::{ListenFault, OWNER_ALONE, SocketFile, format_lock, remove_sockets};
+pub use streams::broker::BrokerListener;
 pub use streams::files::{FileSource, OpenedFiles, StreamOpenFault, open_files};
-pub use streams::input::{StreamInput, StreamSource};
+pub use streams::input::{SocketInput, StreamInput, StreamSource};
 pub use streams::listener::StreamListener;
+pub use streams::message_input::{MessageInput, NewestListener};
 pub use streams::opening::{OpenedStreams, StreamSetting, open_origins};
 pub use streams::origin::StreamOrigin;
+pub use streams::remarks::{
+    MAX_IDENTITY_BYTES, RemarkFault, format_other_stream, read_newest, read_stream,
+};
 pub use streams::status::StreamStatus;
 pub use streams::writer::WriterSocket;

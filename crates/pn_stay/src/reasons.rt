@@ -1,7 +1,8 @@
 //! Why a writer's input is no longer read, and why the system refuses something: in words, and in a line for the writer.
 
 ghost use Rattle.std.specs.Prelude.{◌≡◌, ◌++◌, codes, decimal, string_bytes, IfOk};
-ghost use Rattle.pn_stay.specs.Reasons.{image_word, stream_word, member_detail, stream_detail, refusal_line, image_words, stream_words, reason_words, failure_words};
+ghost use Rattle.pn_stay.specs.Reasons.{image_word, stream_word, member_detail, stream_detail, refusal_line};
+ghost use Rattle.pn_stay.specs.Reasons.{image_words, stream_words, reason_words, failure_words};
 
 use pn_join::Name;
 use pn_record::ImageFault;

@@ -284,7 +284,8 @@ fn is_stale<R: Files + Net>(rt: &R, path: &str) -> io::Result<bool> {
 // Whether a connect was refused, as where nobody listens. Another error does not tell whether somebody does.
 fn is_refused(connected: io::Result<Caller>) -> bool
     ensures open { OnOk connected (result ≡ false) }
-    ensures error { IfErr connected (λ error. MatchBool result (error_kind error ≡ ErrorKind.ConnectionRefused) (error_kind error ≢ ErrorKind.ConnectionRefused)) }
+    ensures error { IfErr connected (λ error.
+        MatchBool result (error_kind error ≡ ErrorKind.ConnectionRefused) (error_kind error ≢ ErrorKind.ConnectionRefused)) }
 {
     match connected {
         Ok(_) => false,

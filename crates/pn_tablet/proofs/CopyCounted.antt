@@ -1,12 +1,13 @@
 -- The lines of a copy, counted some records at a time.
-use Rattle.std.proofs.Common.{◌≡◌, ℕ, zero, suc, ◌+◌, ◌-◌, ◌<◌, ◌≤◌, Bool, true, false, cond, ◌||◌, List, [], ◌∷◌, ◌++◌, map, length, take, drop, All, refl, sym, ap, ◌∙◌, append-nil, arith, length-append}
+use Rattle.std.proofs.Common.{◌≡◌, ℕ, zero, suc, ◌+◌, ◌-◌, ◌^◌, ◌<◌, ◌≤◌, Bool, true, false, cond, ◌||◌, List, [], ◌∷◌, ◌++◌, map, length, take, drop, All, refl, sym, ap, ◌∙◌, append-nil, arith, length-append}
 use Rattle.std.specs.Prelude.{Result, Ok, Err, min}
 use Rattle.std.specs.FinMap.{keys}
-use Rattle.std.specs.List.{list_any}
+use Rattle.std.specs.List.{list_any, sum_by}
 use Rattle.std.proofs.lemmas.Grind.{flat_map-append}
-use Rattle.std.proofs.lemmas.List.{length-map, take_all, take-append-drop}
+use Rattle.std.proofs.lemmas.List.{drop_all, length-map, take_all, take-append-drop}
 use Rattle.std.proofs.lemmas.List.Elements.{All-nil, All-cons}
 use Rattle.std.proofs.lemmas.List.Folds.{list_any-append}
+use Rattle.std.proofs.lemmas.List.Sums.{sum_by-cons}
 use Rattle.serde_json.specs.Written.{compact_text}
 use Rattle.pn_line.specs.Reads.{IsUnbroken}
 use Rattle.pn_line.specs.Text.{lines_of}
@@ -24,6 +25,7 @@ use Rattle.pn_tablet.specs.CopyMaking.{CopyCountValue, IsCountedIn, lines_of_cop
 use Rattle.pn_tablet.specs.CopyTexts.{mark_line, lines_after_head}
 use Rattle.pn_tablet.specs.CopyWriting.{line_data, lines_text, copy_text}
 use Rattle.pn_tablet.specs.Forms.{form_of}
+use Rattle.pn_tablet.specs.Weights.{entries_weight, record_weight}
 use Rattle.pn_tablet.specs.declared.copy_line.CopyLine.{CopyLine}
 use Rattle.pn_tablet.specs.declared.copy_line.CopyLine.TheVariants.{Record, End}
 use Rattle.pn_tablet.specs.declared.copy_count.CopyStep.{CopyStep}
@@ -99,14 +101,25 @@ cell_numbered entry =
     or_none true = refl
     or_none false = refl
 
+-- a weight more, and what is left
+weighed_on : (was more left now all : ℕ) → now ≡ min (was + more) (2 ^ 64 - 1) → min (was + (more + left)) (2 ^ 64 - 1) ≡ all → min (now + left) (2 ^ 64 - 1) ≡ all
+weighed_on was more left now all is whole = omega (arith, is, whole)
+
 pub counted_more : (cells rest : Entries) (entry : List ℕ × CellValue) (was now : LineCount) → IsCountedIn cells was → drop was.records cells ≡ entry ∷ rest → now.records ≡ was.records + 1
-    → now.images ≡ was.images + length (keys entry.1.1) → now.form ≡ cond (list_any holds_number (keys entry.1.1)) Numbers was.form → IsCountedIn cells now
-counted_more cells rest entry was now counted left records images form =
+    → now.images ≡ was.images + length (keys entry.1.1) → now.form ≡ cond (list_any holds_number (keys entry.1.1)) Numbers was.form
+    → now.weight ≡ min (was.weight + record_weight entry) (2 ^ 64 - 1) → IsCountedIn cells now
+counted_more cells rest entry was now counted left records images form weight =
     let more = one_more_record cells rest was.records entry left in
     let before = spell (take was.records cells) in
     let all : spell (take now.records cells) ≡ before ++ spell_cell entry = ap (λ (k : ℕ). spell (take k cells)) records ∙ ap spell more.2 ∙ spelled_more (take was.records cells) entry in
     record {
       within = omega (arith, more.0, records);
+      weight_is =
+          let left_now : drop now.records cells ≡ rest = ap (λ (k : ℕ). drop k cells) records ∙ sym more.1 in
+          let split : sum_by record_weight (drop was.records cells) ≡ record_weight entry + sum_by record_weight rest = ap (sum_by record_weight) left ∙ sum_by-cons record_weight entry rest in
+          ap (λ (l : Entries). min (now.weight + sum_by record_weight l) (2 ^ 64 - 1)) left_now
+          ∙ weighed_on was.weight (record_weight entry) (sum_by record_weight rest) now.weight (entries_weight cells) weight (ap (λ n. min (was.weight + n) (2 ^ 64 - 1)) (sym split) ∙ counted.weight_is);
+      weight_fits = omega (arith, weight);
       images_are = omega (arith, images, counted.images_are, ap length all, length-append before (spell_cell entry), length-map (keys entry.1.1) (image_of entry));
       form_is =
           form ∙ ap (λ (f : Form). cond (list_any holds_number (keys entry.1.1)) Numbers f) counted.form_is ∙ form_more (list_any holds_number (keys entry.1.1)) (list_any holds before)
@@ -121,10 +134,14 @@ counted_within cells rest entry was counted left =
     omega (arith, counted.images_are, ap (λ (l : Entries). length (spell l)) whole, ap length spelled, length-append (spell (take was.records cells)) (spell (entry ∷ rest)), cell_count entry rest)
 
 -- all are counted
-pub counted_all : (cells : Entries) (counted : LineCount) → IsCountedIn cells counted → length cells ≤ counted.records → (counted.images ≡ length (spell cells)) × (counted.form ≡ form_of (spell cells))
+pub counted_all : (cells : Entries) (counted : LineCount) → IsCountedIn cells counted → length cells ≤ counted.records → (counted.images ≡ length (spell cells)) × (counted.form ≡ form_of (spell cells)) × (counted.weight ≡ entries_weight cells)
 counted_all cells counted is over =
     let all = take_all counted.records cells over in
-    (is.images_are ∙ ap (λ (l : Entries). length (spell l)) all, is.form_is ∙ ap (λ (l : Entries). form_of (spell l)) all)
+    let none : drop counted.records cells ≡ [] = drop_all counted.records cells over in (
+      is.images_are ∙ ap (λ (l : Entries). length (spell l)) all,
+      is.form_is ∙ ap (λ (l : Entries). form_of (spell l)) all,
+      omega (arith, is.weight_is, is.weight_fits, ap (λ (l : Entries). sum_by record_weight l) none),
+    )
 
 -- ---- what counting comes to
 

@@ -38,4 +38,5 @@ pub mod SpelledImages
 pub mod Stepping
 pub mod TabletLaws
 pub mod Told
+pub mod Weighed
 pub mod Within

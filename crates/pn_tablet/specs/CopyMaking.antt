@@ -1,9 +1,9 @@
 -- The lines of copies, counted and then made one at a time.
-use Rattle.std.specs.Prelude.{◌≡◌, ◌≤◌, ◌<◌, ℕ, ◌+◌, List, [], ◌∷◌, ◌++◌, length, map, drop, take, IfSome, Vec, refl}
+use Rattle.std.specs.Prelude.{◌≡◌, ◌≤◌, ◌<◌, ℕ, ◌+◌, ◌-◌, ◌^◌, min, List, [], ◌∷◌, ◌++◌, length, map, drop, take, IfSome, Vec, refl}
 use Rattle.std.specs.declared.alloc.Global.{Global}
 use Rattle.std.specs.Coded.{Coded, code_by, coded×, coded_ℕ, coded_list}
 use Rattle.std.specs.FinMap.{keys}
-use Rattle.std.specs.List.{slice_get}
+use Rattle.std.specs.List.{slice_get, sum_by}
 use Rattle.pn_line.specs.Text.{lines_of}
 use Rattle.pn_json.specs.AppendedText.{MakesPiece}
 use Rattle.pn_record.specs.CellMap.{Entries}
@@ -13,6 +13,7 @@ use Rattle.pn_tablet.specs.CopyTexts.{mark_line}
 use Rattle.pn_tablet.specs.CopyWriting.{copy_text, lines_text}
 use Rattle.pn_tablet.specs.Forms.{form_of}
 use Rattle.pn_tablet.specs.Proofs.Coding.{copy_code}
+use Rattle.pn_tablet.specs.Weights.{entries_weight, record_weight}
 use Rattle.pn_tablet.specs.declared.copy_line.CopyLine.TheVariants.{Record, End}
 use Rattle.pn_tablet.specs.declared.copy_count.LineCount.{LineCount}
 use Rattle.pn_tablet.specs.declared.copy_line_appending.TheConstants.{MAX_COPY_LINE_BYTES}
@@ -38,11 +39,13 @@ pub record CopyTextValue : Type 0 where
 abbrev pub text_code : Coded CopyTextValue
 text_code = code_by (TabletCopyValue × List ℕ) (coded× copy_code (coded_list coded_ℕ)) (λ t. (t.copy, t.left)) (λ p. record { copy = p.0; left = p.1 }) (λ _. refl)
 
--- the first records were counted: their images have this many lines, in this form
+-- the first records were counted: their images have this many lines, in this form; and weighed, beside those that are left
 pub record IsCountedIn (cells : Entries) (counted : LineCount) : Type 0 where
   pub within : counted.records ≤ length cells
   pub images_are : counted.images ≡ length (spell (take counted.records cells))
   pub form_is : counted.form ≡ form_of (spell (take counted.records cells))
+  pub weight_is : min (counted.weight + sum_by record_weight (drop counted.records cells)) (2 ^ 64 - 1) ≡ entries_weight cells
+  pub weight_fits : counted.weight < 2 ^ 64
 
 -- how many lines the text of a copy has
 abbrev pub lines_of_copy : TabletCopyValue → ℕ

@@ -12,4 +12,5 @@ pub use Rattle.pn_tablet.specs.Ranges.{Ends, in_range, is_before, is_end, is_fro
 pub use Rattle.pn_tablet.specs.Refusals.{Answers, Refuses}
 pub use Rattle.pn_tablet.specs.Steps.{recovering_tablet, state_of, step, tablet_after}
 pub use Rattle.pn_tablet.specs.Tablets.{TabletStateValue, empty_tablet, lie_in, same_range}
+pub use Rattle.pn_tablet.specs.Weights.{entries_weight, record_weight}
 pub use Rattle.pn_tablet.specs.declared.layout.TheConstants.{MAX_BOUNDS}

@@ -1,18 +1,20 @@
-//! Copies whose lines are counted, some records at a time, before their text is made.
+//! Copies whose lines are counted, some records at a time, and which are weighed, before their text is made.
 
-ghost use Rattle.std.specs.Prelude.{◌≡◌, ◌+◌, ◌<◌, ◌≤◌, ◌^◌, length, min, IfOk, OnErr, MatchResult, if◌then◌else◌};
+ghost use Rattle.std.specs.Prelude.{◌≡◌, ◌+◌, ◌-◌, ◌<◌, ◌≤◌, ◌^◌, length, min, IfOk, OnErr, MatchResult, if◌then◌else◌};
 ghost use Rattle.std.specs.FinMap.{keys};
 ghost use Rattle.std.specs.List.{list_any};
 ghost use Rattle.pn_record.specs.Prelude.{holds_number as content_holds_number, spell};
 ghost use Rattle.pn_tablet.specs.CopyCounts.{CountsOn, CountsTo};
 ghost use Rattle.pn_tablet.specs.CopyMaking.{IsCountedIn, lines_of_copy};
+ghost use Rattle.pn_tablet.specs.Weights.{record_weight as weighs};
 ghost use Rattle.pn_tablet.specs.declared.form.Form.TheVariants.{Numbers};
 
 use crate::copy_text::recall_size;
 use crate::form::{Form, holds_number};
+use crate::weight::record_weight;
 use crate::{CopyText, TabletCopy};
 use pn_join::NoMemory;
-use pn_record::{Cell, Records};
+use pn_record::{Cell, Key, Records};
 use std::marker::Model;
 
 /// A copy of which some records' lines are counted.
@@ -22,12 +24,13 @@ pub struct CopyCount {
     counted: LineCount,
 }
 
-// How many records are counted, the lines of their images, and the form that they need.
+// How many records are counted, the lines of their images, the form that they need, and what they weigh.
 #[derive(Clone, Copy, Debug, PartialEq, Eq)]
 struct LineCount {
     records: usize,
     images: u64,
     form: Form,
+    weight: u64,
 }
 
 impl Model for CopyCount {
@@ -62,11 +65,12 @@ impl CopyCount {
                 records: 0,
                 images: 0,
                 form: Form::Texts,
+                weight: 0,
             },
         }
     }
 
-    /// Counts the lines of at most `records` more records. An error where there are too many lines for 64 bits.
+    /// Counts the lines of at most `records` more records, and weighs these. An error where there are too many lines for 64 bits.
     pub fn go_on(self, records: usize) -> Result<CopyStep, NoMemory>
         ensures { CountsOn records self result }
     {
@@ -87,7 +91,10 @@ fn step_of(copy: TabletCopy, counted: LineCount) -> Result<CopyStep, NoMemory>
         return Ok(CopyStep::Next(CopyCount { copy, counted }));
     }
     match count_lines(&copy, counted) {
-        Ok(lines) => Ok(CopyStep::Done(CopyText::new(copy, counted.form, lines))),
+        Ok(lines) => {
+            let text = CopyText::new(copy, counted.form, lines, counted.weight);
+            Ok(CopyStep::Done(text))
+        }
         Err(fault) => Err(fault),
     }
 }
@@ -112,22 +119,23 @@ fn count_some(cells: &Records, counted: LineCount, records: usize) -> Result<Lin
     recall_size(cells);
     let mut now = counted;
     let mut left = records;
-    for (_key, cell) in cells.iter_from(counted.records) {
+    for (key, cell) in cells.iter_from(counted.records) {
         if left == 0 {
             return Ok(now);
         }
         left -= 1;
-        now = count_cell(now, cell)?;
+        now = count_record(now, key, cell)?;
     }
     Ok(now)
 }
 
-fn count_cell(counted: LineCount, cell: &Cell) -> Result<LineCount, NoMemory>
+fn count_record(counted: LineCount, key: &Key, cell: &Cell) -> Result<LineCount, NoMemory>
     requires { counted.records + 1 < 2 ^ 64 }
     ensures records { IfOk result (λ now. now.records ≡ counted.records + 1) }
     ensures images { IfOk result (λ now. now.images ≡ counted.images + length (keys cell.now.1)) }
     ensures form { IfOk result
         (λ now. now.form ≡ (if list_any content_holds_number (keys cell.now.1) then Numbers else counted.form)) }
+    ensures weight { IfOk result (λ now. now.weight ≡ min (counted.weight + weighs (key.now, cell.now)) (2 ^ 64 - 1)) }
     ensures err { OnErr result (2 ^ 64 ≤ counted.images + length (keys cell.now.1)) }
 {
     let images = add(counted.images, cell.contents().len())?;
@@ -140,6 +148,7 @@ fn count_cell(counted: LineCount, cell: &Cell) -> Result<LineCount, NoMemory>
         records: counted.records + 1,
         images,
         form,
+        weight: counted.weight.saturating_add(record_weight(key, cell)),
     })
 }
 

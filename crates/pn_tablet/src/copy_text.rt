@@ -6,6 +6,7 @@ ghost use Rattle.pn_record.specs.Prelude.{spell};
 ghost use Rattle.pn_tablet.specs.CopyMaking.{IsCopyCursor, IsTextOf, lines_of_copy, MakesLine};
 ghost use Rattle.pn_tablet.specs.CopyWriting.{copy_text};
 ghost use Rattle.pn_tablet.specs.Forms.{form_of};
+ghost use Rattle.pn_tablet.specs.Weights.{entries_weight as weight_of};
 ghost use Rattle.pn_tablet.specs.declared.copy_line_appending.TheConstants.{MAX_COPY_LINE_BYTES};
 ghost use Rattle.pn_tablet.specs.declared.copy_text.CopyCursor.TheVariants.{Image, Mark, Written};
 
@@ -22,6 +23,8 @@ pub struct CopyText {
     copy: TabletCopy,
     form: Form,
     lines: u64,
+    // What its records weigh.
+    weight: u64,
     cursor: CopyCursor,
 }
 
@@ -37,7 +40,9 @@ enum CopyCursor {
 }
 
 impl Model for CopyText {
+    ghost use Rattle.std.specs.Prelude.{◌≡◌};
     ghost use Rattle.pn_tablet.specs.CopyMaking.{CopyTextValue, IsTextOf, copy_rest, text_code};
+    ghost use Rattle.pn_tablet.specs.Weights.{entries_weight};
 
     ghost Value = { CopyTextValue };
 
@@ -45,20 +50,22 @@ impl Model for CopyText {
 
     ghost view = { λ text. record { copy = text.copy; left = copy_rest text.copy text.cursor } };
 
-    ghost invariant = { λ text. IsTextOf text.copy text.form text.lines text.cursor };
+    ghost invariant = { λ text. IsTextOf text.copy text.form text.lines text.cursor × (text.weight ≡ entries_weight text.copy.cells) };
 }
 
 impl CopyText {
     /// A copy of which no line is made.
-    pub(crate) fn new(copy: TabletCopy, form: Form, lines: u64) -> CopyText
+    pub(crate) fn new(copy: TabletCopy, form: Form, lines: u64, weight: u64) -> CopyText
         requires form { form ≡ form_of (spell copy.cells) }
         requires lines { lines ≡ lines_of_copy copy }
+        requires weight { weight ≡ weight_of copy.cells }
         ensures { result ≡ record { copy = copy; left = copy_text copy } }
     {
         CopyText {
             copy,
             form,
             lines,
+            weight,
             cursor: CopyCursor::Head,
         }
     }
@@ -68,6 +75,13 @@ impl CopyText {
         ensures { result ≡ lines_of_copy self.now.copy }
     {
         self.lines
+    }
+
+    /// What its records weigh, as far as that has 64 bits.
+    pub fn weight(&self) -> u64
+        ensures { result ≡ weight_of self.now.copy.cells }
+    {
+        self.weight
     }
 
     /// Whether all lines are made.

@@ -25,6 +25,7 @@ pub mod laws;
 mod layout;
 mod range;
 mod state;
+mod weight;
 
 pub use change::Change;
 pub use copy::TabletCopy;
@@ -41,3 +42,4 @@ pub use inside::cells_within;
 pub use layout::{Layout, LayoutFault, MAX_BOUNDS};
 pub use range::{Range, is_before, write_end_member};
 pub use state::{Status, TabletOp, TabletState};
+pub use weight::record_weight;

@@ -1,6 +1,6 @@
 //! The state of a tablet, and the operations on it.
 
-ghost use Rattle.std.specs.Prelude.{◌≡◌, Ok, IsOk, IsTrue, IfOk, IfErr, OnOk, OnErr};
+ghost use Rattle.std.specs.Prelude.{◌≡◌, Ok, Err, IsOk, IsTrue, IfOk, IfErr, OnOk, OnErr, MatchOption};
 ghost use Rattle.pn_join.specs.Prelude.{raised_marks, are_positions};
 ghost use Rattle.pn_tablet.specs.Operations.{HasPositions};
 ghost use Rattle.pn_tablet.specs.Tablets.{empty_tablet};
@@ -143,20 +143,14 @@ impl TabletState {
         }
     }
 
+    #[tactic(auto, using(crate::proofs::Stepping::refused_step))]
     fn adopt(&mut self, copy: &TabletCopy) -> Result<(), OpFault>
         ensures ok { OnOk result (step self.old (Adopt copy.now) ≡ Ok self.new) }
         ensures refused { IfErr result (λ fault. Refuses is_memory fault (step self.old (Adopt copy.now))) }
         ensures err { OnErr result (self.new ≡ self.old) }
     {
-        if self.range != copy.range {
-            return Err(OpFault::WrongRange);
-        }
-        if let Some(short) = self.need_shortfall(&copy.marks) {
-            return Err(OpFault::TooOld {
-                stream: short.stream,
-                has: short.has,
-                needs: short.wanted,
-            });
+        if let Some(fault) = self.copy_refusal(copy) {
+            return Err(fault);
         }
         let (coverage, spare) = raise_coverage(&self.coverage, &copy.marks)?;
         self.cells.join_and_count(&copy.cells)?;
@@ -164,6 +158,32 @@ impl TabletState {
         self.spare = Some(spare);
         self.status = Status::Serving;
         Ok(())
+    }
+
+    /// Why the tablet would refuse an operation, if it would. It takes no memory.
+    pub fn refusal(&self, op: &TabletOp) -> Option<OpFault>
+        ensures { MatchOption result (IsOk (step self.now op.now)) (λ fault. step self.now op.now ≡ Err fault) }
+    {
+        match op {
+            TabletOp::Join { cells, .. } if lie_in(&self.range, cells) => None,
+            TabletOp::Join { .. } => Some(OpFault::WrongRange),
+            TabletOp::Lose => None,
+            TabletOp::Adopt(copy) => self.copy_refusal(copy),
+        }
+    }
+
+    fn copy_refusal(&self, copy: &TabletCopy) -> Option<OpFault>
+        ensures { MatchOption result (IsOk (step self.now (Adopt copy.now))) (λ fault. step self.now (Adopt copy.now) ≡ Err fault) }
+    {
+        if self.range != copy.range {
+            return Some(OpFault::WrongRange);
+        }
+        let short = self.need_shortfall(&copy.marks)?;
+        Some(OpFault::TooOld {
+            stream: short.stream,
+            has: short.has,
+            needs: short.wanted,
+        })
     }
 
     /// The first stream, in byte order, at which the marks fall short of what the tablet needs; none while it serves.

@@ -68,7 +68,7 @@ where
     let alloc = rt.alloc();
     let faults = new_fault_log(alloc, service, streams.len())?;
     let opened = open_files(rt, alloc, streams, service.is_progress_told)?;
-    let counters = new_counters(rt, opened.counters)?;
+    let counters = new_counters(rt, service, opened.counters)?;
     let notes = Notes {
         counters,
         faults,
@@ -98,7 +98,7 @@ where
         socket_mode: service.socket_mode,
     };
     let opened = open_origins(&setting, streams)?;
-    let counters = match new_counters(rt, opened.counters) {
+    let counters = match new_counters(rt, service, opened.counters) {
         Ok(counters) => counters,
         Err(_) => {
             remove_sockets(rt, &opened.sockets);
@@ -119,12 +119,17 @@ fn new_messages(alloc: Global) -> Result<Arc<Messages>, AllocError> {
     Ok(Arc::new(alloc, messages)?)
 }
 
-fn new_counters<R>(rt: &R, streams: Vec<StreamCounters>) -> Result<Arc<Counters>, AllocError>
+fn new_counters<R>(
+    rt: &R,
+    service: &Service,
+    streams: Vec<StreamCounters>,
+) -> Result<Arc<Counters>, AllocError>
 where
     R: AllocGlobal + Files<File = File>,
 {
     let mut counters = Counters::new(rt.alloc(), streams)?;
     counters.memory = MemoryMeter::open(rt);
+    counters.unread.limit = service.unread as u64;
     Ok(Arc::new(rt.alloc(), counters)?)
 }
 

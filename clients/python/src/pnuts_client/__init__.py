@@ -4,7 +4,7 @@ from .addresses import Address, Tcp, Unix, address_of
 from .aio import AsyncClient
 from .client import Client
 from .control import AsyncControl, Control
-from .control_requests import Connections, LineCounts, Lines, Notice, Notices, Stats, StreamStats, Tablet, TabletStats
+from .control_requests import Connections, LineCounts, Lines, Notice, Notices, Stats, StreamStats, Tablet, TabletStats, Unread
 from .errors import (
     BadLine,
     ConnectionFailed,
@@ -57,6 +57,7 @@ __all__ = [
     "StreamStats",
     "Tablet",
     "TabletStats",
+    "Unread",
     "Tcp",
     "TimedOut",
     "Unix",

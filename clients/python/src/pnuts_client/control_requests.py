@@ -2,7 +2,7 @@
 
 from __future__ import annotations
 
-from dataclasses import dataclass, fields
+from dataclasses import MISSING, dataclass, fields
 from typing import Any, TypeVar
 
 from . import requests
@@ -87,7 +87,8 @@ class StreamStats:
 
     `position` is up to which it was taken; `messages` and `bytes` were read. `since` is the seconds since the last
     message, None before the first. `reason` and `line` are of the last fault, None where there was none: why, and in
-    which line of what the writer sent.
+    which line of what the writer sent. `stream` is whose stream a writer said it is, and `newest` the broker's newest
+    position that one told, `heard` seconds ago; None where none did.
     """
 
     name: str
@@ -99,13 +100,25 @@ class StreamStats:
     since: int | None
     reason: str | None
     line: int | None
+    stream: str | None = None
+    newest: int | None = None
+    heard: int | None = None
+
+
+@dataclass(frozen=True, slots=True)
+class Unread:
+    """Replies that clients have not taken: the bytes of the records that these keep, their limit, and how many clients were ended for it."""
+
+    bytes: int
+    ended: int
+    limit: int
 
 
 @dataclass(frozen=True, slots=True)
 class Stats:
     """What a region has done so far; `uptime` is in seconds, `bytes` its memory. `reply` is the whole reply.
 
-    `tablets` are in their order, and none where the region does not say what they hold.
+    `tablets` are in their order, and none where the region does not say what they hold; `unread` likewise.
     """
 
     version: str
@@ -116,6 +129,7 @@ class Stats:
     lines: Lines
     streams: list[StreamStats]
     tablets: list[TabletStats]
+    unread: Unread | None
     reply: dict[str, Any]
 
 
@@ -190,6 +204,7 @@ def _stats(reply: Any) -> Stats:
         lines=_lines(reply["lines"]),
         streams=[_of(StreamStats, it) for it in reply["streams"]],
         tablets=[_of(TabletStats, it) for it in reply.get("tablets", [])],
+        unread=_of(Unread, reply["unread"]) if "unread" in reply else None,
         reply=reply,
     )
 
@@ -200,5 +215,5 @@ def _lines(reply: Any) -> Lines:
 
 
 def _of(kind: type[Kind], reply: Any) -> Kind:
-    """A value of the members that it knows."""
-    return kind(**{it.name: reply[it.name] for it in fields(kind)})
+    """A value of the members that it knows. An earlier region may lack those that have a default."""
+    return kind(**{it.name: reply[it.name] for it in fields(kind) if it.name in reply or it.default is MISSING})

@@ -104,6 +104,10 @@ def of_region(stats: Stats) -> Iterator[Metric]:
     yield Counter("pnuts_connections_accepted", "Connections that were accepted", value=connections.accepted)
     yield Counter("pnuts_connections_refused", "Connections that were refused", value=connections.refused)
     yield Counter("pnuts_connections_idle", "Connections that were ended since they were idle", value=connections.idle)
+    if stats.unread is not None:
+        yield Gauge("pnuts_unread_bytes", "Bytes of the records that unread replies keep", value=stats.unread.bytes)
+        yield Gauge("pnuts_unread_limit_bytes", "How many of them there may be", value=stats.unread.limit)
+        yield Counter("pnuts_unread_ended", "Connections that were ended since their clients took nothing", value=stats.unread.ended)
     yield Counter("pnuts_lines_answered", "Lines of clients that were answered", value=lines.answered)
     yield Counter("pnuts_lines_refused", "Lines of clients that were answered by a refusal", value=lines.refused)
     answered = Counter("pnuts_kind_lines_answered", "Lines of clients that were answered, of each kind", labels=["kind"])

@@ -1,25 +1,29 @@
-"""What is to be known beside a region: the figures of its feeds, by which it lags, and the age of its copies."""
+"""How far a region lags, by what its feeds tell it or write into files, and the age of its copies."""
 
 from __future__ import annotations
 
 import contextlib
 import json
 import os
+import threading
 import time
+from collections import deque
 from collections.abc import Iterable, Mapping
-from dataclasses import dataclass
+from dataclasses import dataclass, field
 from pathlib import Path
 from typing import Any
 
 from .control_requests import StreamStats
 
 LATE = 10.0
-"""For how many seconds a feed that runs may write no figures: it does each second."""
+"""For how many seconds a feed that runs may tell nothing, or write no figures: it does each second."""
+MOST = 1_000
+"""How many of a stream's newest positions are kept that the region has not taken."""
 
 
 @dataclass(frozen=True, slots=True)
 class Figures:
-    """What a feed wrote last: when, and how far it and its broker were. Times are seconds since 1970.
+    """What a feed told last: when, and how far it and its broker were. Times are seconds since 1970.
 
     `newest` is the position of the broker's last message, as it was told at `heard`. `level` is a time at which the broker had
     no more than the region has now. Each is None where it is not known.
@@ -35,7 +39,7 @@ class Figures:
 class Lag:
     """How far a region is behind the broker of a stream: in messages, and for how many seconds, each None where it is not known.
 
-    `age` is how many seconds ago the feed wrote its figures, and `silence` how many ago its broker last answered.
+    `age` is how many seconds ago the feed told something, and `silence` how many ago its broker last answered.
     """
 
     newest: int | None
@@ -53,21 +57,50 @@ class Lag:
 Lags = Mapping[str, Lag]
 
 
+class Levels:
+    """When a region last had all that its brokers had, as far as one who asks it again and again can know."""
+
+    def __init__(self) -> None:
+        self._lock = threading.Lock()
+        self._levels: dict[str, float] = {}
+        # When newest positions were told that the region had not taken then, with these positions.
+        self._ahead: dict[str, deque[tuple[float, int]]] = {}
+
+    def see(self, name: str, newest: int, heard: float, position: int) -> float:
+        """The last time at which a stream had all of its broker, which told its newest position at `heard`; or else the first one known."""
+        with self._lock:
+            ahead = self._ahead.setdefault(name, deque(maxlen=MOST))
+            if not ahead or heard - ahead[-1][0] >= 1.0:
+                ahead.append((heard, newest))
+            level = self._levels.setdefault(name, heard)
+            while ahead and ahead[0][1] <= position:
+                level = max(level, ahead.popleft()[0])
+            if newest <= position:
+                ahead.clear()
+                level = max(level, heard)
+            self._levels[name] = level
+            return level
+
+
 @dataclass(frozen=True, slots=True)
 class Beside:
     """The folder of files `STREAM.json` that feeds write, and the file of copies; None where they are not looked at."""
 
     feeds: Path | None = None
     copies: Path | None = None
+    levels: Levels = field(default_factory=Levels, compare=False)
 
     def lags(self, streams: Iterable[StreamStats]) -> dict[str, Lag]:
-        """How far each stream is behind whose feed writes figures."""
+        """How far each stream is behind whose feed tells the region how far its broker is, or else writes figures."""
         now, found = time.time(), dict[str, Lag]()
         for stream in streams:
-            figures = None if self.feeds is None else read_figures(self.feeds / f"{stream.name}.json")
+            figures = told_by(stream, self.levels, now) or self._figures(stream.name)
             if figures is not None:
                 found[stream.name] = lag_of(figures, stream.position, now)
         return found
+
+    def _figures(self, name: str) -> Figures | None:
+        return None if self.feeds is None else read_figures(self.feeds / f"{name}.json")
 
     def copies_age(self) -> float | None:
         """How many seconds ago the copies were written. It is infinite where they are not there, and None where nobody asks."""
@@ -77,6 +110,14 @@ class Beside:
             return max(0.0, time.time() - os.stat(self.copies).st_mtime)
         except OSError:
             return float("inf")
+
+
+def told_by(stream: StreamStats, levels: Levels, now: float) -> Figures | None:
+    """What a stream's feed told the region, or None where it told nothing."""
+    if stream.newest is None or stream.heard is None:
+        return None
+    heard = now - stream.heard
+    return Figures(heard, heard, levels.see(stream.name, stream.newest, heard, stream.position), stream.newest)
 
 
 def read_figures(path: Path) -> Figures | None:

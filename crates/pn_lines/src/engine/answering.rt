@@ -1,9 +1,9 @@
 //! How an engine has lines answered.
 
-ghost use Rattle.std.specs.Prelude.{◌≤◌, ◌<◌, ◌+◌, ◌⊎◌, ◌≡◌, [], ℕ, Bool, IsFalse, IsTrue, List};
+ghost use Rattle.std.specs.Prelude.{◌≤◌, ◌<◌, ◌+◌, ◌⊎◌, ◌≡◌, [], ℕ, Bool, IsFalse, IsTrue, List, true};
 ghost use Rattle.pn_line.specs.Prelude.{kept_bytes, so_far};
 ghost use Rattle.pn_lines.specs.Driving.{IsAfter, SameLines};
-ghost use Rattle.pn_lines.specs.Engines.{with_lines};
+ghost use Rattle.pn_lines.specs.Engines.{is_going as goes_on, with_lines};
 ghost use Rattle.pn_lines.specs.Progress.{Advances, going_left};
 ghost use Rattle.pn_lines.specs.Standing.{StandsStill, count_by, count_of};
 ghost use Rattle.pn_lines.specs.Taking.{Asks, Refuses};
@@ -100,6 +100,26 @@ impl<G: Drop, T: PieceText> LineEngine<G, T> {
                 false
             }
         }
+    }
+
+    /// Goes on with an answer that was begun, if one was.
+    pub(crate) fn go_further<M: LineHandler<Going = G, Text = T>>(
+        &mut self,
+        machine: &mut M,
+        units: u32,
+    )
+        requires ready { M.ready }
+        requires some { 0 < units }
+        ensures stands { StandsStill M.handling machine.old self.old machine.new self.new }
+        ensures nearer { self.old.left ≡ [] → goes_on self.old.stage ≡ true
+            → going_left M.left self.new.stage < going_left M.left self.old.stage }
+        ensures lines { self.new.counts.lines ≡ self.old.counts.lines }
+        ensures kept { M.keeps machine.old machine.new }
+    {
+        if self.has_text() {
+            return;
+        }
+        self.resume(machine, units);
     }
 
     /// Goes on with an answer. How many units that took: at least one.

@@ -1,9 +1,9 @@
 //! How the parts of an engine's state change.
 
 ghost use Rattle.std.specs.Prelude.{◌≡◌, ◌≢◌, ◌+◌, ◌≤◌, ◌<◌, ◌↔◌, ◌-◌, ◌^◌};
-ghost use Rattle.std.specs.Prelude.{IsFalse, IsTrue, [], length, max, min, vec_len, vec_capacity};
+ghost use Rattle.std.specs.Prelude.{IfNone, IfSome, IsFalse, IsTrue, [], length, max, min, vec_len, vec_capacity};
 ghost use Rattle.pn_lines.specs.Answers.{answer_of};
-ghost use Rattle.pn_lines.specs.Engines.{after_answer, dropping, stage_after as next_stage, with_lines};
+ghost use Rattle.pn_lines.specs.Engines.{after_answer, dropping, is_going as goes_on, stage_after as next_stage, with_lines};
 ghost use Rattle.pn_lines.specs.Giving.{Gives};
 ghost use Rattle.pn_lines.specs.declared.engine.TheConstants.{BLOCK_BYTES};
 ghost use Rattle.pn_lines.specs.Replies.{one_if};
@@ -17,11 +17,13 @@ use crate::piece_text::{MAX_PIECE_BYTES, PieceText};
 use std::mem;
 
 impl<G: Drop, T: PieceText> LineEngine<G, T> {
-    /// What is done next. The engine then reads.
+    /// What is done next. The engine then reads, and keeps nothing of a reply whose text is made.
     pub(super) fn take_stage(&mut self) -> Stage<G>
+        requires made { self.old.left ≡ [] }
         ensures stage { result ≡ self.old.stage }
         ensures reads { self.new ≡ dropping 0 self.old }
     {
+        self.text = None;
         mem::replace(&mut self.stage, Stage::Reading(0))
     }
 
@@ -65,6 +67,27 @@ impl<G: Drop, T: PieceText> LineEngine<G, T> {
         self.counts.refused = count_if(self.counts.refused, reply.is_refusal);
         self.text = Some(reply.text);
         self.stage = stage_after(ended);
+    }
+
+    /// The text of a reply of which some is still to be made.
+    pub(crate) fn unmade(&self) -> Option<&T>
+        ensures some { IfSome result (λ text. T.unmade text.now ≡ self.now.left) }
+        ensures none { IfNone result (self.now.left ≡ []) }
+    {
+        match &self.text {
+            Some(text) => Some(text),
+            None => None,
+        }
+    }
+
+    /// Whether an answer is gone on with.
+    pub(crate) fn is_going(&self) -> bool
+        ensures { result ≡ goes_on self.now.stage }
+    {
+        match &self.stage {
+            Stage::Going(_, _) => true,
+            Stage::Reading(_) | Stage::Ended(_) => false,
+        }
     }
 
     /// Whether text of a reply is still to be made.

@@ -42,7 +42,8 @@ impl Model for TurnBuffers {
 
     ghost view = { λ buffers. record { input = buffers.input.items; replies = buffers.replies.items } };
 
-    ghost invariant = { λ buffers. (vec_len buffers.read ≡ READ_SIZE) × (MAX_UNREAD ≤ vec_capacity buffers.input) × (MAX_PIECE_BYTES ≤ vec_capacity buffers.replies) };
+    ghost invariant = { λ buffers. (vec_len buffers.read ≡ READ_SIZE) × (MAX_UNREAD ≤ vec_capacity buffers.input)
+        × (MAX_PIECE_BYTES ≤ vec_capacity buffers.replies) };
 }
 
 /// What came of a read.

@@ -42,7 +42,8 @@ impl<G: Drop, T: PieceText> LineTurns<G, T> {
     fn keep(&mut self, buffers: &TurnBuffers) -> Result<(), AllocError>
         requires { length buffers.now.input ≤ MAX_UNREAD }
         ensures ok { OnOk result (self.new ≡ held_in self.old.engine buffers.now self.old.source) }
-        ensures err { OnErr result ((self.new.engine ≡ self.old.engine) × (self.new.source ≡ self.old.source) × ((buffers.now.input ≢ []) ⊎ (buffers.now.replies ≢ []))) }
+        ensures err { OnErr result ((self.new.engine ≡ self.old.engine) × (self.new.source ≡ self.old.source)
+            × ((buffers.now.input ≢ []) ⊎ (buffers.now.replies ≢ []))) }
     {
         self.unread = copy_of(self.alloc, &buffers.input)?;
         self.replies = copy_of(self.alloc, &buffers.replies)?;

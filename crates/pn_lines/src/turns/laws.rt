@@ -31,9 +31,12 @@ pub fn answer_in_turns<
 ) -> Option<TurnOutcome>
     requires ready { M.ready }
     requires new { lines.old ≡ new_turns lines.old.engine.most }
-    ensures finishes { IfSome result (λ outcome. Finishes M.handling (start_at machine.old (R.remaining input.old) (W.contents output.old)) (R.remaining input.new) (W.contents output.new) machine.new lines.new.engine outcome) }
+    ensures finishes { IfSome result (λ outcome. Finishes M.handling
+        (start_at machine.old (R.remaining input.old) (W.contents output.old)) (R.remaining input.new)
+        (W.contents output.new) machine.new lines.new.engine outcome) }
     ensures ends { result ≡ Some (TurnOutcome.Ended LinesEnd.Input)
-        → HasEnded M.handling lines.new.engine.most (start_at machine.old (R.remaining input.old) (W.contents output.old)) (R.remaining input.new) (W.contents output.new) machine.new (Ok lines.new.engine.counts) }
+        → HasEnded M.handling lines.new.engine.most (start_at machine.old (R.remaining input.old) (W.contents output.old))
+        (R.remaining input.new) (W.contents output.new) machine.new (Ok lines.new.engine.counts) }
 {
     'turns: for _turn in 0..turns {
         match lines.turn(buffers, machine, input, output) {

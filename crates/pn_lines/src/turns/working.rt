@@ -42,7 +42,8 @@ pub(super) fn take_lines<G: Drop, T: PieceText, M: RefusesLong<Going = G, Text =
     requires ready { M.ready }
     requires few { length buffers.old.input ≤ MAX_UNREAD }
     ensures works { (written : Option (List ℕ)) → WorkedIn M.handling M.left TURN_UNITS (TURN_UNITS + 2 * MAX_STEP_UNITS)
-        (at (R.remaining input.old) written machine.old (held_in engine.old buffers.old source.old)) (at (R.remaining input.new) written machine.new (held_in engine.new buffers.new source.new)) result }
+        (at (R.remaining input.old) written machine.old (held_in engine.old buffers.old source.old))
+        (at (R.remaining input.new) written machine.new (held_in engine.new buffers.new source.new)) result }
     ensures few { length buffers.new.input ≤ MAX_UNREAD }
     ensures failed { source.new ≡ SourceState.Failed → (source.old ≡ SourceState.Failed) ⊎ R.has_failed input.new }
     ensures kept { M.keeps machine.old machine.new }
@@ -70,7 +71,8 @@ fn read_on<G: Drop, T: PieceText, M: RefusesLong<Going = G, Text = T>, R: Input>
     requires few { units ≤ TURN_UNITS }
     requires wants { Works (held_in engine.old buffers.old source.old) Work.Input }
     ensures works { (written : Option (List ℕ)) → WorkedIn M.handling M.left units (units + MAX_STEP_UNITS)
-        (at (R.remaining input.old) written machine.old (held_in engine.old buffers.old source.old)) (at (R.remaining input.new) written machine.new (held_in engine.new buffers.new source.new)) result }
+        (at (R.remaining input.old) written machine.old (held_in engine.old buffers.old source.old))
+        (at (R.remaining input.new) written machine.new (held_in engine.new buffers.new source.new)) result }
     ensures few { length buffers.new.input ≤ MAX_UNREAD }
     ensures failed { source.new ≡ SourceState.Failed → R.has_failed input.new }
     ensures kept { M.keeps machine.old machine.new }

@@ -1,8 +1,10 @@
 -- The reply to `stats`.
-use Rattle.std.specs.Prelude.{ℕ, List, map, codes, Option, Some, None, string_bytes}
+use Rattle.std.specs.Prelude.{ℕ, List, map, codes, Option, Some, None, String, string_bytes}
+use Rattle.std.specs.declared.alloc.Global.{Global}
 use Rattle.serde_json.specs.Data.{Data, null, number, string, array, object, unsigned, Members, no_members, member}
 use Rattle.serde_json.specs.View.{items_of}
 use Rattle.pn_protocol.specs.Reply.LineStats.{count, lines_data}
+use Rattle.pn_protocol.specs.Reply.UnreadStats.{unread_data}
 use Rattle.pn_protocol.specs.declared.reply.stats.ConnectionStats.{ConnectionStats}
 use Rattle.pn_protocol.specs.declared.reply.stats.Stats.{Stats}
 use Rattle.pn_protocol.specs.declared.reply.stats.StreamFaultStats.{StreamFaultStats}
@@ -22,6 +24,11 @@ state_word Failed = codes "failed"
 abbrev pub number_or_null : Option ℕ → Data
 number_or_null None = null
 number_or_null (Some value) = number (unsigned value)
+
+-- a text, or null where there is none
+abbrev pub text_or_null : Option (String Global) → Data
+text_or_null None = null
+text_or_null (Some text) = string (string_bytes text)
 
 -- the line of a fault, or null where there was none
 abbrev pub fault_line : Option StreamFaultStats → Data
@@ -45,14 +52,17 @@ connections_data connections =
 unfoldable pub stream_data : StreamStats → Data
 stream_data stream =
     object (count (codes "bytes") stream.bytes
+    (member (codes "heard") (number_or_null stream.heard)
     (member (codes "line") (fault_line stream.fault)
     (count (codes "messages") stream.messages
     (member (codes "name") (string stream.name)
+    (member (codes "newest") (number_or_null stream.newest)
     (member (codes "path") (string (string_bytes stream.path))
     (count (codes "position") stream.position
     (member (codes "reason") (fault_reason stream.fault)
     (member (codes "since") (number_or_null stream.since)
-    (member (codes "state") (string (state_word stream.state)) no_members)))))))))
+    (member (codes "state") (string (state_word stream.state))
+    (member (codes "stream") (text_or_null stream.stream) no_members))))))))))))
 
 -- the records of a tablet
 unfoldable pub tablet_data : TabletStats → Data
@@ -67,5 +77,6 @@ stats_data stats =
     (count (codes "rounds") stats.rounds
     (member (codes "streams") (array (items_of (map stream_data stats.streams.items)))
     (member (codes "tablets") (array (items_of (map tablet_data stats.tablets.items)))
+    (member (codes "unread") (unread_data stats.unread)
     (count (codes "uptime") stats.uptime
-    (member (codes "version") (string stats.version.now) no_members))))))))
+    (member (codes "version") (string stats.version.now) no_members)))))))))

@@ -65,6 +65,11 @@ impl RowsText {
         is_end(self.cursor)
     }
 
+    /// What the records weigh, as far as that has 64 bits.
+    pub(crate) fn weight(&self) -> u64 {
+        self.shown.weight()
+    }
+
     /// Makes a piece after what a buffer holds that has room for it.
     pub(crate) fn append_piece(&mut self, out: &mut Vec<u8>)
         ensures { MakesPiece MAX_PIECE_BYTES self.old self.new out.old out.new }

@@ -1,13 +1,15 @@
 //! The records that a reply shows.
 
-ghost use Rattle.std.specs.Prelude.{◌≡◌, ◌<◌, ◌^◌, ◌∷◌, [], length, map, option_map, zip, Some};
+ghost use Rattle.std.specs.Prelude.{◌≡◌, ◌-◌, ◌<◌, ◌^◌, ◌∷◌, [], length, map, min, option_map, zip, Some};
 ghost use Rattle.std.specs.List.{slice_get};
 ghost use Rattle.std.specs.Option.{option_copied};
 ghost use Rattle.pn_protocol.specs.Reply.Making.{Found, end_of, found_in};
+ghost use Rattle.pn_protocol.specs.Reply.Weights.{found_weight as weighs, shown_weight};
 
 use crate::reply::prefetch::prefetch_rows;
 use pn_record::{Cell, Key};
 use pn_scan::Row;
+use pn_tablet::record_weight;
 
 /// How many rows are prefetched before they are written: as many as fit the nearest cache with their texts.
 const ROWS_AT_HAND: usize = 12;
@@ -50,6 +52,20 @@ impl ShownRecords {
         }
     }
 
+    /// What the records weigh, as far as that has 64 bits.
+    pub(crate) fn weight(&self) -> u64
+        ensures { result ≡ shown_weight (found_in self.now) }
+    {
+        self.recall_count();
+        let mut weight: u64 = 0;
+        let mut index: usize = 0;
+        'records: while let Some((key, cell)) = self.record_at(index) {
+            weight = weight.saturating_add(found_weight(key, cell));
+            index += 1;
+        }
+        weight
+    }
+
     /// What comes after the records.
     pub(crate) fn end(&self) -> &'static str
         ensures { result.now ≡ end_of self.now }
@@ -68,6 +84,16 @@ impl ShownRecords {
                 prefetch_rows(&rows[index..end]);
             }
         }
+    }
+}
+
+// What the record of a key weighs, if there is one.
+fn found_weight(key: &Key, cell: Option<&Cell>) -> u64
+    ensures { result ≡ min (weighs (key.now, option_copied cell.entry)) (2 ^ 64 - 1) }
+{
+    match cell {
+        Some(cell) => record_weight(key, cell),
+        None => 0,
     }
 }
 

@@ -2,10 +2,11 @@
 
 ghost use Rattle.std.specs.Prelude.{◌≡◌, codes, IfOk, OnOk};
 ghost use Rattle.pn_json.specs.Prelude.{line_of, member_tokens, Appends, value_tokens};
-ghost use Rattle.pn_protocol.specs.Reply.Stats.{connections_data, fault_line, fault_reason, number_or_null, state_word as word_of_state, stats_data};
+ghost use Rattle.pn_protocol.specs.Reply.Stats.{connections_data, fault_line, fault_reason, number_or_null, state_word as word_of_state, stats_data, text_or_null};
 
 use crate::reply::line_stats::LineStats;
 use crate::reply::shown::{Shown, shown_line, write_array};
+use crate::reply::unread_stats::UnreadStats;
 use json::Writer;
 use pn_join::{NoMemory, StreamName};
 use pn_json::{write_null_member, write_number_member, write_text_member};
@@ -22,6 +23,7 @@ pub struct Stats {
     pub streams: Vec<StreamStats>,
     /// The tablets, in their order.
     pub tablets: Vec<TabletStats>,
+    pub unread: UnreadStats,
     /// For how many seconds the server runs.
     pub uptime: u64,
     pub version: &'static str,
@@ -64,6 +66,11 @@ pub struct StreamStats {
     pub since: Option<u64>,
     /// The last fault of a writer, if there was one.
     pub fault: Option<StreamFaultStats>,
+    /// Whose stream it is, if a writer said so.
+    pub stream: Option<String>,
+    /// The broker's newest position and how many seconds ago a writer told it, if one did.
+    pub newest: Option<u64>,
+    pub heard: Option<u64>,
 }
 
 /// The fault of a writer: in which of its lines, from 1, and what it is.
@@ -111,6 +118,8 @@ impl Shown for Stats {
         write_array(writer, &self.streams)?;
         writer.key("tablets")?;
         write_array(writer, &self.tablets)?;
+        writer.key("unread")?;
+        self.unread.write(writer)?;
         write_number_member(writer, "uptime", self.uptime)?;
         write_text_member(writer, "version", self.version)?;
         writer.end_object()?;
@@ -157,14 +166,17 @@ impl Shown for StreamStats {
     fn write(&self, writer: &mut Writer) -> Result<(), NoMemory> {
         writer.begin_object()?;
         write_number_member(writer, "bytes", self.bytes)?;
+        write_number_or_null(writer, "heard", self.heard)?;
         write_fault_line(writer, &self.fault)?;
         write_number_member(writer, "messages", self.messages)?;
         write_text_member(writer, "name", self.name.as_str())?;
+        write_number_or_null(writer, "newest", self.newest)?;
         write_text_member(writer, "path", self.path.as_str())?;
         write_number_member(writer, "position", self.position)?;
         write_fault_reason(writer, &self.fault)?;
-        write_since(writer, self.since)?;
+        write_number_or_null(writer, "since", self.since)?;
         write_text_member(writer, "state", state_word(self.state))?;
+        write_identity(writer, &self.stream)?;
         writer.end_object()?;
         Ok(())
     }
@@ -190,13 +202,23 @@ fn write_fault_reason(writer: &mut Writer, fault: &Option<StreamFaultStats>) -> 
     }
 }
 
-// How long ago the last message came, or null.
-fn write_since(writer: &mut Writer, since: Option<u64>) -> Result<(), NoMemory>
-    ensures { OnOk result (Appends writer.old writer.new (member_tokens (codes "since") (number_or_null since))) }
+// A member that is a number, or null where there is none.
+fn write_number_or_null(writer: &mut Writer, name: &str, value: Option<u64>) -> Result<(), NoMemory>
+    ensures { OnOk result (Appends writer.old writer.new (member_tokens name.now (number_or_null value))) }
 {
-    match since {
-        Some(seconds) => write_number_member(writer, "since", seconds),
-        None => write_null_member(writer, "since"),
+    match value {
+        Some(value) => write_number_member(writer, name, value),
+        None => write_null_member(writer, name),
+    }
+}
+
+// Whose stream it is, or null.
+fn write_identity(writer: &mut Writer, stream: &Option<String>) -> Result<(), NoMemory>
+    ensures { OnOk result (Appends writer.old writer.new (member_tokens (codes "stream") (text_or_null stream.now))) }
+{
+    match stream {
+        Some(stream) => write_text_member(writer, "stream", stream.as_str()),
+        None => write_null_member(writer, "stream"),
     }
 }
 

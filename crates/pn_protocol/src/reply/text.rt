@@ -134,6 +134,11 @@ impl ReplyText {
         self.rest.is_made()
     }
 
+    /// What it keeps: the weight of its records, as far as that has 64 bits.
+    pub fn weight(&self) -> u64 {
+        self.rest.weight()
+    }
+
     /// Makes a piece after what a buffer holds. It asks nothing of memory.
     pub fn write_piece(&mut self, out: &mut Vec<u8>)
         requires room { vec_len out.old + MAX_PIECE_BYTES ≤ vec_capacity out.old }
@@ -185,6 +190,14 @@ impl Rest {
             Rest::Nothing => true,
             Rest::Rows(rows) => rows.is_made(),
             Rest::Lines(copy) => copy.is_made(),
+        }
+    }
+
+    fn weight(&self) -> u64 {
+        match self {
+            Rest::Nothing => 0,
+            Rest::Rows(rows) => rows.weight(),
+            Rest::Lines(copy) => copy.weight(),
         }
     }
 

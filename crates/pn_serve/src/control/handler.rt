@@ -44,7 +44,12 @@ impl<'a, R, C: Drop> Model for ControlHandler<'a, R, C> {
 
     ghost coded = { control_code };
 
-    ghost view = { λ session. record { reader = session.reader; mode = mode_of session.announced; stop = session.stop; over = session.is_over } };
+    ghost view = { λ session. record {
+      reader = session.reader;
+      mode = mode_of session.announced;
+      stop = session.stop;
+      over = session.is_over;
+    } };
 }
 
 impl<'a, R, C: Drop> ControlHandler<'a, R, C> {

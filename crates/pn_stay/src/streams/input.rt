@@ -5,6 +5,8 @@ ghost use Rattle.std.specs.Io.{ReadsAtMost};
 use crate::counters::{CountingSource, InputCounters};
 use crate::interrupts::is_interrupted;
 use crate::shared::share;
+use crate::streams::broker::BrokerListener;
+use crate::streams::message_input::{MessageInput, READ_SIZE};
 use crate::streams::writer::WriterSocket;
 use std::alloc::Global;
 use std::fs::{File, Files};
@@ -18,15 +20,18 @@ use std::time::Clock;
 pub(crate) const FILE_READ_SIZE: usize = 1_048_576;
 
 /// How many bytes of a socket are read at a time.
-pub(crate) const SOCKET_READ_SIZE: usize = 262_144;
+pub(crate) const SOCKET_READ_SIZE: usize = READ_SIZE;
+
+/// The socket of a writer, without what the writer says of its stream.
+pub type SocketInput<R> = MessageInput<WriterSocket<R>, BrokerListener<R>>;
 
 /// What a stream's writer is read from.
 #[derive(Drop)]
-pub enum StreamInput<R> {
+pub enum StreamInput<R: Drop> {
     /// A file, or a FIFO.
     File(File),
     /// The socket of a writer.
-    Socket(WriterSocket<R>),
+    Socket(SocketInput<R>),
 }
 
 /// A writer's input, of which is counted what is read.
@@ -36,7 +41,7 @@ impl<R: Files<File = File> + Net + Wait + Clock + Drop> Read for StreamInput<R> 
     fn read(&mut self, buf: &mut [u8]) -> io::Result<usize> {
         match self {
             StreamInput::File(file) => read_file(file, buf),
-            StreamInput::Socket(socket) => socket.read(buf),
+            StreamInput::Socket(input) => input.read(buf),
         }
     }
 }

@@ -41,6 +41,16 @@ impl StreamTeller {
         self.messages.leave(rt, text);
     }
 
+    /// Leaves a message of a writer that is not taken, as `stream east refused a writer: {"error":..}`.
+    fn tell_refused<R: Wait>(&self, rt: &R, line: &[u8]) {
+        if let Ok(line) = str::from_utf8(line) {
+            let reason = line.trim_end();
+            let name = self.name.as_str();
+            let text = format!(in self.alloc; "stream {name} refused a writer: {reason}");
+            self.messages.leave(rt, text);
+        }
+    }
+
     /// Leaves a message of what became of a path, as `stream east listens again at ./east`.
     pub(crate) fn tell_path<R: Wait>(&self, rt: &R, how: &str, path: &str) {
         let text = format!(in self.alloc; "stream {} {how} {path}", self.name.as_str());
@@ -147,6 +157,20 @@ impl<R: Wait + Drop> StreamNotes<R> {
             let reason = describe_fault(alloc, fault).unwrap_or(String::new(alloc));
             status.note_fault(&self.rt, StreamFaultStats { line, reason });
         }
+    }
+
+    /// Notes whose stream it is, if somebody looks at that.
+    pub(crate) fn note_stream(&self, stream: &str) -> Result<(), AllocError> {
+        if let Some(status) = &self.status {
+            let stream = String::from_str(self.teller.alloc, stream)?;
+            status.note_stream(&self.rt, stream);
+        }
+        Ok(())
+    }
+
+    /// Leaves a message that a writer is refused, whose line says why.
+    pub(crate) fn tell_refused(&self, line: &[u8]) {
+        self.teller.tell_refused(&self.rt, line);
     }
 
     /// Leaves a message that another writer has begun.

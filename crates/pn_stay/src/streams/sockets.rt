@@ -3,9 +3,16 @@
 ghost use Rattle.std.specs.Prelude.{◌≡◌, ◌≤◌, max, true, IfOk, IfSome};
 
 use crate::seldom::Seldom;
-use crate::streams::input::{SOCKET_READ_SIZE, StreamInput, StreamSource, open_source};
+use crate::shared::share;
+use crate::streams::broker::BrokerListener;
+use crate::streams::identity::{Admitted, StreamIdentity};
+use crate::streams::input::{
+    SOCKET_READ_SIZE, SocketInput, StreamInput, StreamSource, open_source,
+};
 use crate::streams::listener::StreamListener;
+use crate::streams::message_input::MessageInput;
 use crate::streams::notes::{OpenStream, StreamNotes};
+use crate::streams::remarks::format_other_stream;
 use crate::streams::writer::WriterSocket;
 use pn_line::Source;
 use pn_serve::{NextWriter, WriterEnd};
@@ -19,13 +26,23 @@ use std::{io, thread};
 /// For how many milliseconds nobody is accepted after the system refused a socket, as where no descriptor is left.
 const RETRY: u64 = 100;
 
+// A writer that was accepted, and the position after which it begins.
+#[derive(Drop)]
+struct Accepted<R: Drop> {
+    input: SocketInput<R>,
+    after: u64,
+}
+
 /// The writers of a socket.
 #[derive(Drop)]
 pub(crate) struct SocketWriters {
     listener: Arc<StreamListener>,
     path: String,
     has_begun: bool,
+    identity: StreamIdentity,
+    // When the system refused a socket, and when a writer of another stream came.
     refusals: Seldom,
+    others: Seldom,
 }
 
 impl SocketWriters {
@@ -35,7 +52,9 @@ impl SocketWriters {
             listener,
             path,
             has_begun: false,
+            identity: StreamIdentity::new(),
             refusals: Seldom::new(),
+            others: Seldom::new(),
         }
     }
 
@@ -53,11 +72,9 @@ impl SocketWriters {
         for _ in notes.rt.forever() {
             self.listener.look(&notes.rt);
             match self.accept(notes, last) {
-                Ok(Some(next)) => {
-                    let mut next = next;
+                Ok(Some(accepted)) => {
                     let open = notes.open();
-                    if next.source.has_more().unwrap_or(false) {
-                        self.note_begin(notes);
+                    if let Some(next) = self.greet(notes, accepted) {
                         return (next, open);
                     }
                     notes.end(open);
@@ -69,15 +86,88 @@ impl SocketWriters {
         unreachable!()
     }
 
-    // Waits for a writer, but not for long.
-    fn accept<R>(
-        &self,
+    // Waits for what a writer says first, and for its first bytes. None where it goes, or is refused.
+    fn greet<R>(
+        &mut self,
         notes: &StreamNotes<R>,
-        last: u64,
-    ) -> io::Result<Option<NextWriter<StreamSource<R>>>>
+        accepted: Accepted<R>,
+    ) -> Option<NextWriter<StreamSource<R>>>
     where
         R: Files<File = File> + Net + Wait + Clock + Copy + Drop,
-        ensures { IfOk result (λ next. IfSome next (λ next. last ≤ next.after)) }
+        ensures { IfSome result (λ next. next.after ≡ accepted.after) }
+    {
+        let Accepted { input, after } = accepted;
+        let mut input = input;
+        let said = input.take_stream().ok()?;
+        match self.identity.admit(said) {
+            Ok(admitted) => {
+                self.note_identity(notes);
+                let source = self.open(notes, input, admitted)?;
+                Some(NextWriter { source, after })
+            }
+            Err(got) => {
+                self.refuse(notes, &mut input, got.as_str());
+                None
+            }
+        }
+    }
+
+    // What an admitted writer is read from, once it writes anything.
+    fn open<R>(
+        &mut self,
+        notes: &StreamNotes<R>,
+        input: SocketInput<R>,
+        _admitted: Admitted,
+    ) -> Option<StreamSource<R>>
+    where
+        R: Files<File = File> + Net + Wait + Clock + Copy + Drop,
+    {
+        let input = StreamInput::Socket(input);
+        match open_source(notes.teller.alloc, input, SOCKET_READ_SIZE, &notes.counters) {
+            Ok(source) => {
+                let mut source = source;
+                if !source.has_more().unwrap_or(false) {
+                    return None;
+                }
+                self.note_begin(notes);
+                Some(source)
+            }
+            Err(error) => {
+                self.note_refusal(notes, &error);
+                None
+            }
+        }
+    }
+
+    // Notes whose stream it is.
+    fn note_identity<R: Wait + Drop>(&self, notes: &StreamNotes<R>) {
+        if let Some(stream) = &self.identity.kept {
+            let _ = notes.note_stream(stream.as_str());
+        }
+    }
+
+    // Tells a writer of another stream which one the region has. Standard error has it once a minute at most.
+    fn refuse<R>(&mut self, notes: &StreamNotes<R>, input: &mut SocketInput<R>, got: &str)
+    where
+        R: Files<File = File> + Net + Wait + Clock + Copy + Drop,
+    {
+        let has = match &self.identity.kept {
+            Some(has) => has.as_str(),
+            None => "",
+        };
+        if let Ok(line) = format_other_stream(notes.teller.alloc, has, got) {
+            input.input_mut().tell_last(&line);
+            if self.others.is_due(&notes.rt) {
+                notes.tell_refused(&line);
+            }
+        }
+    }
+
+    // Waits for a writer, but not for long.
+    fn accept<R>(&self, notes: &StreamNotes<R>, last: u64) -> io::Result<Option<Accepted<R>>>
+    where
+        R: Files<File = File> + Net + Wait + Clock + Copy + Drop,
+        ensures { IfOk result (λ accepted. IfSome accepted (λ accepted. last ≤ accepted.after)) }
     {
         match self.listener.accept(&notes.rt)? {
             Some(stream) => Ok(Some(self.begin(notes, stream, last)?)),
@@ -90,19 +180,19 @@ impl SocketWriters {
         notes: &StreamNotes<R>,
         stream: UnixStream,
         last: u64,
-    ) -> io::Result<NextWriter<StreamSource<R>>>
+    ) -> io::Result<Accepted<R>>
     where
         R: Files<File = File> + Net + Wait + Clock + Copy + Drop,
-        ensures { IfOk result (λ next. last ≤ next.after) }
+        ensures { IfOk result (λ accepted. last ≤ accepted.after) }
     {
         let positions = notes.positions.try_clone()?;
         let after = position_after(last, positions.taken.get());
         let listener = Arc::try_clone(&self.listener)?;
         let alloc = notes.teller.alloc;
         let socket = WriterSocket::begin(notes.rt, alloc, stream, positions, after, listener)?;
-        let input = StreamInput::Socket(socket);
-        let source = open_source(alloc, input, SOCKET_READ_SIZE, &notes.counters)?;
-        Ok(NextWriter { source, after })
+        let broker = BrokerListener::new(notes.rt, share(&notes.status)?);
+        let input = MessageInput::new(alloc, socket, broker)?;
+        Ok(Accepted { input, after })
     }
 
     // Every writer but the first begins again.
@@ -139,8 +229,8 @@ where
     R: Files<File = File> + Net + Wait + Clock + Drop,
 {
     let (reader, _) = source.into_parts();
-    if let StreamInput::Socket(socket) = reader.into_inner() {
-        let mut socket = socket;
+    if let StreamInput::Socket(input) = reader.into_inner() {
+        let mut socket = input.into_input();
         socket.tell_taken();
         if let WriterEnd::Fault {
             fault,

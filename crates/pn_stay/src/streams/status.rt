@@ -1,6 +1,6 @@
 //! The status of a stream: its state, when its last message came, and its last fault.
 
-ghost use Rattle.std.specs.Prelude.{◌≡◌, None, Some, string_bytes, IfOk};
+ghost use Rattle.std.specs.Prelude.{◌≡◌, None, Some, option_map, string_bytes, IfOk};
 
 use pn_protocol::{StreamFaultStats, StreamState};
 use std::alloc::{AllocError, Global};
@@ -21,6 +21,11 @@ struct StatusNow {
     // When the last message came.
     came: Option<Instant>,
     fault: Option<StreamFaultStats>,
+    // Whose stream it is, if a writer said so.
+    stream: Option<String>,
+    // The broker's newest position, as a writer said it last, and when that was.
+    newest: Option<u64>,
+    heard: Option<Instant>,
 }
 
 /// The status of a stream at one moment.
@@ -30,6 +35,9 @@ pub(crate) struct StatusThen {
     pub(crate) state: StreamState,
     pub(crate) came: Option<Instant>,
     pub(crate) fault: Option<StreamFaultStats>,
+    pub(crate) stream: Option<String>,
+    pub(crate) newest: Option<u64>,
+    pub(crate) heard: Option<Instant>,
 }
 
 impl StreamStatus {
@@ -57,6 +65,19 @@ impl StreamStatus {
         self.now.lock(rt).fail(fault);
     }
 
+    /// Notes whose stream it is.
+    pub(crate) fn note_stream<R: Wait>(&self, rt: &R, stream: String) {
+        self.now.lock(rt).stream = Some(stream);
+    }
+
+    /// Notes the broker's newest position, which a writer says now.
+    pub(crate) fn note_newest<R: Wait + Clock>(&self, rt: &R, newest: u64) {
+        let heard = Instant::now(rt).ok();
+        let mut now = self.now.lock(rt);
+        now.newest = Some(newest);
+        now.heard = heard;
+    }
+
     /// Whether a writer is read.
     pub(crate) fn is_open<R: Wait>(&self, rt: &R) -> bool {
         self.now.lock(rt).state == StreamState::Open
@@ -67,11 +88,15 @@ impl StreamStatus {
         let path = String::from_str(alloc, self.path.as_str())?;
         let now = self.now.lock(rt);
         let fault = copy_last(alloc, &now.fault)?;
+        let stream = copy_text(alloc, &now.stream)?;
         Ok(StatusThen {
             path,
             state: now.state,
             came: now.came,
             fault,
+            stream,
+            newest: now.newest,
+            heard: now.heard,
         })
     }
 }
@@ -82,11 +107,17 @@ impl StatusNow {
         ensures state { result.state ≡ StreamState.Waiting }
         ensures came { result.came ≡ None }
         ensures fault { result.fault ≡ None }
+        ensures stream { result.stream ≡ None }
+        ensures newest { result.newest ≡ None }
+        ensures heard { result.heard ≡ None }
     {
         StatusNow {
             state: StreamState::Waiting,
             came: None,
             fault: None,
+            stream: None,
+            newest: None,
+            heard: None,
         }
     }
 
@@ -95,9 +126,22 @@ impl StatusNow {
         ensures state { self.new.state ≡ StreamState.Failed }
         ensures fault { self.new.fault ≡ Some fault }
         ensures came { self.new.came ≡ self.old.came }
+        ensures stream { self.new.stream ≡ self.old.stream }
+        ensures newest { self.new.newest ≡ self.old.newest }
+        ensures heard { self.new.heard ≡ self.old.heard }
     {
         self.state = StreamState::Failed;
         self.fault = Some(fault);
+    }
+}
+
+// A copy of a text, if there is one.
+fn copy_text(alloc: Global, text: &Option<String>) -> Result<Option<String>, AllocError>
+    ensures { IfOk result (λ copy. option_map string_bytes copy ≡ option_map string_bytes text.now) }
+{
+    match text {
+        Some(text) => Ok(Some(String::from_str(alloc, text.as_str())?)),
+        None => Ok(None),
     }
 }
 

@@ -120,13 +120,26 @@ impl<R: Clock + Drop> WriterSocket<R> {
         let _ = self.tell(format_refusal(self.alloc, fault, position));
     }
 
-    // Writes a line, which is dropped where the writer does not take it at once. Whether it was taken whole.
+    /// Tells the writer in a last line why it is not taken.
+    pub(crate) fn tell_last(&mut self, line: &[u8]) {
+        let _ = self.tell_line(line);
+        self.is_told = false;
+    }
+
+    // Writes a line, if there is memory for it.
     fn tell(&mut self, line: Result<String, AllocError>) -> bool {
-        let Ok(line) = line else { return false };
+        match line {
+            Ok(line) => self.tell_line(line.as_bytes()),
+            Err(_) => false,
+        }
+    }
+
+    // Writes a line, which is dropped where the writer does not take it at once. Whether it was taken whole.
+    fn tell_line(&mut self, line: &[u8]) -> bool {
         if !self.is_told {
             return false;
         }
-        match self.write_some(line.as_bytes()) {
+        match self.write_some(line) {
             Ok(count) => self.is_told = count == line.len(),
             Err(error) => {
                 self.is_told = passes(&error);

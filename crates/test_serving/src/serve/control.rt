@@ -7,7 +7,7 @@ use pn_lines::LineBuffers;
 use pn_live::{LiveReader, LiveRegion};
 use pn_protocol::{
     ConnectionStats, LineCounts, LineKinds, LineStats, Stats, StreamFaultStats, StreamState,
-    StreamStats, TabletStats,
+    StreamStats, TabletStats, UnreadStats,
 };
 use pn_serve::{
     ControlMailboxes, ControlSession, StatsSource, Stream, close_region, open_region, take_commands,
@@ -40,6 +40,7 @@ impl StatsSource for SomeStats {
             rounds: 8,
             streams,
             tablets,
+            unread: unread(),
             uptime: 9,
             version: "0",
         })
@@ -56,6 +57,14 @@ fn connections() -> ConnectionStats {
         idle: 3,
         open: 4,
         refused: 5,
+    }
+}
+
+fn unread() -> UnreadStats {
+    UnreadStats {
+        bytes: 20,
+        ended: 21,
+        limit: 22,
     }
 }
 
@@ -87,6 +96,7 @@ fn failed_stream(alloc: Global) -> Result<StreamStats, NoMemory> {
     let name = Name::read(b"east").ok().ok_or(NoMemory)?;
     let path = String::from_str(alloc, "./east")?;
     let reason = String::from_str(alloc, "not JSON")?;
+    let stream = String::from_str(alloc, "kafka east")?;
     Ok(StreamStats {
         name,
         path,
@@ -96,6 +106,9 @@ fn failed_stream(alloc: Global) -> Result<StreamStats, NoMemory> {
         state: StreamState::Failed,
         since: Some(13),
         fault: Some(StreamFaultStats { line: 14, reason }),
+        stream: Some(stream),
+        newest: Some(20),
+        heard: Some(21),
     })
 }
 
@@ -112,6 +125,9 @@ fn new_stream(alloc: Global) -> Result<StreamStats, NoMemory> {
         state: StreamState::Waiting,
         since: None,
         fault: None,
+        stream: None,
+        newest: None,
+        heard: None,
     })
 }
 

@@ -10,6 +10,9 @@ use test_kit::spell_out;
 /// The permissions of sockets where the words say nothing of them.
 const SOCKET_MODE: u32 = 0o600;
 
+/// How many bytes unread replies may keep where the words say nothing of them.
+const UNREAD: u32 = 64_000_000;
+
 // The program's name and the words of a line.
 fn words(alloc: Global, line: &str) -> Result<Vec<String>, Fail> {
     let line = spell_out(alloc, line)?;
@@ -74,6 +77,9 @@ fn write_paths(text: &mut String, service: &Service) -> Result<(), AllocError> {
     }
     if let Some(seconds) = service.idle {
         write!(text, ", idle for {seconds} seconds")?;
+    }
+    if service.unread != UNREAD {
+        write!(text, ", {} unread bytes", service.unread)?;
     }
     if service.is_progress_told {
         write!(text, ", told")?;

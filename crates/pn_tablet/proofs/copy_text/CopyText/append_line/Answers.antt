@@ -6,7 +6,7 @@ use Rattle.pn_tablet.specs.declared.copy_line_appending.TheConstants.{MAX_COPY_L
 use Rattle.pn_tablet.proofs.copy_text.CopyText.append_line.Goals as goal
 
 pub invariant_of-self : goal.invariant_of-self
-invariant_of-self c = record { form_is = c.self.invariant.form_is; lines_are = c.self.invariant.lines_are; cursor_is = c.append_next-self-inside.ensures.cursor_is }
+invariant_of-self c = (record { form_is = c.self.invariant.0.form_is; lines_are = c.self.invariant.0.lines_are; cursor_is = c.append_next-self-inside.ensures.cursor_is }, c.self.invariant.1)
 
 pub returns-clause-line : goal.returns-clause-line
 returns-clause-line c =

@@ -4,4 +4,4 @@ use Rattle.pn_tablet.specs.CopyMaking.{CopyTextValue, lines_of_copy}
 use Rattle.pn_tablet.proofs.copy_text.CopyText.lines.Goals as goal
 
 pub returns : goal.returns
-returns c = c.self.invariant.lines_are ∙ ap (λ (text : CopyTextValue). lines_of_copy text.copy) c.self.view_is
+returns c = c.self.invariant.0.lines_are ∙ ap (λ (text : CopyTextValue). lines_of_copy text.copy) c.self.view_is

@@ -1,0 +1,11 @@
+-- The quarter has ended for the keys below, and not yet for the others.
+use Rattle.std.proofs.Common.{◌≡◌, ℕ, ◌<◌, ◌≤◌}
+use Rattle.pn_stay.specs.Unread.{EndsDeaf}
+use Rattle.pn_stay.specs.UnreadClients.{unread_at}
+use Rattle.pn_stay.proofs.event_loop.EventLoop.end_deaf.Given as goal
+
+abbrev pub invariant-clients : goal.invariant-clients
+invariant-clients g l = record {
+  done : (key : ℕ) → key < l.key → EndsDeaf (unread_at l.initial.self.connections key) (unread_at l.self.connections key);
+  rest : (key : ℕ) → l.key ≤ key → unread_at l.self.connections key ≡ unread_at l.initial.self.connections key;
+}

@@ -1,0 +1,16 @@
+-- What was used was held, and what was given on had room.
+use Rattle.std.proofs.Common.{◌≡◌, ◌≤◌, ◌-◌, length}
+use Rattle.std.specs.Prelude.{vec_len}
+use Rattle.pn_stay.proofs.streams.message_input.MessageInput.pass_on.Given as goal
+
+abbrev pub invariant-steps : goal.invariant-steps
+invariant-steps g l = record {
+  used : l.used ≤ vec_len l.self.held;
+  given : l.given ≤ length l.buf;
+  size : length l.buf ≡ length l.initial.buf;
+  held : l.self.held.items ≡ l.initial.self.held.items;
+  input : l.self.input ≡ l.initial.self.input;
+}
+
+abbrev pub decreases-steps : goal.decreases-steps
+decreases-steps g l = vec_len l.self.held - l.used
