@@ -6,7 +6,7 @@ from typing import Any
 import pytest
 
 from common.options import OPTIONS, PROGRAMS, program_at
-from common.parts import abouts, modules
+from common.parts import abouts, first, modules
 from serving.staying import raise_descriptors
 
 
@@ -21,7 +21,7 @@ def pytest_addoption(parser: pytest.Parser) -> None:
 def pytest_configure(config: pytest.Config) -> None:
     raise_descriptors()
     for part, (_, about) in abouts().items():
-        config.addinivalue_line("markers", f"{mark_of(part)}: {about}")
+        config.addinivalue_line("markers", f"{mark_of(part)}: {first(about)}")
 
 
 def mark_of(part: str) -> str:

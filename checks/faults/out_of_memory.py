@@ -1,8 +1,6 @@
 """Refuses each allocation of a built program in turn, and looks at the replies.
 
-  checks/run out-of-memory PROGRAM LIVE [--only TEXT]
-
-LIVE is the program of crates/test_serving. With --only, nothing is tried whose name does not have the text.
+  checks/run out-of-memory PROGRAM LIVE [WORD ..]
 
 The scripts of crates/test_rows are talked through, those with tablets by 1, 2 and 16 workers: a command is sent once the one
 before it is answered, and again where its answer was `memory`, with the lines that it announces. Each reply is one of a region

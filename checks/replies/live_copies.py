@@ -9,7 +9,6 @@ import random
 import subprocess
 import tempfile
 
-from common.drawn import SEEDS, st, try_drawn
 from common.served import SECONDS, Client, Json, Served, same, written
 from replies.random_streams import MOST, NAMES, Streams, copied, copy_line, messages, streams_of
 from replies.random_values import KEYS, MANY_KEYS, bounds_of
@@ -56,6 +55,7 @@ def script_copies(program: str, words: list[str], lines: list[Json], tablets: in
 
 def check_live_copies(program: str, cases: int | None, seed: int) -> None:
     """Regions that serve hold what scripts hold, over other layouts, of other streams, with other cuts."""
+    from common.drawn import SEEDS, st, try_drawn
     def agree(drawn: tuple[int, list[int]]) -> None:
         rng = random.Random(drawn[0])
         tablets = rng.choice([1, 2, 4, 64])

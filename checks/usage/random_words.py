@@ -15,7 +15,6 @@ from collections import Counter
 from collections.abc import Callable, Iterator
 from typing import NamedTuple
 
-from common.drawn import SEEDS, seeds, st, try_drawn
 from common.served import SECONDS, same
 from common.tried import none_of
 
@@ -200,6 +199,7 @@ def kind_of(words: Words) -> str:
 
 def check_random_words(program: str, cases: int | None, seed: int) -> None:
     """The first fault of words is the one that is told."""
+    from common.drawn import SEEDS, seeds, st, try_drawn
     counts, runs = Counter[tuple[str, bool]](), cases or RUNS
 
     def agree(case: tuple[bool, list[int], list[int]]) -> None:
