@@ -6,6 +6,7 @@ from typing import Any
 import pytest
 
 from common.options import OPTIONS, PROGRAMS, program_at
+from common.parts import abouts, first, modules
 from serving.staying import raise_descriptors
 
 
@@ -17,8 +18,21 @@ def pytest_addoption(parser: pytest.Parser) -> None:
         group.addoption(f"--{name}", **words)
 
 
-def pytest_configure() -> None:
+def pytest_configure(config: pytest.Config) -> None:
     raise_descriptors()
+    for part, (_, about) in abouts().items():
+        config.addinivalue_line("markers", f"{mark_of(part)}: {first(about)}")
+
+
+def mark_of(part: str) -> str:
+    return part.replace("-", "_")
+
+
+def pytest_collection_modifyitems(items: list[pytest.Item]) -> None:
+    """Marks each check with its part."""
+    marks = {path: mark_of(part) for part, paths in modules().items() for path in paths}
+    for it in (it for it in items if it.path in marks):
+        it.add_marker(marks[it.path])
 
 
 def pytest_generate_tests(metafunc: pytest.Metafunc) -> None:

@@ -9,7 +9,7 @@ from common.options import OPTIONS, PROGRAMS, program_at
 from common.parts import tried
 from common.tried import parser_of
 
-BESIDE = ("exit-statuses", "live-copies", "memory-limit", "waiting-rounds", "json-lines", "random-scripts", "random-words", "rising-keys", "locks",
+BESIDE = ("exit-statuses", "live-copies", "memory-limit", "waiting-rounds", "json-lines", "examples", "random-scripts", "random-words", "rising-keys", "locks",
           "readme", "examples", "words", "links", "naming", "types")
 ALONE = ("sessions", "out-of-memory", "failing-calls", "damaged-input", "damaged-streams", "clients", "http-front", "limits", "stay", "unkept",
          "streams", "control", "ends", "signals", "copies", "exporter", "full-disk", "abuse")

@@ -48,7 +48,7 @@ def modules() -> dict[str, list[Path]]:
 
 
 def abouts() -> dict[str, tuple[str, str]]:
-    """The folder of each part, and what it tries: as the module of its name says first, or as the settings of pytest do."""
+    """The folder of each part, and what it tries: as the module of its name says, or the settings of pytest."""
     settings = configparser.ConfigParser()
     settings.read(SETTINGS, encoding="utf-8")
     lines = (line.partition(": ") for line in settings["pytest"]["markers"].strip().splitlines())
@@ -56,9 +56,13 @@ def abouts() -> dict[str, tuple[str, str]]:
     found = dict[str, tuple[str, str]]()
     for name, paths in [*((name, [path]) for name, path in programs().items()), *modules().items()]:
         own = [it for it in paths if it.stem.replace("_", "-") == name]
-        about = told(own[0].read_text(encoding="utf-8")).partition("\n\n")[0] if own else marks[name]
-        found[name] = (paths[-1].parent.name, " ".join(about.split()))
+        found[name] = (paths[-1].parent.name, told(own[0].read_text(encoding="utf-8")) if own else marks[name])
     return found
+
+
+def first(about: str) -> str:
+    """What a part tries, in its first words."""
+    return " ".join(about.partition("\n\n")[0].split())
 
 
 def functions(path: Path) -> list[ast.FunctionDef]:

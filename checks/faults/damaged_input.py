@@ -1,9 +1,7 @@
 """Gives a built program scripts and copies that are cut, damaged and long, and compares its replies with those of a plain, slow
 program (checks/replies/slow.py).
 
-  checks/run damaged-input PROGRAM [TEXT]
-
-Of the checks only those are tried whose names have the text.
+  checks/run damaged-input PROGRAM [WORD ..]
 
 - Worked copies, cut at every proper prefix, are truncated; with each byte in turn replaced by `x`, a newline or 0xff, or left
   out, they are read as docs/lines.md says, and the next commands are answered.

@@ -1,9 +1,9 @@
 """Serves streams that are cut, damaged and long by a built program, and compares what it holds with what a plain, slow reader
 (checks/replies/slow_streams.py) takes; and gives sessions lines that are long, cut and too many.
 
-  checks/run damaged-streams PROGRAM [TEXT]
+  checks/run damaged-streams PROGRAM [WORD ..]
 
-Of the checks only those are tried whose names have the text. A stream of five messages is cut at every byte, and each byte in
+A stream of five messages is cut at every byte, and each byte in
 turn is replaced by `x`, a newline or 0xff, or left out. Its messages up to the first fault are served, and where there is one,
 the end is status 1 with its line. A session answers 1,000,000 lines, and no line more.
 """

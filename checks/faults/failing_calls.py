@@ -1,8 +1,8 @@
 """Lets each read and each write of a built program fail in turn, while a script with a recovery or a session is answered.
 
-  checks/run failing-calls PROGRAM [TEXT]
+  checks/run failing-calls PROGRAM [WORD ..]
 
-Of the checks only those are tried whose names have the text. Each call takes a byte, or a few, and the k-th fails, for every k.
+Each call takes a byte, or a few, and the k-th fails, for every k.
 
 - Where a read fails, the replies to all commands that were read whole are written, and the end is status 1 with `pnuts: read`.
 - Where a write fails, just the bytes before it are written, and the end is status 1 with `pnuts: write`.

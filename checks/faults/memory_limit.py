@@ -1,6 +1,6 @@
 """Gives a built program less memory than it needs, for good, and looks at its replies and at how it ends.
 
-  checks/run memory-limit PROGRAM [--keys N]
+  checks/run memory-limit PROGRAM [--cases N]
 
 First a page of a thousand records is asked for, which has to be whole. Then a script of a million new keys is answered under
 limits of the address space (as `prlimit --as` sets them), from one in which the program can hardly begin to one that holds most

@@ -1,8 +1,6 @@
 """Refuses each allocation of a built program in turn, and looks at the replies.
 
-  checks/run out-of-memory PROGRAM LIVE [--only TEXT]
-
-LIVE is the program of crates/test_serving. With --only, nothing is tried whose name does not have the text.
+  checks/run out-of-memory PROGRAM LIVE [WORD ..]
 
 The scripts of crates/test_rows are talked through, those with tablets by 1, 2 and 16 workers: a command is sent once the one
 before it is answered, and again where its answer was `memory`, with the lines that it announces. Each reply is one of a region
@@ -62,6 +60,10 @@ def talks() -> Iterator[Stored]:
 Case = tuple[str, Callable[[], FindFault], dict[str, str]]
 
 
+def fault_of_case(live: str, line: bytes, answer: bytes) -> FindFault:
+    return functools.partial(case_fault, live, line, answer)
+
+
 def fault_of_talk(program: str, script: Stored, is_repeated: bool) -> FindFault:
     return functools.partial(Script(program, script).fault, is_repeated=is_repeated)
 
@@ -79,7 +81,7 @@ def cases(program: str, live: str) -> Iterator[Case]:
     for name in SENT_FOR_GOOD:
         yield f"{name}, for good", functools.partial(fault_of_talk, program, stored(name), False), FOR_GOOD
     for name, (line, answer) in ENDS_WELL.items():
-        yield name, functools.partial(functools.partial, case_fault, live, line, answer), ONE
+        yield name, functools.partial(fault_of_case, live, line, answer), ONE
 
 
 @pytest.fixture(scope="module")

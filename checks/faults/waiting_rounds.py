@@ -1,6 +1,6 @@
 """Takes memory from a program that stays while it reads streams, and gives it back.
 
-  checks/run waiting-rounds PROGRAM [--keys N]
+  checks/run waiting-rounds PROGRAM [--cases N]
 
 Two streams are read while a client and a control session ask. The address space is limited (as `prlimit --as` does) until a round
 waits for memory, and the marks stand still; both who ask are answered meanwhile. Then the limit is lifted, and both streams are

@@ -1,6 +1,6 @@
 """Mutates real lines, and compares which of them a built program and Rust's `serde_json` read.
 
-  checks/run json-lines PROGRAM [--lines N] [--seed S]
+  checks/run json-lines PROGRAM [--cases N] [--seed S]
 
 The lines are those of crates/test_rows, each with some bytes, numbers or parts replaced; a seed makes the same lines each time.
 The program has to answer `not-json` to just those that bench/plain, which is built first, reads nothing in. Which of the numbers

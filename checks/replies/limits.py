@@ -1,6 +1,6 @@
 """Gives a built program each value of a line at its limit, and one beyond it, in every way in which a line can come.
 
-  checks/run limits PROGRAM [WAY ..]
+  checks/run limits PROGRAM [WORD ..]
 
 The ways are scripts, sessions of a program that ends, connections over TCP and a Unix socket, control sessions, and streams from
 files, FIFOs and sockets. A line comes at once, byte by byte (a long one only around its limit and at its end), or in pieces of some

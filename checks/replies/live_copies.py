@@ -9,17 +9,12 @@ import random
 import subprocess
 import tempfile
 
-from common.drawn import SEEDS, st, try_drawn
 from common.served import SECONDS, Client, Json, Served, same, written
-from replies.random_streams import MOST, NAMES, Streams, copied, copy_line, streams_of
+from replies.random_streams import MOST, NAMES, Streams, copied, copy_line, messages, streams_of
 from replies.random_values import KEYS, MANY_KEYS, bounds_of
 
 # How many regions there are, and some that are tried each time: by the seed of all but the lengths of their streams.
 REGIONS, KEPT = 100, [(0, [1]), (7, [399, 1, 399])]
-
-def messages(images: list[Json]) -> bytes:
-    return b"".join(json.dumps({"at": at, "image": each}).encode() + b"\n" for at, each in enumerate(images, start=1))
-
 
 def live_copies(program: str, words: list[str], streams: Streams, tablets: int) -> list[bytes]:
     """The copies of a region that serves, once it has taken its streams."""
@@ -60,6 +55,7 @@ def script_copies(program: str, words: list[str], lines: list[Json], tablets: in
 
 def check_live_copies(program: str, cases: int | None, seed: int) -> None:
     """Regions that serve hold what scripts hold, over other layouts, of other streams, with other cuts."""
+    from common.drawn import SEEDS, st, try_drawn
     def agree(drawn: tuple[int, list[int]]) -> None:
         rng = random.Random(drawn[0])
         tablets = rng.choice([1, 2, 4, 64])

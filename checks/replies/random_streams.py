@@ -1,4 +1,5 @@
 """Streams of random images, and the copies of a region that takes them."""
+import json
 import random
 import time
 from collections.abc import Sequence
@@ -17,6 +18,10 @@ def streams_of(rng: random.Random, keys: list[str], lengths: Sequence[int] = ())
     is_numbered = rng.random() < 0.5
     lengths = lengths or [rng.randrange(1, MOST) for _ in range(rng.randrange(1, len(NAMES) + 1))]
     return {name: [image(rng, keys, index, is_numbered) for index in range(length)] for name, length in zip(NAMES, lengths)}
+
+
+def messages(images: list[Json]) -> bytes:
+    return b"".join(json.dumps({"at": at, "image": each}).encode() + b"\n" for at, each in enumerate(images, start=1))
 
 
 def copy_line(tablet: int, streams: Streams) -> Json:

@@ -11,7 +11,6 @@ import random
 import subprocess
 from itertools import zip_longest
 
-from common.drawn import SEEDS, seeds, st, try_drawn
 from common.served import same
 from replies.slow import slow_replies
 from replies.slow_lines import Json
@@ -92,6 +91,7 @@ class Rising:
 
 def check_rising_keys(program: str, cases: int | None, seed: int) -> None:
     """All replies are those of the slow program."""
+    from common.drawn import SEEDS, seeds, st, try_drawn
     def agree(drawn: tuple[int, list[int]]) -> None:
         script = Rising(*drawn)
         bounds, lines = script.bounds, script.lines()

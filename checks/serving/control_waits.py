@@ -24,7 +24,7 @@ REFUSED = {
 }
 STATS = ["bytes", "connections", "lines", "rounds", "streams", "tablets", "unread", "uptime", "version"]
 CONNECTIONS, LINES = ["accepted", "idle", "open", "refused"], ["answered", "kinds", "refused"]
-STREAM = ["bytes", "line", "messages", "name", "path", "position", "reason", "since", "state"]
+STREAM = ["bytes", "heard", "line", "messages", "name", "newest", "path", "position", "reason", "since", "state", "stream"]
 
 
 def check_words(program: str, folder: str) -> None:

@@ -14,11 +14,10 @@ from common.served import SECONDS, in_time, same, seconds_of
 from serving.controlled import Session, adoption, region_in, written
 from serving.exporting import NEEDS, Exporter
 from serving.prometheus import Prometheus
-from serving.staying import until
+from serving.staying import messages, until
 from serving.writers import Writer
 
 pytestmark = NEEDS
-
 
 
 def check_scrapes(program: str, folder: str) -> None:
@@ -75,6 +74,22 @@ def check_metrics(program: str, folder: str) -> None:
             same("its metrics", {name: found.get(name) for name in wanted}, wanted)
         until("its stream is silent", lambda: exporter.health()[0] == 503)
         same("what is wrong", exporter.health()[1].startswith("stream east brought nothing for "), True)
+
+
+def check_lag_that_writers_tell(program: str, folder: str) -> None:
+    """A region lags by what its writer says of the broker, and no longer once it has that; before the writer says it nothing is known."""
+    with region_in(folder, program) as (_, control, path), Exporter(control) as exporter, Writer(path) as writer:
+        writer.begin()
+        same("before it says anything", exporter.health("?lag=5"), (503, "stream east has no feed that tells how far its broker is\n"))
+        writer.send(b'{"stream":"a"}\n{"newest":3}\n' + messages(1, 3))
+        until("it is level", lambda: exporter.health("?lag=5") == (200, "well\n"))
+        same("its lag", [exporter.metrics()[f'pnuts_stream_{it}{{stream="east"}}'] for it in ("newest", "lag_messages", "position")], [3, 0, 3])
+        writer.send(b'{"newest":10}\n')
+        until("it lags", lambda: exporter.health("?lag=1")[1].startswith("stream east lags for "))
+        same("by how much", exporter.metrics()['pnuts_stream_lag_messages{stream="east"}'], 7)
+        same("without a word", exporter.health(), (200, "well\n"))
+        writer.send(messages(4, 7) + b'{"newest":10}\n')
+        until("it is level again", lambda: exporter.health("?lag=1") == (200, "well\n"))
 
 
 def check_exporter_beside_silent_clients(program: str, folder: str) -> None:

@@ -7,7 +7,6 @@ import tempfile
 from collections.abc import Iterable
 from dataclasses import dataclass
 
-from common.drawn import seeds, try_drawn
 from common.served import Client, Json, same
 from serving.staying import Staying, until
 from serving.stream_faults import faults_at, line_of
@@ -131,6 +130,7 @@ def live_on(program: str, folder: str, lives: Iterable[int]) -> None:
 
 def check_random_writers(program: str, cases: int | None, seed: int) -> None:
     """A thousand random writers, fifty after one another: each is told what a plain model says, and what they leave is what it says, too."""
+    from common.drawn import seeds, try_drawn
     def agree(lives: list[int]) -> None:
         with tempfile.TemporaryDirectory() as folder:
             live_on(program, folder, lives)

@@ -1,6 +1,6 @@
 """Tries clients whose input a program that stays has no memory to keep.
 
-  checks/run unkept PROGRAM [--clients N]
+  checks/run unkept PROGRAM [--cases N]
 
 One session thread. Once 20,000 records are read in and all clients are answered, memory is limited to what it has and 256 KB. Each client
 sends most of a line, and some are too long. Each line is answered in its order, as it should be or by `memory`, one too long by `too-long`,

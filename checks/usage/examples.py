@@ -27,15 +27,15 @@ def shown(page: str) -> Iterator[str]:
             yield line.removeprefix(INDENT)
 
 
-def talk(path: str, page: str, own: str) -> None:
-    """Sends the lines with a member of its own, and waits for the others."""
+def talk(path: str, page: str, *own: str) -> None:
+    """Sends the lines with members of its own, and waits for the others."""
     lines = list(shown(page))
     same("whether there is an example", lines != [], True)
     with socket.socket(socket.AF_UNIX) as client, client.makefile("rb") as replies:
         client.settimeout(SECONDS)
         client.connect(path)
         for number, line in enumerate(lines, 1):
-            if own in json.loads(line):
+            if not json.loads(line).keys().isdisjoint(own):
                 client.sendall(f"{line}\n".encode())
             else:
                 same(f"line {number} of the example of docs/{page}.md", replies.readline().decode().rstrip("\n"), line)
@@ -64,7 +64,7 @@ def check_lines(program: str, folder: str) -> None:
 def check_streams(program: str, folder: str) -> None:
     """A feed."""
     with region(program, folder):
-        talk(socket_in(folder)[0], "streams", "image")
+        talk(socket_in(folder)[0], "streams", "stream", "image")
 
 
 def check_control(program: str, folder: str) -> None:

@@ -1,4 +1,4 @@
-"""A Debian system of its own: its root is made by debootstrap in memory, and systemd is started in it, out of reach of this one."""
+"""A Debian system of its own: its root is made by mmdebstrap in memory, and systemd is started in it, out of reach of this one."""
 
 from __future__ import annotations
 
@@ -12,7 +12,7 @@ from pathlib import Path
 
 SECONDS = 60
 PAUSE = 0.1
-TOOLS = {"debootstrap": "debootstrap", "dh": "debhelper", "unshare": "util-linux", "nsenter": "util-linux", "man": "man-db",
+TOOLS = {"mmdebstrap": "mmdebstrap", "dh": "debhelper", "unshare": "util-linux", "nsenter": "util-linux", "man": "man-db",
          "lowdown": "lowdown", "zsh": "zsh", "fish": "fish", "objcopy": "binutils", "rt": "the toolchain"}
 MIRROR, SUITE = "http://deb.debian.org/debian", "bookworm"
 PACKAGES = ("golang-go", "iproute2", "lintian", "nodejs", "openssl", "python3-hiredis", "python3-prometheus-client", "python3-redis", "python3-venv", "redis-server", "socat", "systemd")
@@ -61,11 +61,9 @@ def run(line: Line, env: dict[str, str] | None = None) -> str:
 
 def make_root(root: Path) -> None:
     """Makes the smallest system of Debian in a folder, with the packages that the check needs."""
-    run(["debootstrap", "--variant=minbase", SUITE, root, MIRROR], env={**os.environ, **CLEAN})
-    within = ["unshare", f"--root={root}"]
+    words = ["--variant=minbase", "--dpkgopt=force-unsafe-io", f"--include={','.join(PACKAGES)}"]
+    run(["mmdebstrap", *words, SUITE, root, MIRROR], env={**os.environ, **CLEAN})
     run(["mount", "-t", "proc", "proc", root / "proc"])
-    run([*within, "apt-get", "install", "--yes", "--no-install-recommends", *PACKAGES], env=CLEAN)
-    run([*within, "apt-get", "clean"], env=CLEAN)
 
 
 def group() -> Path | None:

@@ -3,7 +3,7 @@ It also runs `make quick`, which builds a program without proofs in some minutes
 
   checks/run install PROGRAM
 
-That system is made by debootstrap in memory, from the network, and started by systemd; it has no network then. All is
+That system is made by mmdebstrap in memory, from the network, and started by systemd; it has no network then. All is
 apart from the system that runs the check (`unshare`), and ends with it, files included. The check needs root. Without
 that, or where a package of Debian is missing, it says so and is skipped. It takes two minutes of a processor, and two gigabytes of memory.
 

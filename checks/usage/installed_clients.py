@@ -61,9 +61,9 @@ def whole(shown: str, path: str) -> str:
 
 
 def check_client(system: System, name: str) -> int:
-    """Installs a client, runs all that its page shows, and its tests. How many programs it shows."""
+    """Installs a client, runs all that its page shows to readers, and its tests. How many programs it shows. Publishers have a check of their own."""
     before, path, ready, run = CLIENTS[name]
-    page = (TOP / "clients" / name / "README.md").read_text(encoding="utf-8")
+    page = (TOP / "clients" / name / "README.md").read_text(encoding="utf-8").partition("\n## Publishing\n")[0]
     lines = [it.removeprefix(INDENT) for it in page.partition("```")[0].splitlines() if it.startswith(INDENT)]
     system.run("bash", "-ec", "\n".join([f"cd {SCRATCH}; export HOME=$PWD", before, *lines]))
     enter = ". reading/bin/activate" if name == "python" else ""

@@ -262,9 +262,9 @@ def check_feed(system: System) -> None:
 
 
 def asked(system: System, path: str) -> str:
-    """What the front for HTTP answers."""
+    """What the front for HTTP answers. It drops what it is asked once the client's side is closed."""
     request = shlex.quote(f"GET {path} HTTP/1.0\r\n\r\n".replace("\r", "\\r").replace("\n", "\\n"))
-    return system.status("bash", "-c", f"printf {request} | socat -t 10 - TCP:127.0.0.1:{HTTP_PORT}")[1]
+    return system.status("bash", "-c", f"printf {request} | socat -t 10 - TCP:127.0.0.1:{HTTP_PORT},shut-none")[1]
 
 
 def check_http(system: System) -> None:
@@ -278,7 +278,8 @@ def check_http(system: System) -> None:
             if time.monotonic() > last:
                 raise TimeoutError(f"the front follows no changes\n{system.journal()}")
             time.sleep(PAUSE)
-        same("whether it has the record", '"key":"k"' in asked(system, "/records/k"), True)
+        answer = asked(system, "/records/k")
+        same(f"whether it has the record: {answer}", '"key":"k"' in answer, True)
     check_bounds(system, shown(system, "MainPID", unit="pnuts-http")[0])
     system.run("systemctl", "reload", "pnuts-http")
     system.run("systemctl", "disable", "--now", "pnuts-http")

@@ -15,7 +15,6 @@ from collections import Counter
 from collections.abc import Callable, Iterator
 from typing import NamedTuple
 
-from common.drawn import SEEDS, seeds, st, try_drawn
 from common.served import SECONDS, same
 from common.tried import none_of
 
@@ -96,9 +95,9 @@ def drawn(stays: bool, given: list[int], streams: list[int]) -> Words:
         lambda rng: rng.choice(PATHS) if rng.random() < 0.2 else None,
         lambda rng: rng.choice(PATHS) if rng.random() < 0.1 else None,
     ]
-    bounds, listen, *others = (way(random.Random(seed)) if seed else plain for way, seed, plain in zip(ways, given, PLAIN))
+    bounds, listen, socket, mode, control, copies = (way(random.Random(seed)) if seed else plain for way, seed, plain in zip(ways, given, PLAIN))
     named = [drawn_stream(random.Random(seed)) if seed else "s=/none/p" for seed in streams]
-    return Words(stays, str(bounds), str(listen), *others, named)
+    return Words(stays, str(bounds), str(listen), socket, mode, control, copies, named)
 
 
 def no_constant(text: str) -> None:
@@ -200,6 +199,7 @@ def kind_of(words: Words) -> str:
 
 def check_random_words(program: str, cases: int | None, seed: int) -> None:
     """The first fault of words is the one that is told."""
+    from common.drawn import SEEDS, seeds, st, try_drawn
     counts, runs = Counter[tuple[str, bool]](), cases or RUNS
 
     def agree(case: tuple[bool, list[int], list[int]]) -> None:
@@ -207,7 +207,7 @@ def check_random_words(program: str, cases: int | None, seed: int) -> None:
         none_of(filter(None, [fault_of(program, words)]))
         counts[kind_of(words), words.stays] += 1
 
-    try_drawn(agree, st.tuples(st.booleans(), seeds(len(PLAIN)), st.lists(SEEDS, min_size=1, max_size=17)), runs, seed, KEPT)
+    try_drawn(agree, st.tuples(st.booleans(), seeds(len(PLAIN)), st.lists(SEEDS, min_size=1, max_size=17)), runs, seed, KEPT, is_apart=False)
     for (kind, stays), count in sorted(counts.items()):
         print(f"{count:5} {'with' if stays else 'without'} --stay: {kind}")
     same("whether each kind of end occurs", runs < MANY or len(counts) == ALL_KINDS, True)

@@ -21,8 +21,8 @@ FOLDERS = ("", "bench", "bin", "checks", "clients", "clients/python", "docs/pict
 # Where programs look for modules of other folders.
 MODULES = ("checks", "bench", "clients/python/src", "clients/python", "examples", "examples/regions", "packaging")
 # Modules of packages and of the toolchain whose types are told nowhere, or that may be missing.
-UNTYPED = ("confluent_kafka", "kubernetes", "pika", "prometheus_client", "psycopg2", "redis", "rtlib", "yaml")
-SETTINGS = "[mypy]\n" + "".join(f"[mypy-{name}.*]\nignore_missing_imports = True\n" for name in UNTYPED)
+UNTYPED = ("confluent_kafka", "kubernetes", "pika", "prometheus_client", "psycopg2", "redis", "rtlib", "selenium", "yaml")
+SETTINGS = "[mypy]\n" + "".join(f"[mypy-{name}.*]\nignore_missing_imports = True\nfollow_imports = skip\n" for name in UNTYPED)
 WORDS = ("--strict", "--scripts-are-modules", "--explicit-package-bases", "--follow-imports", "silent",
          "--hide-error-context", "--no-error-summary")
 

@@ -122,8 +122,8 @@ def all_faults() -> Iterator[str]:
     yield from uneven(protocol, members, commands)
     for kind, words, pages in (("command", commands | set(controls), "lines control"), ("member", members, "lines"), ("refusal", refusals, "lines"),
                                ("option", options, "program"), ("reason", reasons, "streams")):
-        where = [f"docs/{it}.md" for it in pages.split()]
-        yield from missing(kind, words, " and ".join(where), text_of(TOP / it for it in where))
+        names = [f"docs/{it}.md" for it in pages.split()]
+        yield from missing(kind, words, " and ".join(names), text_of(TOP / it for it in names))
     yield from missing("command", commands, "README.md", readme)
     yield from missing("command", commands, "the slow program (checks)", text_of(below("checks")))
     words_of_fuzzer = (TOP / "fuzz/words.dict").read_text()

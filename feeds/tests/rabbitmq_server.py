@@ -51,16 +51,22 @@ class Server:
 
     def start(self) -> None:
         """Starts the node, and waits until it takes connections."""
-        self._program = subprocess.Popen(
-            [SERVER], env=self._environment, stdout=subprocess.DEVNULL, stderr=subprocess.DEVNULL, start_new_session=True
-        )
+        self._program = self._started()
         try:
             wait_until(self._answers, 300)
         except AssertionError:
             self.end()
             raise
 
+    def _started(self) -> subprocess.Popen[bytes]:
+        return subprocess.Popen(
+            [SERVER], env=self._environment, stdout=subprocess.DEVNULL, stderr=subprocess.DEVNULL, start_new_session=True
+        )
+
     def _answers(self) -> bool:
+        if self._program.poll() is not None:
+            # On a busy machine its port mapper may not answer in time, and then it ends.
+            self._program = self._started()
         try:
             pika.BlockingConnection(pika.URLParameters(self.url)).close()
             return True

@@ -27,7 +27,13 @@ type Stats struct {
 	Streams               []Stream
 	// What each tablet holds; none where the region does not say it.
 	Tablets []Tablet
+	// What unread replies keep; nil where the region does not say it.
+	Unread *Unread
 }
+
+// Unread says how many bytes the records have that replies keep which clients have not taken, their limit, and how many clients were ended
+// for it.
+type Unread struct{ Bytes, Ended, Limit int64 }
 
 // Lines of clients: how many were answered, and how many of these refused; and so for each kind of line, where the region says it.
 type Lines struct {
@@ -40,12 +46,14 @@ type Tablet struct{ Records, Deleted int64 }
 
 // A Stream of a region. State is "waiting" for a writer, "open", "ended" or "failed"; Position is up to where it was taken; Messages
 // and Bytes were read. Since is the seconds since the last message, nil before the first. Reason and Line are of the last fault,
-// nil where there was none.
+// nil where there was none. Stream is whose stream a writer said it is, and Newest the broker's newest position that one told, Heard seconds
+// ago; nil where none did.
 type Stream struct {
 	Name, Path, State         string
 	Position, Messages, Bytes int64
 	Since, Line               *int64
-	Reason                    *string
+	Reason, Stream            *string
+	Newest, Heard             *int64
 }
 
 // A Notice is a change of a record: its number, and the record's version before it, nil where there was none, and after it.

@@ -110,6 +110,13 @@ class SavingTest(unittest.TestCase):
         self.path.symlink_to("/etc/hostname")
         self.assertEqual(self.mode_of(), (*own, 0o640))
 
+    def test_a_save_of_a_service_that_may_change_no_owner(self) -> None:
+        self.path.parent.chmod(0o750)
+        own = (os.geteuid(), self.path.parent.stat().st_gid)
+        with patch("pnuts_client.files.os.fchown", side_effect=PermissionError):
+            self.assertEqual(self.mode_of(), (*own, 0o640))
+            self.assertEqual(self.mode_of(), (*own, 0o640))
+
     @unittest.skipIf(os.geteuid(), "it needs root")
     def test_a_save_of_root_is_the_service_s(self) -> None:
         self.path.parent.chmod(0o750)

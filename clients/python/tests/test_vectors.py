@@ -132,6 +132,7 @@ def as_reply(answer: Any) -> Any:
         told = {**asdict(answer), **later}
         del told["reply"]
         told = {name: member for name, member in told.items() if name in answer.reply}
+        told["streams"] = [{name: member for name, member in it.items() if name in one} for it, one in zip(told["streams"], answer.reply["streams"])]
         told["lines"] = {name: member for name, member in told["lines"].items() if name in answer.reply["lines"]}
         told["connections"].update(dict.fromkeys(answer.reply["connections"].keys() - told["connections"], 1))
         return told

@@ -20,8 +20,8 @@ pub same_told : {a b : Bool} → Some a ≡ Some b → a ≡ b
 same_told is = cc
 
 not_true : (b : Bool) → ¬ (b ≡ true) → b ≡ false
-not_true true no = absurd (no refl)
-not_true false no = refl
+not_true true isnt = absurd (isnt refl)
+not_true false isnt = refl
 
 -- by whether the client is deaf once it is a quarter older
 pub deaf_by : (before between after : Option UnreadValue) (told : Option Bool) → between ≡ option_map aged before → told ≡ option_map is_deaf between
@@ -29,7 +29,7 @@ pub deaf_by : (before between after : Option UnreadValue) (told : Option Bool) �
 deaf_by None between after told is tells dropped older none = none (tells ∙ ap (option_map is_deaf) is) ∙ is
 deaf_by (Some unread) between after told is tells dropped older none =
     let told_is : told ≡ Some (is_deaf (aged unread)) = tells ∙ ap (option_map is_deaf) is in
-    (λ yes. dropped (told_is ∙ ap (λ (b : Bool). Some b) yes), λ no. older (told_is ∙ ap (λ (b : Bool). Some b) (not_true (is_deaf (aged unread)) no)) ∙ is)
+    (λ deaf. dropped (told_is ∙ ap (λ (b : Bool). Some b) deaf), λ isnt. older (told_is ∙ ap (λ (b : Bool). Some b) (not_true (is_deaf (aged unread)) isnt)) ∙ is)
 
 module _ (quiet : ℕ → ℕ) (key longest here next : ℕ) (is : next ≡ max longest here) (at : here ≡ quiet key) where
   -- none below took none for longer

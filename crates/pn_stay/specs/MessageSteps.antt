@@ -1,11 +1,10 @@
 -- What comes next of a writer's bytes.
-use Rattle.std.specs.Prelude.{◌≡◌, ℕ, ◌<◌, ◌≤◌, ◌⊎◌, Bool, true, false, List, length, take, Result, Ok, Err}
+use Rattle.std.specs.Prelude.{◌≡◌, ℕ, ◌<◌, ◌≤◌, ◌⊎◌, Bool, true, false, List, length, take, Ok, Err}
 use Rattle.pn_stay.specs.Remarks.{may_go_on, newest_at, newest_words}
 use Rattle.pn_stay.specs.declared.streams.message_steps.LineKind.{LineKind}
 use Rattle.pn_stay.specs.declared.streams.message_steps.LineKind.TheVariants.{Message, Newest, Unknown}
 use Rattle.pn_stay.specs.declared.streams.message_steps.Step.{Step}
 use Rattle.pn_stay.specs.declared.streams.message_steps.Step.TheVariants.{Give, Hear}
-use Rattle.pn_stay.specs.declared.streams.remarks.RemarkFault.{RemarkFault}
 use Rattle.pn_stay.specs.declared.streams.remarks.RemarkFault.TheVariants.{Other}
 
 -- what a line is, of which the beginning went on or not, and whose newline is there or not

@@ -9,7 +9,6 @@ use Rattle.pn_json.specs.Answers.{◌>>=◌, fault_as}
 use Rattle.pn_json.specs.Members.{member_as, no_others, whole_number}
 use Rattle.pn_join.specs.declared.marks.TheConstants.{LAST_POSITION}
 use Rattle.pn_record.specs.Prelude.{max_line_bytes, value_at}
-use Rattle.pn_record.specs.declared.fault.ImageFault.{ImageFault}
 use Rattle.pn_stay.specs.declared.streams.remarks.TheConstants.{MAX_IDENTITY_BYTES}
 use Rattle.pn_stay.specs.declared.streams.remarks.RemarkFault.{RemarkFault}
 use Rattle.pn_stay.specs.declared.streams.remarks.RemarkFault.TheVariants.{Other}

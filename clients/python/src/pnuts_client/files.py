@@ -58,10 +58,13 @@ def _own_as(handle: int, path: Path) -> None:
             owner, group, mode = there.st_uid, there.st_gid, there.st_mode & 0o777
     if owner != user and user != 0:
         raise OSError(errno.EPERM, "it is another user's, who could not read what takes its place")
-    try:
-        os.fchown(handle, owner, group)
-    except PermissionError:
-        mode &= stat.S_IRWXU
+    made = os.fstat(handle)
+    # A service may be allowed no change of owners, also where nothing changes.
+    if (made.st_uid, made.st_gid) != (owner, group):
+        try:
+            os.fchown(handle, owner, group)
+        except PermissionError:
+            mode &= stat.S_IRWXU
     os.fchmod(handle, mode | stat.S_IRUSR | stat.S_IWUSR)
 
 

@@ -1,6 +1,6 @@
 //! How an event loop ends clients that take nothing of what waits for them.
 
-ghost use Rattle.std.specs.Prelude.{◌≡◌, ◌≢◌, ◌⊎◌, ◌≤◌, ℕ, None, false, true};
+ghost use Rattle.std.specs.Prelude.{◌≡◌, ◌≢◌, ◌⊎◌, ◌≤◌, ℕ, None, false, max, true};
 ghost use Rattle.std.specs.Option.{option_map};
 ghost use Rattle.pn_stay.specs.Unread.{EndsDeaf, aged, is_deaf as deaf, quiet_in};
 ghost use Rattle.pn_stay.specs.UnreadClients.{quiet_at, unread_at};
@@ -123,9 +123,18 @@ fn longest_quiet(connections: &Slab<Connection>) -> u32
 {
     let mut longest = 0;
     'clients: for key in 0..connections.capacity() {
-        longest = longest.max(quiet_of_client(connections, key));
+        longest = longer_of(longest, quiet_of_client(connections, key));
     }
     longest
+}
+
+fn longer_of(one: u32, other: u32) -> u32
+    ensures { result ≡ max one other }
+{
+    if one < other {
+        return other;
+    }
+    one
 }
 
 // For how many quarters the client of a key took no byte, if there is one whose reply keeps records.
