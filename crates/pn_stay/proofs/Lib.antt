@@ -3,6 +3,8 @@ pub mod Crossing
 pub mod Endings
 pub mod Held
 pub mod Keys
+pub mod MessageInputs
+pub mod MessageSteps
 pub mod Pieces
 pub mod Quarters
 pub mod UnreadClients

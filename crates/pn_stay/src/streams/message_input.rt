@@ -1,6 +1,11 @@
 //! A writer's input without what it says of its stream: the rest are messages, byte for byte.
 
-ghost use Rattle.std.specs.Prelude.{◌≡◌, ◌≤◌, [], drop, false, length, vec_len, IfOk};
+ghost use Rattle.std.specs.Prelude.{◌≡◌, ◌<◌, ◌≤◌, ◌++◌, ◌∷◌, [], true, false, drop, length, string_bytes, take, vec_len, Ok, IfOk, IfSome, OnErr, List, ℕ};
+ghost use Rattle.std.specs.Io.KnownBytes.{Consumes, IsAtEnd, Keeps, prepend_known};
+ghost use Rattle.pn_line.specs.Prelude.{IsUnbroken};
+ghost use Rattle.pn_record.specs.Prelude.{max_line_bytes};
+ghost use Rattle.pn_stay.specs.MessageSteps.{Passes};
+ghost use Rattle.pn_stay.specs.Remarks.{stream_at};
 
 use crate::streams::message_steps::{Step, may_go_on_as, next_step};
 use crate::streams::remarks::{RemarkFault, STREAM, read_stream};
@@ -78,6 +83,8 @@ impl<I: Read + Drop, L: NewestListener + Drop> MessageInput<I, L> {
 
     /// Waits for the first line, and takes it if it says whose stream the writer's is.
     pub(crate) fn take_stream(&mut self) -> io::Result<Option<String>>
+        ensures taken { IfOk result (λ said. IfSome said (λ stream. (line : List ℕ) × IsUnbroken line × (stream_at line ≡ Ok (string_bytes stream))
+            × Consumes (prepend_known self.old.held.items (I.remaining self.old.input)) (prepend_known self.new.held.items (I.remaining self.new.input)) (line ++ 10 ∷ []))) }
         ensures inside { self.new.is_inside ≡ self.old.is_inside }
     {
         let mut more = [0u8; FIRST_READ_SIZE];
@@ -103,6 +110,10 @@ impl<I: Read + Drop, L: NewestListener + Drop> MessageInput<I, L> {
 
     // Reads what is at hand behind what is held, by way of a buffer. False at the end.
     fn read_more(&mut self, buf: &mut [u8]) -> io::Result<bool>
+        ensures more { IfOk result (λ more. Keeps (prepend_known self.old.held.items (I.remaining self.old.input)) (prepend_known self.new.held.items (I.remaining self.new.input))) }
+        ensures end { IfOk result (λ more. more ≡ false → 0 < length buf.old → (self.new.held.items ≡ self.old.held.items) × IsAtEnd (I.remaining self.new.input)) }
+        ensures kept { OnErr result (Keeps (I.remaining self.old.input) (I.remaining self.new.input)) }
+        ensures held { OnErr result (self.new.held.items ≡ self.old.held.items) }
         ensures inside { self.new.is_inside ≡ self.old.is_inside }
         ensures size { length buf.new ≡ length buf.old }
     {
@@ -117,6 +128,8 @@ impl<I: Read + Drop, L: NewestListener + Drop> MessageInput<I, L> {
     fn pass_on(&mut self, buf: &mut [u8]) -> Passed
         ensures within { result.given ≤ length buf.new }
         ensures size { length buf.new ≡ length buf.old }
+        ensures passes { Passes self.old.is_inside self.old.held.items (take result.given buf.new) self.new.is_inside self.new.held.items }
+        ensures waits { result.given ≡ 0 → 0 < length buf.old → result.lacks_memory ≡ false → IsUnbroken self.new.held.items × (vec_len self.new.held ≤ max_line_bytes) }
         ensures input { self.new.input ≡ self.old.input }
     {
         let (mut used, mut given) = (0, 0);
@@ -157,7 +170,10 @@ impl<I: Read + Drop, L: NewestListener + Drop> MessageInput<I, L> {
 
     // Gives on what is held at the end of the input. How many bytes that are.
     fn give_rest(&mut self, buf: &mut [u8]) -> usize
+        requires { IsUnbroken self.old.held.items }
         ensures within { result ≤ length buf.new }
+        ensures passes { (take result buf.new ++ self.new.held.items ≡ self.old.held.items) × (self.new.is_inside ≡ true) × IsUnbroken self.new.held.items }
+        ensures none { result ≡ 0 → 0 < length buf.old → self.old.held.items ≡ [] }
         ensures input { self.new.input ≡ self.old.input }
     {
         let count = self.held.len().min(buf.len());
@@ -181,6 +197,10 @@ impl<I: Read + Drop, L: NewestListener + Drop> MessageInput<I, L> {
 }
 
 impl<I: Read + Drop, L: NewestListener + Drop> Read for MessageInput<I, L> {
+    ghost use Rattle.pn_stay.specs.MessageSteps.{messages_known};
+
+    ghost remaining = { λ it. messages_known it.is_inside it.held.items (I.remaining it.input) };
+
     fn read(&mut self, buf: &mut [u8]) -> io::Result<usize> {
         if buf.is_empty() {
             return Ok(0);

@@ -1,8 +1,9 @@
 //! What comes next of a writer's bytes: messages, which go on byte for byte, or a line that says how far the broker is.
 
-ghost use Rattle.std.specs.Prelude.{◌≡◌, ◌<◌, ◌≤◌, ◌⊎◌, true, false, length, None, IfOk, IfSome};
+ghost use Rattle.std.specs.Prelude.{◌≡◌, ◌≤◌, ◌⊎◌, true, false, length, None, IfOk, IfSome};
+ghost use Rattle.pn_line.specs.Prelude.{IsUnbroken};
 ghost use Rattle.pn_record.specs.Prelude.{max_line_bytes};
-ghost use Rattle.pn_stay.specs.MessageSteps.{IsKind, IsStep};
+ghost use Rattle.pn_stay.specs.MessageSteps.{FirstLine, IsKind, IsStep};
 ghost use Rattle.pn_stay.specs.Remarks.{may_go_on};
 
 use crate::streams::remarks::{NEWEST, RemarkFault, begins_as, read_newest};
@@ -40,7 +41,7 @@ pub fn next_step(
     room: usize,
 ) -> Result<Option<Step>, NoMemory>
     ensures step { IfOk result (λ next. IfSome next (IsStep is_inside bytes.now room)) }
-    ensures waits { IfOk result (λ next. next ≡ None → (room ≡ 0) ⊎ (length bytes.now ≤ max_line_bytes)) }
+    ensures waits { IfOk result (λ next. next ≡ None → (room ≡ 0) ⊎ (IsUnbroken bytes.now × (length bytes.now ≤ max_line_bytes))) }
 {
     if bytes.is_empty() || room == 0 {
         return Ok(None);
@@ -61,9 +62,9 @@ pub fn next_step(
 
 // How many bytes the first line has, and whether its newline is there.
 fn first_line(bytes: &[u8]) -> (usize, bool)
+    ensures line { FirstLine bytes.now result.0 result.1 }
     ensures within { result.0 ≤ length bytes.now }
-    ensures ended { result.1 ≡ true → result.0 < length bytes.now }
-    ensures whole { result.1 ≡ false → result.0 ≡ length bytes.now }
+    ensures whole { result.1 ≡ false → (result.0 ≡ length bytes.now) × IsUnbroken bytes.now }
 {
     match memchr(b'\n', bytes) {
         Some(end) => (end, true),
@@ -98,12 +99,8 @@ fn kind_of_line(
 fn give_line(bytes: &[u8], count: usize, is_ended: bool, room: usize) -> (usize, bool)
     requires some { 1 ≤ length bytes.now }
     requires room { 1 ≤ room }
-    requires within { count ≤ length bytes.now }
-    requires ended { is_ended ≡ true → count < length bytes.now }
-    requires whole { is_ended ≡ false → count ≡ length bytes.now }
-    ensures some { 1 ≤ result.0 }
-    ensures room { result.0 ≤ room }
-    ensures within { result.0 ≤ length bytes.now }
+    requires line { FirstLine bytes.now count is_ended }
+    ensures { IsStep true bytes.now room (Step.Give result.0 result.1) }
 {
     if count >= room {
         return (room, true);
