@@ -3,17 +3,20 @@ use Rattle.std.proofs.Common.{◌≡◌, ℕ, suc, ◌+◌, ◌<◌, ◌≤◌, 
 use Rattle.std.proofs.lemmas.Result.{IfOk-weaker, on_ok_weaker, on_err_weaker}
 use Rattle.std.specs.Prelude.{Result, OnOk, OnErr, IfOk, ◌⊎◌, ⊤, Vec}
 use Rattle.std.specs.declared.alloc.Global.{Global}
+use Rattle.pn_join.specs.Marks.{Positions}
 use Rattle.pn_join.specs.declared.memory.NoMemory.{NoMemory}
 use Rattle.pn_record.specs.CellMap.{Entries, table_of}
 use Rattle.pn_record.specs.declared.image.Image.{Image}
+use Rattle.pn_tablet.specs.Ranges.{Ends}
 use Rattle.pn_tablet.specs.Tablets.{TabletStateValue}
 use Rattle.pn_tablet.specs.Operations.{HasPositions}
 use Rattle.pn_tablet.specs.Steps.{tablet_after}
 use Rattle.pn_tablet.specs.Changes.{answer}
 use Rattle.pn_tablet.specs.declared.change.Change.{Change}
 use Rattle.pn_tablet.specs.declared.state.TabletOp.{TabletOp}
-use Rattle.pn_tablet.specs.declared.state.TabletOp.TheVariants.{Lose}
+use Rattle.pn_tablet.specs.declared.state.TabletOp.TheVariants.{Join, Lose}
 use Rattle.pn_apply.specs.Applying.{IsJoinIn, AreJoinsIn, HavePositions, all_stepped, all_changes, AreOldOrStepped, IsSomeOld, operation_at}
+use Rattle.pn_apply.specs.Reducing.{images_in, join_in}
 use Rattle.pn_apply.specs.Working.{Each, EachOf, OneOf, IsKept, Worked}
 use Rattle.pn_apply.proofs.Turns.{next_number}
 
@@ -108,18 +111,16 @@ module _ {S : Type 0} (tablet : S → TabletStateValue) (all : List TabletOp) wh
     pub applied_left : OnErr r (IsSomeOld (map tablet slots) (map tablet news))
     applied_left = on_err_weaker r (some_old slots news) worked.left
 
-abbrev pub Share : Type 0
-Share = Vec Image Global
+-- any ranges may be worked
+pub each_range : (n : ℕ) (ranges : List Ends) → Each (λ _ _. ⊤) n ranges
+each_range n [] = tt
+each_range n (range ∷ ranges) = (tt, each_range (n + 1) ranges)
 
--- any images may be worked
-pub each_share : (n : ℕ) (shares : List Share) → Each (λ _ _. ⊤) n shares
-each_share n [] = tt
-each_share n (share ∷ shares) = (tt, each_share (n + 1) shares)
-
--- the cells made of images are their tables
-pub cells_made : (n : ℕ) (shares : List Share) (cells : List Entries) → EachOf (λ (m : ℕ) (own : Share) (es : Entries). es ≡ table_of own.items) n shares cells
-    → cells ≡ map (λ (own : Share). table_of own.items) shares
-cells_made n [] [] are = refl
-cells_made n [] (c ∷ cells) are = absurd are
-cells_made n (s ∷ shares) [] are = absurd are
-cells_made n (s ∷ shares) (c ∷ cells) are = λ i. are.0 i ∷ cells_made (n + 1) shares cells are.1 i
+module _ (marks : Positions) (images : List Image) where
+  -- the cells made of ranges are the tables of the images there, and their joins are what the images bring
+  pub joins_made : (n : ℕ) (ranges : List Ends) (cells : List Entries) → EachOf (λ (m : ℕ) (range : Ends) (es : Entries). es ≡ table_of (images_in range images)) n ranges cells
+      → map (λ (own : Entries). Join own marks) cells ≡ map (join_in marks images) ranges
+  joins_made n [] [] are = refl
+  joins_made n [] (c ∷ cells) are = absurd are
+  joins_made n (r ∷ ranges) [] are = absurd are
+  joins_made n (r ∷ ranges) (c ∷ cells) are = λ i. Join (are.0 i) marks ∷ joins_made (n + 1) ranges cells are.1 i

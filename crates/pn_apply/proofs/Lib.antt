@@ -1,8 +1,10 @@
 pub mod Applied
+pub mod Crossing
 pub mod Cuts
+pub mod Entries
 pub mod Halves
+pub mod Parts
 pub mod Prefixes
 pub mod ReduceLaws
-pub mod Sharing
 pub mod Tables
 pub mod Turns

@@ -1,18 +1,14 @@
--- Images shared out by tablet.
-use Rattle.std.specs.Prelude.{ℕ, ◌+◌, ◌==◌, List, length, map, filter, Vec}
-use Rattle.std.specs.declared.alloc.Global.{Global}
-use Rattle.std.specs.List.{range_with_len}
+-- What images bring to a round, as cells.
+use Rattle.std.specs.Prelude.{◌≡◌, ℕ, List, [], ◌∷◌, ◌++◌, map}
+use Rattle.std.specs.Prelude.{reverse}
 use Rattle.pn_record.specs.declared.image.Image.{Image}
-use Rattle.pn_tablet.specs.Layouts.{Bounds, tablet_of}
+use Rattle.pn_record.specs.Sets.{CellValue, set_of}
+use Rattle.pn_record.specs.CellMap.{Entries}
 
--- the images of each share
-abbrev pub lists : List (Vec Image Global) → List (List Image)
-lists shares = map (λ share. share.items) shares
+-- the key of an image, and its cell
+abbrev pub entry_of : Image → List ℕ × CellValue
+entry_of image = (image.key, (image.version, set_of (image.content ∷ [])))
 
--- the images of the tablet of this number
-abbrev pub images_at : Bounds → List Image → ℕ → List Image
-images_at bounds images tablet = filter (λ image. tablet_of bounds image.key == tablet) images
-
--- the images of each tablet of a layout
-abbrev pub by_tablet : Bounds → List Image → List (List Image)
-by_tablet bounds images = map (images_at bounds images) (range_with_len 0 (length bounds + 1))
+-- the entries made so far, and those of the images that are left, last first, are those of all images
+abbrev pub AreMade : List Image → List Image → Entries → Type 0
+AreMade images left entries = entries ++ map entry_of (reverse left) ≡ map entry_of images

@@ -66,10 +66,11 @@ impl<S: Slot> TabletWork<S, Vec<Change>> for Applying<'_> {
     ghost kept = { λ work old new. S.tablet new ≡ S.tablet old };
 
     // A key's images count as one.
-    fn count_images(&self, tablet: usize, _slot: &S) -> usize {
+    fn count_images(&self, tablet: usize, slot: &S) -> usize {
+        let waiting = slot.count_waiting();
         match self.operations.get(tablet) {
-            Some(TabletOp::Join { cells, .. }) => cells.len(),
-            _ => 0,
+            Some(TabletOp::Join { cells, .. }) => cells.len().saturating_add(waiting),
+            _ => waiting,
         }
     }
 

@@ -5,6 +5,7 @@
 #![tactic(auto)]
 
 mod apply;
+mod batch;
 mod cut;
 mod gate;
 pub mod laws;
@@ -14,7 +15,8 @@ mod slot;
 mod working;
 
 pub use apply::apply_all;
+pub use batch::Batch;
 pub use gate::{Gate, Open};
-pub use reducing::{MAX_WORKERS, reduce, reduce_owned};
-pub use share::copy_deliveries;
+pub use reducing::{MAX_WORKERS, reduce};
+pub use share::{Share, shares_of};
 pub use slot::Slot;

@@ -1,107 +1,127 @@
-//! Images shared out by tablet.
+//! Shares: what deliveries bring to a round, as tables of cells.
 
-ghost use Rattle.std.specs.Prelude.{◌≡◌, ◌+◌, ◌++◌, [], List, length, map, IfOk, OnOk};
-ghost use Rattle.pn_record.specs.declared.image.Image.{Image};
-ghost use Rattle.pn_tablet.specs.Prelude.{IsLayout};
-ghost use Rattle.pn_apply.specs.Reducing.{all_images, images_in, ranges};
-ghost use Rattle.pn_apply.specs.Shares.{lists, by_tablet};
+ghost use Rattle.std.specs.Prelude.{◌≡◌, length, IfOk, IfSome, IsTrue};
+ghost use Rattle.pn_record.specs.Prelude.{table_of};
+ghost use Rattle.pn_stream.specs.Positions.{are_positions};
+ghost use Rattle.pn_apply.specs.Shares.{AreMade};
 
-use pn_join::{Dup, NoMemory};
-use pn_record::Image;
+mod entries;
+
+use entries::{make_entries, table_of_entries};
+use pn_join::{NoMemory, StreamName};
+use pn_record::{Cell, Image, Key, Records};
 use pn_stream::Delivery;
-use pn_tablet::Layout;
 use std::alloc::Global;
+use std::marker::Model;
+use std::snapshot::Snapshot;
 
-/// The images of each tablet, in the order of delivery.
-pub fn images_by_tablet(
-    alloc: Global,
-    deliveries: Vec<Delivery>,
-    layout: &Layout,
-) -> Result<Vec<Vec<Image>>, NoMemory>
-    ensures { IfOk result (λ shares. lists shares.items
-        ≡ map (λ range. images_in range (all_images deliveries.items)) (ranges layout.now)) }
+/// What a delivery brings to a round: once it is finished, a table of the cells of its images. Other tables share their
+/// contents.
+#[derive(Drop)]
+pub struct Share {
+    stream: StreamName,
+    first: u64,
+    count: usize,
+    // The images of which no cell is made yet, last first.
+    left: Vec<Image>,
+    // The cells that are made but in no table, in the order of their images.
+    entries: Vec<(Key, Cell)>,
+    // The table of the cells of all images.
+    cells: Option<Records>,
+    delivery: Snapshot<Delivery>,
+}
+
+impl Model for Share {
+    ghost use Rattle.std.specs.Prelude.{◌≡◌, length, IsTrue, MatchOption};
+    ghost use Rattle.pn_record.specs.Prelude.{table_of};
+    ghost use Rattle.pn_stream.specs.Positions.{DeliveryValue, are_positions};
+    ghost use Rattle.pn_apply.specs.Shares.{AreMade};
+
+    ghost Value = { DeliveryValue };
+
+    ghost view = { λ share. record { stream = share.stream; first = share.first; images = share.delivery.value.images } };
+
+    ghost invariant = { λ share. (share.count ≡ length share.delivery.value.images)
+        × IsTrue (are_positions share.first (length share.delivery.value.images))
+        × MatchOption share.cells (AreMade share.delivery.value.images share.left.items share.entries.items)
+        (λ cells. cells ≡ table_of share.delivery.value.images) };
+}
+
+impl Share {
+    /// What a delivery brings. No cell is made yet, and no memory taken.
+    pub fn of(alloc: Global, delivery: Delivery) -> Share
+        ensures { result ≡ delivery }
+    {
+        let value = Snapshot::of(&delivery);
+        let (stream, first) = (*delivery.stream(), delivery.first());
+        let mut left = delivery.into_images();
+        let count = left.len();
+        left.reverse();
+        Share {
+            stream,
+            first,
+            count,
+            left,
+            entries: Vec::new(alloc),
+            cells: None,
+            delivery: value,
+        }
+    }
+
+    /// The name of the stream.
+    pub fn stream(&self) -> &StreamName
+        ensures { result.now ≡ self.now.stream }
+    {
+        &self.stream
+    }
+
+    /// The position of the first image, from 1 to 10^15.
+    pub fn first(&self) -> u64
+        ensures position { result ≡ self.now.first }
+        ensures in_range { IsTrue (are_positions self.now.first (length self.now.images)) }
+    {
+        self.first
+    }
+
+    /// How many images there are.
+    pub fn count(&self) -> usize
+        ensures { result ≡ length self.now.images }
+    {
+        self.count
+    }
+
+    /// The table of the cells of all images, once it is finished.
+    pub fn cells(&self) -> Option<&Records>
+        ensures { IfSome result (λ cells. cells.now ≡ table_of self.now.images) }
+    {
+        self.cells.as_ref()
+    }
+
+    /// Makes the table of cells, unless it is made. After an error a further call goes on where memory ran out.
+    #[tactic(auto, using(crate::proofs::Entries::all_made))]
+    pub fn finish(&mut self, alloc: Global) -> Result<(), NoMemory>
+        ensures { self.new ≡ self.old }
+    {
+        if self.cells.is_some() {
+            return Ok(());
+        }
+        make_entries(alloc, &mut self.left, &mut self.entries)?;
+        let cells = table_of_entries(alloc, &self.entries)?;
+        self.cells = Some(cells);
+        self.entries = Vec::new(alloc);
+        Ok(())
+    }
+}
+
+/// What each of the deliveries brings.
+pub fn shares_of(alloc: Global, deliveries: Vec<Delivery>) -> Result<Vec<Share>, NoMemory>
+    ensures { IfOk result (λ shares. shares.items ≡ deliveries.items) }
 {
-    let mut shares = empty_shares(alloc, layout, count_images(&deliveries))?;
+    let mut shares = Vec::with_capacity(alloc, deliveries.len())?;
     for delivery in deliveries {
-        share_out(&mut shares, delivery.into_images(), layout)?;
+        let mut share = Share::of(alloc, delivery);
+        share.finish(alloc)?;
+        shares.push_reserved(share);
     }
     Ok(shares)
-}
-
-// How many images the deliveries have.
-fn count_images(deliveries: &[Delivery]) -> usize {
-    let mut count = 0_usize;
-    for delivery in deliveries {
-        count = count.saturating_add(delivery.images().len());
-    }
-    count
-}
-
-// An empty share for each tablet, with capacity for an equal part of the images.
-fn empty_shares(alloc: Global, layout: &Layout, images: usize) -> Result<Vec<Vec<Image>>, NoMemory>
-    ensures empty { IfOk result (λ shares. lists shares.items ≡ by_tablet layout.now []) }
-    ensures lawful { IsLayout layout.now }
-{
-    let capacity = images / layout.count();
-    let mut shares = Vec::with_capacity(alloc, layout.count())?;
-    for _tablet in 0..layout.count() {
-        shares.push_reserved(Vec::with_capacity(alloc, capacity)?);
-    }
-    Ok(shares)
-}
-
-// Moves each image into the share of its key's tablet.
-fn share_out(
-    shares: &mut Vec<Vec<Image>>,
-    images: Vec<Image>,
-    layout: &Layout,
-) -> Result<(), NoMemory>
-    requires { length shares.old.items ≡ length layout.now + 1 }
-    ensures shared { OnOk result ((taken : List Image) → lists shares.old.items ≡ by_tablet layout.now taken
-        → lists shares.new.items ≡ by_tablet layout.now (taken ++ images.items)) }
-    ensures count { OnOk result (length shares.new.items ≡ length layout.now + 1) }
-{
-    for image in images {
-        shares[layout.tablet_of(&image.key)].push(image)?;
-    }
-    Ok(())
-}
-
-/// Copies of deliveries. An error where memory runs out.
-pub fn copy_deliveries(alloc: Global, deliveries: &[Delivery]) -> Result<Vec<Delivery>, NoMemory>
-    ensures { IfOk result (λ copies. copies.items ≡ deliveries.now) }
-{
-    let mut copies = Vec::with_capacity(alloc, deliveries.len())?;
-    for delivery in deliveries {
-        copies.push_reserved(copy_delivery(alloc, delivery)?);
-    }
-    Ok(copies)
-}
-
-fn copy_delivery(alloc: Global, delivery: &Delivery) -> Result<Delivery, NoMemory>
-    ensures { IfOk result (λ copy. copy ≡ delivery.now) }
-{
-    let first = delivery.first();
-    let images = copy_images(alloc, delivery.images())?;
-    Ok(Delivery::of(delivery.stream().dup()?, first, images))
-}
-
-fn copy_images(alloc: Global, images: &[Image]) -> Result<Vec<Image>, NoMemory>
-    ensures { IfOk result (λ copies. copies.items ≡ images.now) }
-{
-    let mut copies = Vec::with_capacity(alloc, images.len())?;
-    for image in images {
-        copies.push_reserved(copy_image(image)?);
-    }
-    Ok(copies)
-}
-
-fn copy_image(image: &Image) -> Result<Image, NoMemory>
-    ensures { IfOk result (λ copy. copy ≡ image.now) }
-{
-    Ok(Image {
-        key: image.key.dup()?,
-        version: image.version,
-        content: image.content.dup()?,
-    })
 }

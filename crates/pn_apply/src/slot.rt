@@ -21,6 +21,11 @@ pub trait Slot {
         ensures changes { IfOk result (λ list. list.items ≡ answer op.now (tablet self.old) (tablet self.new)) }
         ensures refused { IfErr result (λ fault. Refuses is_memory fault (step (tablet self.old) op.now)) }
         ensures err { OnErr result (tablet self.new ≡ tablet self.old) };
+
+    /// How many images it takes beside those of its next operation.
+    fn count_waiting(&self) -> usize {
+        0
+    }
 }
 
 impl Slot for TabletState {

@@ -24,7 +24,6 @@ pub mod Events
 pub mod TabletReaderLaws
 pub mod HonestLists
 pub mod Joining
-pub mod Drafting
 pub mod Crossing
 pub mod StartFaults
 pub mod Starting

@@ -1,5 +1,5 @@
 -- Drafts of a live tablet's next state.
-use Rattle.std.specs.Prelude.{◌≡◌}
+use Rattle.std.specs.Prelude.{◌≡◌, Option, None, Some}
 use Rattle.pn_tablet.specs.Operations.{HasPositions}
 use Rattle.pn_tablet.specs.Steps.{tablet_after}
 use Rattle.pn_tablet.specs.Tablets.{TabletStateValue}
@@ -11,3 +11,13 @@ pub record Lacks (draft : TabletStateValue) (op : TabletOp) (shown : TabletState
   pub join : IsJoinIn draft op
   pub positions : HasPositions op
   pub makes : tablet_after draft op ≡ shown
+
+-- the operation is a join that the state takes
+pub record TakesJoin (state : TabletStateValue) (op : TabletOp) : Type 0 where
+  pub join : IsJoinIn state op
+  pub positions : HasPositions op
+
+-- a state after the join that it lacks, if it lacks one
+abbrev pub caught_up : TabletStateValue → Option TabletOp → TabletStateValue
+caught_up state None = state
+caught_up state (Some join) = tablet_after state join

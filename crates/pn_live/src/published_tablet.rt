@@ -3,7 +3,6 @@
 ghost use Rattle.std.specs.Prelude.{◌≡◌, ◌≤◌, ◌<◌, ◌^◌, ◌++◌, ◌∷◌, [], length, Ok, IfOk, IfSome, IsTrue};
 ghost use Rattle.pn_tablet.specs.Prelude.{tablet_ends, HasPositions, step};
 ghost use Rattle.pn_live.specs.Closing.{IsOfTablet, KnowsPublished};
-ghost use Rattle.pn_live.specs.Drafts.{Lacks};
 ghost use Rattle.pn_live.specs.PublishedTablets.{IsNewTablet, state_at, with_op, note_of};
 ghost use Rattle.pn_live.specs.Readers.{new_reader_of};
 
@@ -63,7 +62,7 @@ impl PublishedTablet {
 
     /// A draft of the next state. It waits for readers that still read the spare state.
     pub fn draft<R: Wait>(&mut self, rt: &R, alloc: Global) -> Result<StateDraft, NoMemory>
-        ensures draft { IfOk result (λ draft. Lacks draft.state draft.lacks (state_at self.old)) }
+        ensures draft { IfOk result (λ draft. draft ≡ state_at self.old) }
         ensures same { self.new ≡ self.old }
     {
         self.live.draft(rt, alloc)

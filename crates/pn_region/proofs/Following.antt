@@ -1,12 +1,12 @@
 -- Marks that follow one delivery more.
-use Rattle.std.proofs.Common.{◌≡◌, ℕ, ◌+◌, ◌-◌, ◌<◌, ◌≤◌, ◌^◌, min, max, Bool, true, false, T, cond, not, eqb, nat_lt, List, [], ◌∷◌, length, take, get_or, Some, None, unwrap_or, is_some, fold, refl, sym, ap, ◌∙◌, subst, arith}
+use Rattle.std.proofs.Common.{◌≡◌, ℕ, ◌+◌, ◌-◌, ◌<◌, ◌≤◌, ◌^◌, min, max, Bool, true, false, T, cond, not, eqb, nat_lt, List, [], ◌∷◌, length, map, take, get_or, Some, None, unwrap_or, is_some, fold, refl, sym, ap, ◌∙◌, subst, arith}
 use Rattle.std.specs.Int.{from_bool}
 use Rattle.std.specs.Str.{bytes_eq}
 use Rattle.std.specs.FinMap.Entries.{length-put}
-use Rattle.std.proofs.lemmas.Bool.{and_parts, and_from}
+use Rattle.std.proofs.lemmas.Bool.{and_parts, and_from, eqb-true, false_from_ne_true}
 use Rattle.std.proofs.lemmas.Bool.Decides.{nat_tests}
 use Rattle.std.proofs.lemmas.Cmp.{nat_list_cmp_total}
-use Rattle.std.proofs.lemmas.List.{take_more}
+use Rattle.std.proofs.lemmas.List.{get_or-map, length-map, take-map, take_more}
 use Rattle.std.proofs.lemmas.List.Elements.{filter-append}
 use Rattle.std.proofs.lemmas.List.Sums.{fold-append}
 use Rattle.pn_join.specs.Marks.{is_position}
@@ -25,6 +25,15 @@ marked_more m ds i d within =
     ap (with_deliveries m) (take_more ds i d within)
     ∙ ap (fold with_delivery m) (filter-append brings (take i ds) (get_or ds i d ∷ []))
     ∙ fold-append with_delivery m (with_images (take i ds)) (with_images (get_or ds i d ∷ []))
+
+-- the marks after one more batch
+pub batch_more : {B : Type 0} (f : B → DeliveryValue) (m : Positions) (bs : List B) (i : ℕ) (b : B) → i < length bs → b ≡ get_or bs i b
+    → with_deliveries m (map f (take (i + 1) bs)) ≡ with_deliveries (with_deliveries m (map f (take i bs))) (f b ∷ [])
+batch_more f m bs i b within is =
+    let there : get_or (map f bs) i (f b) ≡ f b = get_or-map f bs i b (f b) within ∙ ap f (sym is) in
+    ap (with_deliveries m) (sym (take-map f (i + 1) bs))
+    ∙ marked_more m (map f bs) i (f b) (omega (arith, within, length-map bs f))
+    ∙ (λ j. with_deliveries (with_deliveries m (take-map f i bs j)) (there j ∷ []))
 
 found_name : (m : Positions) (name : List ℕ) → are_positions m ≡ true → is_some (find name_cmp name m) ≡ not (eqb (position_of m name) 0)
 found_name [] name lawful = refl
@@ -59,6 +68,10 @@ other_stream name d own b is same differs =
 pub own_stream : (name : List ℕ) (d : DeliveryValue) (own : List ℕ) (b : Bool) → b ≡ not (bytes_eq own name) → own ≡ d.stream → b ≡ false → last_of d ≡ last_of_stream name d
 own_stream name d own b is same equal =
     ap (λ (t : Bool). cond t (last_of d) None) (sym (ap not equal) ∙ from_not b (bytes_eq own name) is ∙ same_stream name d own same)
+
+-- a count that is not 0
+pub some_count : (n count : ℕ) → n ≡ count → (n ≡ 0 → ⊥) → eqb count 0 ≡ false
+some_count n count is some = false_from_ne_true (eqb count 0) (λ none. some (is ∙ eqb-true count 0 none))
 
 module _ (m : Positions) (d : DeliveryValue) where
   -- a delivery without images changes nothing

@@ -1,6 +1,7 @@
 pub mod Advanced
 pub mod Ahead
 pub mod Apart
+pub mod Checked
 pub mod Common
 pub mod CommonMarks
 pub mod Counting

@@ -23,7 +23,7 @@ pub mod start_laws;
 pub use advancing::{Covered, common_marks};
 pub use fault::{AdvanceFault, RelayoutFault, RoundFault};
 pub use history::History;
-pub use marking::{MAX_STREAMS, next_marks};
+pub use marking::{MAX_STREAMS, check_marks, next_marks};
 pub use notices::{Entry, LAST_NUMBER, Log, Notice, Since};
 /// Why a copy was not adopted. `WrongRange`: no tablet has its range.
 pub use pn_tablet::OpFault as AdoptFault;

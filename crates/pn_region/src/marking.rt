@@ -1,6 +1,6 @@
 //! The marks of streams after deliveries.
 
-ghost use Rattle.std.specs.Prelude.{◌≡◌, ◌≤◌, ◌+◌, ◌∷◌, [], length, Ok, Err, IsTrue, IfOk, IfErr, IfSome, OnOk};
+ghost use Rattle.std.specs.Prelude.{◌≡◌, ◌≤◌, ◌+◌, ◌∷◌, [], length, map, Ok, Err, IsTrue, IfOk, IfErr, IfSome, OnOk};
 ghost use Rattle.std.specs.FinMap.{is_sorted};
 ghost use Rattle.std.specs.Int.{from_bool};
 ghost use Rattle.pn_join.specs.Prelude.{name_cmp, is_position, position_of, are_positions};
@@ -9,8 +9,8 @@ ghost use Rattle.pn_region.specs.declared.marking.TheConstants.{MAX_STREAMS};
 ghost use Rattle.pn_region.specs.Marking.{with_images, last_of as the_last_of, last_of_stream as the_last_of_stream, with_deliveries, marks_after, new_marks, is_memory};
 
 use crate::RoundFault;
+use pn_apply::Batch;
 use pn_join::{Dup, Marks, NoMemory, StreamName, raise_at};
-use pn_stream::Delivery;
 
 /// The most streams that a region takes.
 pub const MAX_STREAMS: usize = 16;
@@ -20,23 +20,23 @@ pub const MAX_STREAMS: usize = 16;
 ///
 /// `Gap` comes exactly where a delivery begins more than one past its stream's mark, and names the first; else
 /// `TooManyStreams` exactly where there would be more than 16 names.
-pub fn next_marks(marks: &Marks, deliveries: &[Delivery]) -> Result<Marks, RoundFault>
+pub fn next_marks<B: Batch>(marks: &Marks, deliveries: &[B]) -> Result<Marks, RoundFault>
     requires positions { IsTrue (are_positions marks.now) }
-    ensures ok { IfOk result (λ next. new_marks marks.now deliveries.now ≡ Ok next) }
-    ensures refused { IfErr result (λ fault. Refuses is_memory fault (new_marks marks.now deliveries.now)) }
+    ensures ok { IfOk result (λ next. new_marks marks.now (map B.delivery deliveries.now) ≡ Ok next) }
+    ensures refused { IfErr result (λ fault. Refuses is_memory fault (new_marks marks.now (map B.delivery deliveries.now))) }
     ensures positions { IfOk result (λ next. IsTrue (are_positions next)) }
     ensures few { IfOk result (λ next. length next ≤ MAX_STREAMS) }
 {
-    check(marks, deliveries)?;
+    check_marks(marks, deliveries)?;
     Ok(raise_all(marks, deliveries)?)
 }
 
-// The first fault of the deliveries: a gap, or else too many streams.
-fn check(marks: &Marks, deliveries: &[Delivery]) -> Result<(), RoundFault>
+/// The first fault of the deliveries: a gap, or else too many streams. It takes no memory.
+pub fn check_marks<B: Batch>(marks: &Marks, deliveries: &[B]) -> Result<(), RoundFault>
     requires { IsTrue (are_positions marks.now) }
-    ensures ok { OnOk result (new_marks marks.now deliveries.now ≡ Ok (with_deliveries marks.now deliveries.now)) }
-    ensures few { OnOk result (length (with_deliveries marks.now deliveries.now) ≤ MAX_STREAMS) }
-    ensures refused { IfErr result (λ fault. new_marks marks.now deliveries.now ≡ Err fault) }
+    ensures ok { OnOk result (new_marks marks.now (map B.delivery deliveries.now) ≡ Ok (with_deliveries marks.now (map B.delivery deliveries.now))) }
+    ensures few { OnOk result (length (with_deliveries marks.now (map B.delivery deliveries.now)) ≤ MAX_STREAMS) }
+    ensures refused { IfErr result (λ fault. new_marks marks.now (map B.delivery deliveries.now) ≡ Err fault) }
 {
     let mut streams = marks.len();
     for (index, delivery) in deliveries.iter().enumerate() {
@@ -50,22 +50,18 @@ fn check(marks: &Marks, deliveries: &[Delivery]) -> Result<(), RoundFault>
 }
 
 // Whether the delivery has images of a stream that neither the marks nor the deliveries before it have.
-fn is_new_stream(
-    marks: &Marks,
-    before: &[Delivery],
-    delivery: &Delivery,
-) -> Result<bool, RoundFault>
-    requires positions { IsTrue (are_positions (with_deliveries marks.now before.now)) }
-    requires rising { IsTrue (is_sorted name_cmp (with_deliveries marks.now before.now)) }
-    ensures ok { OnOk result (marks_after (with_deliveries marks.now before.now) (with_images (delivery.now ∷ []))
-        ≡ Ok (with_deliveries (with_deliveries marks.now before.now) (delivery.now ∷ []))) }
-    ensures count { IfOk result (λ is_new. length (with_deliveries (with_deliveries marks.now before.now) (delivery.now ∷ []))
-        ≡ length (with_deliveries marks.now before.now) + from_bool is_new) }
-    ensures positions { OnOk result (IsTrue (are_positions (with_deliveries (with_deliveries marks.now before.now) (delivery.now ∷ [])))) }
+fn is_new_stream<B: Batch>(marks: &Marks, before: &[B], delivery: &B) -> Result<bool, RoundFault>
+    requires positions { IsTrue (are_positions (with_deliveries marks.now (map B.delivery before.now))) }
+    requires rising { IsTrue (is_sorted name_cmp (with_deliveries marks.now (map B.delivery before.now))) }
+    ensures ok { OnOk result (marks_after (with_deliveries marks.now (map B.delivery before.now)) (with_images (B.delivery delivery.now ∷ []))
+        ≡ Ok (with_deliveries (with_deliveries marks.now (map B.delivery before.now)) (B.delivery delivery.now ∷ []))) }
+    ensures count { IfOk result (λ is_new. length (with_deliveries (with_deliveries marks.now (map B.delivery before.now)) (B.delivery delivery.now ∷ []))
+        ≡ length (with_deliveries marks.now (map B.delivery before.now)) + from_bool is_new) }
+    ensures positions { OnOk result (IsTrue (are_positions (with_deliveries (with_deliveries marks.now (map B.delivery before.now)) (B.delivery delivery.now ∷ [])))) }
     ensures refused { IfErr result (λ fault.
-        marks_after (with_deliveries marks.now before.now) (with_images (delivery.now ∷ [])) ≡ Err fault) }
+        marks_after (with_deliveries marks.now (map B.delivery before.now)) (with_images (B.delivery delivery.now ∷ [])) ≡ Err fault) }
 {
-    if delivery.images().is_empty() {
+    if delivery.count() == 0 {
         return Ok(false);
     }
     let mark = mark_after(marks, before, delivery.stream());
@@ -81,8 +77,8 @@ fn is_new_stream(
 }
 
 // The mark of the stream after the deliveries, whether or not there is a gap between them.
-fn mark_after(marks: &Marks, deliveries: &[Delivery], stream: &StreamName) -> u64
-    ensures { result ≡ position_of (with_deliveries marks.now deliveries.now) stream.now }
+fn mark_after<B: Batch>(marks: &Marks, deliveries: &[B], stream: &StreamName) -> u64
+    ensures { result ≡ position_of (with_deliveries marks.now (map B.delivery deliveries.now)) stream.now }
 {
     let mut mark = marks.position(stream);
     for delivery in deliveries {
@@ -92,8 +88,8 @@ fn mark_after(marks: &Marks, deliveries: &[Delivery], stream: &StreamName) -> u6
 }
 
 // The position of the delivery's last image, if it is of the stream.
-fn last_of_stream(stream: &StreamName, delivery: &Delivery) -> Option<u64>
-    ensures { result ≡ the_last_of_stream stream.now delivery.now }
+fn last_of_stream<B: Batch>(stream: &StreamName, delivery: &B) -> Option<u64>
+    ensures { result ≡ the_last_of_stream stream.now (B.delivery delivery.now) }
 {
     if delivery.stream() != stream {
         return None;
@@ -102,11 +98,11 @@ fn last_of_stream(stream: &StreamName, delivery: &Delivery) -> Option<u64>
 }
 
 // The position of the delivery's last image.
-fn last_of(delivery: &Delivery) -> Option<u64>
-    ensures last { result ≡ the_last_of delivery.now }
+fn last_of<B: Batch>(delivery: &B) -> Option<u64>
+    ensures last { result ≡ the_last_of (B.delivery delivery.now) }
     ensures position { IfSome result (λ last. IsTrue (is_position last)) }
 {
-    let (first, count) = (delivery.first(), delivery.images().len() as u64);
+    let (first, count) = (delivery.first(), delivery.count() as u64);
     if count == 0 {
         return None;
     }
@@ -114,9 +110,9 @@ fn last_of(delivery: &Delivery) -> Option<u64>
 }
 
 // The marks after deliveries without a gap between them.
-fn raise_all(marks: &Marks, deliveries: &[Delivery]) -> Result<Marks, NoMemory>
+fn raise_all<B: Batch>(marks: &Marks, deliveries: &[B]) -> Result<Marks, NoMemory>
     requires { IsTrue (are_positions marks.now) }
-    ensures ok { IfOk result (λ next. next ≡ with_deliveries marks.now deliveries.now) }
+    ensures ok { IfOk result (λ next. next ≡ with_deliveries marks.now (map B.delivery deliveries.now)) }
     ensures positions { IfOk result (λ next. IsTrue (are_positions next)) }
 {
     let mut next = marks.dup()?;
@@ -127,9 +123,9 @@ fn raise_all(marks: &Marks, deliveries: &[Delivery]) -> Result<Marks, NoMemory>
 }
 
 // Raises the mark of the delivery's stream.
-fn raise_by(marks: &mut Marks, delivery: &Delivery) -> Result<(), NoMemory>
+fn raise_by<B: Batch>(marks: &mut Marks, delivery: &B) -> Result<(), NoMemory>
     requires { IsTrue (are_positions marks.old) }
-    ensures ok { OnOk result (marks.new ≡ with_deliveries marks.old (delivery.now ∷ [])) }
+    ensures ok { OnOk result (marks.new ≡ with_deliveries marks.old (B.delivery delivery.now ∷ [])) }
     ensures positions { OnOk result (IsTrue (are_positions marks.new)) }
 {
     let Some(last) = last_of(delivery) else {

@@ -8,22 +8,22 @@ ghost use Rattle.pn_apply.specs.Prelude.{AreJoinsIn, HavePositions, all_stepped,
 ghost use Rattle.pn_apply.specs.declared.reducing.TheConstants.{MAX_WORKERS};
 ghost use Rattle.pn_scan.specs.Prelude.{IsStateOf};
 ghost use Rattle.pn_region.specs.declared.marking.TheConstants.{MAX_STREAMS};
-ghost use Rattle.pn_region.specs.Logged.{new_logged, with_notices, refused_log};
+ghost use Rattle.pn_region.specs.Logged.{new_logged};
 ghost use Rattle.pn_region.specs.Marking.{is_memory};
 ghost use Rattle.pn_region.specs.Regions.{IsRegion, all_cells};
-ghost use Rattle.pn_region.specs.Rounds.{round, changed_count, Leaves};
+ghost use Rattle.pn_region.specs.Rounds.{round, Leaves};
 ghost use Rattle.pn_region.specs.Since.{IsSince};
 
 mod advance;
 mod parts;
 mod recovery;
 mod relayout;
+mod rounds;
 
 use crate::{Log, RoundFault, Since, next_marks};
 pub use parts::recall_soundness;
-use pn_apply::{Gate, apply_all, reduce_owned};
+use pn_apply::{Gate, Share, apply_all, reduce};
 use pn_join::{Dup, Marks, NoMemory};
-use pn_stream::Delivery;
 use pn_tablet::{Change, Layout, Range, TabletOp, TabletState};
 use std::alloc::Global;
 use std::marker::Model;
@@ -119,67 +119,25 @@ impl Region {
         &self.tablets
     }
 
-    /// Takes deliveries, in order, by 1 to 16 workers, each of which enters the gate before each of its tablets.
-    ///
-    /// `Gap` names the first delivery that begins past its stream's next position; else `TooManyStreams` comes. Both
-    /// change nothing. After `Memory` some tablets have taken their parts, and the log has a break.
-    pub fn round<R: Threads + Sync, G: Gate + Sync>(
-        &mut self,
-        rt: &R,
-        deliveries: Vec<Delivery>,
-        workers: usize,
-        gate: &G,
-    ) -> Result<Round, RoundFault>
-        requires workers { (1 ≤ workers) × (workers ≤ MAX_WORKERS) }
-        ensures ok { OnOk result (round self.old.state deliveries.items ≡ Ok self.new.state) }
-        ensures changed { IfOk result (λ done. done.changed ≡ changed_count self.old.state self.new.state) }
-        ensures noted { OnOk result (self.new.log ≡ with_notices self.old.log self.old.state self.new.state) }
-        ensures refused { IfErr result (λ fault. Refuses is_memory fault (round self.old.state deliveries.items)) }
-        ensures err { IfErr result (λ fault. Leaves fault self.old.state deliveries.items self.new.state) }
-        ensures left { OnErr result (IsSomeOld self.old.state.tablets self.new.state.tablets) }
-        ensures broken { IfErr result (λ fault. self.new.log ≡ refused_log self.old.log fault) }
-    {
-        match self.take(rt, deliveries, workers, gate) {
-            Ok(lists) => {
-                let changed = count_changes(&lists) as u64;
-                self.log.add(lists);
-                Ok(Round { changed })
-            }
-            Err(RoundFault::Memory) => {
-                self.log.cut();
-                Err(RoundFault::Memory)
-            }
-            Err(fault) => Err(fault),
-        }
-    }
-
-    // Takes deliveries into the tablets and the marks, and returns the changes of each tablet. The log stays.
+    // Takes shares into the tablets and the marks, and returns the changes of each tablet. The log stays.
     fn take<R: Threads + Sync, G: Gate + Sync>(
         &mut self,
         rt: &R,
-        deliveries: Vec<Delivery>,
+        shares: &[Share],
         workers: usize,
         gate: &G,
     ) -> Result<Vec<Vec<Change>>, RoundFault>
         requires workers { (1 ≤ workers) × (workers ≤ MAX_WORKERS) }
-        ensures ok { OnOk result (round self.old.state deliveries.items ≡ Ok self.new.state) }
+        ensures ok { OnOk result (round self.old.state shares.now ≡ Ok self.new.state) }
         ensures changes { IfOk result (λ lists. flat_map (λ list. list.items) lists.items ≡ changes (all_cells self.old.state) (all_cells self.new.state)) }
         ensures few { IfOk result (λ lists. length (flat_map (λ list. list.items) lists.items) < 2 ^ 64) }
-        ensures refused { IfErr result (λ fault. Refuses is_memory fault (round self.old.state deliveries.items)) }
-        ensures err { IfErr result (λ fault. Leaves fault self.old.state deliveries.items self.new.state) }
+        ensures refused { IfErr result (λ fault. Refuses is_memory fault (round self.old.state shares.now)) }
+        ensures err { IfErr result (λ fault. Leaves fault self.old.state shares.now self.new.state) }
         ensures left { OnErr result (IsSomeOld self.old.state.tablets self.new.state.tablets) }
         ensures log { self.new.log ≡ self.old.log }
     {
-        let marks = next_marks(&self.marks, &deliveries)?;
-        let operations = reduce_owned(
-            rt,
-            self.alloc,
-            deliveries,
-            &self.layout,
-            &marks,
-            workers,
-            gate,
-        )?;
+        let marks = next_marks(&self.marks, shares)?;
+        let operations = reduce(rt, self.alloc, shares, &self.layout, &marks, workers, gate)?;
         let tablets = self.tablets.as_mut_slice();
         let lists = take_joins(rt, self.alloc, tablets, &operations, workers, gate)?;
         self.marks = marks;

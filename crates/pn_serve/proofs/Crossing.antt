@@ -4,6 +4,7 @@ use denote.Param.Send.{IsSend, IsSync, sendable}
 use denote.Param.SendFields.{declared_send, variants_send}
 use denote.Struct.Record.{declared}
 use Rattle.std.proofs.Crossing.{crosses}
+use Rattle.pn_apply.proofs.Crossing.{share_send}
 use Rattle.pn_live.proofs.Crossing.Records.{cell_send, key_send, record_table_send, mark_table_send}
 use Rattle.pn_join.specs.contracts.marks.name.Name as name
 use Rattle.pn_tablet.specs.contracts.copy.TabletCopy as copy
@@ -22,6 +23,11 @@ use Rattle.pn_serve.specs.contracts.control.mailboxes.ControlMailboxes as contro
 use Rattle.pn_serve.specs.contracts.server.counter.Counter as counter
 use Rattle.pn_serve.specs.contracts.server.fault_log.StreamFailure as failure
 use Rattle.pn_serve.specs.contracts.server.fault_log.FaultLog as faults
+use Rattle.pn_serve.specs.contracts.server.messages.RoundShare as messages
+use Rattle.pn_serve.specs.contracts.server.reports.Report as report
+use Rattle.pn_serve.specs.contracts.server.mailboxes.HeldReport as held_report
+use Rattle.pn_serve.specs.contracts.server.mailboxes.Mailbox as mailbox
+use Rattle.pn_serve.specs.contracts.server.reporter.Reporter as reporter
 
 pub name_send : IsSend name.the_row
 name_send = search (sendable, crosses) depth 40
@@ -127,3 +133,21 @@ faults_send = search (sendable, crosses, failure_send) depth 40 fits 20000
 
 pub faults_sync : IsSync faults.the_row
 faults_sync = search (sendable, crosses, failure_send) depth 40 fits 20000
+
+messages_send : IsSend messages.the_row
+messages_send = search (sendable, crosses, share_send) depth 40
+
+report_send : IsSend report.the_row
+report_send = variants_send report.enum ((messages_send, tt), ((name_send, tt), ((name_send, tt), tt)))
+
+held_report_send : IsSend held_report.the_row
+held_report_send = variants_send held_report.enum (tt, ((report_send, tt), (tt, tt)))
+
+mailbox_send : IsSend mailbox.the_row
+mailbox_send = search (sendable, crosses, held_report_send) depth 60 fits 20000
+
+mailbox_sync : IsSync mailbox.the_row
+mailbox_sync = search (sendable, crosses, held_report_send) depth 60 fits 20000
+
+pub reporter_send : IsSend reporter.the_row
+reporter_send = search (sendable, crosses, name_send, mailbox_send, mailbox_sync, counter_send, counter_sync) depth 60 fits 20000

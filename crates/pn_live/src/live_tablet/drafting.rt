@@ -2,31 +2,22 @@
 
 ghost use Rattle.std.specs.Prelude.{◌≡◌, IfOk};
 ghost use Rattle.left_right.specs.Sides.{view};
-ghost use Rattle.pn_live.specs.Drafts.{Lacks};
 ghost use Rattle.pn_live.specs.Published.{state_in};
 
-use super::LiveTablet;
+use super::{LiveTablet, StateDraft};
 use crate::publish_order::PairWriter;
 use crate::publish_position::{AttemptCounter, PublishPosition, open_book};
 use crate::published_state::PublishedState;
 use core::mem::{replace, replace_with};
-use pn_join::{Dup, Marks, NoMemory};
-use pn_record::Records;
+use pn_join::{Dup, NoMemory};
 use pn_tablet::{Range, TabletOp, TabletState};
 use std::alloc::Global;
 use std::sync::Wait;
 
-/// A state that no reader has, and the join that makes the published state of it.
-#[derive(Drop)]
-pub struct StateDraft {
-    pub state: TabletState,
-    pub lacks: TabletOp,
-}
-
 impl LiveTablet {
     /// A draft of the next state. It waits for readers that still read the spare state.
     pub fn draft<R: Wait>(&mut self, rt: &R, alloc: Global) -> Result<StateDraft, NoMemory>
-        ensures lacks { IfOk result (λ draft. Lacks draft.state draft.lacks (state_in self.old)) }
+        ensures draft { IfOk result (λ draft. draft ≡ state_in self.old) }
         ensures kept { (state_in self.new ≡ state_in self.old) × (self.new.settled ≡ self.old.settled) }
     {
         let range = self.state().range().dup()?;
@@ -36,16 +27,9 @@ impl LiveTablet {
                     state,
                     position: _position,
                 } = take_spare(rt, &mut self.writer, blank_state(alloc, range));
-                Ok(StateDraft { state, lacks })
+                Ok(StateDraft::lacking(state, lacks))
             }
-            None => {
-                let state = self.state().dup()?;
-                let lacks = TabletOp::Join {
-                    cells: Records::new(alloc),
-                    marks: Marks::new(alloc),
-                };
-                Ok(StateDraft { state, lacks })
-            }
+            None => Ok(StateDraft::of(self.state().dup()?)),
         }
     }
 }

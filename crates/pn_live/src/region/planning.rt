@@ -9,8 +9,8 @@ ghost use Rattle.pn_live.specs.PublishedTablets.{state_at};
 use crate::front::TabletNote;
 use crate::live_tablet::StateDraft;
 use crate::published_tablet::PublishedTablet;
-use pn_apply::{Gate, Open, apply_all};
-use pn_join::{Dup, NoMemory};
+use pn_apply::{Gate, apply_all};
+use pn_join::NoMemory;
 use pn_tablet::{Change, TabletOp, TabletState};
 use std::alloc::Global;
 use std::sync::Wait;
@@ -43,13 +43,14 @@ pub(super) fn plan_round<R: Threads + Wait + Sync, G: Gate + Sync>(
     ensures same { tablets.new ≡ tablets.old }
     ensures notes { IfOk result (λ plan. (plan.notes.items ≡ []) × (vec_capacity plan.notes ≡ length tablets.old)) }
 {
-    let mut nexts = catch_up(rt, alloc, tablets, workers)?;
-    let slots = nexts.as_mut_slice();
+    let mut drafts = take_drafts(rt, alloc, tablets)?;
+    let slots = drafts.as_mut_slice();
     let lists = apply_all(rt, alloc, slots, operations, workers, gate)?;
     let Some(changed) = count_changes(&lists) else {
         return Err(NoMemory);
     };
     let notes = Vec::with_capacity(alloc, tablets.len())?;
+    let nexts = states_of(alloc, drafts)?;
     Ok(RoundPlan {
         nexts,
         lists,
@@ -58,41 +59,31 @@ pub(super) fn plan_round<R: Threads + Wait + Sync, G: Gate + Sync>(
     })
 }
 
-// Makes a state to change for each tablet: its draft, which the workers bring up to the published state.
-fn catch_up<R: Threads + Wait + Sync>(
-    rt: &R,
-    alloc: Global,
-    tablets: &mut [PublishedTablet],
-    workers: usize,
-) -> Result<Vec<TabletState>, NoMemory>
-    requires { (1 ≤ workers) × (workers ≤ MAX_WORKERS) }
-    ensures states { IfOk result (λ states. states.items ≡ map state_at tablets.old) }
-    ensures same { tablets.new ≡ tablets.old }
-{
-    let (mut states, joins) = take_drafts(rt, alloc, tablets)?;
-    let slots = states.as_mut_slice();
-    apply_all(rt, alloc, slots, &joins, workers, &Open)?;
-    Ok(states)
-}
-
-// Takes a draft of each tablet: its state, and the join that it lacks.
+// Takes a draft of each tablet's next state.
 fn take_drafts<R: Wait>(
     rt: &R,
     alloc: Global,
     tablets: &mut [PublishedTablet],
-) -> Result<(Vec<TabletState>, Vec<TabletOp>), NoMemory>
-    ensures joins { IfOk result (λ drafts. AreJoinsIn drafts.0.items drafts.1.items × HavePositions drafts.1.items) }
-    ensures states { IfOk result (λ drafts. all_stepped drafts.0.items drafts.1.items ≡ map state_at tablets.old) }
+) -> Result<Vec<StateDraft>, NoMemory>
+    ensures drafts { IfOk result (λ drafts. drafts.items ≡ map state_at tablets.old) }
     ensures same { tablets.new ≡ tablets.old }
 {
-    let mut states = Vec::with_capacity(alloc, tablets.len())?;
-    let mut joins = Vec::with_capacity(alloc, tablets.len())?;
+    let mut drafts = Vec::with_capacity(alloc, tablets.len())?;
     for number in 0..tablets.len() {
-        let StateDraft { state, lacks } = tablets[number].draft(rt, alloc)?;
-        states.push_reserved(state);
-        joins.push_reserved(lacks);
+        drafts.push_reserved(tablets[number].draft(rt, alloc)?);
     }
-    Ok((states, joins))
+    Ok(drafts)
+}
+
+// The states of the drafts.
+fn states_of(alloc: Global, drafts: Vec<StateDraft>) -> Result<Vec<TabletState>, NoMemory>
+    ensures { IfOk result (λ states. states.items ≡ drafts.items) }
+{
+    let mut states = Vec::with_capacity(alloc, drafts.len())?;
+    for draft in drafts {
+        states.push_reserved(draft.into_state()?);
+    }
+    Ok(states)
 }
 
 // How many changes the lists have together. `None` past 64 bits, where memory would not hold them.

@@ -1,10 +1,12 @@
 //! Rounds of a live region.
 
-ghost use Rattle.std.specs.Prelude.{◌≡◌, ◌≤◌, ◌++◌, [], length, map, vec_capacity, Ok, IfOk, IfErr, OnErr, OnOk};
+ghost use Rattle.std.specs.Prelude.{◌≡◌, ◌≤◌, ◌++◌, [], length, map, vec_capacity, Ok, IfOk, IfErr, OnErr, OnOk, IsTrue};
 ghost use Rattle.std.specs.List.{flat_map};
+ghost use Rattle.pn_join.specs.Prelude.{are_positions};
 ghost use Rattle.pn_tablet.specs.Prelude.{changes, Refuses};
 ghost use Rattle.pn_apply.specs.Prelude.{AreJoinsIn, HavePositions, all_stepped, all_changes};
 ghost use Rattle.pn_apply.specs.declared.reducing.TheConstants.{MAX_WORKERS};
+ghost use Rattle.pn_region.specs.declared.marking.TheConstants.{MAX_STREAMS};
 ghost use Rattle.pn_region.specs.Prelude.{with_notices, refused_log, is_memory, new_marks, AreRegionMarks, IsRegion, all_cells, joins, round, changed_count, Leaves};
 ghost use Rattle.pn_live.specs.LiveRegions.{core, tablets_after_round, LeavesLive, tablets_in};
 ghost use Rattle.pn_live.specs.PublishedTablets.{books_of, notes_of, state_at, with_ops};
@@ -15,9 +17,9 @@ use super::planning::{RoundPlan, plan_round};
 use crate::front::{Front, TabletNote};
 use crate::publication_order::PublicationOrder;
 use crate::published_tablet::PublishedTablet;
-use pn_apply::{Gate, reduce_owned};
+use pn_apply::{Gate, Share, reduce, shares_of};
 use pn_join::Marks;
-use pn_region::{Round, RoundFault, next_marks};
+use pn_region::{Round, RoundFault, check_marks, next_marks};
 use pn_stream::Delivery;
 use pn_tablet::{Change, TabletOp, TabletState};
 use std::sync::Wait;
@@ -51,7 +53,60 @@ impl LiveRegion {
         ensures fits { IfOk result (λ done. AreNotesOf (tablets_in self.old) done.1) }
         ensures same { tablets_in self.new ≡ tablets_in self.old }
     {
-        match self.take(rt, deliveries, workers, gate) {
+        match self.shares_for(deliveries) {
+            Ok(shares) => self.join_shares(rt, &shares, workers, gate),
+            Err(fault) => Err(self.refuse(fault)),
+        }
+    }
+
+    // What deliveries bring, if marks and memory allow it. Nothing is begun.
+    fn shares_for(&self, deliveries: Vec<Delivery>) -> Result<Vec<Share>, RoundFault>
+        ensures shares { IfOk result (λ shares. shares.items ≡ deliveries.items) }
+        ensures refused { IfErr result (λ fault. Refuses is_memory fault (round (core self.now) deliveries.items)) }
+        ensures region { IsRegion (core self.now) }
+    {
+        check_marks(&self.marks, &deliveries)?;
+        Ok(shares_of(self.alloc, deliveries)?)
+    }
+
+    // Breaks the log off, where memory ran out. The tablets stay.
+    fn refuse(&mut self, fault: RoundFault) -> RoundFault
+        ensures fault { result ≡ fault }
+        ensures kept { self.new ≡ record self.old { log = refused_log self.old.log fault } }
+    {
+        match fault {
+            RoundFault::Memory => {
+                self.log.cut();
+                RoundFault::Memory
+            }
+            fault => fault,
+        }
+    }
+
+    /// Takes what deliveries bring, as `round` takes deliveries. After `Memory` the same shares can be taken again.
+    pub fn join_shares<R: Threads + Wait + Sync, G: Gate + Sync>(
+        &mut self,
+        rt: &R,
+        shares: &[Share],
+        workers: usize,
+        gate: &G,
+    ) -> Result<(Round, Front), RoundFault>
+        requires workers { (1 ≤ workers) × (workers ≤ MAX_WORKERS) }
+        ensures ok { OnOk result (round (core self.old) shares.now ≡ Ok (core self.new)) }
+        ensures published { OnOk result (self.new.tablets ≡ tablets_after_round self.old shares.now self.new.marks) }
+        ensures order { OnOk result (self.new.order ≡ self.old.order ++ books_of self.old.tablets) }
+        ensures front { IfOk result (λ done. done.1 ≡ notes_of self.new.tablets) }
+        ensures changed { IfOk result (λ done. done.0.changed ≡ changed_count (core self.old) (core self.new)) }
+        ensures noted { OnOk result (self.new.log ≡ with_notices self.old.log (core self.old) (core self.new)) }
+        ensures refused { IfErr result (λ fault. Refuses is_memory fault (round (core self.old) shares.now)) }
+        ensures err { IfErr result (λ fault. LeavesLive fault self.old shares.now self.new) }
+        ensures left { IfErr result (λ fault. Leaves fault (core self.old) shares.now (core self.new)) }
+        ensures broken { IfErr result (λ fault. self.new.log ≡ refused_log self.old.log fault) }
+        ensures kept { IfErr result (λ fault. self.new ≡ record self.old { log = refused_log self.old.log fault }) }
+        ensures fits { IfOk result (λ done. AreNotesOf (tablets_in self.old) done.1) }
+        ensures same { tablets_in self.new ≡ tablets_in self.old }
+    {
+        match self.take(rt, shares, workers, gate) {
             Ok(taken) => {
                 let (lists, done, front) = taken;
                 self.log.add(lists);
@@ -65,30 +120,30 @@ impl LiveRegion {
         }
     }
 
-    // Takes deliveries, and leaves the log. Answers what changed in each tablet, too.
+    // Takes shares, and leaves the log. Answers what changed in each tablet, too.
     fn take<R: Threads + Wait + Sync, G: Gate + Sync>(
         &mut self,
         rt: &R,
-        deliveries: Vec<Delivery>,
+        shares: &[Share],
         workers: usize,
         gate: &G,
     ) -> Result<(Vec<Vec<Change>>, Round, Front), RoundFault>
         requires workers { (1 ≤ workers) × (workers ≤ MAX_WORKERS) }
-        ensures ok { OnOk result (round (core self.old) deliveries.items ≡ Ok (core self.new)) }
-        ensures published { OnOk result (self.new.tablets ≡ tablets_after_round self.old deliveries.items self.new.marks) }
+        ensures ok { OnOk result (round (core self.old) shares.now ≡ Ok (core self.new)) }
+        ensures published { OnOk result (self.new.tablets ≡ tablets_after_round self.old shares.now self.new.marks) }
         ensures order { OnOk result (self.new.order ≡ self.old.order ++ books_of self.old.tablets) }
         ensures front { IfOk result (λ taken. taken.2 ≡ notes_of self.new.tablets) }
         ensures changed { IfOk result (λ taken. taken.1.changed ≡ length (flat_map (λ list. list.items) taken.0.items)) }
         ensures changes { IfOk result (λ taken. flat_map (λ list. list.items) taken.0.items ≡ changes (all_cells (core self.old)) (all_cells (core self.new))) }
-        ensures refused { IfErr result (λ fault. Refuses is_memory fault (round (core self.old) deliveries.items)) }
-        ensures err { IfErr result (λ fault. LeavesLive fault self.old deliveries.items self.new) }
-        ensures left { IfErr result (λ fault. Leaves fault (core self.old) deliveries.items (core self.new)) }
+        ensures refused { IfErr result (λ fault. Refuses is_memory fault (round (core self.old) shares.now)) }
+        ensures err { IfErr result (λ fault. LeavesLive fault self.old shares.now self.new) }
+        ensures left { IfErr result (λ fault. Leaves fault (core self.old) shares.now (core self.new)) }
         ensures kept { OnErr result (self.new ≡ self.old) }
         ensures fits { IfOk result (λ taken. AreNotesOf (tablets_in self.old) taken.2) }
         ensures log { self.new.log ≡ self.old.log }
         ensures same { tablets_in self.new ≡ tablets_in self.old }
     {
-        let ready = self.prepare(rt, deliveries, workers, gate)?;
+        let ready = self.prepare(rt, shares, workers, gate)?;
         let (marks, operations, plan) = ready;
         let RoundPlan {
             nexts,
@@ -103,38 +158,30 @@ impl LiveRegion {
         Ok((lists, Round { changed }, front))
     }
 
-    // Makes the new marks, what the deliveries bring to each tablet, and what that makes of the tablets. Nothing is
+    // Makes the new marks, what the shares bring to each tablet, and what that makes of the tablets. Nothing is
     // published yet.
     fn prepare<R: Threads + Wait + Sync, G: Gate + Sync>(
         &mut self,
         rt: &R,
-        deliveries: Vec<Delivery>,
+        shares: &[Share],
         workers: usize,
         gate: &G,
     ) -> Result<(Marks, Vec<TabletOp>, RoundPlan), RoundFault>
         requires workers { (1 ≤ workers) × (workers ≤ MAX_WORKERS) }
-        ensures marks { IfOk result (λ ready. new_marks self.old.marks deliveries.items ≡ Ok ready.0) }
+        ensures marks { IfOk result (λ ready. new_marks self.old.marks shares.now ≡ Ok ready.0) }
         ensures are_marks { IfOk result (λ ready. AreRegionMarks ready.0) }
         ensures joins { IfOk result (λ ready. AreJoinsIn (map state_at self.old.tablets) ready.1.items × HavePositions ready.1.items) }
-        ensures operations { IfOk result (λ ready. ready.1.items ≡ joins (core self.old) deliveries.items ready.0) }
+        ensures operations { IfOk result (λ ready. ready.1.items ≡ joins (core self.old) shares.now ready.0) }
         ensures nexts { IfOk result (λ ready. ready.2.nexts.items ≡ all_stepped (map state_at self.old.tablets) ready.1.items) }
         ensures changes { IfOk result (λ ready. flat_map (λ list. list.items) ready.2.lists.items ≡ flat_map (λ list. list) (all_changes (map state_at self.old.tablets) ready.1.items)) }
         ensures changed { IfOk result (λ ready. ready.2.changed ≡ length (flat_map (λ list. list.items) ready.2.lists.items)) }
         ensures notes { IfOk result (λ ready. (ready.2.notes.items ≡ []) × (vec_capacity ready.2.notes ≡ length self.old.tablets)) }
         ensures is_region { IsRegion (core self.old) }
         ensures same { self.new ≡ self.old }
-        ensures refused { IfErr result (λ fault. Refuses is_memory fault (round (core self.old) deliveries.items)) }
+        ensures refused { IfErr result (λ fault. Refuses is_memory fault (round (core self.old) shares.now)) }
     {
-        let marks = next_marks(&self.marks, &deliveries)?;
-        let operations = reduce_owned(
-            rt,
-            self.alloc,
-            deliveries,
-            &self.layout,
-            &marks,
-            workers,
-            gate,
-        )?;
+        let marks = marks_after(&self.marks, shares)?;
+        let operations = reduce(rt, self.alloc, shares, &self.layout, &marks, workers, gate)?;
         let plan = plan_round(
             rt,
             self.alloc,
@@ -145,6 +192,17 @@ impl LiveRegion {
         )?;
         Ok((marks, operations, plan))
     }
+}
+
+// The marks after what the shares bring.
+fn marks_after(marks: &Marks, shares: &[Share]) -> Result<Marks, RoundFault>
+    requires { IsTrue (are_positions marks.now) }
+    ensures ok { IfOk result (λ next. new_marks marks.now shares.now ≡ Ok next) }
+    ensures refused { IfErr result (λ fault. Refuses is_memory fault (new_marks marks.now shares.now)) }
+    ensures positions { IfOk result (λ next. IsTrue (are_positions next)) }
+    ensures few { IfOk result (λ next. length next ≤ MAX_STREAMS) }
+{
+    next_marks(marks, shares)
 }
 
 // Publishes the next state of each tablet, in the order of the tablets.

@@ -21,10 +21,10 @@ IsNextInput names None marks input left = IsInputOf names marks input left × Ca
 IsNextInput names (Some waiting) marks input left = (input ≡ waiting) × (left ≡ names)
 
 -- how a round of an input ends: the input was taken; or it is given back, and its round was not begun, or was tried; or a fault
-abbrev pub RunsInput : AtFault → RoundInput → LiveRegionValue → LiveRegionValue → Result (Option RoundInput) ServeFault → Type 0
-RunsInput at_fault input old new (Ok None) = TakesInput at_fault (value_of input) old new (Ok tt)
-RunsInput at_fault input old new (Ok (Some back)) = (at_fault ≡ GoOn) × (back ≡ input) × ((new ≡ old) ⊎ IsRoundTried old input.deliveries.items new)
-RunsInput at_fault input old new (Err fault) = TakesInput at_fault (value_of input) old new (Err fault)
+abbrev pub RunsInput : AtFault → RoundInputValue → LiveRegionValue → LiveRegionValue → Result (Option RoundInput) ServeFault → Type 0
+RunsInput at_fault input old new (Ok None) = TakesInput at_fault input old new (Ok tt)
+RunsInput at_fault input old new (Ok (Some back)) = (at_fault ≡ GoOn) × (value_of back ≡ input) × ((new ≡ old) ⊎ IsRoundTried old input.deliveries new)
+RunsInput at_fault input old new (Err fault) = TakesInput at_fault input old new (Err fault)
 
 -- the next input was taken so; these streams go on
 pub record RunsRound (at_fault : AtFault) (names : List (List ℕ)) (waiting : Option RoundInputValue) (old : LiveRegionValue) (input : RoundInputValue) (left : List (List ℕ)) (new : LiveRegionValue) (run : Result (Unit {0}) ServeFault) : Type 0 where

@@ -83,7 +83,7 @@ fn read_writer<R: Threads + Wait + Clock, S: Source + Drop, O: Origin<S>>(
         match input.next(rt, &memory) {
             Given::Messages(messages) => {
                 reporter.show_shortage(false);
-                if !reporter.leave(rt, Report::Messages(messages)) {
+                if !reporter.leave(rt, Report::Messages(messages.into_share(alloc))) {
                     return None;
                 }
                 input.hand_on();

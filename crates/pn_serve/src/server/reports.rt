@@ -3,14 +3,14 @@
 ghost use Rattle.std.specs.Prelude.{◌≡◌, IsTrue};
 ghost use Rattle.pn_serve.specs.Server.Reports.{name_in};
 
-use crate::server::messages::RoundMessages;
+use crate::server::messages::RoundShare;
 use pn_join::StreamName;
 
 /// What the thread of a stream reports for the next round.
 #[derive(Drop)]
 pub(crate) enum Report {
     /// The next messages of the stream that they name.
-    Messages(RoundMessages),
+    Messages(RoundShare),
     /// The stream of this name is at its end.
     End(StreamName),
     /// The stream of this name has a fault, and is at its end.

@@ -12,12 +12,12 @@ ghost use Rattle.pn_serve.specs.declared.server.mailboxes.AtFault.TheVariants.{S
 
 use crate::ServeFault;
 use crate::server::mailboxes::{AtFault, StreamMailbox, StreamMailboxes};
-use crate::server::messages::RoundMessages;
+use crate::server::messages::RoundShare;
 use crate::server::reports::Report;
 use crate::server::tries::run_input;
+use pn_apply::Share;
 use pn_join::{Marks, StreamName};
 use pn_live::LiveRegion;
-use pn_stream::Delivery;
 use std::alloc::{AllocError, Global};
 use std::mem;
 use std::sync::Wait;
@@ -27,7 +27,7 @@ use std::thread::Threads;
 #[derive(Drop)]
 pub(crate) struct RoundInput {
     /// The messages of the streams that have some.
-    pub(crate) deliveries: Vec<Delivery>,
+    pub(crate) deliveries: Vec<Share>,
     /// The first stream with a fault.
     pub(crate) fault: Option<StreamName>,
 }
@@ -154,7 +154,7 @@ fn add_note(
     ensures capacity { vec_capacity input.new.deliveries ≡ vec_capacity input.old.deliveries }
 {
     match report {
-        Some(Report::Messages(RoundMessages { delivery })) if !is_gap(marks, &delivery) => {
+        Some(Report::Messages(RoundShare { delivery })) if !is_gap(marks, &delivery) => {
             input.deliveries.push_reserved(delivery);
             true
         }
@@ -177,7 +177,7 @@ fn add_fault(fault: &mut Option<StreamName>, name: &StreamName)
 }
 
 // Whether a delivery begins past the position after its stream's mark.
-fn is_gap(marks: &Marks, delivery: &Delivery) -> bool
+fn is_gap(marks: &Marks, delivery: &Share) -> bool
     ensures { result ≡ leaves_gap marks.now delivery.now }
 {
     marks.position(delivery.stream()) < delivery.first() - 1

@@ -11,16 +11,16 @@ ghost use Rattle.pn_serve.specs.declared.server.mailboxes.AtFault.TheVariants.{S
 use crate::ServeFault;
 use crate::server::mailboxes::AtFault;
 use crate::server::rounds::RoundInput;
-use pn_apply::{Open, copy_deliveries};
+use pn_apply::{Open, Share};
 use pn_join::StreamName;
 use pn_live::{Front, LiveRegion};
 use pn_region::{Round, RoundFault};
-use pn_stream::Delivery;
 use std::alloc::Global;
 use std::sync::Wait;
 use std::thread::Threads;
 
-/// Runs one round of an input. Gives it back where memory ran out, if that is waited for.
+/// Runs one round of an input, with the cells for which there is memory now. Gives it back where memory ran out, if that is
+/// waited for.
 pub(crate) fn run_input<R: Threads + Wait + Sync>(
     rt: &R,
     alloc: Global,
@@ -31,7 +31,44 @@ pub(crate) fn run_input<R: Threads + Wait + Sync>(
 ) -> Result<Option<RoundInput>, ServeFault>
     requires workers { (1 ≤ workers) × (workers ≤ MAX_WORKERS) }
     requires continues { All (Continues live.old.marks) input.deliveries.items }
-    ensures runs { RunsInput at_fault input live.old live.new result }
+    ensures runs { RunsInput at_fault (value_of input) live.old live.new result }
+    ensures continues { IfOk result (λ back. IfSome back (λ input. All (Continues live.new.marks) input.deliveries.items)) }
+    ensures same { tablets_in live.new ≡ tablets_in live.old }
+{
+    run_finished(rt, live, workers, at_fault, finish_cells(alloc, input))
+}
+
+// Makes the cells for which memory ran out, as far as there is memory now.
+fn finish_cells(alloc: Global, input: RoundInput) -> RoundInput
+    ensures { value_of result ≡ value_of input }
+{
+    let RoundInput {
+        mut deliveries,
+        fault,
+    } = input;
+    finish_shares(alloc, deliveries.as_mut_slice());
+    RoundInput { deliveries, fault }
+}
+
+fn finish_shares(alloc: Global, shares: &mut [Share])
+    ensures { shares.new ≡ shares.old }
+{
+    for index in 0..shares.len() {
+        let _ = shares[index].finish(alloc);
+    }
+}
+
+// Runs one round of an input, whose cells are made as far as there was memory.
+fn run_finished<R: Threads + Wait + Sync>(
+    rt: &R,
+    live: &mut LiveRegion,
+    workers: usize,
+    at_fault: AtFault,
+    input: RoundInput,
+) -> Result<Option<RoundInput>, ServeFault>
+    requires workers { (1 ≤ workers) × (workers ≤ MAX_WORKERS) }
+    requires continues { All (Continues live.old.marks) input.deliveries.items }
+    ensures runs { RunsInput at_fault (value_of input) live.old live.new result }
     ensures continues { IfOk result (λ back. IfSome back (λ input. All (Continues live.new.marks) input.deliveries.items)) }
     ensures same { tablets_in live.new ≡ tablets_in live.old }
 {
@@ -41,7 +78,7 @@ pub(crate) fn run_input<R: Threads + Wait + Sync>(
             Ok(None)
         }
         AtFault::GoOn => {
-            if try_round(rt, alloc, live, workers, &input.deliveries)? {
+            if try_round(rt, live, workers, &input.deliveries)? {
                 Ok(None)
             } else {
                 Ok(Some(input))
@@ -50,23 +87,19 @@ pub(crate) fn run_input<R: Threads + Wait + Sync>(
     }
 }
 
-// Runs one round of copies of messages. False where memory ran out.
+// Tries one round of messages. False where memory ran out.
 fn try_round<R: Threads + Wait + Sync>(
     rt: &R,
-    alloc: Global,
     live: &mut LiveRegion,
     workers: usize,
-    deliveries: &[Delivery],
+    deliveries: &[Share],
 ) -> Result<bool, ServeFault>
     requires workers { (1 ≤ workers) × (workers ≤ MAX_WORKERS) }
     requires continues { All (Continues live.old.marks) deliveries.now }
     ensures tries { TriesRound live.old deliveries.now live.new result }
     ensures same { tablets_in live.new ≡ tablets_in live.old }
 {
-    let Ok(copies) = copy_deliveries(alloc, deliveries) else {
-        return Ok(false);
-    };
-    conclude_try(live.round(rt, copies, workers, &Open))
+    conclude_try(live.join_shares(rt, deliveries, workers, &Open))
 }
 
 // Whether a try was taken, or the fault, unless memory ran out.
@@ -94,7 +127,7 @@ fn run_round<R: Threads + Wait + Sync>(
     ensures same { tablets_in live.new ≡ tablets_in live.old }
 {
     let RoundInput { deliveries, fault } = input;
-    let round = apply_deliveries(rt, live, workers, deliveries);
+    let round = apply_deliveries(rt, live, workers, &deliveries);
     conclude_round(fault, round)
 }
 
@@ -103,15 +136,15 @@ fn apply_deliveries<R: Threads + Wait + Sync>(
     rt: &R,
     live: &mut LiveRegion,
     workers: usize,
-    deliveries: Vec<Delivery>,
+    deliveries: &[Share],
 ) -> Result<(Round, Front), RoundFault>
     requires workers { (1 ≤ workers) × (workers ≤ MAX_WORKERS) }
-    requires continues { All (Continues live.old.marks) deliveries.items }
-    ensures taken { OnOk result (IsRoundTaken live.old deliveries.items live.new) }
-    ensures refused { OnErr result (IsRoundRefused Stop live.old deliveries.items live.new) }
+    requires continues { All (Continues live.old.marks) deliveries.now }
+    ensures taken { OnOk result (IsRoundTaken live.old deliveries.now live.new) }
+    ensures refused { OnErr result (IsRoundRefused Stop live.old deliveries.now live.new) }
     ensures same { tablets_in live.new ≡ tablets_in live.old }
 {
-    live.round(rt, deliveries, workers, &Open)
+    live.join_shares(rt, deliveries, workers, &Open)
 }
 
 // Answers how the round went, or the fault of a stream that stops all streams.

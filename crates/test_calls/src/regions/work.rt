@@ -6,7 +6,7 @@ ghost use Rattle.pn_apply.specs.declared.reducing.TheConstants.{MAX_WORKERS};
 use crate::regions::counting::Counting;
 use crate::regions::layouts::push_keys;
 use crate::regions::rounds::region;
-use pn_apply::{MAX_WORKERS, reduce};
+use pn_apply::{MAX_WORKERS, reduce, shares_of};
 use pn_join::Marks;
 use pn_tablet::TabletOp;
 use std::alloc::Global;
@@ -53,9 +53,9 @@ fn operations<R: Threads + Sync>(
 ) -> Option<Vec<TabletOp>> {
     let workers = workers_of(word)?;
     let layout = layout(alloc, BOUNDS)?;
-    let given = deliveries(alloc, 1, KEYS, 0)?;
+    let shares = shares_of(alloc, deliveries(alloc, 1, KEYS, 0)?).ok()?;
     let marks = Marks::new(alloc);
-    reduce(rt, alloc, &given, &layout, &marks, workers, gate).ok()
+    reduce(rt, alloc, &shares, &layout, &marks, workers, gate).ok()
 }
 
 fn push_joined(text: &mut String, operation: &TabletOp) -> Option<()> {

@@ -6,6 +6,6 @@ use Rattle.pn_join.proofs.MarksFacts.{are_positions-raised_marks}
 use Rattle.pn_region.proofs.marking.raise_by.Goals as goal
 
 pub returns-clause-positions : goal.returns-clause-positions
-returns-clause-positions c =
+returns-clause-positions g c =
     subst (λ (m : Positions). are_positions m ≡ true) (sym c.in_ok-raise_at.ensures.ok)
     (are_positions-raised_marks c.args.marks.now ((_, c.in-Some.last) ∷ []) c.requires (and_from (is_position c.in-Some.last) true c.in-Some.ensures.position refl))

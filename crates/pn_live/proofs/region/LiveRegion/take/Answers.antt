@@ -17,12 +17,12 @@ use Rattle.pn_live.proofs.region.LiveRegion.take.Goals as goal
 pub returns-in_err-ready-clause-err : goal.returns-in_err-ready-clause-err
 returns-in_err-ready-clause-err g c =
     let was = c.args.self.now in
-    whatever c.from_residual.result _ (λ (fault : RoundFault). subst (LeavesLive fault was c.args.deliveries.items) (sym c.in_err-ready.ensures.same) (same_live was c.args.deliveries.items c.in_err-ready.ensures.is_region fault))
+    whatever c.from_residual.result _ (λ (fault : RoundFault). subst (LeavesLive fault was c.args.shares.now) (sym c.in_err-ready.ensures.same) (same_live was c.args.shares.now c.in_err-ready.ensures.is_region fault))
 
 pub returns-in_err-ready-clause-left : goal.returns-in_err-ready-clause-left
 returns-in_err-ready-clause-left g c =
     let was = c.args.self.now in
-    whatever c.from_residual.result _ (λ (fault : RoundFault). subst (λ (l : LiveRegionValue). Leaves fault (core was) c.args.deliveries.items (core l)) (sym c.in_err-ready.ensures.same) (same_left (core was) c.args.deliveries.items c.in_err-ready.ensures.is_region fault))
+    whatever c.from_residual.result _ (λ (fault : RoundFault). subst (λ (l : LiveRegionValue). Leaves fault (core was) c.args.shares.now (core l)) (sym c.in_err-ready.ensures.same) (same_left (core was) c.args.shares.now c.in_err-ready.ensures.is_region fault))
 
 pub publish_tablets-requires-clause-joins : goal.publish_tablets-requires-clause-joins
 publish_tablets-requires-clause-joins g c =
@@ -46,7 +46,7 @@ invariant_of-self g c =
     let here : c.as_mut_slice-tablets.result.now ≡ was.tablets = c.as_mut_slice-tablets.ensures.value ∙ ap (λ (l : LiveRegionValue). l.tablets) (c.self.view_is ∙ said.same) in
     let layout : now.layout ≡ was.layout = ap (λ (l : LiveRegionValue). l.layout) (c.self.view_is ∙ said.same) in
     let all : now.tablets ≡ with_ops was.tablets ops = same ∙ (c.publish_tablets.ensures.tablets ∙ ap (λ (ts : List PublishedTabletValue). with_ops ts ops) here) in
-    taken_lawful was now c.args.deliveries.items said.is_region ops said.operations layout all said.are_marks
+    taken_lawful was now c.args.shares.now said.is_region ops said.operations layout all said.are_marks
 
 pub returns : goal.returns
 returns g c =
@@ -60,7 +60,7 @@ returns g c =
     let here : c.as_mut_slice-tablets.result.now ≡ was.tablets = c.as_mut_slice-tablets.ensures.value ∙ ap (λ (l : LiveRegionValue). l.tablets) (c.self.view_is ∙ said.same) in
     let layout : now.layout ≡ was.layout = ap (λ (l : LiveRegionValue). l.layout) (c.self.view_is ∙ said.same) in
     let all : now.tablets ≡ with_ops was.tablets ops = same ∙ (c.publish_tablets.ensures.tablets ∙ ap (λ (ts : List PublishedTabletValue). with_ops ts ops) here) in
-    let taken = takes was now c.args.deliveries.items said.is_region ops said.operations layout all said.marks (flat_map (λ list. list.items) c.in_ok-ready.ready.2.lists.items) said.changes in
+    let taken = takes was now c.args.shares.now said.is_region ops said.operations layout all said.marks (flat_map (λ list. list.items) c.in_ok-ready.ready.2.lists.items) said.changes in
     let front = c.front_of-front.ensures ∙ ap notes_of c.deref.ensures.value in
     record {
       ok = taken.ok;
