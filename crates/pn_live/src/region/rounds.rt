@@ -7,8 +7,8 @@ ghost use Rattle.pn_tablet.specs.Prelude.{changes, Refuses};
 ghost use Rattle.pn_apply.specs.Prelude.{AreJoinsIn, HavePositions, all_stepped, all_changes};
 ghost use Rattle.pn_apply.specs.declared.reducing.TheConstants.{MAX_WORKERS};
 ghost use Rattle.pn_region.specs.declared.marking.TheConstants.{MAX_STREAMS};
-ghost use Rattle.pn_region.specs.Prelude.{with_notices, refused_log, is_memory, new_marks, AreRegionMarks, IsRegion, all_cells, joins, round, changed_count, Leaves};
-ghost use Rattle.pn_live.specs.LiveRegions.{core, tablets_after_round, LeavesLive, tablets_in};
+ghost use Rattle.pn_region.specs.Prelude.{with_notices, refused_log, is_memory, new_marks, AreRegionMarks, IsRegion, all_cells, joins, round, changed_count};
+ghost use Rattle.pn_live.specs.LiveRegions.{core, tablets_after_round, tablets_in};
 ghost use Rattle.pn_live.specs.PublishedTablets.{books_of, notes_of, state_at, with_ops};
 ghost use Rattle.pn_live.specs.Readers.{AreNotesOf};
 
