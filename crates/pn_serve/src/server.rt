@@ -19,6 +19,7 @@ mod events;
 mod fault;
 mod fault_log;
 mod limits;
+mod mailbox;
 pub(crate) mod mailboxes;
 mod messages;
 mod opened;
