@@ -1,7 +1,7 @@
 -- What the mailbox of a stream holds.
 use Rattle.std.specs.Prelude.{Bool, true, false}
-use Rattle.pn_serve.specs.declared.server.mailbox.HeldReport.{HeldReport}
-use Rattle.pn_serve.specs.declared.server.mailbox.HeldReport.TheVariants.{Nothing, Left, Closed}
+use Rattle.pn_serve.specs.declared.server.held_report.HeldReport.{HeldReport}
+use Rattle.pn_serve.specs.declared.server.held_report.HeldReport.TheVariants.{Nothing, Left, Closed}
 
 -- whether it holds a report
 abbrev pub is_left : HeldReport → Bool

@@ -4,13 +4,13 @@ ghost use Rattle.std.specs.Prelude.{◌≡◌, [], ◌∷◌, ◌++◌, map, vec
 ghost use Rattle.pn_serve.specs.Server.Reports.{name_in};
 
 use crate::server::counter::Counter;
-use crate::server::mailbox::Mailbox;
+use crate::server::held_report::{ClosedMailbox, HeldReport, LeftReport};
 use crate::server::reporter::Reporter;
 use crate::server::reports::Report;
 use crate::server::wakeup::Wakeup;
 use pn_join::{Marks, StreamName};
 use std::alloc::{AllocError, Global};
-use std::sync::{Arc, Wait};
+use std::sync::{Arc, Condvar, CondvarTimeouts, Mutex, Wait};
 use std::time::{Clock, Duration};
 
 /// The mailboxes of the streams that are read, what wakes the thread that takes their reports, and the count of its rounds
@@ -172,5 +172,66 @@ pub(crate) fn share(counter: &Option<Arc<Counter>>) -> Result<Option<Arc<Counter
     match counter {
         Some(counter) => Ok(Some(Arc::try_clone(counter)?)),
         None => Ok(None),
+    }
+}
+
+/// Holds at most one report. A thread that puts another waits until it is taken.
+#[derive(Drop)]
+pub(crate) struct Mailbox {
+    held: Mutex<HeldReport>,
+    emptied: Condvar,
+}
+
+impl Mailbox {
+    /// A mailbox that holds nothing.
+    pub(crate) fn new() -> Mailbox {
+        Mailbox {
+            held: Mutex::new(HeldReport::Nothing),
+            emptied: Condvar::new(),
+        }
+    }
+
+    /// Puts a report into the mailbox once it holds none. The error shows that it is closed.
+    pub(crate) fn put<R: Wait>(&self, rt: &R, report: Report) -> Result<LeftReport, ClosedMailbox>
+        ensures { IfOk result (λ left. left ≡ report) }
+    {
+        let guard = self.held.lock(rt);
+        let mut held = self.emptied.wait_while(rt, guard, |held| held.is_left());
+        held.put(report)
+    }
+
+    /// Whether there is a report.
+    pub(crate) fn has_report<R: Wait>(&self, rt: &R) -> bool {
+        self.held.lock(rt).is_left()
+    }
+
+    /// Takes the report, if there is one.
+    pub(crate) fn take<R: Wait>(&self, rt: &R) -> Option<Report> {
+        let report = self.held.lock(rt).take();
+        if report.is_some() {
+            self.emptied.notify_one();
+        }
+        report
+    }
+
+    /// Waits for a second, or until it is closed. False if it is closed.
+    pub(crate) fn wait_for_memory<R: Wait + Clock>(&self, rt: &R) -> bool {
+        let guard = self.held.lock(rt);
+        let most = Duration::from_secs(1);
+        let (held, _) = self
+            .emptied
+            .wait_timeout_while(rt, guard, most, |held| !held.is_closed());
+        !held.is_closed()
+    }
+
+    /// That it is closed, if it is.
+    pub(crate) fn closed<R: Wait>(&self, rt: &R) -> Option<ClosedMailbox> {
+        self.held.lock(rt).closed()
+    }
+
+    /// Closes the mailbox, and wakes the thread that waits there.
+    pub(crate) fn close<R: Wait>(&self, rt: &R) {
+        self.held.lock(rt).close();
+        self.emptied.notify_one();
     }
 }

@@ -3,8 +3,8 @@
 ghost use Rattle.std.specs.Prelude.{◌≡◌, IfOk};
 
 use crate::server::counter::Counter;
-use crate::server::mailbox::{ClosedMailbox, LeftReport, Mailbox};
-use crate::server::mailboxes::AtFault;
+use crate::server::held_report::{ClosedMailbox, LeftReport};
+use crate::server::mailboxes::{AtFault, Mailbox};
 use crate::server::reports::Report;
 use crate::server::wakeup::Wakeup;
 use crate::server::writers::WriterEnd;

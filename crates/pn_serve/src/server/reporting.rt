@@ -6,7 +6,7 @@ ghost use Rattle.pn_serve.specs.Server.Whole.{EndsStream};
 ghost use Rattle.pn_serve.specs.Server.Writers.{EndsInput, IsReaderFrom};
 ghost use Rattle.pn_serve.specs.declared.server.writers.WriterEnd.TheVariants.{End};
 
-use crate::server::mailbox::ClosedMailbox;
+use crate::server::held_report::ClosedMailbox;
 use crate::server::reporter::{Reporter, StreamMemory};
 use crate::server::reports::Report;
 use crate::server::writer_input::{Given, WriterInput};

@@ -4,7 +4,7 @@ ghost use Rattle.std.specs.Prelude.{◌≡◌, ◌+◌, max, min, None, Some, Is
 ghost use Rattle.pn_join.specs.declared.marks.TheConstants.{LAST_POSITION};
 ghost use Rattle.pn_serve.specs.Server.Writers.{Gives, GivesUpTo, HasUpTo, IsReaderFrom, line_after};
 
-use crate::server::mailbox::LeftReport;
+use crate::server::held_report::LeftReport;
 use crate::server::messages::{MAX_MESSAGES, RoundMessages};
 use crate::server::writers::{NextWriter, WriterEnd};
 use pn_join::{LAST_POSITION, StreamName};
