@@ -19,6 +19,7 @@ mod version;
 pub use control::laws::commands_are_events;
 pub use control::mailboxes::{ControlMailboxes, ControlsClosed, MAX_CONTROLS, StopAsked};
 pub use control::session::{ControlSession, StatsSource};
+pub use control::stop::StopSaid;
 pub use copies::{CopiesFault, CopiesReader, open_copies, recut_copies};
 pub use laws::regions_converge;
 pub use machine::line_answers::ReplyPieces;
@@ -33,7 +34,7 @@ pub use repeat_laws::{
 pub use script::{Counts, MAX_LINES, RunFault, run, run_to_exit};
 pub use server::{
     Acceptor, ComesBack, Counter, FaultLog, MAX_SESSIONS, NextWriter, OpenedRegion, Origin,
-    ServeFault, SessionThread, Stream, StreamFailure, StreamPath, Watchers, WriterEnd,
+    ReadingEnd, ServeFault, SessionThread, Stream, StreamFailure, StreamPath, Watchers, WriterEnd,
     close_region, join_sessions, open_region, read_streams, serve, serve_from, take_commands,
     take_commands_for,
 };

@@ -1,12 +1,13 @@
 //! A server that stays: threads answer its connections while its live region reads streams.
 
-ghost use Rattle.std.specs.Prelude.{◌≡◌, ◌+◌, ◌≤◌, false, map, vec_len, vec_capacity, All, IfOk, OnOk};
+ghost use Rattle.std.specs.Prelude.{◌≡◌, ◌+◌, ◌≤◌, false, map, is_some, vec_len, vec_capacity, All, IfOk, OnOk};
 ghost use Rattle.pn_live.specs.Prelude.{tablets_in, tablets_of, IsNewLive};
 ghost use Rattle.pn_serve.specs.declared.server.limits.TheConstants.{MAX_SESSIONS};
 ghost use Rattle.pn_live.specs.declared.region.opening.TheConstants.{MAX_READERS};
 ghost use Rattle.pn_serve.specs.Server.Events.{ReadsBesides};
 ghost use Rattle.pn_serve.specs.Server.Reading.{ReadsStreams};
 ghost use Rattle.pn_serve.specs.Server.Sessions.{AllRead};
+ghost use Rattle.pn_stay.specs.Servers.{Leaves, LeavesAfter};
 
 mod accepting;
 mod control_buffers;
@@ -23,22 +24,24 @@ use crate::server::control_threads::start_controls;
 use crate::server::starting::ServerSizes;
 use crate::server::stopping::Stopping;
 use crate::server::threads::start_answering;
+use pn_join::NoMemory;
 use pn_line::Source;
 use pn_live::{LiveReader, LiveRegion};
+use pn_region::Region;
 use pn_serve::{
-    Acceptor, ControlsClosed, Counter, MAX_CONTROLS, OpenedRegion, Origin, ServeFault,
+    Acceptor, ControlsClosed, Counter, MAX_CONTROLS, OpenedRegion, Origin, ReadingEnd, ServeFault,
     SessionThread, Settings, Stream, Watchers, close_region, join_sessions, open_region,
     read_streams, take_commands,
 };
 use pn_tablet::Layout;
 use std::alloc::{AllocError, Global};
+use std::io;
 use std::io::ErrorKind;
 use std::marker::Model;
 use std::net::Net;
 use std::sync::{Arc, Wait};
 use std::thread::Threads;
 use std::time::Clock;
-use std::{io, mem};
 
 /// A live region and the threads that answer connections from it.
 pub struct StayingServer {
@@ -70,6 +73,15 @@ impl Model for StayingServer {
         × (vec_len server.running + vec_len server.readers ≤ vec_capacity server.readers) };
 }
 
+/// How a server that stays ends.
+#[derive(Drop)]
+pub struct ServerEnd {
+    /// Shows that a line asked for a stop. None: the threads that answered connections have ended.
+    pub stop: Option<ControlsClosed>,
+    /// The region of all that was published.
+    pub region: Result<Region, NoMemory>,
+}
+
 impl StayingServer {
     /// Opens a new live region, and begins to accept connections, of which at most `connections` are open at once. 1 to 16
     /// threads answer them, and threads of their own answer control sessions.
@@ -86,6 +98,7 @@ impl StayingServer {
         requires { (1 ≤ threads) × (threads ≤ MAX_SESSIONS) }
         ensures is_new { IfOk result (λ server. IsNewLive settings.layout server.live) }
         ensures threads { IfOk result (λ server. server.threads ≡ threads) }
+        ensures controlled { IfOk result (λ server. server.controlled ≡ is_some acceptor.control) }
     {
         let (layout, workers) = settings.into_parts();
         let controls = if acceptor.control.is_some() {
@@ -110,7 +123,7 @@ impl StayingServer {
         rt: &R,
         alloc: Global,
         streams: Vec<Stream<O>>,
-    ) -> Result<(), ServeFault>
+    ) -> Result<ReadingEnd, ServeFault>
     where
         R: Threads + Wait + Clock + Sync + Copy + Send + 'static,
         S: Source + Drop + Send + 'static,
@@ -118,6 +131,7 @@ impl StayingServer {
         ensures alone { self.old.controlled ≡ false → ReadsStreams (map (λ stream. stream.name) streams.items) self.old.live self.new.live result }
         ensures reads { ReadsBesides (map (λ stream. stream.name) streams.items) self.old.live self.new.live result }
         ensures threads { self.new.threads ≡ self.old.threads }
+        ensures controlled { self.new.controlled ≡ self.old.controlled }
     {
         let watchers = &self.watchers;
         let read = read_streams(rt, alloc, &mut self.live, self.workers, streams, watchers);
@@ -125,26 +139,35 @@ impl StayingServer {
     }
 
     /// Does what control sessions ask for until one asks the server to stop, and stops it. Without a control socket it waits
-    /// for the threads that answer connections. Answers whether the server was stopped.
-    pub fn wait<R: Threads + Wait + Clock>(self, rt: &R, alloc: Global) -> bool {
+    /// for the threads that answer connections.
+    pub fn wait<R: Threads + Wait + Clock>(self, rt: &R, alloc: Global) -> ServerEnd
+        ensures stop { is_some result.stop ≡ self.controlled }
+        ensures alone { self.controlled ≡ false → Leaves self.live result.region }
+        ensures region { LeavesAfter self.live result.region }
+    {
         let mut server = self;
         match &server.watchers.controls {
             Some(controls) => {
                 let live = &mut server.live;
                 let asked = take_commands(rt, alloc, live, controls);
                 let closed = server.stopping.run(rt, alloc, live, controls, asked);
-                server.end(rt, closed);
-                true
+                let region = server.leave(rt);
+                ServerEnd {
+                    stop: Some(closed),
+                    region,
+                }
             }
             None => {
-                server.join(rt);
-                false
+                let region = server.join(rt);
+                ServerEnd { stop: None, region }
             }
         }
     }
 
-    /// Answers nothing any more, closes the region, and leaves its memory and the threads to the end of the program.
-    pub fn leave<R: Wait + Clock>(self, rt: &R) {
+    /// Answers nothing any more, and closes the region. The threads are left to the end of the program.
+    pub fn leave<R: Wait + Clock>(self, rt: &R) -> Result<Region, NoMemory>
+        ensures { Leaves self.live result }
+    {
         let StayingServer {
             live,
             workers: _,
@@ -154,18 +177,13 @@ impl StayingServer {
             stopping,
         } = self;
         stopping.cut(rt);
-        if let Ok(region) = close_region(rt, live, readers) {
-            mem::forget(region);
-        }
-    }
-
-    // Ends a server that was stopped: no command is taken any more.
-    fn end<R: Wait + Clock>(self, rt: &R, _closed: ControlsClosed) {
-        self.leave(rt);
+        close_region(rt, live, readers)
     }
 
     // Waits for the threads, which end where the system's wait for sockets fails, and closes the region.
-    fn join<R: Threads + Wait>(self, rt: &R) {
+    fn join<R: Threads + Wait>(self, rt: &R) -> Result<Region, NoMemory>
+        ensures { Leaves self.live result }
+    {
         let StayingServer {
             live,
             workers: _,
@@ -176,7 +194,7 @@ impl StayingServer {
         } = self;
         let mut readers = readers;
         join_sessions(rt, &live, running, &mut readers);
-        let _ = close_region(rt, live, readers);
+        close_region(rt, live, readers)
     }
 }
 
@@ -205,6 +223,7 @@ where
     ensures readers { AllRead (tablets_in live.now) readers.new.items }
     ensures capacity { IfOk result (λ started. vec_len started.running + vec_len readers.new ≤ vec_capacity readers.new) }
     ensures all { IfOk result (λ started. vec_len started.running ≡ sizes.threads) }
+    ensures controlled { IfOk result (λ started. is_some started.watchers.controls ≡ is_some acceptor.control) }
 {
     let mut acceptor = acceptor;
     let beside = take_beside(alloc, live, readers, sizes.threads)?;

@@ -1,7 +1,7 @@
 //! What the writer of a live region does one after another: rounds of what streams report, and commands of control
 //! sessions.
 
-ghost use Rattle.std.specs.Prelude.{◌≡◌, ◌≢◌, ◌≤◌, ℕ, List, [], Option, map, None, false, IsTrue, IsFalse};
+ghost use Rattle.std.specs.Prelude.{◌≡◌, ◌≢◌, ◌≤◌, ℕ, List, [], Option, map, None, IsTrue, IsFalse};
 ghost use Rattle.pn_apply.specs.declared.reducing.TheConstants.{MAX_WORKERS};
 ghost use Rattle.pn_join.specs.Prelude.{Reaches};
 ghost use Rattle.pn_live.specs.LiveRegions.{core};
@@ -23,6 +23,15 @@ use std::sync::{Arc, Wait};
 use std::thread::Threads;
 use std::time::{Clock, Duration};
 
+/// How reading ends.
+#[derive(Drop)]
+pub enum ReadingEnd {
+    /// All streams have ended, and what they gave was taken.
+    StreamsEnded,
+    /// A control session asked the server to stop.
+    Stopped(StopAsked),
+}
+
 /// Runs rounds, and does commands between them where there are mailboxes for some, until all streams have ended, or a stop
 /// is asked for, or to the first fault. Where memory ran out and that is waited for, a round is tried again after a second.
 pub(crate) fn run_rounds<R: Threads + Wait + Clock + Sync>(
@@ -32,7 +41,7 @@ pub(crate) fn run_rounds<R: Threads + Wait + Clock + Sync>(
     workers: usize,
     mailboxes: &mut StreamMailboxes,
     controls: &Option<Arc<ControlMailboxes>>,
-) -> Result<(), ServeFault>
+) -> Result<ReadingEnd, ServeFault>
     requires workers { (1 ≤ workers) × (workers ≤ MAX_WORKERS) }
     ensures alone { controls.now ≡ None → RunsRounds mailboxes.old.at_fault (map (λ stream. stream.name) mailboxes.old.streams.items) live.old live.new result }
     ensures runs { RunsEvents mailboxes.old.at_fault (map (λ stream. stream.name) mailboxes.old.streams.items) live.old live.new result }
@@ -42,10 +51,10 @@ pub(crate) fn run_rounds<R: Threads + Wait + Clock + Sync>(
     let mut is_short = false;
     for _ in rt.forever() {
         if has_ended(mailboxes, &waiting) {
-            return Ok(());
+            return Ok(ReadingEnd::StreamsEnded);
         }
-        if is_stop_asked(rt, controls) {
-            return Ok(());
+        if let Some(asked) = find_stop(rt, controls) {
+            return Ok(ReadingEnd::Stopped(asked));
         }
         await_work(rt, mailboxes, is_short);
         obey_all(rt, alloc, live, controls, &mailboxes.streams);
@@ -77,13 +86,13 @@ fn await_work<R: Wait + Clock>(rt: &R, mailboxes: &StreamMailboxes, is_short: bo
     }
 }
 
-// Whether a control session has asked the server to stop.
-fn is_stop_asked<R: Wait>(rt: &R, controls: &Option<Arc<ControlMailboxes>>) -> bool
-    ensures { controls.now ≡ None → result ≡ false }
+// Shows that a stop was asked for, once a control session has done so.
+fn find_stop<R: Wait>(rt: &R, controls: &Option<Arc<ControlMailboxes>>) -> Option<StopAsked>
+    ensures { controls.now ≡ None → result ≡ None }
 {
     match controls {
-        Some(controls) => controls.stop_asked(rt).is_some(),
-        None => false,
+        Some(controls) => controls.show_stop(rt),
+        None => None,
     }
 }
 
