@@ -51,10 +51,9 @@ module _ (at_fault : AtFault) (old : LiveRegionValue) where
   round_taken : (names : List (List ℕ)) (input : RoundInputValue) (waits : Option RoundInputValue) (new : LiveRegionValue) → TakesInput at_fault input old new (Ok tt) → waits ≡ None → DoesRounds at_fault names (Some input) old names waits new
   round_taken names input waits new takes none = record { events = taken input ∷ []; alone = (tt, tt); done = (new, refl, takes, (refl, none, refl)) }
 
-  round_waits : (names : List (List ℕ)) (input : RoundInputValue) (waits : Option RoundInputValue) (new : LiveRegionValue) → at_fault ≡ GoOn → waits ≡ Some input → (new ≡ old) ⊎ IsRoundTried old input.deliveries new
+  round_waits : (names : List (List ℕ)) (input : RoundInputValue) (waits : Option RoundInputValue) (new : LiveRegionValue) → at_fault ≡ GoOn → waits ≡ Some input → IsRoundTried old new
       → DoesRounds at_fault names (Some input) old names waits new
-  round_waits names input waits new goes_on is (inl same) = record { events = []; alone = tt; done = (refl, is, same) }
-  round_waits names input waits new goes_on is (inr tries) = record { events = tried input ∷ []; alone = (tt, tt); done = (new, goes_on, refl, tries, (refl, is, refl)) }
+  round_waits names input waits new goes_on is tries = record { events = tried input ∷ []; alone = (tt, tt); done = (new, goes_on, refl, tries, (refl, is, refl)) }
 
   it_waits : (names : List (List ℕ)) (waiting : Option RoundInputValue) (left : List (List ℕ)) (waits : Option RoundInputValue) (new : LiveRegionValue) → (waiting ≡ None → names ≢ []) → at_fault ≡ GoOn
       → Waits names waiting old left waits new → DoesRounds at_fault names waiting old left waits new

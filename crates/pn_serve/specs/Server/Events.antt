@@ -26,7 +26,7 @@ AllDone at_fault names waiting old [] left waits new = (left ≡ names) × (wait
 AllDone at_fault names waiting old (gathered input ∷ later) left waits new = (still : List (List ℕ)) × (waiting ≡ None) × (names ≢ [])
     × IsNextInput names None old.marks input still × AllDone at_fault still (Some input) old later left waits new
 AllDone at_fault names waiting old (tried input ∷ later) left waits new = (between : LiveRegionValue) × (at_fault ≡ GoOn) × (waiting ≡ Some input)
-    × IsRoundTried old input.deliveries between × AllDone at_fault names waiting between later left waits new
+    × IsRoundTried old between × AllDone at_fault names waiting between later left waits new
 AllDone at_fault names waiting old (taken input ∷ later) left waits new = (between : LiveRegionValue) × (waiting ≡ Some input)
     × TakesInput at_fault input old between (Ok tt) × AllDone at_fault names None between later left waits new
 AllDone at_fault names waiting old (told asked said ∷ later) left waits new = (between : LiveRegionValue)
