@@ -79,10 +79,10 @@ rest_is_honest broker name text rest position images honest run more last is =
 -- ---- regions
 
 -- a region that has exactly what was published up to its marks
-record Holds (broker : BrokerRecord) (region : RegionValue) : Type 0 where
-  is : IsRegion region
-  has : HasImages region (up_to broker region.marks)
-  rise : AllRise region
+pub record Holds (broker : BrokerRecord) (region : RegionValue) : Type 0 where
+  pub is : IsRegion region
+  pub has : HasImages region (up_to broker region.marks)
+  pub rise : AllRise region
 
 one_round : (broker : BrokerRecord) (old new : RegionValue) (deliveries : List DeliveryValue) → Holds broker old → AreHonest broker deliveries → round old deliveries ≡ Ok new → Holds broker new
 one_round broker old new deliveries holds honest leads =
@@ -103,7 +103,7 @@ all_rounds broker at_fault names waiting old (taken input ∷ later) left waits 
     all_rounds broker at_fault names None all.0 later left waits new (one_round broker (core old) (core all.0) input.deliveries holds honest.0 all.2.1.taken) alone.1 honest.1 all.3
 all_rounds broker at_fault names waiting old (told asked said ∷ later) left waits new holds alone honest all = absurd alone.0
 
-new_holds : (broker : BrokerRecord) (bounds : Bounds) → IsLayout bounds → Holds broker (new_region bounds)
+pub new_holds : (broker : BrokerRecord) (bounds : Bounds) → IsLayout bounds → Holds broker (new_region bounds)
 new_holds broker bounds lawful = record { is = new_is bounds (map empty_tablet (ranges bounds)) [] lawful refl refl; has = new_has bounds; rise = new_region_rises bounds }
 
 taken_holds : (broker : BrokerRecord) (live : LiveRegionValue) → TookHonestly broker live → Holds broker (core live)

@@ -44,6 +44,7 @@ pub use sessions::session;
 pub use settings::Settings;
 pub use start_laws::a_start_from_copies_leaves_what_was_taken;
 pub use stream_laws::{
-    streams_beside_commands_leave_what_was_taken, streams_that_resume_leave_what_was_published,
+    honest_events_keep_what_is_published_honest, streams_beside_commands_leave_what_was_taken,
+    streams_that_resume_leave_what_was_published,
 };
 pub use version::VERSION;

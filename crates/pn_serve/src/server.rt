@@ -252,10 +252,8 @@ fn run_unless_refused<R: Threads + Wait + Clock + Sync>(
     if is_refused {
         return Err(ServeFault::Start);
     }
-    match run_rounds(rt, alloc, live, workers, mailboxes, &None) {
-        Ok(_) => Ok(()),
-        Err(fault) => Err(fault),
-    }
+    run_rounds(rt, alloc, live, workers, mailboxes, &None)?;
+    Ok(())
 }
 
 // Waits for the threads of streams, unless the rounds have a fault, which outranks that of a stream.
