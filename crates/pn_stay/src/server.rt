@@ -7,12 +7,12 @@ ghost use Rattle.pn_live.specs.declared.region.opening.TheConstants.{MAX_READERS
 ghost use Rattle.pn_serve.specs.Server.Events.{ReadsBesides};
 ghost use Rattle.pn_serve.specs.Server.Reading.{ReadsStreams};
 ghost use Rattle.pn_serve.specs.Server.Sessions.{AllRead};
-ghost use Rattle.pn_stay.specs.Servers.{Leaves, LeavesAfter};
 
 mod accepting;
 mod control_buffers;
 mod control_client;
 mod control_threads;
+pub(crate) mod ending;
 pub(crate) mod starting;
 mod stopping;
 mod threads;
@@ -24,14 +24,11 @@ use crate::server::control_threads::start_controls;
 use crate::server::starting::ServerSizes;
 use crate::server::stopping::Stopping;
 use crate::server::threads::start_answering;
-use pn_join::NoMemory;
 use pn_line::Source;
 use pn_live::{LiveReader, LiveRegion};
-use pn_region::Region;
 use pn_serve::{
-    Acceptor, ControlsClosed, Counter, MAX_CONTROLS, OpenedRegion, Origin, ReadingEnd, ServeFault,
-    SessionThread, Settings, Stream, Watchers, close_region, join_sessions, open_region,
-    read_streams, take_commands,
+    Acceptor, Counter, MAX_CONTROLS, OpenedRegion, Origin, ReadingEnd, ServeFault, SessionThread,
+    Settings, Stream, Watchers, open_region, read_streams,
 };
 use pn_tablet::Layout;
 use std::alloc::{AllocError, Global};
@@ -71,15 +68,6 @@ impl Model for StayingServer {
         × All (λ session. tablets_of session.promise.0.value ≡ tablets_in server.live) server.running.items
         × AllRead (tablets_in server.live) server.readers.items
         × (vec_len server.running + vec_len server.readers ≤ vec_capacity server.readers) };
-}
-
-/// How a server that stays ends.
-#[derive(Drop)]
-pub struct ServerEnd {
-    /// Shows that a line asked for a stop. None: the threads that answered connections have ended.
-    pub stop: Option<ControlsClosed>,
-    /// The region of all that was published.
-    pub region: Result<Region, NoMemory>,
 }
 
 impl StayingServer {
@@ -136,65 +124,6 @@ impl StayingServer {
         let watchers = &self.watchers;
         let read = read_streams(rt, alloc, &mut self.live, self.workers, streams, watchers);
         read
-    }
-
-    /// Does what control sessions ask for until one asks the server to stop, and stops it. Without a control socket it waits
-    /// for the threads that answer connections.
-    pub fn wait<R: Threads + Wait + Clock>(self, rt: &R, alloc: Global) -> ServerEnd
-        ensures stop { is_some result.stop ≡ self.controlled }
-        ensures alone { self.controlled ≡ false → Leaves self.live result.region }
-        ensures region { LeavesAfter self.live result.region }
-    {
-        let mut server = self;
-        match &server.watchers.controls {
-            Some(controls) => {
-                let live = &mut server.live;
-                let asked = take_commands(rt, alloc, live, controls);
-                let closed = server.stopping.run(rt, alloc, live, controls, asked);
-                let region = server.leave(rt);
-                ServerEnd {
-                    stop: Some(closed),
-                    region,
-                }
-            }
-            None => {
-                let region = server.join(rt);
-                ServerEnd { stop: None, region }
-            }
-        }
-    }
-
-    /// Answers nothing any more, and closes the region. The threads are left to the end of the program.
-    pub fn leave<R: Wait + Clock>(self, rt: &R) -> Result<Region, NoMemory>
-        ensures { Leaves self.live result }
-    {
-        let StayingServer {
-            live,
-            workers: _,
-            running: _,
-            readers,
-            watchers: _,
-            stopping,
-        } = self;
-        stopping.cut(rt);
-        close_region(rt, live, readers)
-    }
-
-    // Waits for the threads, which end where the system's wait for sockets fails, and closes the region.
-    fn join<R: Threads + Wait>(self, rt: &R) -> Result<Region, NoMemory>
-        ensures { Leaves self.live result }
-    {
-        let StayingServer {
-            live,
-            workers: _,
-            running,
-            readers,
-            watchers: _,
-            stopping: _,
-        } = self;
-        let mut readers = readers;
-        join_sessions(rt, &live, running, &mut readers);
-        close_region(rt, live, readers)
     }
 }
 

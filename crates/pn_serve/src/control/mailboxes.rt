@@ -4,6 +4,7 @@ ghost use Rattle.std.specs.Prelude.{◌≡◌, ◌≢◌, ℕ, List, Option, Non
 ghost use Rattle.pn_live.specs.Prelude.{tablets_in};
 ghost use Rattle.pn_serve.specs.Control.Answers.{IsGiven, question_of};
 ghost use Rattle.pn_serve.specs.Control.Commands.{answer_of};
+ghost use Rattle.pn_serve.specs.Control.Held.{is_unanswered};
 ghost use Rattle.pn_serve.specs.Server.Events.{ToldAll};
 ghost use Rattle.pn_serve.specs.Server.Rounds.{RoundInputValue};
 ghost use Rattle.pn_serve.specs.declared.control.mailboxes.HeldCommand.TheVariants.{Nothing, Asked, Taken, Answered, Closed};
@@ -109,10 +110,7 @@ impl ControlMailboxes {
 
     /// Asks the server to stop within the seconds from now on that a line said.
     pub(crate) fn stop<R: Wait + Clock>(&self, rt: &R, said: StopSaid) {
-        let time = self
-            .now(rt)
-            .saturating_add(said.seconds.saturating_mul(1_000));
-        self.stop.ask(rt, StopTime { time, said });
+        self.stop.ask(rt, StopTime::after(self.now(rt), said));
         self.log.close(rt);
         self.wakeup.notify(rt);
     }
@@ -221,7 +219,10 @@ impl ControlMailbox {
 }
 
 impl HeldCommand {
-    fn is_unanswered(&self) -> bool {
+    // Whether the session waits for the answer.
+    fn is_unanswered(&self) -> bool
+        ensures { result ≡ is_unanswered self.now }
+    {
         matches!(self, HeldCommand::Asked(_) | HeldCommand::Taken)
     }
 

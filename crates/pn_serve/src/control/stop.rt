@@ -1,6 +1,6 @@
 //! By when the server is to have stopped, and that a line said so.
 
-ghost use Rattle.std.specs.Prelude.{◌≡◌, ◌<◌, ◌≤◌, Ok, Some, IsSomeAnd, min, MatchBool, MatchOption};
+ghost use Rattle.std.specs.Prelude.{◌≡◌, ◌+◌, ◌*◌, ◌^◌, ◌-◌, ◌<◌, ◌≤◌, Ok, Some, IsSomeAnd, min, MatchBool, MatchOption};
 ghost use Rattle.pn_protocol.specs.Prelude.{control_at};
 ghost use Rattle.pn_protocol.specs.Command.Controls.{stop};
 ghost use Rattle.pn_serve.specs.Control.Stops.{IsSaid};
@@ -27,11 +27,20 @@ impl StopSaid {
 /// A stop, and the time by which the server is to have ended, in milliseconds since it began.
 #[derive(Clone, Copy)]
 pub(crate) struct StopTime {
-    pub(crate) time: u64,
+    time: u64,
     pub(crate) said: StopSaid,
 }
 
 impl StopTime {
+    /// The time so many seconds after `now` as a line said.
+    pub(crate) fn after(now: u64, said: StopSaid) -> StopTime
+        ensures time { result.time ≡ min (now + said.seconds * 1000) (2 ^ 64 - 1) }
+        ensures said { result.said ≡ said }
+    {
+        let time = now.saturating_add(said.seconds.saturating_mul(1_000));
+        StopTime { time, said }
+    }
+
     /// Whether the time has come.
     pub(crate) fn has_come(self, now: u64) -> bool
         ensures { MatchBool result (self.time ≤ now) (now < self.time) }
