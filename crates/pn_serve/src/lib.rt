@@ -8,6 +8,7 @@ mod machine;
 mod page_laws;
 mod recut_laws;
 mod repeat_laws;
+mod reply_laws;
 mod script;
 mod server;
 mod sessions;
@@ -31,6 +32,7 @@ pub use recut_laws::recut_copies_are_as_good;
 pub use repeat_laws::{
     a_repeated_deliver_leaves_no_trace_of_a_refused_one, repeated_delivers_leave_the_same_region,
 };
+pub use reply_laws::later_replies_show_no_older_record;
 pub use script::{Counts, MAX_LINES, RunFault, run, run_to_exit};
 pub use server::{
     Acceptor, ComesBack, Counter, FaultLog, MAX_SESSIONS, NextWriter, OpenedRegion, Origin,
