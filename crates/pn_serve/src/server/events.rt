@@ -57,7 +57,7 @@ pub(crate) fn run_rounds<R: Threads + Wait + Clock + Sync>(
         if let Some(asked) = find_stop(rt, controls) {
             return Ok(ReadingEnd::Stopped(asked));
         }
-        let _awaited = await_work(rt, mailboxes, is_short);
+        let _ = await_work(rt, mailboxes, is_short);
         obey_all(rt, alloc, live, controls, &mailboxes.streams);
         if waiting.is_none() && !mailboxes.has_report(rt) {
             continue;
@@ -156,7 +156,7 @@ pub fn take_commands<R: Wait>(
         if let Some(asked) = controls.show_stop(rt) {
             return asked;
         }
-        let _waited = controls.wakeup.wait(rt);
+        let _ = controls.wakeup.wait(rt);
     }
     unreachable!()
 }
@@ -173,6 +173,6 @@ pub fn take_commands_for<R: Wait + Clock>(
     ensures runs { RunsCommands GoOn live.old live.new }
     ensures same { tablets_in live.new ≡ tablets_in live.old }
 {
-    let _waited = controls.wakeup.wait_at_most(rt, most);
+    let _ = controls.wakeup.wait_at_most(rt, most);
     controls.obey_all(rt, alloc, live, &[]);
 }
