@@ -45,6 +45,7 @@ pub use progress::{message_prefix, tell_progress};
 pub use reasons::{describe_error, format_after, format_failure, format_refusal, format_taken};
 pub use scripted::{ScriptedSink, ScriptedSource};
 pub use server::StayingServer;
+pub use server::ending::ServerEnd;
 pub use server::starting::ServerSizes;
 pub use shared::share;
 pub use socket_file::{ListenFault, OWNER_ALONE, SocketFile, format_lock, remove_sockets};
