@@ -161,7 +161,8 @@ impl LiveRegion {
         ensures joins { IfOk result (λ ready. AreJoinsIn (map state_at self.old.tablets) ready.1.items × HavePositions ready.1.items) }
         ensures operations { IfOk result (λ ready. ready.1.items ≡ joins (core self.old) shares.now ready.0) }
         ensures nexts { IfOk result (λ ready. ready.2.nexts.items ≡ all_stepped (map state_at self.old.tablets) ready.1.items) }
-        ensures changes { IfOk result (λ ready. (flat_map (λ list. list.items) ready.2.lists.items ≡ flat_map (λ list. list) (all_changes (map state_at self.old.tablets) ready.1.items))
+        ensures changes { IfOk result (λ ready.
+            (flat_map (λ list. list.items) ready.2.lists.items ≡ flat_map (λ list. list) (all_changes (map state_at self.old.tablets) ready.1.items))
             × (ready.2.changed ≡ length (flat_map (λ list. list.items) ready.2.lists.items))) }
         ensures notes { IfOk result (λ ready. (ready.2.notes.items ≡ []) × (vec_capacity ready.2.notes ≡ length self.old.tablets)) }
         ensures is_region { IsRegion (core self.old) }
