@@ -4,7 +4,8 @@ ghost use Rattle.std.specs.Prelude.{◌≡◌, ◌≤◌, ℕ, List, [], None, S
 ghost use Rattle.clap.specs.Words.{Row, Text, app_of, first_of, found_of, new_app, one_of, rows_of, rule_of, with_rule};
 ghost use Rattle.clap.specs.declared.builder.command.Command.TheViews.{out-Command};
 ghost use Rattle.clap.specs.declared.builder.value_parser.ValueParser.TheVariants as values;
-ghost use Rattle.pn_arguments.specs.Options.{bounds_option, flag_option, number_option, option_of, plain_option, program, serve as serve_app, streams_words, unread_option, workers_option};
+ghost use Rattle.pn_arguments.specs.Options.{bounds_option, flag_option, number_option, option_of, plain_option};
+ghost use Rattle.pn_arguments.specs.Options.{program, serve as serve_app, streams_words, unread_option, workers_option};
 ghost use Rattle.pn_arguments.specs.Commands.{is_set, number_at, number_in};
 
 use clap::builder::ValueParser;
