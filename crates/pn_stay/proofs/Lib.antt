@@ -3,6 +3,7 @@ pub mod Crossing
 pub mod Endings
 pub mod Held
 pub mod Keys
+pub mod Looks
 pub mod Pieces
 pub mod Quarters
 pub mod UnreadClients

@@ -1,6 +1,6 @@
 //! The reader of an event loop, whose replies keep no more records than there is room for.
 
-ghost use Rattle.std.specs.Prelude.{◌≡◌, ◌<◌, ◌≤◌, max, None, IfSome};
+ghost use Rattle.std.specs.Prelude.{◌≡◌, ◌<◌, ◌≤◌, max, true, None, IfSome};
 ghost use Rattle.pn_lines.specs.Answers.{answer_left as engine_left, answer_of};
 ghost use Rattle.pn_lines.specs.declared.handler.TheConstants.{MAX_ANSWER_UNITS};
 ghost use Rattle.pn_serve.specs.Lines.Handled.{pieces_left};
@@ -164,6 +164,13 @@ impl BoundedReader {
         reply.text.0.weight()
     }
 
+    // Whether a line that was put off waits on.
+    fn must_wait(&self, weight: u64, waits: u64) -> bool
+        ensures { result ≡ true → 0 < waits }
+    {
+        waits > 0 && !fits(weight, self.room)
+    }
+
     // Asks a line again that was put off, if there is room for its reply.
     fn ask_again(
         &mut self,
@@ -178,7 +185,7 @@ impl BoundedReader {
         ensures few { result.units ≤ max units MAX_ANSWER_UNITS }
         ensures kept { KnowsNoLess self.old self.new }
     {
-        if waits > 0 && !fits(weight, self.room) {
+        if self.must_wait(weight, waits) {
             self.wanted = Some(weight);
             let waits = waits - 1;
             return Answered {
