@@ -1,6 +1,7 @@
 pub mod Buffers
 pub mod Crossing
 pub mod Endings
+pub mod EndsLongest
 pub mod Held
 pub mod Keys
 pub mod Looks
