@@ -6,6 +6,7 @@ ghost use Rattle.pn_protocol.specs.Reply.Stats.{connections_data, fault_line, fa
 
 use crate::reply::line_stats::LineStats;
 use crate::reply::shown::{Shown, shown_line, write_array};
+use crate::reply::time_stats::TimeStats;
 use crate::reply::unread_stats::UnreadStats;
 use json::Writer;
 use pn_join::{NoMemory, StreamName};
@@ -23,6 +24,8 @@ pub struct Stats {
     pub streams: Vec<StreamStats>,
     /// The tablets, in their order.
     pub tablets: Vec<TabletStats>,
+    /// How long lines and rounds took.
+    pub times: TimeStats,
     pub unread: UnreadStats,
     /// For how many seconds the server runs.
     pub uptime: u64,
@@ -118,6 +121,8 @@ impl Shown for Stats {
         write_array(writer, &self.streams)?;
         writer.key("tablets")?;
         write_array(writer, &self.tablets)?;
+        writer.key("times")?;
+        self.times.write(writer)?;
         writer.key("unread")?;
         self.unread.write(writer)?;
         write_number_member(writer, "uptime", self.uptime)?;
