@@ -1,13 +1,12 @@
 -- How a checker answers lines.
-use Rattle.std.specs.Prelude.{◌≡◌, ◌⊎◌, ℕ, true, false, List, [], ◌∷◌, ◌++◌, length, Option, None, Some, Result, Ok, Err, IfSome, OnOk}
-use Rattle.std.specs.Io.KnownBytes.{Appends}
-use Rattle.pn_line.specs.Sent.{AppendsPrefix}
-use Rattle.pn_line.specs.Text.{last_line, lines_of}
+use Rattle.std.specs.Prelude.{◌≡◌, ◌⊎◌, ℕ, true, false, List, [], ◌∷◌, length, Option, None, Some}
+use Rattle.pn_line.specs.Text.{last_line}
 use Rattle.pn_lines.specs.Handling.{Handling, by}
 use Rattle.pn_lines.specs.Replies.{Replied, one_if}
 use Rattle.pn_lines.specs.declared.handler.EndedBy.{EndedBy}
 use Rattle.pn_lines.specs.declared.handler.EndedBy.TheVariants.{Newline, Input}
-use Rattle.pn_check.specs.Checking.{all_told, counted, refused}
+use Rattle.pn_check.specs.Checking.{all_told, counted, next, refused}
+use Rattle.pn_check.specs.Told.{told}
 use Rattle.pn_check.specs.declared.checker.Checker.{Checker}
 
 -- the lines that what ended so is: a last part without a byte is none
@@ -27,6 +26,11 @@ pub record Tells (was now : Checker) (lines : List (List ℕ)) (replied : Replie
   pub goes_on : now.is_spent ≡ false
   pub text : replied.text ≡ all_told was.lines lines
   pub refuses : one_if replied.refused ≡ length (refused was.lines lines)
+
+-- the next line is told of, unless memory has run out
+abbrev pub TellsNext : Checker → List ℕ → Checker → Option (List ℕ) → Type 0
+TellsNext was line now text = ((now.is_spent ≡ true) × (text ≡ None))
+    ⊎ ((now.is_spent ≡ was.is_spent) × (now.lines ≡ next was.lines) × (text ≡ told (next was.lines) line))
 
 -- memory has run out, and nothing is told
 abbrev pub IsSpent : Checker → Replied → Type 0

@@ -3,7 +3,7 @@
 ghost use Rattle.std.specs.Prelude.{◌≡◌, ◌≢◌, ℕ, List, [], option_map, drop, MatchBool};
 ghost use Rattle.pn_line.specs.Prelude.{kept_bytes};
 ghost use Rattle.pn_lines.specs.Answers.{answer_of, done};
-ghost use Rattle.pn_check.specs.Checked.{Checks, replied_of};
+ghost use Rattle.pn_check.specs.Checked.{Checks, TellsNext, replied_of};
 
 use crate::told::tell_line;
 use pn_json::append_bytes;
@@ -70,6 +70,13 @@ impl Checker {
         if self.is_spent || is_no_line(line, ended) {
             return None;
         }
+        self.tell_next(alloc, line)
+    }
+
+    // What is told of the next line, if no region takes it.
+    fn tell_next(&mut self, alloc: Global, line: &[u8]) -> Option<Vec<u8>>
+        ensures { TellsNext self.old line.now self.new (option_map (λ told. told.items) result) }
+    {
         self.lines = self.lines.saturating_add(1);
         match tell_line(alloc, line, self.lines) {
             Ok(told) => told,

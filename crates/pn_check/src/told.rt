@@ -40,7 +40,7 @@ fn tell(
     number: u64,
     name: Option<&str>,
 ) -> Result<Vec<u8>, NoMemory>
-    ensures { IfOk result (λ text. text.items ≡ line_of (told_data fault.now number (seen_text name))) }
+    ensures { IfOk result (λ text. text.items ≡ line_of (told_data fault.now number (seen_text name.entry))) }
 {
     let mut writer = begin_line(alloc)?;
     write_fault(&mut writer, fault, number, name)?;
@@ -54,7 +54,7 @@ fn write_fault(
     number: u64,
     name: Option<&str>,
 ) -> Result<(), NoMemory>
-    ensures { OnOk result (Appends writer.old writer.new (value_tokens (told_data fault.now number (seen_text name)))) }
+    ensures { OnOk result (Appends writer.old writer.new (value_tokens (told_data fault.now number (seen_text name.entry)))) }
 {
     writer.begin_object()?;
     write_text_member(writer, "error", fault_word(fault))?;
@@ -67,7 +67,7 @@ fn write_fault(
 
 // A member that is a text, or null where there is none.
 fn write_text_or_null(writer: &mut Writer, name: &str, text: Option<&str>) -> Result<(), NoMemory>
-    ensures { OnOk result (Appends writer.old writer.new (member_tokens name.now (text_or_null (seen_text text)))) }
+    ensures { OnOk result (Appends writer.old writer.new (member_tokens name.now (text_or_null (seen_text text.entry)))) }
 {
     match text {
         Some(text) => write_text_member(writer, name, text),
