@@ -4,7 +4,7 @@ ghost use Rattle.std.specs.Prelude.{◌≡◌, ◌≤◌, ℕ, List, [], None, S
 ghost use Rattle.clap.specs.Words.{Row, Text, app_of, first_of, found_of, new_app, one_of, rows_of, rule_of, with_rule};
 ghost use Rattle.clap.specs.declared.builder.command.Command.TheViews.{out-Command};
 ghost use Rattle.clap.specs.declared.builder.value_parser.ValueParser.TheVariants as values;
-ghost use Rattle.pn_arguments.specs.Options.{bounds_option, flag_option, number_option, option_of, plain_option, program, serve as serve_app, streams_words, unread_option, workers_option};
+ghost use Rattle.pn_arguments.specs.Options.{bounds_option, check as check_app, flag_option, number_option, option_of, plain_option, program, serve as serve_app, streams_words, unread_option, workers_option};
 ghost use Rattle.pn_arguments.specs.Commands.{is_set, number_at, number_in};
 
 use clap::builder::ValueParser;
@@ -29,13 +29,23 @@ pub(crate) const MAX_UNREAD: u32 = 4_000_000_000;
 const EXAMPLES: &str = "\
 Examples:
   pnuts replay < script
+  pnuts check < images
   pnuts serve --stay --socket /run/pnuts/socket east=/run/pnuts/east";
+
+const CHECK_ABOUT: &str =
+    "Tells the lines on standard input, images or messages, that no region takes, and why";
 
 const REPLAY_ABOUT: &str =
     "Answers the script on standard input, a reply a line, on standard output";
 
 const SERVE_ABOUT: &str =
     "Reads streams from files or sockets while it serves sessions over TCP or a Unix socket";
+
+/// The examples of `pnuts check --help`.
+const CHECK_EXAMPLES: &str = "\
+Examples:
+  pnuts check < images
+  psql --quiet --tuples-only --no-align --command 'SELECT image FROM outbox ORDER BY id' | pnuts check";
 
 /// The examples of `pnuts replay --help`.
 const REPLAY_EXAMPLES: &str = "\
@@ -100,7 +110,19 @@ pub(crate) fn command<'w>(alloc: Global) -> Result<Command<'w>, AllocError>
         .after_help(EXAMPLES)
         .subcommand_required(true);
     let replay = over_region(alloc, "replay", REPLAY_ABOUT, REPLAY_EXAMPLES)?;
-    command.subcommand(replay)?.subcommand(serve(alloc)?)
+    command
+        .subcommand(check(alloc))?
+        .subcommand(replay)?
+        .subcommand(serve(alloc)?)
+}
+
+fn check<'w>(alloc: Global) -> Command<'w>
+    ensures app { app_of result ≡ check_app }
+    ensures local { (out-Command result).has_globals ≡ false }
+{
+    Command::new(alloc, "check")
+        .about(CHECK_ABOUT)
+        .after_help(CHECK_EXAMPLES)
 }
 
 fn serve<'w>(alloc: Global) -> Result<Command<'w>, AllocError>
