@@ -110,12 +110,14 @@ fn work_parts<
     let mut front = || -> Result<Vec<M>, NoMemory>
         requires { IsSync R.row × IsSync G.row × IsSync W.row × IsSend I.row × IsSend M.row × (1 ≤ first.workers)
             × Each (W.fits task.now.work.now) first.first low.now × IsSpanOf (length low.now) first }
-        ensures { Worked (W.turns task.entry.now.work.now) (W.makes task.entry.now.work.now) (W.kept task.entry.now.work.now) first.first low.entry.now result low.exit.now }
+        ensures { Worked (W.turns task.entry.now.work.now) (W.makes task.entry.now.work.now)
+            (W.kept task.entry.now.work.now) first.first low.entry.now result low.exit.now }
     { work_span(rt, task, first, low) };
     let mut back = || -> Result<Vec<M>, NoMemory>
         requires { IsSync R.row × IsSync G.row × IsSync W.row × IsSend I.row × IsSend M.row × (1 ≤ second.workers)
             × Each (W.fits task.now.work.now) second.first high.now × IsSpanOf (length high.now) second }
-        ensures { Worked (W.turns task.entry.now.work.now) (W.makes task.entry.now.work.now) (W.kept task.entry.now.work.now) second.first high.entry.now result high.exit.now }
+        ensures { Worked (W.turns task.entry.now.work.now) (W.makes task.entry.now.work.now)
+            (W.kept task.entry.now.work.now) second.first high.entry.now result high.exit.now }
     { work_span(rt, task, second, high) };
     call_both(rt, at_once, &mut front, &mut back)
 }

@@ -34,9 +34,14 @@ impl Model for GetWalk {
 
     ghost coded = { get_walk_code };
 
-    ghost view = { λ walk. record { keys = walk.keys.items; cells = option_map {U = List (Option CellValue)} (λ cells. cells.items) walk.cells; read = walk.read } };
+    ghost view = { λ walk. record {
+      keys = walk.keys.items;
+      cells = option_map {U = List (Option CellValue)} (λ cells. cells.items) walk.cells;
+      read = walk.read;
+    } };
 
-    ghost invariant = { λ walk. (walk.read ≤ length walk.keys.items) × IfSome walk.cells (λ cells. (length walk.keys.items ≤ vec_capacity cells) × (vec_len cells ≡ walk.read)) };
+    ghost invariant = { λ walk. (walk.read ≤ length walk.keys.items) × IfSome walk.cells (λ cells. (length walk.keys.items ≤ vec_capacity cells)
+        × (vec_len cells ≡ walk.read)) };
 }
 
 impl GetWalk {
@@ -63,7 +68,8 @@ impl GetWalk {
     /// Reads at most `most` more keys, each by an entry of its own. Where memory runs out, the other keys are still read, since the
     /// fault of a tablet is answered first.
     pub fn go_on(self, reader: &mut LiveReader, most: usize) -> Result<GetWalk, ScanFault>
-        ensures goes { (trace : List (LookMade LiveReaderValue)) → IsOnGet reader.old.layout self trace → GetsOn reader.old.layout reader.old reader.new self.keys result trace }
+        ensures goes { (trace : List (LookMade LiveReaderValue)) → IsOnGet reader.old.layout self trace
+            → GetsOn reader.old.layout reader.old reader.new self.keys result trace }
         ensures few { IfOk result (λ walk. walk.read ≤ self.read + most) }
         ensures left { IfOk result (λ walk. length walk.keys - walk.read ≡ length self.keys - self.read - most) }
         ensures all { IfOk result (λ walk. length self.keys ≤ self.read + most → walk.read ≡ length self.keys) }
@@ -89,7 +95,8 @@ impl GetWalk {
     /// The keys and their cells, once all were read; `Memory` where memory ran out.
     pub fn end(self) -> Result<(Vec<Key>, Vec<Option<Cell>>), ScanFault>
         requires { self.read ≡ length self.keys }
-        ensures ends { (bounds : Bounds) (trace : List (LookMade LiveReaderValue)) → IsOnGet bounds self trace → EndsGet bounds self.keys (cells_shown result) trace }
+        ensures ends { (bounds : Bounds) (trace : List (LookMade LiveReaderValue)) → IsOnGet bounds self trace
+            → EndsGet bounds self.keys (cells_shown result) trace }
         ensures keys { IfOk result (λ got. got.0.items ≡ self.keys) }
     {
         let GetWalk { keys, cells, .. } = self;

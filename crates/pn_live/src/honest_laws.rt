@@ -21,21 +21,27 @@ ghost use Rattle.pn_live.specs.TabletReaders.{TabletReaderValue, Finds, Learns, 
 /// Honest deliveries and copies keep what is published honest, through rounds, also those that ran out of memory, losses
 /// and adoptions, and where marks advance. All other refusals change nothing.
 pub fn honest_calls_keep_lists_honest()
-    ensures opened { (broker : BrokerRecord) (ranges : List Ends) (tablets : List PublishedTabletValue) → AreNewTablets ranges tablets → AreHonestTablets broker tablets }
-    ensures round { (broker : BrokerRecord) (old new : LiveRegionValue) (deliveries : List DeliveryValue) → IsRegion (core old) → AreHonestTablets broker old.tablets → AreHonest broker deliveries
+    ensures opened { (broker : BrokerRecord) (ranges : List Ends) (tablets : List PublishedTabletValue) → AreNewTablets ranges tablets
+        → AreHonestTablets broker tablets }
+    ensures round { (broker : BrokerRecord) (old new : LiveRegionValue) (deliveries : List DeliveryValue) → IsRegion (core old)
+        → AreHonestTablets broker old.tablets → AreHonest broker deliveries
         → round (core old) deliveries ≡ Ok (core new) → new.tablets ≡ tablets_after_round old deliveries new.marks → AreHonestTablets broker new.tablets }
-    ensures half { (broker : BrokerRecord) (old new : LiveRegionValue) (deliveries : List DeliveryValue) → IsRegion (core old) → AreHonestTablets broker old.tablets → AreHonest broker deliveries
+    ensures half { (broker : BrokerRecord) (old new : LiveRegionValue) (deliveries : List DeliveryValue) → IsRegion (core old)
+        → AreHonestTablets broker old.tablets → AreHonest broker deliveries
         → IsHalfPublished old deliveries new → IsHalfTaken (core old) deliveries (core new) → AreHonestTablets broker new.tablets }
-    ensures loss { (broker : BrokerRecord) (old new : LiveRegionValue) (tablet : ℕ) → IsRegion (core old) → AreHonestTablets broker old.tablets → new ≡ after_op_at old tablet Lose → AreHonestTablets broker new.tablets }
+    ensures loss { (broker : BrokerRecord) (old new : LiveRegionValue) (tablet : ℕ) → IsRegion (core old) → AreHonestTablets broker old.tablets
+        → new ≡ after_op_at old tablet Lose → AreHonestTablets broker new.tablets }
     ensures adoption { (broker : BrokerRecord) (old new : LiveRegionValue) (copy : TabletCopyValue) → IsRegion (core old) → AreHonestTablets broker old.tablets
         → IsCopy copy.range copy.marks copy.cells → IsHonestCopy broker copy → Adopts copy old new → AreHonestTablets broker new.tablets }
-    ensures advance { (broker : BrokerRecord) (old new : LiveRegionValue) → AreHonestTablets broker old.tablets → Advances old new → AreHonestTablets broker new.tablets }
+    ensures advance { (broker : BrokerRecord) (old new : LiveRegionValue) → AreHonestTablets broker old.tablets → Advances old new
+        → AreHonestTablets broker new.tablets }
 {}
 
 /// Of an honest tablet that serves at both, a reader's second answer shows no older record than its first, nor fewer
 /// contents of a version, whatever losses lie between.
 pub fn answers_never_go_back_across_losses()
-    ensures { (broker : BrokerRecord) (first seen later last : TabletReaderValue) (was now : TabletStateValue) → Finds first was seen → KnowsMore seen later → Finds later now last
+    ensures { (broker : BrokerRecord) (first seen later last : TabletReaderValue) (was now : TabletStateValue) → Finds first was seen
+        → KnowsMore seen later → Finds later now last
         → IsHonestList broker last.range last.seen → was.status ≡ Serving → now.status ≡ Serving
         → (key : List ℕ) → HoldsStill (find bytes_cmp key was.cells) (find bytes_cmp key now.cells) }
 {}
@@ -43,9 +49,11 @@ pub fn answers_never_go_back_across_losses()
 /// Of an honest tablet that serves, a reader that learnt the front of an honest round finds each of its images, or a
 /// newer version, whatever losses follow.
 pub fn a_learnt_front_is_not_missed_across_losses()
-    ensures { (broker : BrokerRecord) (tablet : PublishedTabletValue) (old marks : Positions) (deliveries : List DeliveryValue) (reader learnt later last : TabletReaderValue) (now : TabletStateValue)
+    ensures { (broker : BrokerRecord) (tablet : PublishedTabletValue) (old marks : Positions) (deliveries : List DeliveryValue)
+        (reader learnt later last : TabletReaderValue) (now : TabletStateValue)
         → AreHonest broker deliveries → new_marks old deliveries ≡ Ok marks
         → reader.range ≡ tablet.range → Learns reader (note_of (with_op tablet (join_in marks (all_images deliveries) tablet.range))) learnt
         → KnowsMore learnt later → Finds later now last → IsHonestList broker last.range last.seen → now.status ≡ Serving
-        → (image : Image) → Contains (all_images deliveries) image → IsTrue (in_range tablet.range image.key) → HasImage image (find bytes_cmp image.key now.cells) }
+        → (image : Image) → Contains (all_images deliveries) image → IsTrue (in_range tablet.range image.key)
+        → HasImage image (find bytes_cmp image.key now.cells) }
 {}

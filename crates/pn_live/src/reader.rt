@@ -1,6 +1,7 @@
 //! Readers of a live region.
 
-ghost use Rattle.std.specs.Prelude.{◌≡◌, ◌+◌, ◌≤◌, ◌<◌, ◌++◌, ◌∷◌, [], true, false, List, map, max, Option, Some, Ok, Err, IfOk, IfErr, IfSome, IsSomeAnd, IsOkAnd, IsErrOf, length, vec_capacity, vec_len};
+ghost use Rattle.std.specs.Prelude.{◌≡◌, ◌+◌, ◌≤◌, ◌<◌, ◌++◌, ◌∷◌, [], true, false, List, map, max};
+ghost use Rattle.std.specs.Prelude.{Option, Some, Ok, Err, IfOk, IfErr, IfSome, IsSomeAnd, IsOkAnd, IsErrOf, length, vec_capacity, vec_len};
 ghost use Rattle.pn_tablet.specs.Prelude.{tablet_of, TabletStateValue};
 ghost use Rattle.pn_scan.specs.Prelude.{Look, first_page, IsRead, IsGet, IsScan};
 ghost use Rattle.pn_scan.specs.Views.{is_memory};

@@ -47,7 +47,13 @@ impl Model for LiveRegion {
 
     ghost view = { λ live. record { layout = live.layout; tablets = live.tablets.items; marks = live.marks; log = live.log; order = live.order } };
 
-    ghost invariant = { λ live. IsLawfulRegion (core (record { layout = live.layout; tablets = live.tablets.items; marks = live.marks; log = live.log; order = live.order })) };
+    ghost invariant = { λ live. IsLawfulRegion (core (record {
+      layout = live.layout;
+      tablets = live.tablets.items;
+      marks = live.marks;
+      log = live.log;
+      order = live.order;
+    })) };
 }
 
 impl LiveRegion {

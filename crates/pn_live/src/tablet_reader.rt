@@ -37,7 +37,12 @@ impl Model for TabletReader {
 
     ghost coded = { tablet_reader_code };
 
-    ghost view = { λ reader. record { book = reader.handle.told.seen.book; range = range_of reader.handle; seen = seen_by reader.handle; told = told_to reader.handle } };
+    ghost view = { λ reader. record {
+      book = reader.handle.told.seen.book;
+      range = range_of reader.handle;
+      seen = seen_by reader.handle;
+      told = told_to reader.handle;
+    } };
 }
 
 impl TabletReader {

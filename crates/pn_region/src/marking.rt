@@ -6,7 +6,8 @@ ghost use Rattle.std.specs.Int.{from_bool};
 ghost use Rattle.pn_join.specs.Prelude.{name_cmp, is_position, position_of, are_positions};
 ghost use Rattle.pn_tablet.specs.Prelude.{Refuses};
 ghost use Rattle.pn_region.specs.declared.marking.TheConstants.{MAX_STREAMS};
-ghost use Rattle.pn_region.specs.Marking.{with_images, last_of as the_last_of, last_of_stream as the_last_of_stream, with_deliveries, marks_after, new_marks, is_memory};
+ghost use Rattle.pn_region.specs.Marking.{with_images, last_of as the_last_of, last_of_stream as the_last_of_stream};
+ghost use Rattle.pn_region.specs.Marking.{with_deliveries, marks_after, new_marks, is_memory};
 
 use crate::RoundFault;
 use pn_apply::Batch;
@@ -57,7 +58,8 @@ fn is_new_stream<B: Batch>(marks: &Marks, before: &[B], delivery: &B) -> Result<
         ≡ Ok (with_deliveries (with_deliveries marks.now (map B.delivery before.now)) (B.delivery delivery.now ∷ []))) }
     ensures count { IfOk result (λ is_new. length (with_deliveries (with_deliveries marks.now (map B.delivery before.now)) (B.delivery delivery.now ∷ []))
         ≡ length (with_deliveries marks.now (map B.delivery before.now)) + from_bool is_new) }
-    ensures positions { OnOk result (IsTrue (are_positions (with_deliveries (with_deliveries marks.now (map B.delivery before.now)) (B.delivery delivery.now ∷ [])))) }
+    ensures positions { OnOk result (IsTrue (are_positions
+        (with_deliveries (with_deliveries marks.now (map B.delivery before.now)) (B.delivery delivery.now ∷ [])))) }
     ensures refused { IfErr result (λ fault.
         marks_after (with_deliveries marks.now (map B.delivery before.now)) (with_images (B.delivery delivery.now ∷ [])) ≡ Err fault) }
 {

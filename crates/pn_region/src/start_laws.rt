@@ -39,7 +39,8 @@ pub fn a_start_from_copies_is_as_good_as_whole_streams()
         → StartsFrom copies bounds started → AreHonestCopies broker copies → NoneAhead started
         → AreAccepted events → AllLeadTo events started region → AreHonestEvents broker events
         → HasImages region (up_to broker region.marks) }
-    ensures alike { (broker : BrokerRecord) (copies : List TabletCopyValue) (bounds others : Bounds) (events more : List RegionEvent) (started region other : RegionValue)
+    ensures alike { (broker : BrokerRecord) (copies : List TabletCopyValue) (bounds others : Bounds)
+        (events more : List RegionEvent) (started region other : RegionValue)
         → StartsFrom copies bounds started → AreHonestCopies broker copies → NoneAhead started
         → AreAccepted events → AllLeadTo events started region → AreHonestEvents broker events
         → IsLayout others → AreAccepted more → AllLeadTo more (new_region others) other → AreHonestEvents broker more

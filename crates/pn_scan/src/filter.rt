@@ -7,7 +7,8 @@ ghost use Rattle.std.specs.Option.{option_copied};
 ghost use Rattle.pn_record.specs.Prelude.{bytes_cmp, shown_field, shown_value};
 ghost use Rattle.pn_tablet.specs.Prelude.{is_from as from_end, is_before as before_end};
 ghost use Rattle.pn_scan.specs.Queries.{shown_condition};
-ghost use Rattle.pn_scan.specs.Conditions.{field_of as name_of, are_equal as equal_values, begins_with as has_prefix, comes_before as is_before_value, is_met as value_met, meets as one_met, shows as all_met};
+ghost use Rattle.pn_scan.specs.Conditions.{field_of as name_of, are_equal as equal_values, begins_with as has_prefix};
+ghost use Rattle.pn_scan.specs.Conditions.{comes_before as is_before_value, is_met as value_met, meets as one_met, shows as all_met};
 ghost use Rattle.pn_scan.specs.Shown.{is_after as after_end, is_shown_from};
 ghost use Rattle.pn_scan.specs.Works.{contents_work, shows_from, Knows, Stops};
 ghost use Rattle.pn_scan.specs.declared.work.TheConstants.{MAX_COMPARED, MAX_PART_WORK};
@@ -40,8 +41,10 @@ pub(crate) fn look_at(
 ) -> ContentsLook
     requires to { before_end query.now.to key.now ≡ true }
     requires few { done ≤ max most 1 }
-    ensures known { result.known ≡ true → Knows (λ n. is_shown_from query.now n (key.now, cell.now)) (λ n. contents_work query.now.conditions (drop n (keys cell.now.1))) from most done result }
-    ensures stopped { result.known ≡ false → Stops (λ n. is_shown_from query.now n (key.now, cell.now)) (λ n. contents_work query.now.conditions (drop n (keys cell.now.1))) from most done result }
+    ensures known { result.known ≡ true → Knows (λ n. is_shown_from query.now n (key.now, cell.now))
+        (λ n. contents_work query.now.conditions (drop n (keys cell.now.1))) from most done result }
+    ensures stopped { result.known ≡ false → Stops (λ n. is_shown_from query.now n (key.now, cell.now))
+        (λ n. contents_work query.now.conditions (drop n (keys cell.now.1))) from most done result }
 {
     let look = look_at_contents(query.conditions(), cell.contents(), from, most, done);
     let shows = is_shown(query, key, look.shows);
@@ -62,8 +65,10 @@ fn look_at_contents(
     done: usize,
 ) -> ContentsLook
     requires { done ≤ max most 1 }
-    ensures known { result.known ≡ true → Knows (λ n. shows_from (map shown_condition conditions.now) n contents.now) (λ n. contents_work (map shown_condition conditions.now) (drop n contents.now)) from most done result }
-    ensures stopped { result.known ≡ false → Stops (λ n. shows_from (map shown_condition conditions.now) n contents.now) (λ n. contents_work (map shown_condition conditions.now) (drop n contents.now)) from most done result }
+    ensures known { result.known ≡ true → Knows (λ n. shows_from (map shown_condition conditions.now) n contents.now)
+        (λ n. contents_work (map shown_condition conditions.now) (drop n contents.now)) from most done result }
+    ensures stopped { result.known ≡ false → Stops (λ n. shows_from (map shown_condition conditions.now) n contents.now)
+        (λ n. contents_work (map shown_condition conditions.now) (drop n contents.now)) from most done result }
 {
     let bytes = text_bytes(conditions);
     let mut now = done;

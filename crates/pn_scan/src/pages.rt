@@ -133,7 +133,8 @@ fn begins_before(from: Option<&Key>, to: &Key) -> bool
 /// The page of rows, of which there may be one more than the limit.
 pub(crate) fn page_of(alloc: Global, query: &Query, mut rows: Vec<Row>) -> Result<Page, NoMemory>
     ensures full { OnErr result (query.now.limit < length rows.items) }
-    ensures page { IfOk result (λ page. (all : Entries) → rows.items ≡ take (query.now.limit + 1) all → (page.rows.items, page.next) ≡ first_page query.now all) }
+    ensures page { IfOk result (λ page. (all : Entries) → rows.items ≡ take (query.now.limit + 1) all
+        → (page.rows.items, page.next) ≡ first_page query.now all) }
 {
     if rows.len() <= query.limit() {
         return Ok(Page { rows, next: None });

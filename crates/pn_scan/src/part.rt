@@ -66,7 +66,12 @@ fn take_rest(
 ) -> Result<TabletRows, NoMemory>
     requires index { next.index ≤ length cells.now }
     requires few { length rows.items ≤ room }
-    ensures same { IfOk result (λ part. part_at query.now part ≡ walk_answer query.now (record { rows = rows.items; rest = drop next.index cells.now; seen = next.seen; room = room })) }
+    ensures same { IfOk result (λ part. part_at query.now part ≡ walk_answer query.now (record {
+      rows = rows.items;
+      rest = drop next.index cells.now;
+      seen = next.seen;
+      room = room;
+    })) }
     ensures rest { IfOk result (λ part. (most : ℕ) → looked_in most part ≡ most) }
 {
     let end = end_of_range(cells, query).max(next.index);

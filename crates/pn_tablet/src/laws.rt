@@ -39,7 +39,8 @@ pub fn joins_commute()
 
 /// A repeated join changes nothing. With later marks, it leaves what it alone would have left.
 pub fn joins_repeat_without_effect()
-    ensures later { (tablet : TabletStateValue) (cells : Entries) (marks later : Positions) → Rise tablet.cover → Rise tablet.reach → raised_marks marks later ≡ later
+    ensures later { (tablet : TabletStateValue) (cells : Entries) (marks later : Positions) → Rise tablet.cover → Rise tablet.reach
+        → raised_marks marks later ≡ later
         → tablet_after (tablet_after tablet (Join cells marks)) (Join cells later) ≡ tablet_after tablet (Join cells later) }
     ensures same { (tablet : TabletStateValue) (cells : Entries) (marks : Positions) → Rise tablet.cover → Rise tablet.reach → Rise marks
         → tablet_after (tablet_after tablet (Join cells marks)) (Join cells marks) ≡ tablet_after tablet (Join cells marks) }

@@ -64,7 +64,13 @@ impl Model for TabletState {
 
     ghost use Rattle.pn_tablet.specs.Tablets.{IsTablet};
 
-    ghost view = { λ state. record { range = state.range; cells = state.cells; cover = state.coverage.cover; reach = state.coverage.reach; status = state.status } };
+    ghost view = { λ state. record {
+      range = state.range;
+      cells = state.cells;
+      cover = state.coverage.cover;
+      reach = state.coverage.reach;
+      status = state.status;
+    } };
 
     ghost invariant = { λ state. IsTablet state.range state.cells state.coverage.reach state.status state.spare };
 }
@@ -200,7 +206,8 @@ impl TabletState {
 // The coverage raised by the marks, and a copy of its reach, which a later loss takes as the need.
 fn raise_coverage(coverage: &Coverage, marks: &Marks) -> Result<(Coverage, Marks), NoMemory>
     requires { IsTrue (are_positions marks.now) }
-    ensures { IfOk result (λ both. (both.0.cover ≡ raised_marks coverage.now.cover marks.now) × ((both.0.reach ≡ raised_marks coverage.now.reach marks.now) × (both.1 ≡ both.0.reach))) }
+    ensures { IfOk result (λ both. (both.0.cover ≡ raised_marks coverage.now.cover marks.now)
+        × ((both.0.reach ≡ raised_marks coverage.now.reach marks.now) × (both.1 ≡ both.0.reach))) }
 {
     let higher = coverage.with_marks(marks)?;
     let spare = higher.reach().dup()?;

@@ -3,8 +3,8 @@
 //! `message` reads one line. `whole`, `pieces`, `cuts`, `looks`, `lines` and `writers` name ways in which a stream comes to its
 //! reader; with `workers`, 1 to 9 threads read its lines.
 //!
-//! After these come `batch`, `ready` or `resume` (the first message, then as `ready`), the position, the calls, the most messages of a call, the first and the last message, and
-//! further text.
+//! After these come `batch`, `ready` or `resume` (the first message, then as `ready`), the position, the calls, the most messages of a
+//! call, the first and the last message, and further text.
 
 mod by_workers;
 mod case;

@@ -68,7 +68,8 @@ pub fn table_of_entries(alloc: Global, entries: &[(Key, Cell)]) -> Result<Record
 
 // Joins the cell of an image.
 fn join_cell(cells: &mut Records, key: Key, cell: Cell) -> Result<(), NoMemory>
-    ensures held { OnOk result ((taken : List Image) (image : Image) → (key, cell) ≡ the_entry_of image → Holds cells.old taken → Holds cells.new (taken ++ image ∷ [])) }
+    ensures held { OnOk result ((taken : List Image) (image : Image) → (key, cell) ≡ the_entry_of image → Holds cells.old taken
+        → Holds cells.new (taken ++ image ∷ [])) }
     ensures rising { OnOk result (IsTrue (is_sorted bytes_cmp cells.new)) }
 {
     let _ = cell.version();

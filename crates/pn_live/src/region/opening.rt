@@ -94,7 +94,8 @@ fn readers_of(
     count: usize,
 ) -> Result<Vec<LiveReader>, OpenFault>
     requires { map (λ tablet. tablet.range) tablets.old ≡ ranges layout.now }
-    ensures readers { IfOk result (λ readers. AllByRecursion (λ reader. (reader.layout ≡ layout.now) × (reader.tablet_readers ≡ map new_reader_of tablets.old)) readers.items) }
+    ensures readers { IfOk result (λ readers. AllByRecursion (λ reader. (reader.layout ≡ layout.now)
+        × (reader.tablet_readers ≡ map new_reader_of tablets.old)) readers.items) }
     ensures count { IfOk result (λ readers. length readers.items ≡ count) }
     ensures same { tablets.new ≡ tablets.old }
 {

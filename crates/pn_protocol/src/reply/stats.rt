@@ -2,7 +2,8 @@
 
 ghost use Rattle.std.specs.Prelude.{◌≡◌, codes, IfOk, OnOk};
 ghost use Rattle.pn_json.specs.Prelude.{line_of, member_tokens, Appends, value_tokens};
-ghost use Rattle.pn_protocol.specs.Reply.Stats.{connections_data, fault_line, fault_reason, number_or_null, state_word as word_of_state, stats_data, text_or_null};
+ghost use Rattle.pn_protocol.specs.Reply.Stats.{connections_data, fault_line, fault_reason};
+ghost use Rattle.pn_protocol.specs.Reply.Stats.{number_or_null, state_word as word_of_state, stats_data, text_or_null};
 
 use crate::reply::line_stats::LineStats;
 use crate::reply::shown::{Shown, shown_line, write_array};

@@ -7,7 +7,8 @@ ghost use Rattle.pn_join.specs.Prelude.{Reaches, are_positions, raised_marks};
 ghost use Rattle.pn_record.specs.Prelude.{bytes_cmp};
 ghost use Rattle.pn_tablet.specs.Prelude.{in_range, lie_in, meet, Refuses};
 ghost use Rattle.pn_apply.specs.Prelude.{ranges};
-ghost use Rattle.pn_region.specs.Relayouts.{after_relayout, made_of, parts_of, least_cover, greatest_reach, first_recovering as first_that_recovers, is_recovering, is_memory};
+ghost use Rattle.pn_region.specs.Relayouts.{after_relayout, made_of, parts_of, least_cover};
+ghost use Rattle.pn_region.specs.Relayouts.{greatest_reach, first_recovering as first_that_recovers, is_recovering, is_memory};
 
 use super::{Region, range_of};
 use crate::RelayoutFault;

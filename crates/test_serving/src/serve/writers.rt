@@ -1,7 +1,7 @@
 //! Streams whose writers are those of a line, one after another.
 //!
-//! `AFTER WRITER/WRITER/..` is a stream that was taken up to a position by the copy from which its region starts, and its writers. A writer is words: a number is the message at
-//! that position, a number and `-` the first half of its line, any other word a line that is no message.
+//! `AFTER WRITER/WRITER/..` is a stream that was taken up to a position by the copy from which its region starts, and its writers.
+//! A writer is words: a number is the message at that position, a number and `-` the first half of its line, any other word a line that is no message.
 
 ghost use Rattle.std.specs.Prelude.{IfSome};
 ghost use Rattle.pn_live.specs.Prelude.{tablets_in};
