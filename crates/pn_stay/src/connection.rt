@@ -6,15 +6,17 @@ ghost use Rattle.pn_stay.specs.IdleTimeouts.{new_idle_timeout, after_quarter};
 ghost use Rattle.std.specs.Option.{option_map};
 ghost use Rattle.pn_stay.specs.Unread.{aged, is_deaf, weight_in};
 
+use crate::line_clock::LineClock;
 use crate::polled_input::PolledInput;
 use crate::socket::{Socket, TrackedSocket};
 use crate::unread::UnreadReply;
 use mio::event::Event;
 use pn_lines::{Counts, LineTurns, LinesEnd, Pause, TurnBuffers, TurnOutcome};
 use pn_protocol::LineCounts;
-use pn_serve::{CountingReader, Going, MAX_LINES, ReplyPieces};
+use pn_serve::{CountingReader, Going, MAX_LINES, ReplyPieces, TimeCounters};
 use std::alloc::Global;
 use std::marker::Model;
+use std::time::{Clock, Instant};
 
 /// A connection with its socket.
 #[derive(Drop)]
@@ -22,6 +24,7 @@ pub(crate) struct Connection {
     socket: Socket,
     lines: LineTurns<Going, ReplyPieces>,
     pub(crate) idle: IdleTimeout,
+    clock: LineClock,
     /// What waits for its client, if anything does.
     pub(crate) unread: Option<UnreadReply>,
     // What the reply weighs that was weighed last, after the number of lines up to its own.
@@ -43,6 +46,7 @@ impl Connection {
             socket,
             lines: LineTurns::new(alloc, MAX_LINES),
             idle: IdleTimeout::new(),
+            clock: LineClock::new(),
             unread: None,
             weighed: (0, 0),
             is_ready: false,
@@ -103,6 +107,18 @@ impl Connection {
 }
 
 impl Connection {
+    /// Counts how long the lines took that have their replies since the last turn. Those of this one were at hand then.
+    pub(crate) fn count_times<R: Clock>(
+        &mut self,
+        rt: &R,
+        at_hand: &Option<Instant>,
+        times: &TimeCounters,
+    ) {
+        let lines = self.lines.counts().lines;
+        let is_going = self.lines.is_going();
+        self.clock.end_turn(rt, at_hand, lines, is_going, times);
+    }
+
     /// What the records weigh that its reply keeps, where that waits for its client.
     pub(crate) fn unread_weight(&self) -> u64
         ensures { result ≡ weight_in self.now.unread }

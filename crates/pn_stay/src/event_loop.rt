@@ -23,7 +23,7 @@ use pn_serve::CountingReader;
 use slab::Slab;
 use std::alloc::Global;
 use std::sync::{Arc, Wait};
-use std::time::{Clock, Duration};
+use std::time::{Clock, Duration, Instant};
 use std::{io, mem};
 
 /// How many events one wait gives at most.
@@ -62,6 +62,8 @@ pub(crate) struct EventLoop {
     lingering: LingeringSockets,
     // It runs while replies wait for clients.
     quarters: QuarterClock,
+    // When the lines were at hand that are taken now, where the clock says it.
+    at_hand: Option<Instant>,
 }
 
 impl EventLoop {
@@ -90,6 +92,7 @@ impl EventLoop {
             spare: Vec::new(alloc),
             lingering: LingeringSockets::new(alloc),
             quarters: QuarterClock::new(),
+            at_hand: None,
         })
     }
 
@@ -209,16 +212,22 @@ impl EventLoop {
     }
 
     // Gives each connection that is ready one turn, while the thread is to answer.
-    fn take_turns<R: Wait>(&mut self, rt: &R, mailbox: &SocketMailbox, reader: &mut CountingReader)
+    fn take_turns<R: Wait + Clock>(
+        &mut self,
+        rt: &R,
+        mailbox: &SocketMailbox,
+        reader: &mut CountingReader,
+    )
         ensures knows { KnowsNoLess reader.old reader.new }
     {
+        self.at_hand = Instant::now(rt).ok();
         let spare = mem::replace(&mut self.spare, Vec::new(self.alloc));
         let mut ready = mem::replace(&mut self.ready, spare);
         for key in ready.iter() {
             if mailbox.is_cut(rt) {
                 continue;
             }
-            match self.give_turn(*key, reader) {
+            match self.give_turn(rt, *key, reader) {
                 Some(Pause::Turn) => make_ready(&mut self.connections, &mut self.ready, *key),
                 Some(Pause::Input | Pause::Output) => {}
                 None => self.remove(rt, mailbox, *key),
@@ -233,13 +242,19 @@ impl EventLoop {
     }
 
     // One turn of the connection of a key. Where it is gone, nothing is at hand.
-    fn give_turn(&mut self, key: usize, reader: &mut CountingReader) -> Option<Pause>
+    fn give_turn<R: Clock>(
+        &mut self,
+        rt: &R,
+        key: usize,
+        reader: &mut CountingReader,
+    ) -> Option<Pause>
         ensures knows { KnowsNoLess reader.old reader.new }
     {
         match self.connections.get_mut(key) {
             Some(connection) => {
                 let before = connection.unread_weight();
                 let next = connection.turn(&mut self.buffers, reader, &mut self.counted);
+                connection.count_times(rt, &self.at_hand, &self.counters.line_times);
                 self.counters
                     .unread
                     .replace(before, connection.unread_weight());

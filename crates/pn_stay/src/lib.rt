@@ -11,6 +11,7 @@ mod event_loop;
 mod input_buffer;
 mod interrupts;
 mod laws;
+mod line_clock;
 mod line_counters;
 mod lingering;
 mod listener;

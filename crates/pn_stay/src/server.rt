@@ -27,8 +27,8 @@ use pn_line::Source;
 use pn_live::{LiveReader, LiveRegion};
 use pn_serve::{
     Acceptor, ControlsClosed, Counter, MAX_CONTROLS, OpenedRegion, Origin, ServeFault,
-    SessionThread, Settings, Stream, Watchers, close_region, join_sessions, open_region,
-    read_streams, take_commands,
+    SessionThread, Settings, Stream, TimeCounters, Watchers, close_region, join_sessions,
+    open_region, read_streams, take_commands,
 };
 use pn_tablet::Layout;
 use std::alloc::{AllocError, Global};
@@ -216,6 +216,7 @@ where
         running: answering.running,
         watchers: Watchers {
             rounds: kept.rounds,
+            times: kept.times,
             shortage: kept.shortage,
             waiting: kept.waiting,
             controls: controls.mailboxes,
@@ -234,6 +235,7 @@ where
 #[derive(Drop)]
 struct KeptHandles {
     rounds: Option<Arc<Counter>>,
+    times: Option<Arc<TimeCounters>>,
     shortage: Option<Arc<Counter>>,
     waiting: Option<Arc<Counter>>,
     listener: Listener,
@@ -242,12 +244,14 @@ struct KeptHandles {
 
 fn keep_handles(acceptor: &SocketAcceptor) -> io::Result<KeptHandles> {
     let rounds = acceptor.round_counter();
+    let times = Some(Arc::try_clone(&acceptor.counters.round_times)?);
     let shortage = Some(Arc::try_clone(&acceptor.counters.shortage)?);
     let waiting = Some(Arc::try_clone(&acceptor.counters.waiting)?);
     let listener = acceptor.listener.try_clone()?;
     let counters = Arc::try_clone(&acceptor.counters)?;
     Ok(KeptHandles {
         rounds,
+        times,
         shortage,
         waiting,
         listener,

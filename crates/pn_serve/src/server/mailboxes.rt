@@ -7,6 +7,7 @@ ghost use Rattle.pn_serve.specs.declared.server.mailboxes.HeldReport.TheVariants
 use crate::server::counter::Counter;
 use crate::server::reporter::Reporter;
 use crate::server::reports::Report;
+use crate::server::times::TimeCounters;
 use crate::server::wakeup::Wakeup;
 use pn_join::{Marks, StreamName};
 use std::alloc::{AllocError, Global};
@@ -22,6 +23,7 @@ pub(crate) struct StreamMailboxes {
     pub(crate) at_fault: AtFault,
     pub(crate) wakeup: Arc<Wakeup>,
     pub(crate) rounds: Option<Arc<Counter>>,
+    pub(crate) times: Option<Arc<TimeCounters>>,
     pub(crate) shortage: Option<Arc<Counter>>,
     pub(crate) waiting: Option<Arc<Counter>>,
 }
@@ -80,6 +82,7 @@ impl StreamMailboxes {
             at_fault,
             wakeup,
             rounds,
+            times: None,
             shortage: None,
             waiting: None,
         })
@@ -169,7 +172,7 @@ pub(crate) fn show_marks(streams: &[StreamMailbox], marks: &Marks) {
 }
 
 /// The same counter, where there is one.
-pub(crate) fn share(counter: &Option<Arc<Counter>>) -> Result<Option<Arc<Counter>>, AllocError> {
+pub(crate) fn share<T: Drop>(counter: &Option<Arc<T>>) -> Result<Option<Arc<T>>, AllocError> {
     match counter {
         Some(counter) => Ok(Some(Arc::try_clone(counter)?)),
         None => Ok(None),
