@@ -6,7 +6,7 @@ use Rattle.pn_line.specs.LinesRead.{PartRead}
 use Rattle.pn_line.specs.Reads.{IsUnbroken}
 use Rattle.pn_line.specs.Text.{last_line, lines_of, text_of}
 use Rattle.pn_line.proofs.TextLaws.{lines_of-last, lines_of-nil, lines_of-text}
-use Rattle.pn_lines.specs.Ends.{CanEnd, EndsBy, Ended, HandsOn, HasEnded, Start}
+use Rattle.pn_lines.specs.Ends.{CanEnd, EndsBy, Ended, HandsOn, HasEnded, IsEndless, IsFull, Start, Stopped}
 use Rattle.pn_lines.specs.Handling.{Answers}
 use Rattle.pn_lines.specs.Replies.{Replied, one_if, refusals_of, texts_of}
 use Rattle.pn_lines.specs.Standing.{AllAnswer}
@@ -17,7 +17,7 @@ use Rattle.pn_lines.specs.declared.handler.EndedBy.{EndedBy}
 use Rattle.pn_lines.specs.declared.handler.EndedBy.TheVariants.{Newline, Input}
 use Rattle.pn_check.specs.Checked.{Tells, checks, lines_by}
 use Rattle.pn_check.specs.Checking.{all_told, counted, refused}
-use Rattle.pn_check.specs.Ends.{HasChecked, conclusion}
+use Rattle.pn_check.specs.Ends.{HasChecked, HasNoEnd, conclusion}
 use Rattle.pn_check.specs.declared.check.CheckFault.{CheckFault}
 use Rattle.pn_check.specs.declared.check.CheckFault.TheVariants as fault
 use Rattle.pn_check.specs.declared.checker.Checker.{Checker}
@@ -109,6 +109,32 @@ ends_checked start left written machine ends none is = by_end ends machine.is_sp
     by_end (Err ended.TooManyLines) spent same ends_by = tt
     by_end (Err ended.EndlessLine) spent same ends_by = tt
     by_end (Err ended.Closed) spent same ends_by = tt
+
+-- ---- a line without end
+
+stopped_long : (start : Start Checker) (text : List ℕ) (left written : Option (List ℕ)) (machine : Checker)
+    → Stopped checks (IsEndless 18446744073709551615) start text left written machine → HasNoEnd text
+stopped_long start text left written machine is =
+    record { lines = is.lines; part = is.part; rest = is.answered.read.rest; text_is = is.answered.read.text_is; no_end = inl is.is_so.1 }
+
+stopped_full : (start : Start Checker) (text : List ℕ) (left written : Option (List ℕ)) (machine : Checker)
+    → Stopped checks (IsFull 18446744073709551615 left) start text left written machine → HasNoEnd text
+stopped_full start text left written machine is =
+    record { lines = is.lines; part = is.part; rest = is.answered.read.rest; text_is = is.answered.read.text_is; no_end = inr is.is_so.0 }
+
+pub ends_endless : (start : Start Checker) (left written : Option (List ℕ)) (machine : Checker) (ends : Result Counts LinesFault) (spent : Bool)
+    → HasEnded checks 18446744073709551615 start left written machine ends → IsErrOf (conclusion ends spent) fault.Endless → IfSome start.left HasNoEnd
+ends_endless start left written machine ends spent is endless = by_end ends spent is.ends_by endless
+  where
+    by_end : (ends : Result Counts LinesFault) (spent : Bool) → EndsBy checks 18446744073709551615 start left written is.reached ends
+        → IsErrOf (conclusion ends spent) fault.Endless → IfSome start.left HasNoEnd
+    by_end (Ok counts) true ends_by endless = absurd (cc)
+    by_end (Ok counts) false ends_by endless = absurd (cc)
+    by_end (Err ended.Read) spent ends_by endless = absurd (cc)
+    by_end (Err ended.Write) spent ends_by endless = absurd (cc)
+    by_end (Err ended.TooManyLines) spent ends_by endless = if_told start.left _ _ (λ text stopped. stopped_full start text left written is.reached stopped) ends_by
+    by_end (Err ended.EndlessLine) spent ends_by endless = if_told start.left _ _ (λ text stopped. stopped_long start text left written is.reached stopped) ends_by
+    by_end (Err ended.Closed) spent ends_by endless = absurd (cc)
 
 -- ---- why a check ends
 

@@ -1,7 +1,7 @@
 //! Checks the lines of an input.
 
 ghost use Rattle.std.specs.Prelude.{◌≡◌, ◌↔◌, [], IfOk, IfSome, IsErrOf, IsTrue, OnErr, OnOk};
-ghost use Rattle.pn_check.specs.Ends.{HasChecked, conclusion};
+ghost use Rattle.pn_check.specs.Ends.{HasChecked, HasNoEnd, conclusion};
 
 use crate::checker::Checker;
 use pn_line::{Sink, Source};
@@ -12,7 +12,7 @@ use thiserror::Error;
 /// The most lines of an input.
 const MAX_LINES: u64 = u64::MAX;
 
-/// Why an input was not checked to its end. All that was told is so.
+/// Why an input was not checked to its end.
 #[derive(Clone, Copy, Debug, PartialEq, Eq, Error)]
 pub enum CheckFault {
     /// The input could not be read on.
@@ -37,6 +37,7 @@ pub fn check<S: Source, W: Sink>(
     ensures told { IfOk result (λ is_taken. IfSome (S.left input.old) (λ text. HasChecked text is_taken (W.contents output.old) (W.contents output.new))) }
     ensures read { IsErrOf result CheckFault.Read → S.may_fail }
     ensures write { IsErrOf result CheckFault.Write → W.may_fail }
+    ensures endless { IsErrOf result CheckFault.Endless → IfSome (S.left input.old) HasNoEnd }
     ensures out { OnOk result (W.is_handed_on output.new) }
 {
     match LineBuffers::new(alloc) {
@@ -53,6 +54,7 @@ fn check_lines<S: Source, W: Sink>(
     ensures told { IfOk result (λ is_taken. IfSome (S.left input.old) (λ text. HasChecked text is_taken (W.contents output.old) (W.contents output.new))) }
     ensures read { IsErrOf result CheckFault.Read → S.may_fail }
     ensures write { IsErrOf result CheckFault.Write → W.may_fail }
+    ensures endless { IsErrOf result CheckFault.Endless → IfSome (S.left input.old) HasNoEnd }
     ensures out { OnOk result (W.is_handed_on output.new) }
 {
     let mut checker = Checker::new();

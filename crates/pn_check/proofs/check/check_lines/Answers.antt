@@ -3,7 +3,7 @@ use Rattle.std.proofs.Common.{Bool, sym, ap, ◌∙◌, subst}
 use Rattle.std.specs.Prelude.{Result, IfOk, IfSome, OnOk}
 use Rattle.pn_check.specs.Ends.{HasChecked, conclusion}
 use Rattle.pn_check.specs.declared.check.CheckFault.{CheckFault}
-use Rattle.pn_check.proofs.CheckedLines.{ends_checked, read_fails, told_out, write_fails}
+use Rattle.pn_check.proofs.CheckedLines.{ends_checked, ends_endless, read_fails, told_out, write_fails}
 use Rattle.pn_check.proofs.check.check_lines.Goals as goal
 
 pub returns-clause-told : goal.returns-clause-told
@@ -18,6 +18,9 @@ returns-clause-read g c = λ is. read_fails _ _ _ _ c.answer_lines-ended.result 
 
 pub returns-clause-write : goal.returns-clause-write
 returns-clause-write g c = λ is. write_fails _ _ _ _ c.answer_lines-ended.result c.is_spent.result c.answer_lines-ended.ensures.can (sym c.conclude.ensures ∙ is)
+
+pub returns-clause-endless : goal.returns-clause-endless
+returns-clause-endless g c = λ is. ends_endless _ _ _ _ c.answer_lines-ended.result c.is_spent.result c.answer_lines-ended.ensures.ends (sym c.conclude.ensures ∙ is)
 
 pub returns-clause-out : goal.returns-clause-out
 returns-clause-out g c =
