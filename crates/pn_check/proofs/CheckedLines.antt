@@ -18,8 +18,8 @@ use Rattle.pn_lines.specs.declared.handler.EndedBy.TheVariants.{Newline, Input}
 use Rattle.pn_check.specs.Checked.{Tells, checks, lines_by}
 use Rattle.pn_check.specs.Checking.{all_told, counted, refused}
 use Rattle.pn_check.specs.Ends.{HasChecked, HasNoEnd, conclusion}
-use Rattle.pn_check.specs.declared.check.CheckFault.{CheckFault}
-use Rattle.pn_check.specs.declared.check.CheckFault.TheVariants as fault
+use Rattle.pn_check.specs.declared.input.CheckFault.{CheckFault}
+use Rattle.pn_check.specs.declared.input.CheckFault.TheVariants as fault
 use Rattle.pn_check.specs.declared.checker.Checker.{Checker}
 use Rattle.pn_check.proofs.ToldLines.{counted-append, many-append, told-append}
 

@@ -7,9 +7,9 @@ use Rattle.pn_lines.specs.declared.driver.LinesFault.{LinesFault}
 use Rattle.pn_lines.specs.declared.driver.LinesFault.TheVariants.{Closed, EndlessLine, Read, TooManyLines, Write}
 use Rattle.pn_lines.specs.declared.engine.Counts.{Counts}
 use Rattle.pn_check.specs.Checking.{all_told, refused}
-use Rattle.pn_check.specs.declared.check.TheConstants.{MAX_LINES}
-use Rattle.pn_check.specs.declared.check.CheckFault.{CheckFault}
-use Rattle.pn_check.specs.declared.check.CheckFault.TheVariants as fault
+use Rattle.pn_check.specs.declared.input.TheConstants.{MAX_LINES}
+use Rattle.pn_check.specs.declared.input.CheckFault.{CheckFault}
+use Rattle.pn_check.specs.declared.input.CheckFault.TheVariants as fault
 
 -- a text was read to its end: exactly the lines that no region takes were told, in their order, and whether there is none
 pub record HasChecked (text : List ℕ) (is_taken : Bool) (old new : Option (List ℕ)) : Type 0 where

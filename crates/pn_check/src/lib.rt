@@ -3,12 +3,12 @@
 //! A line is to be an image, of which feeds make a message, or a message.
 #![tactic(auto)]
 
-mod check;
 mod checker;
 mod faults;
+mod input;
 mod names;
 #[cfg(test)]
 mod tests;
 mod told;
 
-pub use check::{CheckFault, check};
+pub use input::{CheckFault, check};

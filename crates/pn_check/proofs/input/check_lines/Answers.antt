@@ -2,9 +2,9 @@
 use Rattle.std.proofs.Common.{Bool, sym, ap, ◌∙◌, subst}
 use Rattle.std.specs.Prelude.{Result, IfOk, IfSome, OnOk}
 use Rattle.pn_check.specs.Ends.{HasChecked, conclusion}
-use Rattle.pn_check.specs.declared.check.CheckFault.{CheckFault}
+use Rattle.pn_check.specs.declared.input.CheckFault.{CheckFault}
 use Rattle.pn_check.proofs.CheckedLines.{ends_checked, ends_endless, read_fails, told_out, write_fails}
-use Rattle.pn_check.proofs.check.check_lines.Goals as goal
+use Rattle.pn_check.proofs.input.check_lines.Goals as goal
 
 pub returns-clause-told : goal.returns-clause-told
 returns-clause-told g c =
