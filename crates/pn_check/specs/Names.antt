@@ -39,23 +39,20 @@ image_of d = if is_message d then get (codes "image") d else Some d
 
 -- the name of the first field with a flaw
 abbrev pub field_name : Flaw → Data → Option (List ℕ)
-field_name flaw d = do
-  image ← image_of d
-  fields ← get (codes "fields") image
-  members ← as_object fields
-  first_flawed flaw members
+field_name flaw d = option_and_then (first_flawed flaw) (option_and_then as_object (option_and_then (get (codes "fields")) (image_of d)))
 
 -- a name, or else another
 abbrev pub or_else : Option (List ℕ) → Option (List ℕ) → Option (List ℕ)
 or_else None other = other
 or_else (Some name) other = Some name
 
+-- the name of the first of these members that an image does not have, or else of a value's that a message does not have
+abbrev pub other_of : Data → Members → Option (List ℕ)
+other_of d members = or_else (first_flawed OfNoImage members) (option_and_then (first_flawed OfNoMessage) (as_object d))
+
 -- the name of the first member that an image does not have, or else a message
 abbrev pub other_name : Data → Option (List ℕ)
-other_name d = do
-  image ← image_of d
-  members ← as_object image
-  or_else (first_flawed OfNoImage members) (option_and_then (first_flawed OfNoMessage) (as_object d))
+other_name d = option_and_then (other_of d) (option_and_then as_object (image_of d))
 
 -- the name that is at fault where a member of a wrong shape is this
 abbrev pub shape_name : Member → Data → Option (List ℕ)

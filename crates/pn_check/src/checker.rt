@@ -1,6 +1,6 @@
 //! The handler that checks lines.
 
-ghost use Rattle.std.specs.Prelude.{◌≡◌, ◌≢◌, ℕ, List, [], option_map, drop, MatchBool};
+ghost use Rattle.std.specs.Prelude.{◌≡◌, ◌≢◌, ℕ, List, [], option_map, drop, MatchBool, false};
 ghost use Rattle.pn_line.specs.Prelude.{kept_bytes};
 ghost use Rattle.pn_lines.specs.Answers.{answer_of, done};
 ghost use Rattle.pn_check.specs.Checked.{Checks, TellsNext, replied_of};
