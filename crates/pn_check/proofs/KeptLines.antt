@@ -1,5 +1,5 @@
 -- A line is read as its first bytes are.
-use Rattle.std.proofs.Common.{◌≡◌, ℕ, ◌<◌, true, if◌then◌else◌, List, length, inl, inr, Result, Ok, Err, ap, sym, subst, ◌∙◌, arith}
+use Rattle.std.proofs.Common.{◌≡◌, ℕ, ◌<◌, Bool, true, if◌then◌else◌, List, length, inl, inr, Result, Ok, Err, ap, sym, subst, ◌∙◌, arith}
 use Rattle.std.specs.Option.{ok_or}
 use Rattle.std.specs.Prelude.{nat_lt}
 use Rattle.std.proofs.lemmas.Bool.{cases_lt}
@@ -16,7 +16,7 @@ value-long : (line : List ℕ) → 65536 < length line → value_at line ≡ Err
 unfolding value_at
 value-long line long =
     let test : nat_lt max_line_bytes (length line) ≡ true = grind (arith, nat_tests) in
-    ap (λ b. if b then Err TooLong else ok_or (reading line) NotJson) test
+    ap (λ (b : Bool). if b then Err TooLong else ok_or (reading line) NotJson) test
 
 value-kept : (line : List ℕ) → value_at (kept_bytes line) ≡ value_at line
 value-kept line = elim (cases_lt 65536 (length line)) [
