@@ -2,6 +2,7 @@
 #![tactic(auto)]
 
 mod acceptor;
+mod bounded_reader;
 mod connection;
 mod connection_limit;
 mod counters;
@@ -20,6 +21,7 @@ mod polled_input;
 mod progress;
 mod quarter_clock;
 mod reasons;
+mod room;
 mod scripted;
 mod seldom;
 mod server;
