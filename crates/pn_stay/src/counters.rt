@@ -4,8 +4,8 @@ ghost use Rattle.std.specs.Prelude.{◌≡◌};
 
 use crate::line_counters::KindCounters;
 use crate::memory::MemoryMeter;
+use crate::room::{has_room, is_past, room_beside};
 use crate::streams::status::StreamStatus;
-use crate::unread::is_past;
 use pn_join::Name;
 use pn_line::{LineBuffer, Piece, Source};
 use pn_serve::{Counter, TimeCounters};
@@ -90,11 +90,20 @@ impl ConnectionCounters {
     }
 }
 
+/// How many bytes of records the reply of a connection keeps, and how many its line waits for.
+#[derive(Clone, Copy, Debug, PartialEq, Eq)]
+pub(crate) struct Kept {
+    pub(crate) bytes: u64,
+    pub(crate) wanted: u64,
+}
+
 /// What is counted of replies that clients have not taken.
 #[derive(Drop)]
 pub struct UnreadCounters {
     /// How many bytes the records have that these replies keep.
     pub bytes: Counter,
+    /// How many bytes of records lines wait for that were put off.
+    pub(crate) wanted: Counter,
     /// How many clients were ended that took nothing.
     pub ended: Counter,
     /// How many bytes there may be before clients are ended that take nothing for a second.
@@ -105,22 +114,40 @@ impl UnreadCounters {
     fn new() -> UnreadCounters {
         UnreadCounters {
             bytes: Counter::new(),
+            wanted: Counter::new(),
             ended: Counter::new(),
             limit: DEFAULT_UNREAD,
         }
     }
 
-    /// A reply that kept so many bytes keeps so many now.
-    pub(crate) fn replace(&self, before: u64, after: u64) {
-        if before != after {
-            self.bytes.add(after);
-            self.bytes.subtract(before);
-        }
+    /// What a connection counts for has changed.
+    pub(crate) fn replace(&self, before: Kept, after: Kept) {
+        replace_in(&self.bytes, before.bytes, after.bytes);
+        replace_in(&self.wanted, before.wanted, after.wanted);
     }
 
-    /// Whether there are more bytes than the limit.
+    /// Whether more bytes are kept and waited for than the limit allows.
     pub(crate) fn is_past(&self) -> bool {
-        is_past(self.bytes.get(), self.limit)
+        is_past(self.bytes.get(), self.wanted.get(), self.limit)
+    }
+
+    /// How much room there is for a reply of a connection that keeps so many bytes.
+    pub(crate) fn room_beside(&self, own: u64) -> u64 {
+        let others = self.bytes.get().saturating_sub(own);
+        room_beside(others, self.wanted.get(), self.limit)
+    }
+
+    /// Whether there is room for a line that waits for so many bytes.
+    pub(crate) fn has_room(&self, bytes: u64) -> bool {
+        has_room(bytes, self.bytes.get(), self.limit)
+    }
+}
+
+// Most turns change nothing, and touch no counter.
+fn replace_in(counter: &Counter, before: u64, after: u64) {
+    if before != after {
+        counter.add(after);
+        counter.subtract(before);
     }
 }
 

@@ -9,9 +9,11 @@ ghost use Rattle.slab.specs.Slab.{slab_len, Updates};
 mod ending;
 mod idle;
 mod unread;
+mod waiting;
 
+use crate::bounded_reader::BoundedReader;
 use crate::connection::Connection;
-use crate::counters::Counters;
+use crate::counters::{Counters, Kept};
 use crate::lingering::LingeringSockets;
 use crate::quarter_clock::QuarterClock;
 use crate::socket::Socket;
@@ -19,7 +21,6 @@ use crate::socket_mailbox::SocketMailbox;
 use mio::{Events, Poll, Token};
 use pn_lines::{Pause, TurnBuffers};
 use pn_protocol::LineCounts;
-use pn_serve::CountingReader;
 use slab::Slab;
 use std::alloc::Global;
 use std::sync::{Arc, Wait};
@@ -36,6 +37,12 @@ const QUARTERS: u32 = 4;
 const NO_LINES: LineCounts = LineCounts {
     answered: 0,
     refused: 0,
+};
+
+/// What a connection counts for that is gone.
+const NOTHING: Kept = Kept {
+    bytes: 0,
+    wanted: 0,
 };
 
 /// The token of the mailbox.
@@ -60,8 +67,11 @@ pub(crate) struct EventLoop {
     spare: Vec<usize>,
     // The sockets of connections that a stop has ended, or that had as many lines as may be.
     lingering: LingeringSockets,
-    // It runs while replies wait for clients.
+    // It runs while replies wait for clients, or lines for room.
     quarters: QuarterClock,
+    // The number of the next line that waits for room, and whether one may wait.
+    number: u64,
+    has_waiting: bool,
     // When the lines were at hand that are taken now, where the clock says it.
     at_hand: Option<Instant>,
 }
@@ -92,6 +102,8 @@ impl EventLoop {
             spare: Vec::new(alloc),
             lingering: LingeringSockets::new(alloc),
             quarters: QuarterClock::new(),
+            number: 1,
+            has_waiting: false,
             at_hand: None,
         })
     }
@@ -103,7 +115,7 @@ impl EventLoop {
         &mut self,
         rt: &R,
         mailbox: &SocketMailbox,
-        reader: &mut CountingReader,
+        reader: &mut BoundedReader,
     ) -> io::Result<()>
         ensures knows { KnowsNoLess reader.old reader.new }
     {
@@ -115,6 +127,7 @@ impl EventLoop {
             }
             self.end_unread(rt, mailbox);
             self.take_turns(rt, mailbox, reader);
+            self.let_waiting_in();
             self.lingering.close_ended(rt);
             if mailbox.is_cut(rt) || self.is_over(rt, mailbox) {
                 return Ok(());
@@ -195,7 +208,7 @@ impl EventLoop {
     {
         if let Some(connection) = self.connections.try_remove(key) {
             self.counters.connections.end();
-            self.counters.unread.replace(connection.unread_weight(), 0);
+            self.counters.unread.replace(connection.kept(), NOTHING);
             if connection.lingers || mailbox.is_stopping(rt) {
                 self.lingering.add(connection.into_socket());
             }
@@ -216,7 +229,7 @@ impl EventLoop {
         &mut self,
         rt: &R,
         mailbox: &SocketMailbox,
-        reader: &mut CountingReader,
+        reader: &mut BoundedReader,
     )
         ensures knows { KnowsNoLess reader.old reader.new }
     {
@@ -246,19 +259,25 @@ impl EventLoop {
         &mut self,
         rt: &R,
         key: usize,
-        reader: &mut CountingReader,
+        reader: &mut BoundedReader,
     ) -> Option<Pause>
         ensures knows { KnowsNoLess reader.old reader.new }
     {
         match self.connections.get_mut(key) {
             Some(connection) => {
-                let before = connection.unread_weight();
+                let before = connection.kept();
+                reader.begin_turn(connection.room_in(&self.counters.unread));
                 let next = connection.turn(&mut self.buffers, reader, &mut self.counted);
                 connection.count_times(rt, &self.at_hand, &self.counters.line_times);
-                self.counters
-                    .unread
-                    .replace(before, connection.unread_weight());
-                self.quarters.run_if(connection.unread.is_some());
+                let after = connection.kept();
+                self.counters.unread.replace(before, after);
+                let waits = after.wanted > 0;
+                self.quarters.run_if(waits || connection.unread.is_some());
+                if waits {
+                    connection.room = connection.room.numbered(self.number);
+                    self.number = self.number.saturating_add(1);
+                    self.has_waiting = true;
+                }
                 next
             }
             None => Some(Pause::Input),

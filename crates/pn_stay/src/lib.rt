@@ -2,6 +2,7 @@
 #![tactic(auto)]
 
 mod acceptor;
+mod bounded_reader;
 mod connection;
 mod connection_limit;
 mod counters;
@@ -21,6 +22,7 @@ mod polled_input;
 mod progress;
 mod quarter_clock;
 mod reasons;
+mod room;
 mod scripted;
 mod seldom;
 mod server;
@@ -46,6 +48,7 @@ pub use progress::{message_prefix, tell_progress};
 pub use reasons::{describe_error, format_after, format_failure, format_refusal, format_taken};
 pub use scripted::{ScriptedSink, ScriptedSource};
 pub use server::StayingServer;
+pub use server::ending::ServerEnd;
 pub use server::starting::ServerSizes;
 pub use shared::share;
 pub use socket_file::{ListenFault, OWNER_ALONE, SocketFile, format_lock, remove_sockets};

@@ -10,7 +10,7 @@ ghost use Rattle.pn_serve.specs.declared.server.mailboxes.AtFault.TheVariants.{G
 use crate::ServeFault;
 use crate::control::mailboxes::ControlMailboxes;
 use crate::server::counter::Counter;
-use crate::server::events::run_rounds;
+use crate::server::events::{ReadingEnd, run_rounds};
 use crate::server::mailboxes::{AtFault, StreamMailboxes, share};
 use crate::server::reporter::Reporter;
 use crate::server::reporting::{next_input, report_stream};
@@ -54,7 +54,7 @@ pub fn read_streams<R, S, O>(
     workers: usize,
     streams: Vec<Stream<O>>,
     watchers: &Watchers,
-) -> Result<(), ServeFault>
+) -> Result<ReadingEnd, ServeFault>
 where
     R: Threads + Wait + Clock + Sync + Copy + Send + 'static,
     S: Source + Drop + Send + 'static,

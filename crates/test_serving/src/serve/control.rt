@@ -23,6 +23,9 @@ use test_kit::{bars, layout, newlines, spell_out};
 /// How many workers read the lines of a copy.
 const WORKERS: usize = 4;
 
+/// The line that stops the writer.
+const STOP: &[u8] = b"{\"do\":\"stop\",\"seconds\":0}\n";
+
 /// Says what a server may have done.
 #[derive(Drop)]
 struct SomeStats;
@@ -242,9 +245,10 @@ fn answer<R: Threads + Wait + Clock>(
     let mut written = Vec::new(alloc);
     let mut input = InMemory::new(lines.as_bytes());
     if let Ok(mut buffers) = LineBuffers::new(alloc) {
-        let _ = session.answer(rt, &mut buffers, reader, &mut input, &mut written);
+        let (reader, _) = session.answer(rt, &mut buffers, reader, &mut input, &mut written);
+        let mut stop = InMemory::new(STOP);
+        let _ = session.answer(rt, &mut buffers, reader, &mut stop, &mut Vec::new(alloc));
     }
-    session.mailboxes.stop(rt, 0);
     written
 }
 
