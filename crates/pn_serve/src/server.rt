@@ -35,6 +35,7 @@ mod session_threads;
 mod stream_path;
 mod stream_threads;
 mod streams;
+mod times;
 mod tries;
 pub(crate) mod wakeup;
 mod writer_input;
@@ -67,6 +68,7 @@ use std::thread::Threads;
 use std::time::Clock;
 pub use stream_path::StreamPath;
 pub use streams::{Watchers, read_streams};
+pub use times::TimeCounters;
 pub use writers::{NextWriter, Origin, Stream, WriterEnd};
 
 /// A live region and its readers. It is not `Drop`: end it by `close_region`.

@@ -12,6 +12,7 @@ mod event_loop;
 mod input_buffer;
 mod interrupts;
 mod laws;
+mod line_clock;
 mod line_counters;
 mod lingering;
 mod listener;

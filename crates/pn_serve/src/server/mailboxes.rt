@@ -7,6 +7,7 @@ use crate::server::counter::Counter;
 use crate::server::held_report::{ClosedMailbox, HeldReport, LeftReport};
 use crate::server::reporter::Reporter;
 use crate::server::reports::Report;
+use crate::server::times::TimeCounters;
 use crate::server::wakeup::{Waited, Wakeup};
 use pn_join::{Marks, StreamName};
 use std::alloc::{AllocError, Global};
@@ -21,6 +22,7 @@ pub(crate) struct StreamMailboxes {
     pub(crate) at_fault: AtFault,
     pub(crate) wakeup: Arc<Wakeup>,
     pub(crate) rounds: Option<Arc<Counter>>,
+    pub(crate) times: Option<Arc<TimeCounters>>,
     pub(crate) shortage: Option<Arc<Counter>>,
     pub(crate) waiting: Option<Arc<Counter>>,
 }
@@ -83,6 +85,7 @@ impl StreamMailboxes {
             at_fault,
             wakeup,
             rounds,
+            times: None,
             shortage: None,
             waiting: None,
         })
@@ -177,7 +180,7 @@ pub(crate) fn show_marks(streams: &[StreamMailbox], marks: &Marks) {
 }
 
 /// The same counter, where there is one.
-pub(crate) fn share(counter: &Option<Arc<Counter>>) -> Result<Option<Arc<Counter>>, AllocError> {
+pub(crate) fn share<T: Drop>(counter: &Option<Arc<T>>) -> Result<Option<Arc<T>>, AllocError> {
     match counter {
         Some(counter) => Ok(Some(Arc::try_clone(counter)?)),
         None => Ok(None),
