@@ -254,15 +254,7 @@ impl EventLoop {
                 let before = connection.kept();
                 reader.begin_turn(connection.room_in(&self.counters.unread));
                 let next = connection.turn(&mut self.buffers, reader, &mut self.counted);
-                let after = connection.kept();
-                self.counters.unread.replace(before, after);
-                let waits = after.wanted > 0;
-                self.quarters.run_if(waits || connection.unread.is_some());
-                if waits {
-                    connection.room = connection.room.numbered(self.number);
-                    self.number = self.number.saturating_add(1);
-                    self.has_waiting = true;
-                }
+                self.note_kept(key, before);
                 next
             }
             None => Some(Pause::Input),
