@@ -1,8 +1,7 @@
 -- Rounds of streams and commands of control sessions are events of the region.
-use Rattle.std.proofs.Common.{◌≡◌, ◌⊎◌, inl, inr, ℕ, Bool, true, false, List, [], ◌∷◌, Option, None, Some, refl, ap, subst}
-use Rattle.std.specs.Prelude.{Contains}
+use Rattle.std.proofs.Common.{◌≡◌, ℕ, Bool, true, false, List, [], ◌∷◌, Option, None, Some, refl, sym, ap, subst, ◌∙◌}
 use Rattle.std.specs.FinMap.{find}
-use Rattle.std.proofs.lemmas.List.Elements.{Contains-append_cases, Contains-append_left, Contains-append_right}
+use Rattle.std.proofs.lemmas.List.Elements.{Contains-append_left}
 use Rattle.pn_record.specs.Prelude.{bytes_cmp}
 use Rattle.pn_record.specs.CellMap.{table_of}
 use Rattle.pn_record.specs.declared.image.Image.{Image}
@@ -13,8 +12,7 @@ use Rattle.pn_region.specs.Held.{HoldsStill}
 use Rattle.pn_region.specs.Laws.{AreIn}
 use Rattle.pn_region.specs.Regions.{RegionValue, IsRegion, all_cells, new_region}
 use Rattle.pn_region.specs.Serving.{AllServe, ServesAt}
-use Rattle.pn_apply.specs.Reducing.{all_images}
-use Rattle.pn_region.specs.Taken.{all_left, all_taken, taken_by}
+use Rattle.pn_region.specs.Taken.{all_left, all_taken}
 use Rattle.pn_region.proofs.EventImages.{taken_together}
 use Rattle.pn_region.proofs.ServedRecords.{events_record}
 use Rattle.pn_live.specs.LiveRegions.{LiveRegionValue, core}
@@ -33,12 +31,13 @@ pub done_leads : (at_fault : AtFault) (names : List (List ℕ)) (waiting : Optio
     → AllDone at_fault names waiting old events left waits new → AllLeadTo (region_events events) (core old) (core new)
 done_leads at_fault names waiting old [] left waits new all = ap core all.2
 done_leads at_fault names waiting old (gathered input ∷ later) left waits new all = done_leads at_fault all.0 (Some input) old later left waits new all.4
-done_leads at_fault names waiting old (tried input ∷ later) left waits new all = (core all.0, all.3.half, done_leads at_fault names waiting all.0 later left waits new all.4)
+done_leads at_fault names waiting old (tried input ∷ later) left waits new all =
+    subst (λ (live : LiveRegionValue). AllLeadTo (region_events later) (core live) (core new)) all.3 (done_leads at_fault names waiting all.0 later left waits new all.4)
 done_leads at_fault names waiting old (taken input ∷ later) left waits new all = (core all.0, all.2.1.taken, done_leads at_fault names None all.0 later left waits new all.3)
 done_leads at_fault names waiting old (told asked said ∷ later) left waits new all =
     leads_first (event_by asked said) old all.0 (region_events later) (core new) all.1.left (done_leads at_fault names waiting all.0 later left waits new all.2)
 
--- a command leaves no images in some tablets, and loses none that was taken
+-- a command leaves no images in some tablets alone
 left_by_event : (asked : WriterCommand) (text : List ℕ) (refused : Bool) (later : List RegionEvent) → all_left (with_event (event_by asked (record { text = text; refused = refused })) later) ≡ all_left later
 left_by_event asked text true later = refl
 left_by_event (commands.Adopt copy) text false later = refl
@@ -48,50 +47,27 @@ left_by_event commands.Marks text false later = refl
 left_by_event (commands.Notices since) text false later = refl
 left_by_event commands.Tablets text false later = refl
 
-taken_after : (broker : BrokerRecord) (event : Option RegionEvent) (later : List RegionEvent) (image : Image) → Contains (all_taken broker later) image → Contains (all_taken broker (with_event event later)) image
-taken_after broker None later image there = there
-taken_after broker (Some event) later image there = Contains-append_right (taken_by broker event) (all_taken broker later) image there
+-- rounds and commands leave none
+none_left : (events : List WriterEvent) → all_left (region_events events) ≡ []
+none_left [] = refl
+none_left (gathered input ∷ later) = none_left later
+none_left (tried input ∷ later) = none_left later
+none_left (taken input ∷ later) = none_left later
+none_left (told asked said ∷ later) = left_by_event asked said.text said.refused (region_events later) ∙ none_left later
 
--- the images of the input that waits are taken in the end
-waits_taken : (broker : BrokerRecord) (at_fault : AtFault) (names : List (List ℕ)) (waiting : RoundInputValue) (old : LiveRegionValue) (events : List WriterEvent) (left : List (List ℕ)) (new : LiveRegionValue)
-    → AllDone at_fault names (Some waiting) old events left None new → (image : Image) → Contains (all_images waiting.deliveries) image → Contains (all_taken broker (region_events events)) image
-waits_taken broker at_fault names waiting old [] left new all image there = let never = all.1 in absurd (cc)
-waits_taken broker at_fault names waiting old (gathered input ∷ later) left new all image there = let never = all.1 in absurd (cc)
-waits_taken broker at_fault names waiting old (tried input ∷ later) left new all image there = waits_taken broker at_fault names waiting all.0 later left new all.4 image there
-waits_taken broker at_fault names waiting old (taken input ∷ later) left new all image there =
-    let same : waiting ≡ input = let is = all.1 in cc in
-    Contains-append_left (all_images input.deliveries) (all_taken broker (region_events later)) image (subst (λ (i : RoundInputValue). Contains (all_images i.deliveries) image) same there)
-waits_taken broker at_fault names waiting old (told asked said ∷ later) left new all image there =
-    taken_after broker (event_by asked said) (region_events later) image (waits_taken broker at_fault names waiting all.0 later left new all.2 image there)
-
-either_taken : (broker : BrokerRecord) (input : RoundInputValue) (events : List RegionEvent) (image : Image) → (Contains (all_images input.deliveries) image → Contains (all_taken broker events) image)
-    → (Contains (all_left events) image → Contains (all_taken broker events) image) → Contains (all_images input.deliveries) image ⊎ Contains (all_left events) image → Contains (all_taken broker events) image
-either_taken broker input events image here further (inl there) = here there
-either_taken broker input events image here further (inr there) = further there
-
--- so what tries may have left in some tablets is taken in the end, if no input waits then
-pub left_taken : (broker : BrokerRecord) (at_fault : AtFault) (names : List (List ℕ)) (waiting : Option RoundInputValue) (old : LiveRegionValue) (events : List WriterEvent) (left : List (List ℕ)) (new : LiveRegionValue)
-    → AllDone at_fault names waiting old events left None new → AreIn (all_left (region_events events)) (all_taken broker (region_events events))
-left_taken broker at_fault names waiting old [] left new all image there = there
-left_taken broker at_fault names waiting old (gathered input ∷ later) left new all image there = left_taken broker at_fault all.0 (Some input) old later left new all.4 image there
-left_taken broker at_fault names waiting old (tried input ∷ later) left new all image there =
-    either_taken broker input (region_events later) image
-    (waits_taken broker at_fault names input all.0 later left new (subst (λ (w : Option RoundInputValue). AllDone at_fault names w all.0 later left None new) all.2 all.4) image)
-    (left_taken broker at_fault names waiting all.0 later left new all.4 image) (Contains-append_cases (all_images input.deliveries) (all_left (region_events later)) image there)
-left_taken broker at_fault names waiting old (taken input ∷ later) left new all image there =
-    Contains-append_right (all_images input.deliveries) (all_taken broker (region_events later)) image (left_taken broker at_fault names None all.0 later left new all.3 image there)
-left_taken broker at_fault names waiting old (told asked said ∷ later) left new all image there =
-    taken_after broker (event_by asked said) (region_events later) image
-    (left_taken broker at_fault names waiting all.0 later left new all.2 image
-    (subst (λ (images : List Image). Contains images image) (left_by_event asked said.text said.refused (region_events later)) there))
+-- so all that may be left was taken
+pub left_taken : (broker : BrokerRecord) (events : List WriterEvent) → AreIn (all_left (region_events events)) (all_taken broker (region_events events))
+left_taken broker events =
+    let taken = all_taken broker (region_events events) in
+    subst (λ (images : List Image). AreIn images taken) (sym (none_left events)) (λ image there. Contains-append_left [] taken image there)
 
 -- so a region whose tablets all serve has the records of what it took
 pub done_records : (broker : BrokerRecord) (live : LiveRegionValue) (did : DidHonestly broker live) → AllServe (core live) → all_cells (core live) ≡ table_of (all_taken broker (region_events did.events))
 done_records broker live did serve =
     let events = region_events did.events in
     let leads : AllLeadTo events (new_region did.bounds) (core live) =
-    subst (λ (r : RegionValue). AllLeadTo events r (core live)) (new_core did.bounds did.opened did.is_new) (done_leads did.at_fault did.names None did.opened did.events did.left None live did.done) in
-    taken_together broker did.bounds events (core live) did.lawful leads did.honest serve (left_taken broker did.at_fault did.names None did.opened did.events did.left live did.done)
+    subst (λ (r : RegionValue). AllLeadTo events r (core live)) (new_core did.bounds did.opened did.is_new) (done_leads did.at_fault did.names None did.opened did.events did.left did.waits live did.done) in
+    taken_together broker did.bounds events (core live) did.lawful leads did.honest serve (left_taken broker did.events)
 
 -- and a record that is served before and after is still held
 pub done_served : (broker : BrokerRecord) (at_fault : AtFault) (names : List (List ℕ)) (waiting : Option RoundInputValue) (old : LiveRegionValue) (events : List WriterEvent) (left : List (List ℕ)) (waits : Option RoundInputValue) (new : LiveRegionValue) (key : List ℕ)

@@ -5,10 +5,11 @@ use Rattle.std.proofs.lemmas.Result.{err_from_is_err_and}
 use Rattle.pn_live.specs.LiveRegions.{LiveRegionValue}
 use Rattle.pn_serve.specs.Control.Commands.{ObeysLive, Said}
 use Rattle.pn_serve.specs.declared.control.commands.WriterCommand.{WriterCommand}
-use Rattle.pn_serve.specs.Server.Events.{AllDone, ReadsBesides, RunsEvents, RunsOn, RunsUpTo, ToldAll, WriterEvent, gathered, tried, taken, told}
+use Rattle.pn_serve.specs.Server.Events.{AllDone, IsEnd, ReadsBesides, RunsEvents, RunsOn, RunsUpTo, ToldAll, WriterEvent, gathered, tried, taken, told}
 use Rattle.pn_serve.specs.Server.Reading.{AreOfStreams, ReadToEnds, ReadUpTo, RunsRounds}
 use Rattle.pn_serve.specs.Server.Rounds.{RoundInputValue, IsRoundTried, TakesInput}
 use Rattle.pn_serve.specs.Server.Tries.{IsNextInput, StopsAt, TakesRound, Waits}
+use Rattle.pn_serve.specs.declared.server.events.ReadingEnd.{ReadingEnd}
 use Rattle.pn_serve.specs.declared.server.fault.ServeFault.{ServeFault}
 use Rattle.pn_serve.specs.declared.server.fault.ServeFault.TheVariants.{Start, Stream, Round, Close, Write}
 use Rattle.pn_serve.specs.declared.server.mailboxes.AtFault.{AtFault}
@@ -50,10 +51,9 @@ module _ (at_fault : AtFault) (old : LiveRegionValue) where
   round_taken : (names : List (List ℕ)) (input : RoundInputValue) (waits : Option RoundInputValue) (new : LiveRegionValue) → TakesInput at_fault input old new (Ok tt) → waits ≡ None → DoesRounds at_fault names (Some input) old names waits new
   round_taken names input waits new takes none = record { events = taken input ∷ []; alone = (tt, tt); done = (new, refl, takes, (refl, none, refl)) }
 
-  round_waits : (names : List (List ℕ)) (input : RoundInputValue) (waits : Option RoundInputValue) (new : LiveRegionValue) → at_fault ≡ GoOn → waits ≡ Some input → (new ≡ old) ⊎ IsRoundTried old input.deliveries new
+  round_waits : (names : List (List ℕ)) (input : RoundInputValue) (waits : Option RoundInputValue) (new : LiveRegionValue) → at_fault ≡ GoOn → waits ≡ Some input → IsRoundTried old new
       → DoesRounds at_fault names (Some input) old names waits new
-  round_waits names input waits new goes_on is (inl same) = record { events = []; alone = tt; done = (refl, is, same) }
-  round_waits names input waits new goes_on is (inr tries) = record { events = tried input ∷ []; alone = (tt, tt); done = (new, goes_on, refl, tries, (refl, is, refl)) }
+  round_waits names input waits new goes_on is tries = record { events = tried input ∷ []; alone = (tt, tt); done = (new, goes_on, refl, tries, (refl, is, refl)) }
 
   it_waits : (names : List (List ℕ)) (waiting : Option RoundInputValue) (left : List (List ℕ)) (waits : Option RoundInputValue) (new : LiveRegionValue) → (waiting ≡ None → names ≢ []) → at_fault ≡ GoOn
       → Waits names waiting old left waits new → DoesRounds at_fault names waiting old left waits new
@@ -108,15 +108,15 @@ module _ (at_fault : AtFault) (names : List (List ℕ)) (old : LiveRegionValue) 
     done = done_after at_fault names None old so.events still waiting between more.events still waiting new so.done more.done;
   }
 
-  pub ran_on : (still : List (List ℕ)) (waiting : Option RoundInputValue) (new : LiveRegionValue) → DoneSoFar at_fault names old still waiting new → RunsOn at_fault names old new
-  ran_on still waiting new so = record { events = so.events; left = still; waits = waiting; done = so.done }
+  pub ran_on : (still : List (List ℕ)) (waiting : Option RoundInputValue) (new : LiveRegionValue) (end : ReadingEnd) → DoneSoFar at_fault names old still waiting new → IsEnd end still waiting → RunsOn at_fault names old new end
+  ran_on still waiting new end so ended = record { events = so.events; left = still; waits = waiting; done = so.done; ended = ended }
 
   pub ran_up_to : (still : List (List ℕ)) (waiting : Option RoundInputValue) (between new : LiveRegionValue) (fault : ServeFault) → DoneSoFar at_fault names old still waiting between → StopsAt at_fault still waiting between new fault
       → RunsUpTo at_fault names old new fault
   ran_up_to still waiting between new fault so stops = record { events = so.events; last = between; still = still; waiting = waiting; done = so.done; stops = stops }
 
   -- a fault as an answer
-  pub as_fault : {T : Type 0} (new : LiveRegionValue) (fault : ServeFault) (result : Result T ServeFault) → IsErrAnd result (λ other. other ≡ fault) → RunsUpTo at_fault names old new fault → RunsEvents at_fault names old new result
+  pub as_fault : (new : LiveRegionValue) (fault : ServeFault) (result : Result ReadingEnd ServeFault) → IsErrAnd result (λ other. other ≡ fault) → RunsUpTo at_fault names old new fault → RunsEvents at_fault names old new result
   as_fault new fault result answered ran =
       let (other, is, same) = err_from_is_err_and result answered in
       subst (RunsEvents at_fault names old new) (sym is) (subst (RunsUpTo at_fault names old new) (sym same) ran)
@@ -137,6 +137,14 @@ module _ (at_fault : AtFault) (names : List (List ℕ)) (old : LiveRegionValue) 
       let (other, is, same) = err_from_is_err_and result answered in
       subst (RunsRounds at_fault names old new) (sym is) (subst (ReadUpTo at_fault names old new) (sym same) read)
 
+-- commands, and those after them
+pub told_then : (at_fault : AtFault) (names : List (List ℕ)) (waiting : Option RoundInputValue) (old between new : LiveRegionValue) → ToldAll at_fault names waiting old between → ToldAll at_fault names waiting between new
+    → ToldAll at_fault names waiting old new
+told_then at_fault names waiting old between new so more = record {
+  events = so.events ++ more.events;
+  done = done_after at_fault names waiting old so.events names waiting between more.events names waiting new so.done more.done;
+}
+
 -- one more command was done
 pub one_told : (at_fault : AtFault) (names : List (List ℕ)) (waiting : Option RoundInputValue) (old between new : LiveRegionValue) (asked : WriterCommand) (said : Said) → ToldAll at_fault names waiting old between → ObeysLive between asked new said
     → ToldAll at_fault names waiting old new
@@ -148,13 +156,16 @@ one_told at_fault names waiting old between new asked said so obeys = record {
 pub none_told : (at_fault : AtFault) (names : List (List ℕ)) (waiting : Option RoundInputValue) (old : LiveRegionValue) → ToldAll at_fault names waiting old old
 none_told at_fault names waiting old = record { events = []; done = (refl, refl, refl) }
 
+pub same_told : (at_fault : AtFault) (names : List (List ℕ)) (waiting : Option RoundInputValue) (old new : LiveRegionValue) → new ≡ old → ToldAll at_fault names waiting old new
+same_told at_fault names waiting old new same = record { events = []; done = (refl, refl, same) }
+
 -- the fault of a round is not that its threads were refused
 begun : (at_fault : AtFault) (names : List (List ℕ)) (waiting : Option RoundInputValue) (old new : LiveRegionValue) → StopsAt at_fault names waiting old new Start → ⊥
 begun at_fault names waiting old new (inl stops) = stops.2.takes
 begun at_fault names waiting old new (inr stops) = let same = stops.1 in cc
 
-pub as_besides : (names : List (List ℕ)) (old new : LiveRegionValue) (read : Result (Unit {0}) ServeFault) → RunsEvents GoOn names old new read → ReadsBesides names old new read
-as_besides names old new (Ok done) ran = ran
+pub as_besides : (names : List (List ℕ)) (old new : LiveRegionValue) (read : Result ReadingEnd ServeFault) → RunsEvents GoOn names old new read → ReadsBesides names old new read
+as_besides names old new (Ok end) ran = ran
 as_besides names old new (Err Start) ran = absurd (begun GoOn ran.still ran.waiting ran.last new ran.stops)
 as_besides names old new (Err (Stream name)) ran = ran
 as_besides names old new (Err Round) ran = ran

@@ -10,11 +10,11 @@ use Rattle.pn_tablet.specs.Refusals.{Refuses}
 use Rattle.pn_region.specs.Marking.{is_memory, new_marks}
 use Rattle.pn_region.specs.Regions.{RegionValue}
 use Rattle.pn_region.specs.Logged.{refused_log, with_notices}
-use Rattle.pn_region.specs.Rounds.{after_joins, round, Leaves}
+use Rattle.pn_region.specs.Rounds.{after_joins, round}
 use Rattle.pn_region.specs.declared.fault.RoundFault.{RoundFault}
 use Rattle.pn_region.specs.declared.fault.RoundFault.TheVariants.{Gap, TooManyStreams, Memory}
 use Rattle.pn_region.proofs.GapLaws.{gap_is_missing}
-use Rattle.pn_live.specs.LiveRegions.{LiveRegionValue, core, tablets_after_round, LeavesLive}
+use Rattle.pn_live.specs.LiveRegions.{LiveRegionValue, core, tablets_after_round}
 use Rattle.pn_serve.specs.Server.Faults.{IsOfRounds}
 use Rattle.pn_serve.specs.Server.Events.{AllDone, WriterEvent, gathered, tried, taken, told}
 use Rattle.pn_serve.specs.Server.Reading.{ReadUpTo}
@@ -55,13 +55,13 @@ no_gap_in old deliveries Memory continues refused = tt
 
 -- the round was refused with a fault, where memory is not waited for
 pub refused_by : {T : Type 0} (result : Result T RoundFault) (old : LiveRegionValue) (deliveries : List DeliveryValue) (new : LiveRegionValue) → All (Continues old.marks) deliveries
-    → IfErr result (λ fault. Refuses is_memory fault (round (core old) deliveries)) → IfErr result (λ fault. LeavesLive fault old deliveries new) → OnErr result (IsRoundRefused Stop old deliveries new)
+    → IfErr result (λ fault. Refuses is_memory fault (round (core old) deliveries)) → IfErr result (λ fault. new ≡ record old { log = refused_log old.log fault }) → OnErr result (IsRoundRefused Stop old deliveries new)
 refused_by (Ok done) old deliveries new continues refuses left = tt
 refused_by (Err fault) old deliveries new continues refuses left = record { fault = fault; no_gap = no_gap_in old deliveries fault continues refuses; lasts = tt; refused = refuses; left = left }
 
 -- a fault that is not out of memory
 pub refused_for_good : (fault : RoundFault) (old : LiveRegionValue) (deliveries : List DeliveryValue) (new : LiveRegionValue) → fault ≢ Memory → All (Continues old.marks) deliveries
-    → Refuses is_memory fault (round (core old) deliveries) → LeavesLive fault old deliveries new → IsRoundRefused GoOn old deliveries new
+    → Refuses is_memory fault (round (core old) deliveries) → new ≡ record old { log = refused_log old.log fault } → IsRoundRefused GoOn old deliveries new
 refused_for_good Memory old deliveries new other continues refuses left = absurd (other refl)
 refused_for_good TooManyStreams old deliveries new other continues refuses left = record { fault = TooManyStreams; no_gap = tt; lasts = tt; refused = refuses; left = left }
 refused_for_good (Gap stream wanted got) old deliveries new other continues refuses left =
@@ -75,15 +75,15 @@ taken_by (Err fault) old deliveries new took published noted = tt
 
 -- a try of a round
 pub tried_so : {T : Type 0} (run : Result T RoundFault) (old : LiveRegionValue) (deliveries : List DeliveryValue) (new : LiveRegionValue) (result : Result Bool ServeFault) → All (Continues old.marks) deliveries
-    → OnOk run (IsRoundTaken old deliveries new) → IfErr run (λ fault. Refuses is_memory fault (round (core old) deliveries)) → IfErr run (λ fault. LeavesLive fault old deliveries new)
-    → IfErr run (λ fault. Leaves fault (core old) deliveries (core new)) → IfErr run (λ fault. new.log ≡ refused_log old.log fault) → MatchResult run (λ _. result ≡ Ok true) (λ fault. result ≡ ends_try fault)
+    → OnOk run (IsRoundTaken old deliveries new) → IfErr run (λ fault. Refuses is_memory fault (round (core old) deliveries)) → IfErr run (λ fault. new ≡ record old { log = refused_log old.log fault })
+    → MatchResult run (λ _. result ≡ Ok true) (λ fault. result ≡ ends_try fault)
     → TriesRound old deliveries new result
-tried_so (Ok done) old deliveries new result continues took refuses live left log is = subst (TriesRound old deliveries new) (sym is) took
-tried_so (Err Memory) old deliveries new result continues took refuses live left log is = subst (TriesRound old deliveries new) (sym is) (inr (record { published = live; half = left; broken = log }))
-tried_so (Err TooManyStreams) old deliveries new result continues took refuses live left log is =
-    subst (TriesRound old deliveries new) (sym is) (refl, refused_for_good TooManyStreams old deliveries new (λ same. cc) continues refuses live)
-tried_so (Err (Gap stream wanted got)) old deliveries new result continues took refuses live left log is =
-    subst (TriesRound old deliveries new) (sym is) (refl, refused_for_good (Gap stream wanted got) old deliveries new (λ same. cc) continues refuses live)
+tried_so (Ok done) old deliveries new result continues took refuses left is = subst (TriesRound old deliveries new) (sym is) took
+tried_so (Err Memory) old deliveries new result continues took refuses left is = subst (TriesRound old deliveries new) (sym is) left
+tried_so (Err TooManyStreams) old deliveries new result continues took refuses left is =
+    subst (TriesRound old deliveries new) (sym is) (refl, refused_for_good TooManyStreams old deliveries new (λ same. cc) continues refuses left)
+tried_so (Err (Gap stream wanted got)) old deliveries new result continues took refuses left is =
+    subst (TriesRound old deliveries new) (sym is) (refl, refused_for_good (Gap stream wanted got) old deliveries new (λ same. cc) continues refuses left)
 
 run_either : {T : Type 0} (result : Result T RoundFault) (old : LiveRegionValue) (deliveries : List DeliveryValue) (new : LiveRegionValue) → OnOk result (IsRoundTaken old deliveries new) → OnErr result (IsRoundRefused Stop old deliveries new)
     → IsRoundTaken old deliveries new ⊎ IsRoundRefused Stop old deliveries new

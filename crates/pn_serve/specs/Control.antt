@@ -4,6 +4,7 @@ pub mod Coding
 pub mod Commands
 pub mod Ends
 pub mod Handling
+pub mod Held
 pub mod Lines
 pub mod Steps
 pub mod Stops

@@ -8,6 +8,7 @@ mod machine;
 mod page_laws;
 mod recut_laws;
 mod repeat_laws;
+mod reply_laws;
 mod script;
 mod server;
 mod sessions;
@@ -19,6 +20,7 @@ mod version;
 pub use control::laws::commands_are_events;
 pub use control::mailboxes::{ControlMailboxes, ControlsClosed, MAX_CONTROLS, StopAsked};
 pub use control::session::{ControlSession, StatsSource};
+pub use control::stop::StopSaid;
 pub use copies::{CopiesFault, CopiesReader, open_copies, recut_copies};
 pub use laws::regions_converge;
 pub use machine::line_answers::ReplyPieces;
@@ -30,12 +32,13 @@ pub use recut_laws::recut_copies_are_as_good;
 pub use repeat_laws::{
     a_repeated_deliver_leaves_no_trace_of_a_refused_one, repeated_delivers_leave_the_same_region,
 };
+pub use reply_laws::later_replies_show_no_older_record;
 pub use script::{Counts, MAX_LINES, RunFault, run, run_to_exit};
 pub use server::{
     Acceptor, ComesBack, Counter, FaultLog, MAX_SESSIONS, NextWriter, OpenedRegion, Origin,
-    ServeFault, SessionThread, Stream, StreamFailure, StreamPath, Watchers, WriterEnd,
-    close_region, join_sessions, open_region, read_streams, serve, serve_from, take_commands,
-    take_commands_for,
+    ReadingEnd, ServeFault, SessionThread, Stream, StreamFailure, StreamPath, TimeCounters,
+    Watchers, WriterEnd, close_region, join_sessions, open_region, read_streams, serve, serve_from,
+    take_commands, take_commands_for,
 };
 pub use sessions::counting_reader::CountingReader;
 pub use sessions::going::Going;
@@ -43,6 +46,7 @@ pub use sessions::session;
 pub use settings::Settings;
 pub use start_laws::a_start_from_copies_leaves_what_was_taken;
 pub use stream_laws::{
-    streams_beside_commands_leave_what_was_taken, streams_that_resume_leave_what_was_published,
+    honest_events_keep_what_is_published_honest, streams_beside_commands_leave_what_was_taken,
+    streams_that_resume_leave_what_was_published,
 };
 pub use version::VERSION;

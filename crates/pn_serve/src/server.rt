@@ -1,10 +1,13 @@
 //! Reads streams into a live region while sessions are answered from it.
 
-ghost use Rattle.std.specs.Prelude.{◌≡◌, ◌≢◌, ◌≤◌, map, vec_len, vec_capacity, All, Ok, Err};
+ghost use Rattle.std.specs.Prelude.{◌≡◌, ◌≢◌, ◌≤◌, map, vec_len, All, Ok, Err};
 ghost use Rattle.std.specs.Prelude.{IfOk, IfErr, IsOk, OnOk, OnErr, IsErrOf, IsTrue, IsFalse, MatchResult};
+ghost use Rattle.std.specs.List.{AllByRecursion};
 ghost use Rattle.std.specs.Io.KnownBytes.{Appends, Keeps};
 ghost use Rattle.pn_apply.specs.declared.reducing.TheConstants.{MAX_WORKERS};
 ghost use Rattle.pn_line.specs.Prelude.{AppendsPrefix};
+ghost use Rattle.pn_live.specs.Closing.{AllKnowPublished};
+ghost use Rattle.pn_live.specs.LiveRegions.{core};
 ghost use Rattle.pn_live.specs.Prelude.{IsNewLive, tablets_in};
 ghost use Rattle.pn_live.specs.declared.region.opening.TheConstants.{MAX_READERS};
 ghost use Rattle.pn_serve.specs.declared.server.limits.TheConstants.{MAX_SESSIONS};
@@ -19,6 +22,7 @@ mod counter;
 mod events;
 mod fault;
 mod fault_log;
+mod held_report;
 mod limits;
 pub(crate) mod mailboxes;
 mod messages;
@@ -31,6 +35,7 @@ mod session_threads;
 mod stream_path;
 mod stream_threads;
 mod streams;
+mod times;
 mod tries;
 pub(crate) mod wakeup;
 mod writer_input;
@@ -43,7 +48,7 @@ use crate::server::session_threads::{StartedSessions, start_sessions};
 use crate::server::stream_threads::{StartedStreams, StreamThread, join_streams, start_streams};
 use crate::server::writer_input::workers_of_each;
 pub use counter::Counter;
-pub use events::{take_commands, take_commands_for};
+pub use events::{ReadingEnd, take_commands, take_commands_for};
 pub use fault::ServeFault;
 pub use fault_log::{FaultLog, StreamFailure};
 pub use limits::MAX_SESSIONS;
@@ -63,6 +68,7 @@ use std::thread::Threads;
 use std::time::Clock;
 pub use stream_path::StreamPath;
 pub use streams::{Watchers, read_streams};
+pub use times::TimeCounters;
 pub use writers::{NextWriter, Origin, Stream, WriterEnd};
 
 /// A live region and its readers. It is not `Drop`: end it by `close_region`.
@@ -160,13 +166,17 @@ pub fn open_region<R: Wait>(
     }
 }
 
-/// Closes a live region, whose readers came back.
+/// Closes a live region, whose readers came back: answers the region of all that was published. No reader saw or learnt
+/// more.
 pub fn close_region<R: Wait>(
     rt: &R,
     live: LiveRegion,
     readers: Vec<LiveReader>,
 ) -> Result<Region, NoMemory>
     requires { AllRead (tablets_in live) readers.items }
+    ensures state { IfOk result (λ region. region.state ≡ core live) }
+    ensures log { IfOk result (λ region. region.log ≡ live.log) }
+    ensures readers { IfOk result (λ _. AllByRecursion (λ reader. AllKnowPublished live.tablets reader.tablet_readers) readers.items) }
 {
     live.close(rt, readers)
 }
@@ -245,7 +255,8 @@ fn run_unless_refused<R: Threads + Wait + Clock + Sync>(
     if is_refused {
         return Err(ServeFault::Start);
     }
-    run_rounds(rt, alloc, live, workers, mailboxes, &None)
+    run_rounds(rt, alloc, live, workers, mailboxes, &None)?;
+    Ok(())
 }
 
 // Waits for the threads of streams, unless the rounds have a fault, which outranks that of a stream.

@@ -2,6 +2,7 @@
 
 ghost use Rattle.std.specs.Prelude.{◌≡◌, ℕ, ◌+◌, List, Option};
 ghost use Rattle.std.specs.FinMap.{find};
+ghost use Rattle.std.specs.List.{AllByRecursion};
 ghost use Rattle.pn_record.specs.Prelude.{bytes_cmp, table_of};
 ghost use Rattle.pn_record.specs.declared.image.Image.{Image};
 ghost use Rattle.pn_region.specs.Events.{AllLeadTo};
@@ -10,7 +11,10 @@ ghost use Rattle.pn_region.specs.Laws.{HasImages};
 ghost use Rattle.pn_region.specs.Prelude.{AreHonestEvents, HoldsStill, IsRegion, all_cells};
 ghost use Rattle.pn_region.specs.Serving.{AllServe, ServesAt};
 ghost use Rattle.pn_region.specs.Taken.{all_taken};
+ghost use Rattle.pn_live.specs.Closing.{AllKnowPublished, AreOfTablets};
+ghost use Rattle.pn_live.specs.Honest.{AreHonestTablets, IsHonestList};
 ghost use Rattle.pn_live.specs.LiveRegions.{LiveRegionValue, core};
+ghost use Rattle.pn_live.specs.TabletReaders.{TabletReaderValue};
 ghost use Rattle.pn_serve.specs.Server.Events.{AllDone, WriterEvent};
 ghost use Rattle.pn_serve.specs.Server.Honest.{IsHonestWriter};
 ghost use Rattle.pn_serve.specs.Server.HonestEvents.{DidHonestly, TookHonestly, region_events};
@@ -54,4 +58,17 @@ pub fn streams_beside_commands_leave_what_was_taken()
         → IsRegion (core old) → AreFaithful broker (core old).tablets → AllDone at_fault names waiting old events left waits new
         → AreHonestEvents broker (region_events events) → ServesAt (core old) key → ServesAt (core new) key
         → HoldsStill (find bytes_cmp key (all_cells (core old))) (find bytes_cmp key (all_cells (core new))) }
+{}
+
+/// Where streams and adopted copies are honest, all that a live region publishes is honest, whatever rounds, commands and faults
+/// come. So is all that a reader saw that knows no more than what is published: its answers never go back, across losses too.
+pub fn honest_events_keep_what_is_published_honest()
+    ensures kept { (broker : BrokerRecord) (at_fault : AtFault) (names : List (List ℕ)) (waiting : Option RoundInputValue)
+        (old : LiveRegionValue) (events : List WriterEvent) (left : List (List ℕ)) (waits : Option RoundInputValue) (new : LiveRegionValue)
+        → IsRegion (core old) → AreHonestTablets broker old.tablets → AllDone at_fault names waiting old events left waits new
+        → AreHonestEvents broker (region_events events) → AreHonestTablets broker new.tablets }
+    ensures published { (broker : BrokerRecord) (live : LiveRegionValue) → DidHonestly broker live → AreHonestTablets broker live.tablets }
+    ensures seen { (broker : BrokerRecord) (live : LiveRegionValue) (readers : List TabletReaderValue)
+        → DidHonestly broker live → AreOfTablets live.tablets readers → AllKnowPublished live.tablets readers
+        → AllByRecursion (λ reader. IsHonestList broker reader.range reader.seen) readers }
 {}

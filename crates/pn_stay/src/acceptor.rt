@@ -1,7 +1,6 @@
 //! Accepts clients: one for each session of a server that ends with them, or all for the threads of one that stays.
 
-ghost use Rattle.std.specs.Prelude.{◌≡◌};
-ghost use Rattle.pn_live.specs.Prelude.{tablets_of};
+ghost use Rattle.pn_serve.specs.Session.Knowing.{KnowsNoLess};
 
 use crate::connection_limit::{ConnectionLimit, Place};
 use crate::counters::{Counters, CountingSource};
@@ -56,8 +55,9 @@ impl SocketAcceptor {
     }
 
     // Answers the lines of a client.
+    #[tactic(auto, using(pn_serve::specs::Proofs::Steady::knows_itself))]
     fn answer(&self, alloc: Global, reader: &mut LiveReader, socket: &Socket) -> io::Result<()>
-        ensures { tablets_of reader.new ≡ tablets_of reader.old }
+        ensures { KnowsNoLess reader.old reader.new }
     {
         let input = BufReader::with_capacity(alloc, SESSION_READ_SIZE, TrackedSocket::new(socket))?;
         let counters = Arc::try_clone(&self.counters.clients)?;
@@ -83,6 +83,7 @@ impl Acceptor for SocketAcceptor {
         })
     }
 
+    #[tactic(auto, using(pn_serve::specs::Proofs::Steady::knows_itself))]
     fn answer_client(&self, alloc: Global, reader: &mut LiveReader) -> io::Result<()> {
         let socket = self.accept()?;
         self.counters.connections.begin();

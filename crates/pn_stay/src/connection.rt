@@ -8,6 +8,7 @@ ghost use Rattle.pn_stay.specs.Unread.{aged, is_deaf, weight_in};
 
 use crate::bounded_reader::{BoundedReader, Look};
 use crate::counters::{Kept, UnreadCounters};
+use crate::line_clock::LineClock;
 use crate::polled_input::PolledInput;
 use crate::room::Room;
 use crate::socket::{Socket, TrackedSocket};
@@ -15,9 +16,10 @@ use crate::unread::UnreadReply;
 use mio::event::Event;
 use pn_lines::{Counts, LineTurns, LinesEnd, Pause, PieceText, TurnBuffers, TurnOutcome};
 use pn_protocol::LineCounts;
-use pn_serve::{MAX_LINES, ReplyPieces};
+use pn_serve::{MAX_LINES, ReplyPieces, TimeCounters};
 use std::alloc::Global;
 use std::marker::Model;
+use std::time::{Clock, Instant};
 
 /// A connection with its socket.
 #[derive(Drop)]
@@ -25,6 +27,7 @@ pub(crate) struct Connection {
     socket: Socket,
     lines: LineTurns<Look, ReplyPieces>,
     pub(crate) idle: IdleTimeout,
+    clock: LineClock,
     /// What waits for its client, if anything does.
     pub(crate) unread: Option<UnreadReply>,
     // What the reply weighs that was weighed last, after the number of lines up to its own.
@@ -47,6 +50,7 @@ impl Connection {
             socket,
             lines: LineTurns::new(alloc, MAX_LINES),
             idle: IdleTimeout::new(),
+            clock: LineClock::new(),
             unread: None,
             weighed: (0, 0),
             room: Room::Unasked,
@@ -117,9 +121,18 @@ impl Connection {
             TurnOutcome::Failed(_) => None,
         }
     }
-}
 
-impl Connection {
+    /// Counts how long the lines took that have their replies since the last turn. Those of this one were at hand then.
+    pub(crate) fn count_times<R: Clock>(
+        &mut self,
+        rt: &R,
+        at_hand: &Option<Instant>,
+        times: &TimeCounters,
+    ) {
+        let (lines, is_going) = (self.lines.counts().lines, self.lines.is_going());
+        self.clock.end_turn(rt, at_hand, lines, is_going, times);
+    }
+
     /// What the records weigh that its reply keeps, where that waits for its client.
     pub(crate) fn unread_weight(&self) -> u64
         ensures { result ≡ weight_in self.now.unread }

@@ -8,7 +8,7 @@ use crate::room::{has_room, is_past, room_beside};
 use crate::streams::status::StreamStatus;
 use pn_join::Name;
 use pn_line::{LineBuffer, Piece, Source};
-use pn_serve::Counter;
+use pn_serve::{Counter, TimeCounters};
 use std::alloc::{AllocError, Global};
 use std::io;
 use std::sync::Arc;
@@ -164,6 +164,9 @@ pub struct Counters {
     pub refused: Counter,
     /// Their lines by what they ask for.
     pub(crate) kinds: KindCounters,
+    /// How long these took, and how long rounds.
+    pub line_times: TimeCounters,
+    pub round_times: Arc<TimeCounters>,
     pub connections: ConnectionCounters,
     pub unread: UnreadCounters,
     pub streams: Vec<StreamCounters>,
@@ -174,6 +177,7 @@ impl Counters {
     /// The counters of a server that has done nothing so far.
     pub fn new(alloc: Global, streams: Vec<StreamCounters>) -> Result<Counters, AllocError> {
         let rounds = Arc::new(alloc, Counter::new())?;
+        let round_times = Arc::new(alloc, TimeCounters::new(alloc)?)?;
         let shortage = Arc::new(alloc, Counter::new())?;
         let waiting = Arc::new(alloc, Counter::new())?;
         let clients = Arc::new(alloc, InputCounters::new())?;
@@ -184,6 +188,8 @@ impl Counters {
             clients,
             refused: Counter::new(),
             kinds: KindCounters::new(),
+            line_times: TimeCounters::new(alloc)?,
+            round_times,
             connections: ConnectionCounters::new(),
             unread: UnreadCounters::new(),
             streams,

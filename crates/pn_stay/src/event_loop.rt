@@ -24,7 +24,7 @@ use pn_protocol::LineCounts;
 use slab::Slab;
 use std::alloc::Global;
 use std::sync::{Arc, Wait};
-use std::time::{Clock, Duration};
+use std::time::{Clock, Duration, Instant};
 use std::{io, mem};
 
 /// How many events one wait gives at most.
@@ -72,6 +72,8 @@ pub(crate) struct EventLoop {
     // The number of the next line that waits for room, and whether one may wait.
     number: u64,
     has_waiting: bool,
+    // When the lines were at hand that are taken now, where the clock says it.
+    at_hand: Option<Instant>,
 }
 
 impl EventLoop {
@@ -102,6 +104,7 @@ impl EventLoop {
             quarters: QuarterClock::new(),
             number: 1,
             has_waiting: false,
+            at_hand: None,
         })
     }
 
@@ -222,16 +225,22 @@ impl EventLoop {
     }
 
     // Gives each connection that is ready one turn, while the thread is to answer.
-    fn take_turns<R: Wait>(&mut self, rt: &R, mailbox: &SocketMailbox, reader: &mut BoundedReader)
+    fn take_turns<R: Wait + Clock>(
+        &mut self,
+        rt: &R,
+        mailbox: &SocketMailbox,
+        reader: &mut BoundedReader,
+    )
         ensures knows { KnowsNoLess reader.old reader.new }
     {
+        self.at_hand = Instant::now(rt).ok();
         let spare = mem::replace(&mut self.spare, Vec::new(self.alloc));
         let mut ready = mem::replace(&mut self.ready, spare);
         for key in ready.iter() {
             if mailbox.is_cut(rt) {
                 continue;
             }
-            match self.give_turn(*key, reader) {
+            match self.give_turn(rt, *key, reader) {
                 Some(Pause::Turn) => make_ready(&mut self.connections, &mut self.ready, *key),
                 Some(Pause::Input | Pause::Output) => {}
                 None => self.remove(rt, mailbox, *key),
@@ -246,7 +255,12 @@ impl EventLoop {
     }
 
     // One turn of the connection of a key. Where it is gone, nothing is at hand.
-    fn give_turn(&mut self, key: usize, reader: &mut BoundedReader) -> Option<Pause>
+    fn give_turn<R: Clock>(
+        &mut self,
+        rt: &R,
+        key: usize,
+        reader: &mut BoundedReader,
+    ) -> Option<Pause>
         ensures knows { KnowsNoLess reader.old reader.new }
     {
         match self.connections.get_mut(key) {
@@ -254,6 +268,7 @@ impl EventLoop {
                 let before = connection.kept();
                 reader.begin_turn(connection.room_in(&self.counters.unread));
                 let next = connection.turn(&mut self.buffers, reader, &mut self.counted);
+                connection.count_times(rt, &self.at_hand, &self.counters.line_times);
                 self.note_kept(key, before);
                 next
             }

@@ -1,6 +1,6 @@
 //! A server that stays: threads answer its connections while its live region reads streams.
 
-ghost use Rattle.std.specs.Prelude.{◌≡◌, ◌+◌, ◌≤◌, false, map, vec_len, vec_capacity, All, IfOk, OnOk};
+ghost use Rattle.std.specs.Prelude.{◌≡◌, ◌+◌, ◌≤◌, false, map, is_some, vec_len, vec_capacity, All, IfOk, OnOk};
 ghost use Rattle.pn_live.specs.Prelude.{tablets_in, tablets_of, IsNewLive};
 ghost use Rattle.pn_serve.specs.declared.server.limits.TheConstants.{MAX_SESSIONS};
 ghost use Rattle.pn_live.specs.declared.region.opening.TheConstants.{MAX_READERS};
@@ -12,6 +12,7 @@ mod accepting;
 mod control_buffers;
 mod control_client;
 mod control_threads;
+pub(crate) mod ending;
 pub(crate) mod starting;
 mod stopping;
 mod threads;
@@ -26,19 +27,18 @@ use crate::server::threads::start_answering;
 use pn_line::Source;
 use pn_live::{LiveReader, LiveRegion};
 use pn_serve::{
-    Acceptor, ControlsClosed, Counter, MAX_CONTROLS, OpenedRegion, Origin, ServeFault,
-    SessionThread, Settings, Stream, Watchers, close_region, join_sessions, open_region,
-    read_streams, take_commands,
+    Acceptor, Counter, MAX_CONTROLS, OpenedRegion, Origin, ReadingEnd, ServeFault, SessionThread,
+    Settings, Stream, TimeCounters, Watchers, open_region, read_streams,
 };
 use pn_tablet::Layout;
 use std::alloc::{AllocError, Global};
+use std::io;
 use std::io::ErrorKind;
 use std::marker::Model;
 use std::net::Net;
 use std::sync::{Arc, Wait};
 use std::thread::Threads;
 use std::time::Clock;
-use std::{io, mem};
 
 /// A live region and the threads that answer connections from it.
 pub struct StayingServer {
@@ -86,6 +86,7 @@ impl StayingServer {
         requires { (1 ≤ threads) × (threads ≤ MAX_SESSIONS) }
         ensures is_new { IfOk result (λ server. IsNewLive settings.layout server.live) }
         ensures threads { IfOk result (λ server. server.threads ≡ threads) }
+        ensures controlled { IfOk result (λ server. server.controlled ≡ is_some acceptor.control) }
     {
         let (layout, workers) = settings.into_parts();
         let controls = if acceptor.control.is_some() {
@@ -110,7 +111,7 @@ impl StayingServer {
         rt: &R,
         alloc: Global,
         streams: Vec<Stream<O>>,
-    ) -> Result<(), ServeFault>
+    ) -> Result<ReadingEnd, ServeFault>
     where
         R: Threads + Wait + Clock + Sync + Copy + Send + 'static,
         S: Source + Drop + Send + 'static,
@@ -118,65 +119,11 @@ impl StayingServer {
         ensures alone { self.old.controlled ≡ false → ReadsStreams (map (λ stream. stream.name) streams.items) self.old.live self.new.live result }
         ensures reads { ReadsBesides (map (λ stream. stream.name) streams.items) self.old.live self.new.live result }
         ensures threads { self.new.threads ≡ self.old.threads }
+        ensures controlled { self.new.controlled ≡ self.old.controlled }
     {
         let watchers = &self.watchers;
         let read = read_streams(rt, alloc, &mut self.live, self.workers, streams, watchers);
         read
-    }
-
-    /// Does what control sessions ask for until one asks the server to stop, and stops it. Without a control socket it waits
-    /// for the threads that answer connections. Answers whether the server was stopped.
-    pub fn wait<R: Threads + Wait + Clock>(self, rt: &R, alloc: Global) -> bool {
-        let mut server = self;
-        match &server.watchers.controls {
-            Some(controls) => {
-                let live = &mut server.live;
-                let asked = take_commands(rt, alloc, live, controls);
-                let closed = server.stopping.run(rt, alloc, live, controls, asked);
-                server.end(rt, closed);
-                true
-            }
-            None => {
-                server.join(rt);
-                false
-            }
-        }
-    }
-
-    /// Answers nothing any more, closes the region, and leaves its memory and the threads to the end of the program.
-    pub fn leave<R: Wait + Clock>(self, rt: &R) {
-        let StayingServer {
-            live,
-            workers: _,
-            running: _,
-            readers,
-            watchers: _,
-            stopping,
-        } = self;
-        stopping.cut(rt);
-        if let Ok(region) = close_region(rt, live, readers) {
-            mem::forget(region);
-        }
-    }
-
-    // Ends a server that was stopped: no command is taken any more.
-    fn end<R: Wait + Clock>(self, rt: &R, _closed: ControlsClosed) {
-        self.leave(rt);
-    }
-
-    // Waits for the threads, which end where the system's wait for sockets fails, and closes the region.
-    fn join<R: Threads + Wait>(self, rt: &R) {
-        let StayingServer {
-            live,
-            workers: _,
-            running,
-            readers,
-            watchers: _,
-            stopping: _,
-        } = self;
-        let mut readers = readers;
-        join_sessions(rt, &live, running, &mut readers);
-        let _ = close_region(rt, live, readers);
     }
 }
 
@@ -205,6 +152,7 @@ where
     ensures readers { AllRead (tablets_in live.now) readers.new.items }
     ensures capacity { IfOk result (λ started. vec_len started.running + vec_len readers.new ≤ vec_capacity readers.new) }
     ensures all { IfOk result (λ started. vec_len started.running ≡ sizes.threads) }
+    ensures controlled { IfOk result (λ started. is_some started.watchers.controls ≡ is_some acceptor.control) }
 {
     let mut acceptor = acceptor;
     let beside = take_beside(alloc, live, readers, sizes.threads)?;
@@ -216,6 +164,7 @@ where
         running: answering.running,
         watchers: Watchers {
             rounds: kept.rounds,
+            times: kept.times,
             shortage: kept.shortage,
             waiting: kept.waiting,
             controls: controls.mailboxes,
@@ -234,6 +183,7 @@ where
 #[derive(Drop)]
 struct KeptHandles {
     rounds: Option<Arc<Counter>>,
+    times: Option<Arc<TimeCounters>>,
     shortage: Option<Arc<Counter>>,
     waiting: Option<Arc<Counter>>,
     listener: Listener,
@@ -242,12 +192,14 @@ struct KeptHandles {
 
 fn keep_handles(acceptor: &SocketAcceptor) -> io::Result<KeptHandles> {
     let rounds = acceptor.round_counter();
+    let times = Some(Arc::try_clone(&acceptor.counters.round_times)?);
     let shortage = Some(Arc::try_clone(&acceptor.counters.shortage)?);
     let waiting = Some(Arc::try_clone(&acceptor.counters.waiting)?);
     let listener = acceptor.listener.try_clone()?;
     let counters = Arc::try_clone(&acceptor.counters)?;
     Ok(KeptHandles {
         rounds,
+        times,
         shortage,
         waiting,
         listener,

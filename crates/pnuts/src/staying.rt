@@ -7,11 +7,11 @@ ghost use Rattle.pn_serve.specs.Server.Sessions.{AllRead};
 
 use crate::failures::{fail, fail_serving, fail_with};
 use pn_arguments::Service;
-use pn_serve::{OpenedRegion, ServeFault, Settings};
+use pn_serve::{OpenedRegion, ReadingEnd, ServeFault, Settings};
 use pn_stay::{
-    ServerSizes, SocketAcceptor, SocketFile, StayingServer, message_prefix, remove_sockets,
+    ServerEnd, ServerSizes, SocketAcceptor, SocketFile, StayingServer, message_prefix,
+    remove_sockets,
 };
-use std::io;
 use std::io::ErrorKind;
 use std::net::Net;
 use std::process::ExitCode;
@@ -19,6 +19,7 @@ use std::rt::Files;
 use std::sync::{Arc, Wait};
 use std::thread::Threads;
 use std::time::Clock;
+use std::{io, mem};
 
 /// Begins to answer connections: from the region that is open, or else from a new one.
 pub(crate) fn start_server<R>(
@@ -67,19 +68,20 @@ pub(crate) fn answer_on<R: AllocGlobal + Threads + Wait + Clock + Eprint + Files
     service: &Service,
     sockets: &[Arc<SocketFile>],
     server: StayingServer,
-    read: Result<(), ServeFault>,
+    read: Result<ReadingEnd, ServeFault>,
 ) -> ExitCode {
     if let Err(ServeFault::Start) = &read {
-        server.leave(rt);
+        mem::forget(server.leave(rt));
         remove_sockets(rt, sockets);
         return fail_serving(rt, ServeFault::Start, true);
     }
     if let Err(fault) = read {
         let _ = fail_serving(rt, fault, true);
     }
-    let is_stopped = server.wait(rt, rt.alloc());
+    let ServerEnd { stop, region } = server.wait(rt, rt.alloc());
+    mem::forget(region);
     remove_sockets(rt, sockets);
-    if !is_stopped {
+    if stop.is_none() {
         return fail(rt, "cannot serve");
     }
     let _ = eprint!(rt; "{}", message_prefix(service.is_progress_told));

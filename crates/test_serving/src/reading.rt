@@ -175,6 +175,7 @@ where
 {
     let watchers = Watchers {
         rounds,
+        times: None,
         shortage: None,
         waiting: None,
         controls: None,

@@ -38,14 +38,14 @@ KeepsKnowing old new = KnowsNoLess old.reader new.reader
 abbrev pub after_step : LiveReaderValue → ControlStep → ControlState
 after_step reader (Replies shown) = at_rest reader
 after_step reader (Announces lines) = record { reader = reader; mode = announced lines (Some []); stop = None; over = false }
-after_step reader (Stops seconds) = record { reader = reader; mode = awaits_command; stop = Some seconds; over = false }
+after_step reader (Stops said) = record { reader = reader; mode = awaits_command; stop = Some said.seconds; over = false }
 after_step reader Ends = record { reader = reader; mode = awaits_command; stop = None; over = true }
 
 -- the reply of a step
 abbrev pub reply_of : ControlStep → Reply
 reply_of (Replies shown) = shown
 reply_of (Announces lines) = Silent
-reply_of (Stops seconds) = Stopping seconds
+reply_of (Stops said) = Stopping said.seconds
 reply_of Ends = Silent
 
 -- a line came to such a step

@@ -103,13 +103,18 @@ pub record Reports (old new : LiveReaderValue) (step : ControlStep) : Type 0 whe
   pub counts : CountsTablets old new answer
   pub shows : RepliesWith (ShowsCounts answer) step
 
+-- the server is asked to end within this number of seconds
+abbrev pub AsksStop : ℕ → ControlStep → Type 0
+AsksStop seconds (Stops said) = said.seconds ≡ seconds
+AsksStop seconds step = ⊥
+
 -- a command was done
 abbrev pub ObeysControl : LiveReaderValue → ControlValue → LiveReaderValue → ControlStep → Type 0
 ObeysControl old (script asked) new step = ObeysScript old asked new step
 ObeysControl old (notices since wait) new step = (new ≡ old) × Asks (commands.Notices since) step
 ObeysControl old advance new step = (new ≡ old) × Asks commands.Advance step
 ObeysControl old stats new step = Reports old new step
-ObeysControl old (stop seconds) new step = (new ≡ old) × (step ≡ Stops seconds)
+ObeysControl old (stop seconds) new step = (new ≡ old) × AsksStop seconds step
 
 -- a line that reads as this was answered
 abbrev pub StepsAs : LiveReaderValue → Result ControlValue Refusal → LiveReaderValue → ControlStep → Type 0

@@ -5,6 +5,8 @@ use Rattle.pn_serve.specs.Control.Commands.{ObeysLive, Said}
 use Rattle.pn_serve.specs.declared.control.commands.WriterCommand.{WriterCommand}
 use Rattle.pn_serve.specs.Server.Rounds.{RoundInputValue, IsRoundTried, TakesInput}
 use Rattle.pn_serve.specs.Server.Tries.{IsNextInput, StopsAt}
+use Rattle.pn_serve.specs.declared.server.events.ReadingEnd.{ReadingEnd}
+use Rattle.pn_serve.specs.declared.server.events.ReadingEnd.TheVariants.{StreamsEnded, Stopped}
 use Rattle.pn_serve.specs.declared.server.fault.ServeFault.{ServeFault}
 use Rattle.pn_serve.specs.declared.server.fault.ServeFault.TheVariants.{Start}
 use Rattle.pn_serve.specs.declared.server.mailboxes.AtFault.{AtFault}
@@ -24,7 +26,7 @@ AllDone at_fault names waiting old [] left waits new = (left ≡ names) × (wait
 AllDone at_fault names waiting old (gathered input ∷ later) left waits new = (still : List (List ℕ)) × (waiting ≡ None) × (names ≢ [])
     × IsNextInput names None old.marks input still × AllDone at_fault still (Some input) old later left waits new
 AllDone at_fault names waiting old (tried input ∷ later) left waits new = (between : LiveRegionValue) × (at_fault ≡ GoOn) × (waiting ≡ Some input)
-    × IsRoundTried old input.deliveries between × AllDone at_fault names waiting between later left waits new
+    × IsRoundTried old between × AllDone at_fault names waiting between later left waits new
 AllDone at_fault names waiting old (taken input ∷ later) left waits new = (between : LiveRegionValue) × (waiting ≡ Some input)
     × TakesInput at_fault input old between (Ok tt) × AllDone at_fault names None between later left waits new
 AllDone at_fault names waiting old (told asked said ∷ later) left waits new = (between : LiveRegionValue)
@@ -35,12 +37,18 @@ pub record ToldAll (at_fault : AtFault) (names : List (List ℕ)) (waiting : Opt
   pub events : List WriterEvent
   pub done : AllDone at_fault names waiting old events names waiting new
 
--- events came until all streams had ended and no input waited, or a stop was asked for
-pub record RunsOn (at_fault : AtFault) (names : List (List ℕ)) (old new : LiveRegionValue) : Type 0 where
+-- where reading ends: no stream is left, and no input waits; or a stop was asked for
+abbrev pub IsEnd : ReadingEnd → List (List ℕ) → Option RoundInputValue → Type 0
+IsEnd StreamsEnded left waits = (left ≡ []) × (waits ≡ None)
+IsEnd (Stopped asked) left waits = Unit {0}
+
+-- events came until reading ended so
+pub record RunsOn (at_fault : AtFault) (names : List (List ℕ)) (old new : LiveRegionValue) (end : ReadingEnd) : Type 0 where
   pub events : List WriterEvent
   pub left : List (List ℕ)
   pub waits : Option RoundInputValue
   pub done : AllDone at_fault names None old events left waits new
+  pub ended : IsEnd end left waits
 
 -- some events came, and the next round has this fault
 pub record RunsUpTo (at_fault : AtFault) (names : List (List ℕ)) (old new : LiveRegionValue) (fault : ServeFault) : Type 0 where
@@ -52,15 +60,15 @@ pub record RunsUpTo (at_fault : AtFault) (names : List (List ℕ)) (old new : Li
   pub stops : StopsAt at_fault still waiting last new fault
 
 -- events came, up to a fault if there is one
-abbrev pub RunsEvents : {T : Type 0} → AtFault → List (List ℕ) → LiveRegionValue → LiveRegionValue → Result T ServeFault → Type 0
-RunsEvents at_fault names old new (Ok done) = RunsOn at_fault names old new
+abbrev pub RunsEvents : AtFault → List (List ℕ) → LiveRegionValue → LiveRegionValue → Result ReadingEnd ServeFault → Type 0
+RunsEvents at_fault names old new (Ok end) = RunsOn at_fault names old new end
 RunsEvents at_fault names old new (Err fault) = RunsUpTo at_fault names old new fault
 
 -- commands alone came
 abbrev pub RunsCommands : AtFault → LiveRegionValue → LiveRegionValue → Type 0
-RunsCommands at_fault old new = RunsOn at_fault [] old new
+RunsCommands at_fault old new = ToldAll at_fault [] None old new
 
 -- streams were read beside the commands of control sessions; none was read if their threads were refused
-abbrev pub ReadsBesides : List (List ℕ) → LiveRegionValue → LiveRegionValue → Result (Unit {0}) ServeFault → Type 0
+abbrev pub ReadsBesides : List (List ℕ) → LiveRegionValue → LiveRegionValue → Result ReadingEnd ServeFault → Type 0
 ReadsBesides names old new (Err Start) = new ≡ old
 ReadsBesides names old new read = RunsEvents GoOn names old new read

@@ -1,23 +1,24 @@
 -- Rounds of streams and commands of control sessions, one after another, as events of the region.
-use Rattle.std.specs.Prelude.{ℕ, List, [], ◌∷◌, None}
+use Rattle.std.specs.Prelude.{ℕ, List, [], ◌∷◌, Option, None}
 use Rattle.pn_stream.specs.Brokers.{BrokerRecord}
 use Rattle.pn_tablet.specs.Layouts.{Bounds, IsLayout}
-use Rattle.pn_region.specs.Events.{RegionEvent, round, half_round, AreHonestEvents}
+use Rattle.pn_region.specs.Events.{RegionEvent, round, AreHonestEvents}
 use Rattle.pn_live.specs.LiveRegions.{LiveRegionValue, IsNewLive}
 use Rattle.pn_serve.specs.Control.Commands.{event_by, with_event}
 use Rattle.pn_serve.specs.Server.Events.{AllDone, WriterEvent, gathered, tried, taken, told}
 use Rattle.pn_serve.specs.Server.Reading.{AreOfStreams}
+use Rattle.pn_serve.specs.Server.Rounds.{RoundInputValue}
 use Rattle.pn_serve.specs.declared.server.mailboxes.AtFault.{AtFault}
 
--- the events of the region that these are: each round, each try of one that ran out of memory, and each command that was done
+-- the events of the region that these are: each round, and each command that was done. A try that memory ran out for changes nothing
 abbrev pub region_events : List WriterEvent → List RegionEvent
 region_events [] = []
 region_events (gathered input ∷ later) = region_events later
-region_events (tried input ∷ later) = half_round input.deliveries ∷ region_events later
+region_events (tried input ∷ later) = region_events later
 region_events (taken input ∷ later) = round input.deliveries ∷ region_events later
 region_events (told asked said ∷ later) = with_event (event_by asked said) (region_events later)
 
--- a live region that took rounds and did commands since it was new, of which each brought what is honest; no round waits for memory
+-- a live region that took rounds and did commands since it was new, of which each brought what is honest
 pub record DidHonestly (broker : BrokerRecord) (live : LiveRegionValue) : Type 0 where
   pub bounds : Bounds
   pub lawful : IsLayout bounds
@@ -27,7 +28,8 @@ pub record DidHonestly (broker : BrokerRecord) (live : LiveRegionValue) : Type 0
   pub names : List (List ℕ)
   pub events : List WriterEvent
   pub left : List (List ℕ)
-  pub done : AllDone at_fault names None opened events left None live
+  pub waits : Option RoundInputValue
+  pub done : AllDone at_fault names None opened events left waits live
   pub honest : AreHonestEvents broker (region_events events)
 
 -- one that did no commands: it took honest deliveries of streams alone

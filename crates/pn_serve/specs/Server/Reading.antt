@@ -42,6 +42,6 @@ RunsRounds at_fault names old new (Err fault) = ReadUpTo at_fault names old new 
 
 -- all streams of these names were read, of which a fault ends one alone, or a round was refused; none was read if their threads
 -- were refused
-abbrev pub ReadsStreams : List (List ℕ) → LiveRegionValue → LiveRegionValue → Result (Unit {0}) ServeFault → Type 0
+abbrev pub ReadsStreams : {T : Type 0} → List (List ℕ) → LiveRegionValue → LiveRegionValue → Result T ServeFault → Type 0
 ReadsStreams names old new (Err Start) = new ≡ old
 ReadsStreams names old new read = RunsRounds GoOn names old new read

@@ -3,12 +3,12 @@ use Rattle.std.specs.Prelude.{◌≡◌, ◌⊎◌, ℕ, ◌+◌, ◌≤◌, Boo
 use Rattle.pn_join.specs.Marks.{Positions, position_of}
 use Rattle.pn_stream.specs.Positions.{DeliveryValue}
 use Rattle.pn_tablet.specs.Refusals.{Refuses}
-use Rattle.pn_region.specs.Logged.{with_break, with_notices}
+use Rattle.pn_region.specs.Logged.{refused_log, with_break, with_notices}
 use Rattle.pn_region.specs.Marking.{is_memory}
-use Rattle.pn_region.specs.Rounds.{round, IsHalfTaken}
+use Rattle.pn_region.specs.Rounds.{round}
 use Rattle.pn_region.specs.declared.fault.RoundFault.{RoundFault}
 use Rattle.pn_region.specs.declared.fault.RoundFault.TheVariants.{Gap, TooManyStreams, Memory}
-use Rattle.pn_live.specs.LiveRegions.{LiveRegionValue, core, tablets_after_round, IsHalfPublished, LeavesLive}
+use Rattle.pn_live.specs.LiveRegions.{LiveRegionValue, core, tablets_after_round}
 use Rattle.pn_serve.specs.Server.Messages.{FitRound}
 use Rattle.pn_serve.specs.declared.server.fault.ServeFault.{ServeFault}
 use Rattle.pn_serve.specs.declared.server.fault.ServeFault.TheVariants.{Stream, Round}
@@ -42,11 +42,9 @@ IsNoGap (Gap stream wanted got) = ⊥
 IsNoGap TooManyStreams = Unit {0}
 IsNoGap Memory = Unit {0}
 
--- memory ran out for a round that is tried again: each tablet took its part of it or not, and the log has a break
-pub record IsRoundTried (old : LiveRegionValue) (deliveries : List DeliveryValue) (new : LiveRegionValue) : Type 0 where
-  pub published : IsHalfPublished old deliveries new
-  pub half : IsHalfTaken (core old) deliveries (core new)
-  pub broken : new.log ≡ with_break old.log
+-- memory ran out for a round that is tried again: nothing was published, and the log has a break
+abbrev pub IsRoundTried : LiveRegionValue → LiveRegionValue → Type 0
+IsRoundTried old new = new ≡ record old { log = with_break old.log }
 
 -- the fault ends the reading: where a stream's fault ends that stream alone, memory is waited for
 abbrev pub Lasts : AtFault → RoundFault → Type 0
@@ -61,7 +59,7 @@ pub record IsRoundRefused (at_fault : AtFault) (old : LiveRegionValue) (deliveri
   pub no_gap : IsNoGap fault
   pub lasts : Lasts at_fault fault
   pub refused : Refuses is_memory fault (round (core old) deliveries)
-  pub left : LeavesLive fault old deliveries new
+  pub left : new ≡ record old { log = refused_log old.log fault }
 
 -- what comes of a try that had this fault
 abbrev pub ends_try : RoundFault → Result Bool ServeFault
@@ -69,10 +67,10 @@ ends_try Memory = Ok false
 ends_try TooManyStreams = Err Round
 ends_try (Gap stream wanted got) = Err Round
 
--- how a try of a round ends where memory is waited for: it was taken; memory ran out, before it began or in it; or it is refused
+-- how a try of a round ends where memory is waited for: it was taken; or memory ran out; or it is refused
 abbrev pub TriesRound : LiveRegionValue → List DeliveryValue → LiveRegionValue → Result Bool ServeFault → Type 0
 TriesRound old deliveries new (Ok true) = IsRoundTaken old deliveries new
-TriesRound old deliveries new (Ok false) = (new ≡ old) ⊎ IsRoundTried old deliveries new
+TriesRound old deliveries new (Ok false) = IsRoundTried old new
 TriesRound old deliveries new (Err fault) = (fault ≡ Round) × IsRoundRefused GoOn old deliveries new
 
 -- the stream with a fault, if that stops all streams

@@ -20,10 +20,10 @@ abbrev pub IsNextInput : List (List ℕ) → Option RoundInputValue → Position
 IsNextInput names None marks input left = IsInputOf names marks input left × CanBeTaken (length names) marks input
 IsNextInput names (Some waiting) marks input left = (input ≡ waiting) × (left ≡ names)
 
--- how a round of an input ends: the input was taken; or it is given back, and its round was not begun, or was tried; or a fault
+-- how a round of an input ends: the input was taken; or memory ran out, and it is given back; or a fault
 abbrev pub RunsInput : AtFault → RoundInputValue → LiveRegionValue → LiveRegionValue → Result (Option RoundInput) ServeFault → Type 0
 RunsInput at_fault input old new (Ok None) = TakesInput at_fault input old new (Ok tt)
-RunsInput at_fault input old new (Ok (Some back)) = (at_fault ≡ GoOn) × (value_of back ≡ input) × ((new ≡ old) ⊎ IsRoundTried old input.deliveries new)
+RunsInput at_fault input old new (Ok (Some back)) = (at_fault ≡ GoOn) × (value_of back ≡ input) × IsRoundTried old new
 RunsInput at_fault input old new (Err fault) = TakesInput at_fault input old new (Err fault)
 
 -- the next input was taken so; these streams go on
@@ -31,10 +31,10 @@ pub record RunsRound (at_fault : AtFault) (names : List (List ℕ)) (waiting : O
   pub next : IsNextInput names waiting old.marks input left
   pub takes : TakesInput at_fault input old new run
 
--- there was no memory to ask the streams, and nothing changed; or the next input waits, and its round was not begun, or was tried
+-- there was no memory to ask the streams, and nothing changed; or the next input waits, whose round was tried
 abbrev pub Waits : List (List ℕ) → Option RoundInputValue → LiveRegionValue → List (List ℕ) → Option RoundInputValue → LiveRegionValue → Type 0
 Waits names waiting old left waits new = ((waiting ≡ None) × (left ≡ names) × (waits ≡ None) × (new ≡ old))
-    ⊎ ((input : RoundInputValue) × IsNextInput names waiting old.marks input left × (waits ≡ Some input) × ((new ≡ old) ⊎ IsRoundTried old input.deliveries new))
+    ⊎ ((input : RoundInputValue) × IsNextInput names waiting old.marks input left × (waits ≡ Some input) × IsRoundTried old new)
 
 -- the next round has this fault; or there was no memory to ask the streams, which ends the reading where a stream's fault does
 abbrev pub StopsAt : AtFault → List (List ℕ) → Option RoundInputValue → LiveRegionValue → LiveRegionValue → ServeFault → Type 0

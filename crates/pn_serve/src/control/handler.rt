@@ -1,6 +1,6 @@
 //! The handler of a control session's lines.
 
-ghost use Rattle.std.specs.Prelude.{◌≡◌, ℕ, List};
+ghost use Rattle.std.specs.Prelude.{◌≡◌, ℕ, List, option_map};
 ghost use Rattle.pn_line.specs.Prelude.{kept_bytes};
 ghost use Rattle.pn_serve.specs.Control.Lines.{AnswersControl, EndsControl, after_step, at_rest, is_closed, reply_of};
 ghost use Rattle.pn_serve.specs.Lines.Handled.{by_end};
@@ -8,6 +8,7 @@ ghost use Rattle.pn_serve.specs.Session.Knowing.{KnowsNoLess};
 
 use crate::control::session::{ControlSession, StatsSource};
 use crate::control::steps::ControlStep;
+use crate::control::stop::StopSaid;
 use crate::machine::adoption::{AnnouncedText, GatherOutcome};
 use crate::machine::line_answers::{Answer, ReplyPieces, answered};
 use crate::sessions::going::Going;
@@ -28,13 +29,14 @@ pub(crate) struct ControlHandler<'a, R, C: Drop> {
     reader: LiveReader,
     // The lines that are still to come. None: the next line is a command.
     announced: Option<AnnouncedText>,
-    // Within how many seconds the server is to end, once the client has asked for that.
-    stop: Option<u64>,
+    // That the server is to end, once the client has asked for that.
+    stop: Option<StopSaid>,
     // Whether the writer takes no command any more.
     is_over: bool,
 }
 
 impl<'a, R, C: Drop> Model for ControlHandler<'a, R, C> {
+    ghost use Rattle.std.specs.Prelude.{option_map};
     ghost use Rattle.pn_serve.specs.Control.Lines.{ControlState};
     ghost use Rattle.pn_serve.specs.Machine.Modes.{mode_of};
 
@@ -47,7 +49,7 @@ impl<'a, R, C: Drop> Model for ControlHandler<'a, R, C> {
     ghost view = { λ session. record {
       reader = session.reader;
       mode = mode_of session.announced;
-      stop = session.stop;
+      stop = option_map (λ said. said.seconds) session.stop;
       over = session.is_over;
     } };
 }
@@ -78,10 +80,10 @@ impl<'a, R, C: Drop> ControlHandler<'a, R, C> {
         self.stop.is_some() || self.is_over
     }
 
-    /// Gives the reader back, and within how many seconds the server is to end, if the client has asked for that.
-    pub(crate) fn end(self) -> (LiveReader, Option<u64>)
+    /// Gives the reader back, and that the server is to end, if the client has asked for that.
+    pub(crate) fn end(self) -> (LiveReader, Option<StopSaid>)
         ensures reader { result.0 ≡ self.entry.reader }
-        ensures stop { result.1 ≡ self.entry.stop }
+        ensures stop { option_map (λ said. said.seconds) result.1 ≡ self.entry.stop }
     {
         let ControlHandler {
             rt: _rt,
@@ -106,9 +108,9 @@ impl<'a, R, C: Drop> ControlHandler<'a, R, C> {
                 self.announced = Some(AnnouncedText::new(alloc, lines));
                 Reply::Silent
             }
-            ControlStep::Stops(seconds) => {
-                self.stop = Some(seconds);
-                Reply::Stopping(seconds)
+            ControlStep::Stops(said) => {
+                self.stop = Some(said);
+                Reply::Stopping(said.seconds)
             }
             ControlStep::Ends => {
                 self.is_over = true;

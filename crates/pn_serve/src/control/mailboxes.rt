@@ -4,6 +4,7 @@ ghost use Rattle.std.specs.Prelude.{◌≡◌, ◌≢◌, ℕ, List, Option, Non
 ghost use Rattle.pn_live.specs.Prelude.{tablets_in};
 ghost use Rattle.pn_serve.specs.Control.Answers.{IsGiven, question_of};
 ghost use Rattle.pn_serve.specs.Control.Commands.{answer_of};
+ghost use Rattle.pn_serve.specs.Control.Held.{is_unanswered};
 ghost use Rattle.pn_serve.specs.Server.Events.{ToldAll};
 ghost use Rattle.pn_serve.specs.Server.Rounds.{RoundInputValue};
 ghost use Rattle.pn_serve.specs.declared.control.mailboxes.HeldCommand.TheVariants.{Nothing, Asked, Taken, Answered, Closed};
@@ -12,7 +13,7 @@ ghost use Rattle.pn_serve.specs.declared.server.mailboxes.AtFault.{AtFault};
 use crate::control::answers::{GivenAnswer, Question, give_answer};
 use crate::control::commands::{WriterAnswer, WriterCommand};
 use crate::control::log_watch::LogWatch;
-use crate::control::stop::{StopRequest, has_come};
+use crate::control::stop::{StopRequest, StopSaid, StopTime};
 use crate::server::mailboxes::{StreamMailbox, show_marks};
 use crate::server::wakeup::Wakeup;
 use pn_live::LiveRegion;
@@ -35,13 +36,13 @@ pub struct ControlMailboxes {
     began: Option<Instant>,
 }
 
-/// Shows that a stop was asked for, and that commands are still taken.
+/// Shows that a line asked for a stop, and that commands are still taken.
 #[derive(Drop)]
-pub struct StopAsked(());
+pub struct StopAsked(StopSaid);
 
-/// Shows that no command is taken any more.
+/// Shows that no command is taken any more, since a line asked for a stop.
 #[derive(Drop)]
-pub struct ControlsClosed(());
+pub struct ControlsClosed(StopSaid);
 
 /// Where a control session leaves its command, and where the writer leaves the answer.
 #[derive(Drop)]
@@ -107,30 +108,27 @@ impl ControlMailboxes {
         self.log.wait_past(rt, number, seconds)
     }
 
-    /// Asks the server to stop within `seconds` from now.
-    pub fn stop<R: Wait + Clock>(&self, rt: &R, seconds: u64) {
-        let time = self.now(rt).saturating_add(seconds.saturating_mul(1_000));
-        self.stop.ask(rt, time);
+    /// Asks the server to stop within the seconds from now on that a line said.
+    pub(crate) fn stop<R: Wait + Clock>(&self, rt: &R, said: StopSaid) {
+        self.stop.ask(rt, StopTime::after(self.now(rt), said));
         self.log.close(rt);
         self.wakeup.notify(rt);
-    }
-
-    /// By when the server is to have stopped, in milliseconds since it began, once a session has asked for that.
-    pub(crate) fn stop_asked<R: Wait>(&self, rt: &R) -> Option<u64> {
-        self.stop.asked(rt)
     }
 
     /// Shows that a stop was asked for, once a session has done so.
     pub(crate) fn show_stop<R: Wait>(&self, rt: &R) -> Option<StopAsked> {
         match self.stop.asked(rt) {
-            Some(_) => Some(StopAsked(())),
+            Some(stop) => Some(StopAsked(stop.said)),
             None => None,
         }
     }
 
     /// Whether the server was to have stopped by now.
     pub fn is_stop_over<R: Wait + Clock>(&self, rt: &R) -> bool {
-        has_come(self.stop.asked(rt), self.now(rt))
+        match self.stop.asked(rt) {
+            Some(stop) => stop.has_come(self.now(rt)),
+            None => false,
+        }
     }
 
     // How many milliseconds have passed since it was made. Where the clock fails no time is left.
@@ -173,11 +171,11 @@ impl ControlMailboxes {
     }
 
     /// From now on no command is taken.
-    pub fn close<R: Wait>(&self, rt: &R, _asked: StopAsked) -> ControlsClosed {
+    pub fn close<R: Wait>(&self, rt: &R, asked: StopAsked) -> ControlsClosed {
         for mailbox in self.mailboxes.iter() {
             mailbox.close(rt);
         }
-        ControlsClosed(())
+        ControlsClosed(asked.0)
     }
 }
 
@@ -221,7 +219,10 @@ impl ControlMailbox {
 }
 
 impl HeldCommand {
-    fn is_unanswered(&self) -> bool {
+    // Whether the session waits for the answer.
+    fn is_unanswered(&self) -> bool
+        ensures { result ≡ is_unanswered self.now }
+    {
         matches!(self, HeldCommand::Asked(_) | HeldCommand::Taken)
     }
 

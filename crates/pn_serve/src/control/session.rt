@@ -9,6 +9,7 @@ ghost use Rattle.pn_serve.specs.Session.Knowing.{KnowsNoLess};
 use crate::RunFault;
 use crate::control::handler::ControlHandler;
 use crate::control::mailboxes::ControlMailboxes;
+use crate::control::stop::StopSaid;
 use crate::script::MAX_LINES;
 use pn_join::NoMemory;
 use pn_line::{Sink, Source};
@@ -66,8 +67,8 @@ impl<C: StatsSource + Drop> ControlSession<C> {
         let mut handler = ControlHandler::new(rt, self, reader);
         let ended = answer_lines(rt, &mut handler, buffers, input, output);
         let (reader, stop) = handler.end();
-        if let Some(seconds) = stop {
-            self.stop_server(rt, seconds, &ended, &*output);
+        if let Some(said) = stop {
+            self.stop_server(rt, said, &ended, &*output);
         }
         (reader, ended)
     }
@@ -76,13 +77,13 @@ impl<C: StatsSource + Drop> ControlSession<C> {
     fn stop_server<R: Wait + Clock, W: Sink>(
         &self,
         rt: &R,
-        seconds: u64,
+        said: StopSaid,
         ended: &Result<(), RunFault>,
         output: &W,
     )
         requires { HandsOn ended.now (W.is_handed_on output.now) }
     {
-        self.mailboxes.stop(rt, seconds);
+        self.mailboxes.stop(rt, said);
     }
 }
 

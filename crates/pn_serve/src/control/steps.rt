@@ -1,13 +1,14 @@
 //! What a line of a control session comes to: its reader looks up, and the writer is asked for the rest.
 
 ghost use Rattle.std.specs.Prelude.{◌≡◌, Ok};
-ghost use Rattle.pn_protocol.specs.Prelude.{command_value, control_value};
+ghost use Rattle.pn_protocol.specs.Prelude.{command_value, control_at, control_value};
 ghost use Rattle.pn_serve.specs.Control.Steps.{AdoptsText, Asks, ObeysControl, ObeysScript, task_of as task_for};
 ghost use Rattle.pn_serve.specs.Control.Steps.{RepliesWith, Reports, ShowsCounts, StepsBy, StepsLast};
 ghost use Rattle.pn_serve.specs.Machine.Modes.{bytes_of};
 
 use crate::control::commands::{WriterAnswer, WriterCommand};
 use crate::control::session::{ControlSession, StatsSource};
+use crate::control::stop::StopSaid;
 use crate::control::tablet_counts::count_tablets;
 use crate::machine::adoption::read_text_by;
 use crate::sessions::lookups::look_up;
@@ -28,8 +29,8 @@ pub(crate) enum ControlStep {
     Replies(Reply),
     /// This many lines are to come.
     Announces(u64),
-    /// The server is asked to end within this many seconds.
-    Stops(u64),
+    /// The server is asked to end.
+    Stops(StopSaid),
     /// Nothing: the writer takes no command any more.
     Ends,
 }
@@ -76,7 +77,7 @@ impl<C: StatsSource + Drop> ControlSession<C> {
         ensures { StepsBy reader.old line.now reader.new result }
     {
         match control_of(alloc, line) {
-            Ok(command) => self.obey(rt, alloc, reader, command),
+            Ok(command) => self.obey(rt, alloc, reader, line, command),
             Err(refusal) => ControlStep::Replies(Reply::Refused(refusal)),
         }
     }
@@ -115,13 +116,16 @@ impl<C: StatsSource + Drop> ControlSession<C> {
         }
     }
 
+    // Does the command that a line says.
     fn obey<R: Wait + Clock>(
         &self,
         rt: &R,
         alloc: Global,
         reader: &mut LiveReader,
+        line: &[u8],
         command: ControlCommand,
     ) -> ControlStep
+        requires { control_at line.now ≡ Ok (control_value command) }
         ensures { ObeysControl reader.old (control_value command) reader.new result }
     {
         match command {
@@ -132,7 +136,7 @@ impl<C: StatsSource + Drop> ControlSession<C> {
             }
             ControlCommand::Advance => self.ask(rt, alloc, WriterCommand::Advance),
             ControlCommand::Stats => self.report(alloc, reader),
-            ControlCommand::Stop { seconds } => ControlStep::Stops(seconds),
+            ControlCommand::Stop { seconds } => ControlStep::Stops(StopSaid::by(line, seconds)),
         }
     }
 

@@ -1,7 +1,7 @@
 //! What the writer of a live region does one after another: rounds of what streams report, and commands of control
 //! sessions.
 
-ghost use Rattle.std.specs.Prelude.{◌≡◌, ◌≢◌, ◌≤◌, ℕ, List, [], Option, map, None, false, IsTrue, IsFalse};
+ghost use Rattle.std.specs.Prelude.{◌≡◌, ◌≢◌, ◌≤◌, ℕ, List, [], Option, map, None, IsTrue, IsFalse};
 ghost use Rattle.pn_apply.specs.declared.reducing.TheConstants.{MAX_WORKERS};
 ghost use Rattle.pn_join.specs.Prelude.{Reaches};
 ghost use Rattle.pn_live.specs.LiveRegions.{core};
@@ -15,13 +15,24 @@ ghost use Rattle.pn_serve.specs.declared.server.mailboxes.AtFault.TheVariants.{G
 
 use crate::ServeFault;
 use crate::control::mailboxes::{ControlMailboxes, StopAsked};
-use crate::server::mailboxes::{StreamMailbox, StreamMailboxes};
+use crate::server::mailboxes::{ReportSeen, StreamMailbox, StreamMailboxes};
 use crate::server::rounds::{RoundInput, take_round};
+use crate::server::times::{begin_time, end_time};
+use crate::server::wakeup::Waited;
 use pn_live::LiveRegion;
 use std::alloc::Global;
 use std::sync::{Arc, Wait};
 use std::thread::Threads;
 use std::time::{Clock, Duration};
+
+/// How reading ends.
+#[derive(Drop)]
+pub enum ReadingEnd {
+    /// All streams have ended, and what they gave was taken.
+    StreamsEnded,
+    /// A control session asked the server to stop.
+    Stopped(StopAsked),
+}
 
 /// Runs rounds, and does commands between them where there are mailboxes for some, until all streams have ended, or a stop
 /// is asked for, or to the first fault. Where memory ran out and that is waited for, a round is tried again after a second.
@@ -32,7 +43,7 @@ pub(crate) fn run_rounds<R: Threads + Wait + Clock + Sync>(
     workers: usize,
     mailboxes: &mut StreamMailboxes,
     controls: &Option<Arc<ControlMailboxes>>,
-) -> Result<(), ServeFault>
+) -> Result<ReadingEnd, ServeFault>
     requires workers { (1 ≤ workers) × (workers ≤ MAX_WORKERS) }
     ensures alone { controls.now ≡ None → RunsRounds mailboxes.old.at_fault (map (λ stream. stream.name) mailboxes.old.streams.items) live.old live.new result }
     ensures runs { RunsEvents mailboxes.old.at_fault (map (λ stream. stream.name) mailboxes.old.streams.items) live.old live.new result }
@@ -42,17 +53,19 @@ pub(crate) fn run_rounds<R: Threads + Wait + Clock + Sync>(
     let mut is_short = false;
     for _ in rt.forever() {
         if has_ended(mailboxes, &waiting) {
-            return Ok(());
+            return Ok(ReadingEnd::StreamsEnded);
         }
-        if is_stop_asked(rt, controls) {
-            return Ok(());
+        if let Some(asked) = find_stop(rt, controls) {
+            return Ok(ReadingEnd::Stopped(asked));
         }
-        await_work(rt, mailboxes, is_short);
+        let _ = await_work(rt, mailboxes, is_short);
         obey_all(rt, alloc, live, controls, &mailboxes.streams);
         if waiting.is_none() && !mailboxes.has_report(rt) {
             continue;
         }
+        let began = begin_time(rt, &mailboxes.times);
         let is_taken = take_round(rt, alloc, live, workers, mailboxes, &mut waiting)?;
+        end_time(rt, &mailboxes.times, &began, is_taken);
         is_short = !is_taken;
         mailboxes.show_shortage(is_short);
         note_log(rt, live, controls);
@@ -68,22 +81,31 @@ fn has_ended(mailboxes: &StreamMailboxes, waiting: &Option<RoundInput>) -> bool
     waiting.is_none() && mailboxes.streams.is_empty()
 }
 
+// Why the thread goes on: it has seen a report, or has waited.
+#[derive(Drop)]
+enum Awaited {
+    Report(ReportSeen),
+    Wait(Waited),
+}
+
 // Waits for a report or a command, unless there is a report; where memory is short, waits for a second at most.
-fn await_work<R: Wait + Clock>(rt: &R, mailboxes: &StreamMailboxes, is_short: bool) {
+fn await_work<R: Wait + Clock>(rt: &R, mailboxes: &StreamMailboxes, is_short: bool) -> Awaited {
     if is_short {
-        mailboxes.wait_for_memory(rt);
-    } else if !mailboxes.has_report(rt) {
-        mailboxes.wait(rt);
+        return Awaited::Wait(mailboxes.wait_for_memory(rt));
+    }
+    match mailboxes.find_report(rt) {
+        Some(report) => Awaited::Report(report),
+        None => Awaited::Wait(mailboxes.wait(rt)),
     }
 }
 
-// Whether a control session has asked the server to stop.
-fn is_stop_asked<R: Wait>(rt: &R, controls: &Option<Arc<ControlMailboxes>>) -> bool
-    ensures { controls.now ≡ None → result ≡ false }
+// Shows that a stop was asked for, once a control session has done so.
+fn find_stop<R: Wait>(rt: &R, controls: &Option<Arc<ControlMailboxes>>) -> Option<StopAsked>
+    ensures { controls.now ≡ None → result ≡ None }
 {
     match controls {
-        Some(controls) => controls.stop_asked(rt).is_some(),
-        None => false,
+        Some(controls) => controls.show_stop(rt),
+        None => None,
     }
 }
 
@@ -137,7 +159,7 @@ pub fn take_commands<R: Wait>(
         if let Some(asked) = controls.show_stop(rt) {
             return asked;
         }
-        controls.wakeup.wait(rt);
+        let _ = controls.wakeup.wait(rt);
     }
     unreachable!()
 }
@@ -154,6 +176,6 @@ pub fn take_commands_for<R: Wait + Clock>(
     ensures runs { RunsCommands GoOn live.old live.new }
     ensures same { tablets_in live.new ≡ tablets_in live.old }
 {
-    controls.wakeup.wait_at_most(rt, most);
+    let _ = controls.wakeup.wait_at_most(rt, most);
     controls.obey_all(rt, alloc, live, &[]);
 }

@@ -1,8 +1,9 @@
 //! Sessions, each in its own thread, which gives its reader back.
 
-ghost use Rattle.std.specs.Prelude.{◌≡◌, ◌+◌, ◌≤◌, [], length, vec_len, vec_capacity, All, IfOk, IsFalse};
+ghost use Rattle.std.specs.Prelude.{◌≡◌, ◌+◌, ◌≤◌, [], vec_len, vec_capacity, All, IfOk, IsFalse};
 ghost use Rattle.pn_live.specs.Prelude.{tablets_in, tablets_of};
 ghost use Rattle.pn_serve.specs.Server.Sessions.{AllRead};
+ghost use Rattle.pn_serve.specs.Session.Knowing.{KnowsNoLess};
 
 use crate::server::counter::Counter;
 use crate::server::fault_log::FaultLog;
@@ -21,15 +22,14 @@ const SESSION_CAPACITY: usize = 65_536;
 
 /// Where the clients of sessions come from.
 pub trait Acceptor: Drop {
-    ghost use Rattle.std.specs.Prelude.{◌≡◌};
-    ghost use Rattle.pn_live.specs.Prelude.{tablets_of};
+    ghost use Rattle.pn_serve.specs.Session.Knowing.{KnowsNoLess};
 
     /// Another handle of the same acceptor, for another thread.
     fn try_clone(&self) -> io::Result<Self>;
 
     /// Waits for a client, and answers its lines from a reader.
     fn answer_client(&self, alloc: Global, reader: &mut LiveReader) -> io::Result<()>
-        ensures { tablets_of reader.new ≡ tablets_of reader.old };
+        ensures { KnowsNoLess reader.old reader.new };
 
     /// The counter of rounds, where somebody looks at it.
     fn round_counter(&self) -> Option<Arc<Counter>>;
@@ -38,15 +38,14 @@ pub trait Acceptor: Drop {
     fn fault_log(&self) -> Option<Arc<FaultLog>>;
 }
 
-/// Promises that the reader comes back: it reads the same tablets.
+/// Promises that the reader comes back: it reads the same tablets, and knows no less.
 #[derive(Drop)]
 pub struct ComesBack(pub Snapshot<LiveReader>);
 
 impl Promise<LiveReader> for ComesBack {
-    ghost use Rattle.std.specs.Prelude.{◌≡◌};
-    ghost use Rattle.pn_live.specs.Prelude.{tablets_of};
+    ghost use Rattle.pn_serve.specs.Session.Knowing.{KnowsNoLess};
 
-    ghost kept_by = { λ promise reader. tablets_of reader ≡ tablets_of promise.0.value };
+    ghost kept_by = { λ promise reader. KnowsNoLess promise.0.value reader };
 }
 
 /// The thread of a session, which gives its reader back.
@@ -111,7 +110,7 @@ fn start_session<R: Threads, L: Acceptor + Drop + Send + 'static>(
 
 // Answers one client, and gives the reader back.
 fn serve_client<L: Acceptor + Drop>(alloc: Global, listener: L, reader: LiveReader) -> LiveReader
-    ensures { tablets_of result ≡ tablets_of reader }
+    ensures { KnowsNoLess reader result }
 {
     let mut reader = reader;
     let _ = listener.answer_client(alloc, &mut reader);
@@ -155,6 +154,14 @@ pub fn join_sessions<R: Threads>(
 {
     let mut running = running;
     while let Some(session) = running.pop() {
-        readers.push_reserved(session.join(rt));
+        readers.push_reserved(join_session(rt, session));
     }
+}
+
+// Waits for a session, and takes its reader back.
+fn join_session<R: Threads>(rt: &R, session: SessionThread) -> LiveReader
+    ensures knows { KnowsNoLess session.promise.0.value result }
+    ensures same { tablets_of result ≡ tablets_of session.promise.0.value }
+{
+    session.join(rt)
 }

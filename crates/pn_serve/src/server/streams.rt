@@ -10,11 +10,12 @@ ghost use Rattle.pn_serve.specs.declared.server.mailboxes.AtFault.TheVariants.{G
 use crate::ServeFault;
 use crate::control::mailboxes::ControlMailboxes;
 use crate::server::counter::Counter;
-use crate::server::events::run_rounds;
+use crate::server::events::{ReadingEnd, run_rounds};
 use crate::server::mailboxes::{AtFault, StreamMailboxes, share};
 use crate::server::reporter::Reporter;
 use crate::server::reporting::{next_input, report_stream};
 use crate::server::reports::Report;
+use crate::server::times::TimeCounters;
 use crate::server::wakeup::Wakeup;
 use crate::server::writer_input::workers_of_each;
 use crate::server::writers::{Origin, Stream};
@@ -32,6 +33,8 @@ use std::time::Clock;
 pub struct Watchers {
     /// Counts the rounds, where somebody looks at them.
     pub rounds: Option<Arc<Counter>>,
+    /// Counts how long they take, where somebody looks at that.
+    pub times: Option<Arc<TimeCounters>>,
     /// Stands at 1 while a round waits for memory, and else at 0, where somebody looks at that.
     pub shortage: Option<Arc<Counter>>,
     /// Counts the streams that wait for memory, where somebody looks at that.
@@ -51,7 +54,7 @@ pub fn read_streams<R, S, O>(
     workers: usize,
     streams: Vec<Stream<O>>,
     watchers: &Watchers,
-) -> Result<(), ServeFault>
+) -> Result<ReadingEnd, ServeFault>
 where
     R: Threads + Wait + Clock + Sync + Copy + Send + 'static,
     S: Source + Drop + Send + 'static,
@@ -114,6 +117,7 @@ fn new_mailboxes(
     };
     let rounds = share(&watchers.rounds)?;
     let mut mailboxes = StreamMailboxes::new(alloc, streams, AtFault::GoOn, rounds, wakeup)?;
+    mailboxes.times = share(&watchers.times)?;
     mailboxes.shortage = share(&watchers.shortage)?;
     mailboxes.waiting = share(&watchers.waiting)?;
     Ok(mailboxes)

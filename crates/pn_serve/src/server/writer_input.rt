@@ -2,8 +2,9 @@
 
 ghost use Rattle.std.specs.Prelude.{◌≡◌, ◌+◌, max, min, None, Some, IsSome};
 ghost use Rattle.pn_join.specs.declared.marks.TheConstants.{LAST_POSITION};
-ghost use Rattle.pn_serve.specs.Server.Writers.{Gives, IsReaderFrom, line_after};
+ghost use Rattle.pn_serve.specs.Server.Writers.{Gives, HasUpTo, IsReaderFrom, line_after};
 
+use crate::server::held_report::LeftReport;
 use crate::server::messages::{MAX_MESSAGES, RoundMessages};
 use crate::server::writers::{NextWriter, WriterEnd};
 use pn_join::{LAST_POSITION, StreamName};
@@ -142,12 +143,14 @@ impl<S: Source + Drop> WriterInput<S> {
         }
     }
 
-    /// Notes that its messages so far were handed on.
-    pub(crate) fn hand_on(&mut self)
+    /// Notes that its messages so far were handed on, the last of them in this report.
+    pub(crate) fn hand_on(&mut self, left: LeftReport)
+        requires { HasUpTo self.old.reader left }
         ensures last { self.new.last ≡ max self.old.last self.old.reader.position }
         ensures reader { self.new.reader ≡ self.old.reader }
         ensures before { self.new.before ≡ self.old.before }
     {
+        drop(left);
         self.last = self.last.max(self.reader.position());
     }
 }

@@ -1,5 +1,7 @@
 //! The threads that answer control sessions: each takes one client of the control socket after another.
 
+ghost use Rattle.std.specs.Prelude.{◌≡◌, IfOk, is_some};
+
 use crate::counters::Counters;
 use crate::current_stats::CurrentStats;
 use crate::listener::Listener;
@@ -40,6 +42,7 @@ pub(super) fn start_controls<R>(
 ) -> io::Result<Controls>
 where
     R: Threads + Wait + Clock + Copy + Send + Drop + 'static,
+    ensures { IfOk result (λ controls. is_some controls.mailboxes ≡ is_some listener) }
 {
     let Some(listener) = listener else {
         return Ok(Controls {

@@ -1,6 +1,6 @@
 //! Servers over a live region that is open.
 
-ghost use Rattle.std.specs.Prelude.{◌≡◌, ◌≤◌, vec_len, IfOk};
+ghost use Rattle.std.specs.Prelude.{◌≡◌, ◌≤◌, vec_len, is_some, IfOk};
 ghost use Rattle.pn_apply.specs.declared.reducing.TheConstants.{MAX_WORKERS};
 ghost use Rattle.pn_live.specs.Prelude.{tablets_in};
 ghost use Rattle.pn_serve.specs.Server.Sessions.{AllRead};
@@ -40,6 +40,7 @@ impl StayingServer {
         requires workers { (1 ≤ sizes.workers) × (sizes.workers ≤ MAX_WORKERS) }
         ensures live { IfOk result (λ server. server.live ≡ opened.live) }
         ensures threads { IfOk result (λ server. server.threads ≡ sizes.threads) }
+        ensures controlled { IfOk result (λ server. server.controlled ≡ is_some acceptor.control) }
     {
         let OpenedRegion { live, readers } = opened;
         let mut readers = readers;

@@ -2,6 +2,8 @@
 
 ghost use Rattle.std.specs.Prelude.{◌≡◌};
 ghost use Rattle.pn_live.specs.Prelude.{tablets_in};
+ghost use Rattle.pn_serve.specs.Server.Events.{RunsCommands};
+ghost use Rattle.pn_serve.specs.declared.server.mailboxes.AtFault.TheVariants.{GoOn};
 
 use crate::counters::{Counters, StreamCounters};
 use crate::listener::Listener;
@@ -51,7 +53,8 @@ impl Stopping {
         controls: &ControlMailboxes,
         asked: StopAsked,
     ) -> ControlsClosed
-        ensures { tablets_in live.new ≡ tablets_in live.old }
+        ensures runs { RunsCommands GoOn live.old live.new }
+        ensures same { tablets_in live.new ≡ tablets_in live.old }
     {
         self.end_connections(rt);
         self.await_connections(rt, alloc, live, controls, &asked);
@@ -78,7 +81,8 @@ impl Stopping {
         controls: &ControlMailboxes,
         asked: &StopAsked,
     )
-        ensures { tablets_in live.new ≡ tablets_in live.old }
+        ensures runs { RunsCommands GoOn live.old live.new }
+        ensures same { tablets_in live.new ≡ tablets_in live.old }
     {
         let began = Instant::now(rt).ok();
         for _ in rt.forever() {
@@ -148,7 +152,8 @@ impl Stopping {
         controls: &ControlMailboxes,
         asked: &StopAsked,
     )
-        ensures { tablets_in live.new ≡ tablets_in live.old }
+        ensures runs { RunsCommands GoOn live.old live.new }
+        ensures same { tablets_in live.new ≡ tablets_in live.old }
     {
         let began = Instant::now(rt).ok();
         for _ in rt.forever() {

@@ -131,15 +131,15 @@ struct EndedThread {
 
 /// What goes to a thread. Its type is a parameter where the thread starts, so that its bound says that it may.
 trait ThreadBody {
-    ghost use Rattle.std.specs.Prelude.{◌≡◌};
-    ghost use Rattle.pn_live.specs.Prelude.{LiveReaderValue, tablets_of};
+    ghost use Rattle.pn_live.specs.Prelude.{LiveReaderValue};
+    ghost use Rattle.pn_serve.specs.Session.Knowing.{KnowsNoLess};
 
     // The reader that it begins with.
     ghost reader: { Self → LiveReaderValue };
 
     // Answers connections, and gives the reader back.
     fn answer_all<R: Wait + Clock>(self, rt: &R) -> EndedThread
-        ensures { tablets_of result.reader ≡ tablets_of (reader self) };
+        ensures { KnowsNoLess (reader self) result.reader };
 }
 
 impl ThreadBody for LoopThread {
@@ -154,7 +154,7 @@ fn spawn_thread<R, B>(rt: &R, promise: ComesBack, body: B) -> io::Result<Session
 where
     R: Threads + Wait + Clock + Copy + Send + 'static,
     B: ThreadBody + Drop + Send + 'static,
-    requires { tablets_of (B.reader body) ≡ tablets_of promise.0.value }
+    requires { B.reader body ≡ promise.0.value }
     ensures { IfOk result (λ running. running.promise ≡ promise) }
 {
     let host = *rt;
@@ -163,8 +163,7 @@ where
 
 // Answers connections until the system's wait fails, and closes the mailbox.
 fn answer_all<R: Wait + Clock>(rt: &R, body: LoopThread) -> EndedThread
-    ensures tablets { tablets_of result.reader ≡ tablets_of body.reader }
-    ensures knows { KnowsNoLess body.reader result.reader }
+    ensures { KnowsNoLess body.reader result.reader }
 {
     let LoopThread {
         alloc,

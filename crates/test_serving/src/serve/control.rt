@@ -7,7 +7,7 @@ use pn_lines::LineBuffers;
 use pn_live::{LiveReader, LiveRegion};
 use pn_protocol::{
     ConnectionStats, LineCounts, LineKinds, LineStats, Stats, StreamFaultStats, StreamState,
-    StreamStats, TabletStats, UnreadStats,
+    StreamStats, TabletStats, TimeBucket, TimeCounts, TimeStats, UnreadStats,
 };
 use pn_serve::{
     ControlMailboxes, ControlSession, StatsSource, Stream, close_region, open_region, take_commands,
@@ -22,6 +22,9 @@ use test_kit::{bars, layout, newlines, spell_out};
 
 /// How many workers read the lines of a copy.
 const WORKERS: usize = 4;
+
+/// The line that stops the writer.
+const STOP: &[u8] = b"{\"do\":\"stop\",\"seconds\":0}\n";
 
 /// Says what a server may have done.
 #[derive(Drop)]
@@ -40,6 +43,7 @@ impl StatsSource for SomeStats {
             rounds: 8,
             streams,
             tablets,
+            times: times(alloc)?,
             unread: unread(),
             uptime: 9,
             version: "0",
@@ -58,6 +62,30 @@ fn connections() -> ConnectionStats {
         open: 4,
         refused: 5,
     }
+}
+
+fn times(alloc: Global) -> Result<TimeStats, NoMemory> {
+    let mut buckets = Vec::with_capacity(alloc, 2)?;
+    buckets.push(TimeBucket {
+        count: 23,
+        most: 24,
+    })?;
+    buckets.push(TimeBucket {
+        count: 25,
+        most: 26,
+    })?;
+    Ok(TimeStats {
+        lines: TimeCounts {
+            buckets,
+            count: 27,
+            total: 28,
+        },
+        rounds: TimeCounts {
+            buckets: Vec::new(alloc),
+            count: 29,
+            total: 30,
+        },
+    })
 }
 
 fn unread() -> UnreadStats {
@@ -217,9 +245,10 @@ fn answer<R: Threads + Wait + Clock>(
     let mut written = Vec::new(alloc);
     let mut input = InMemory::new(lines.as_bytes());
     if let Ok(mut buffers) = LineBuffers::new(alloc) {
-        let _ = session.answer(rt, &mut buffers, reader, &mut input, &mut written);
+        let (reader, _) = session.answer(rt, &mut buffers, reader, &mut input, &mut written);
+        let mut stop = InMemory::new(STOP);
+        let _ = session.answer(rt, &mut buffers, reader, &mut stop, &mut Vec::new(alloc));
     }
-    session.mailboxes.stop(rt, 0);
     written
 }
 

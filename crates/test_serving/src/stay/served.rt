@@ -230,10 +230,10 @@ where
 {
     let streams = one_stream(rt, alloc)?;
     let mut server = start_server(rt, alloc, listener)?;
-    let read = server.read_streams(rt, alloc, streams).ok();
+    let read = server.read_streams(rt, alloc, streams).is_ok();
     ended.add(1);
     let _ = server.wait(rt, alloc);
-    read
+    read.then_some(())
 }
 
 fn start_server<R>(rt: &R, alloc: Global, listener: Listener) -> Option<StayingServer>

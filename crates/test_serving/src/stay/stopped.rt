@@ -116,7 +116,7 @@ where
     let streams: Vec<Stream<Script<R>>> = Vec::new(alloc);
     let mut server = StayingServer::start(rt, alloc, acceptor, settings, 2, 16).ok()?;
     let read = server.read_streams(rt, alloc, streams).is_ok();
-    Some((read, server.wait(rt, alloc)))
+    Some((read, server.wait(rt, alloc).stop.is_some()))
 }
 
 // Asks, and stops the server, also where a reply is missing. A bar is a newline.

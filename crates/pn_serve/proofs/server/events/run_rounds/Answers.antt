@@ -1,8 +1,9 @@
 -- Each round or try, and the commands before it, go on from what was done before.
-use Rattle.std.proofs.Common.{◌≡◌, ◌≢◌, true, false, [], None, map, refl, sym, ap, subst, ◌∙◌}
+use Rattle.std.proofs.Common.{◌≡◌, ◌≢◌, [], None, Some, map, refl, sym, ap, subst, ◌∙◌}
 use Rattle.std.specs.Prelude.{Ok}
 use Rattle.pn_live.specs.LiveRegions.{LiveRegionValue}
 use Rattle.pn_serve.specs.Server.Tries.{StopsAt, TakesRound, waiting_value}
+use Rattle.pn_serve.specs.declared.server.events.ReadingEnd.TheVariants.{StreamsEnded, Stopped}
 use Rattle.pn_serve.specs.declared.server.mailboxes.AtFault.{AtFault}
 use Rattle.pn_serve.specs.declared.server.mailboxes.StreamMailbox.{StreamMailbox}
 use Rattle.pn_serve.proofs.EventsRead.{DoesRounds, all_read, as_answer, as_fault, does_round, more_told, none_yet, nothing_yet, one_more, one_round, ran_on, ran_up_to, read_up_to}
@@ -94,20 +95,23 @@ returns-in_err-is_taken-clause-alone g c = λ none.
     (subst (λ (live : LiveRegionValue). DoesRounds at_fault names None c.args.live.now still waiting live) (sym (c.obey_all.ensures.alone none)) (so_far.alone none))
     (subst (λ (a : AtFault). StopsAt a still waiting c.obey_all.new.live c.take_round.new.live fault) so_far.at_fault c.in_err-is_taken.ensures.round))
 
-pub returns-then-is_stop_asked-clause-runs : goal.returns-then-is_stop_asked-clause-runs
-returns-then-is_stop_asked-clause-runs g c =
+pub returns-in-Some-find_stop-clause-runs : goal.returns-in-Some-find_stop-clause-runs
+returns-in-Some-find_stop-clause-runs g c =
     let name = λ (s : StreamMailbox). s.name in
-    ran_on c.args.mailboxes.now.at_fault (map name c.args.mailboxes.now.streams.items) c.args.live.now (map name c.loop.mailboxes.streams.items) (waiting_value c.loop.waiting) c.loop.live c.loop.invariant.so_far
+    ran_on c.args.mailboxes.now.at_fault (map name c.args.mailboxes.now.streams.items) c.args.live.now (map name c.loop.mailboxes.streams.items) (waiting_value c.loop.waiting) c.loop.live
+    (Stopped c.in-Some-find_stop.asked) c.loop.invariant.so_far tt
 
-pub returns-then-is_stop_asked-clause-alone : goal.returns-then-is_stop_asked-clause-alone
-returns-then-is_stop_asked-clause-alone g c = λ none.
-    let never : true ≡ false = sym c.if-is_stop_asked.true ∙ c.is_stop_asked.ensures none in
+pub returns-in-Some-find_stop-clause-alone : goal.returns-in-Some-find_stop-clause-alone
+returns-in-Some-find_stop-clause-alone g c = λ none.
+    let never : None ≡ Some c.in-Some-find_stop.asked = sym (c.find_stop.ensures none) ∙ c.in-Some-find_stop.is in
     absurd (cc)
 
 pub returns-then-has_ended-clause-runs : goal.returns-then-has_ended-clause-runs
 returns-then-has_ended-clause-runs g c =
     let name = λ (s : StreamMailbox). s.name in
-    ran_on c.args.mailboxes.now.at_fault (map name c.args.mailboxes.now.streams.items) c.args.live.now (map name c.loop.mailboxes.streams.items) (waiting_value c.loop.waiting) c.loop.live c.loop.invariant.so_far
+    let ended = c.has_ended.ensures.ended c.if-has_ended.true in
+    ran_on c.args.mailboxes.now.at_fault (map name c.args.mailboxes.now.streams.items) c.args.live.now (map name c.loop.mailboxes.streams.items) (waiting_value c.loop.waiting) c.loop.live
+    StreamsEnded c.loop.invariant.so_far (ap (map name) ended.1, ap waiting_value ended.0)
 
 pub returns-then-has_ended-clause-alone : goal.returns-then-has_ended-clause-alone
 returns-then-has_ended-clause-alone g c = λ none.

@@ -5,6 +5,7 @@ use Rattle.std.specs.Prelude.{IsErrAnd, Result, Ok, Err}
 use Rattle.pn_live.specs.LiveRegions.{LiveRegionValue}
 use Rattle.pn_serve.specs.Server.Events.{ReadsBesides, RunsEvents}
 use Rattle.pn_serve.specs.Server.Reading.{ReadsStreams, RunsRounds}
+use Rattle.pn_serve.specs.declared.server.events.ReadingEnd.{ReadingEnd}
 use Rattle.pn_serve.specs.declared.server.fault.ServeFault.{ServeFault}
 use Rattle.pn_serve.specs.declared.server.fault.ServeFault.TheVariants.{Start, Stream, Round, Close, Write}
 use Rattle.pn_serve.specs.declared.server.mailboxes.AtFault.{AtFault}
@@ -13,25 +14,25 @@ use Rattle.pn_serve.proofs.EventsRead.{as_besides}
 use Rattle.pn_serve.proofs.RoundsRead.{of_rounds}
 use Rattle.pn_serve.proofs.server.streams.read_streams.Goals as goal
 
-as_streams : (names : List (List ℕ)) (old new : LiveRegionValue) (read : Result (Unit {0}) ServeFault) → RunsRounds GoOn names old new read → ReadsStreams names old new read
-as_streams names old new (Ok done) reads = reads
+as_streams : (names : List (List ℕ)) (old new : LiveRegionValue) (read : Result ReadingEnd ServeFault) → RunsRounds GoOn names old new read → ReadsStreams names old new read
+as_streams names old new (Ok end) reads = reads
 as_streams names old new (Err Start) reads = absurd (of_rounds GoOn names old new Start reads)
 as_streams names old new (Err (Stream name)) reads = reads
 as_streams names old new (Err Round) reads = reads
 as_streams names old new (Err Close) reads = reads
 as_streams names old new (Err Write) reads = reads
 
-not_begun : (names : List (List ℕ)) (old : LiveRegionValue) (fault : ServeFault) (result : Result (Unit {0}) ServeFault) → IsErrAnd result (λ other. other ≡ fault) → fault ≡ Start → ReadsStreams names old old result
+not_begun : (names : List (List ℕ)) (old : LiveRegionValue) (fault : ServeFault) (result : Result ReadingEnd ServeFault) → IsErrAnd result (λ other. other ≡ fault) → fault ≡ Start → ReadsStreams names old old result
 not_begun names old fault result answered start =
     let (other, is, same) = err_from_is_err_and result answered in
-    subst (ReadsStreams names old old) (sym is) (subst (λ (f : ServeFault). ReadsStreams names old old (Err f)) (sym (same ∙ start)) refl)
+    subst (ReadsStreams names old old) (sym is) (subst (λ (f : ServeFault). ReadsStreams {T = ReadingEnd} names old old (Err f)) (sym (same ∙ start)) refl)
 
-none_beside : (names : List (List ℕ)) (old : LiveRegionValue) (fault : ServeFault) (result : Result (Unit {0}) ServeFault) → IsErrAnd result (λ other. other ≡ fault) → fault ≡ Start → ReadsBesides names old old result
+none_beside : (names : List (List ℕ)) (old : LiveRegionValue) (fault : ServeFault) (result : Result ReadingEnd ServeFault) → IsErrAnd result (λ other. other ≡ fault) → fault ≡ Start → ReadsBesides names old old result
 none_beside names old fault result answered start =
     let (other, is, same) = err_from_is_err_and result answered in
     subst (ReadsBesides names old old) (sym is) (subst (λ (f : ServeFault). ReadsBesides names old old (Err f)) (sym (same ∙ start)) refl)
 
-module _ (at_fault : AtFault) (given names : List (List ℕ)) (old new : LiveRegionValue) (read : Result (Unit {0}) ServeFault) (same : given ≡ names) (goes_on : at_fault ≡ GoOn) where
+module _ (at_fault : AtFault) (given names : List (List ℕ)) (old new : LiveRegionValue) (read : Result ReadingEnd ServeFault) (same : given ≡ names) (goes_on : at_fault ≡ GoOn) where
   alone : RunsRounds at_fault given old new read → ReadsStreams names old new read
   alone reads =
       as_streams names old new read

@@ -7,4 +7,4 @@ returns-clause-tries g c =
     let round = c.join_shares.ensures in
     tried_so c.join_shares.result c.args.live.now c.args.deliveries.now c.join_shares.new.self c.conclude_try.result c.requires.continues
     (taken_by c.join_shares.result c.args.live.now c.args.deliveries.now c.join_shares.new.self round.ok round.published round.noted)
-    round.refused round.err round.left round.broken c.conclude_try.ensures
+    round.refused round.kept c.conclude_try.ensures

@@ -1,6 +1,7 @@
 -- The input ended in what was announced, in a command, or after a newline.
-use Rattle.std.proofs.Common.{refl, sym, ap, ◌∙◌, subst}
+use Rattle.std.proofs.Common.{refl, sym, ap, ◌∙◌, subst, option_map}
 use Rattle.pn_live.specs.Readers.{LiveReaderValue}
+use Rattle.pn_serve.specs.declared.control.stop.StopSaid.{StopSaid}
 use Rattle.pn_serve.specs.Control.Lines.{ControlState, after_step}
 use Rattle.pn_serve.specs.Control.Steps.{StepsLast}
 use Rattle.pn_serve.specs.Machine.Modes.{bytes_of, mode_of}
@@ -30,7 +31,7 @@ returns-in-None-clause-ends g c text here =
     let inside = c.self.inside in
     let none = sym c.take.ensures.value ∙ c.in-None.is in
     let mode = sym (ap (λ (s : ControlState). s.mode) c.self.view_is) ∙ ap mode_of none in
-    let same = ap (λ waits. same_but inside.reader inside.stop inside.is_over waits) (c.take.ensures.after ∙ sym none) ∙ c.self.view_is in
+    let same = ap (λ waits. same_but inside.reader (option_map (λ (said : StopSaid). said.seconds) inside.stop) inside.is_over waits) (c.take.ensures.after ∙ sym none) ∙ c.self.view_is in
     ends_nothing c.args.self.now _ text _ (sym c.has_closed.ensures ∙ c.if-has_closed.false) c.args.part.now here mode (no_length c.args.part.now c.if-is_empty.ensures) same refl
 
 pub returns-in-None-clause-knows : goal.returns-in-None-clause-knows
