@@ -101,7 +101,6 @@ where
     Ok(started)
 }
 
-#[tactic(auto, using(crate::proofs::Crossing::reporter_send))]
 fn start_stream<R, S>(
     rt: &R,
     alloc: Global,
