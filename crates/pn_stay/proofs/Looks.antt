@@ -74,7 +74,7 @@ asks_under old new kept waits answer outer asks moved is = λ was between ended 
     (subst (λ (e : EndedBy). AnswersBy session_reads old e text new (answer_of pieces_left answer)) so_far.1.0.ended_is (asks text so_far.1.0.bytes_are)))
 
 -- or it waits on
-pub waits_on : (old : LiveReaderValue) (kept : AskedLine) (waits weight left : ℕ) → AsksAgain old old kept waits (answer_of {G = Look} pieces_left (GoesOn (PutOff kept weight left)))
+pub waits_on : (old : LiveReaderValue) (kept : AskedLine) (waits weight left : ℕ) → AsksAgain old old kept waits (answer_of pieces_left (GoesOn (PutOff kept weight left)))
 waits_on old kept waits weight left = λ was between ended text own so_far after.
     let (reached, look, looked, moved) = so_far.1.1 in
     (knows_on was between old so_far.0 after, so_far.1.0, (reached, look, looked, knows_on reached between old moved after))
