@@ -68,9 +68,9 @@ module _ (old new : LiveReaderValue) (look : Going) (kept : Option AskedLine) (a
 pub asks_under : (old new : LiveReaderValue) (kept : AskedLine) (waits : ℕ) (answer : Answer Going ReplyPieces) (outer : Answer Look ReplyPieces)
     → ((text : List ℕ) → kept.bytes.items ≡ kept_bytes text → AnswersBy session_reads old kept.ended text new (answer_of pieces_left answer)) → KnowsNoLess old new → outer ≡ under None answer → AsksAgain old new kept waits (answer_of pieces_left outer)
 asks_under old new kept waits answer outer asks moved is = λ was between ended text weight so_far after.
-    let then = knows_on was between old so_far.0 after in
+    let later = knows_on was between old so_far.0 after in
     subst (λ (a : Answer Look ReplyPieces). AnswersBy bounded_reads was ended text new (answer_of pieces_left a)) (sym is)
-    (answers_under was old new ended text None answer then (knows_on was old new then moved) tt
+    (answers_under was old new ended text None answer later (knows_on was old new later moved) tt
     (subst (λ (e : EndedBy). AnswersBy session_reads old e text new (answer_of pieces_left answer)) so_far.1.ended_is (asks text so_far.1.bytes_are)))
 
 -- or it waits on
