@@ -29,7 +29,7 @@ ROOM = LEAST + MOST // 2
 SMALL_PAGE = b'{"do":"scan","query":{"limit":10}}\n'
 GET = json.dumps({"do": "get", "keys": [key_of(number) for number in range(KEYS)]}).encode() + b"\n"
 # How many clients take nothing, and how many take all, though only one page is kept at a time; and how often these ask.
-SILENT, TAKING_ALL, ASKED = 8, 8, 10
+SILENT, TAKING_ALL, ASKED = 8, 4, 10
 # How long short lines take at most on a busy machine while others wait for room.
 SHORT = 0.5
 # A taker's pauses, for how long it takes, and what it takes at a time.
