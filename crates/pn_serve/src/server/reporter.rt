@@ -27,6 +27,18 @@ pub(crate) struct Reporter {
     pub(crate) waits: Counter,
 }
 
+/// What a thread is given that leaves reports.
+pub(crate) trait HasReporter {
+    /// Where it leaves them.
+    fn reporter(&self) -> &Reporter;
+}
+
+impl HasReporter for Reporter {
+    fn reporter(&self) -> &Reporter {
+        self
+    }
+}
+
 impl Reporter {
     /// Leaves a report once the last one is taken, and wakes the thread that takes it. The error shows that no more are taken.
     pub(crate) fn leave<R: Wait>(&self, rt: &R, report: Report) -> Result<LeftReport, ClosedMailbox>
