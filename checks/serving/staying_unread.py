@@ -29,7 +29,7 @@ ROOM = LEAST + MOST // 2
 SMALL_PAGE = b'{"do":"scan","query":{"limit":10}}\n'
 GET = json.dumps({"do": "get", "keys": [key_of(number) for number in range(KEYS)]}).encode() + b"\n"
 # How many clients take nothing, and how many take all, though only one page is kept at a time; and how often these ask.
-SILENT, TAKING_ALL, ASKED = 8, 8, 10
+SILENT, TAKING_ALL, ASKED = 8, 4, 10
 # How long short lines take at most on a busy machine while others wait for room.
 SHORT = 0.5
 # A taker's pauses, for how long it takes, and what it takes at a time.
@@ -112,6 +112,15 @@ def check_limit(program: str, folder: str) -> None:
             same("what is counted", unread(session), {"bytes": 0 if ends else weight, "ended": ends, "limit": limit})
 
 
+def some_of(client: socket.socket) -> int:
+    """How many bytes a client takes that are there, and it stays connected."""
+    with contextlib.suppress(BlockingIOError):
+        taken = len(client.recv(PART, socket.MSG_DONTWAIT))
+        same("a taker stays", taken > 0, True)
+        return taken
+    return 0
+
+
 def check_takers(program: str, folder: str) -> None:
     """Where the limit is passed, clients that take some bytes now and then stay; those that take none are ended, and no others."""
     with region_with(program, folder, "--unread", "1") as (region, session), contextlib.ExitStack() as stay:
@@ -119,17 +128,27 @@ def check_takers(program: str, folder: str) -> None:
         honest.wait_for("k000", row_of("k000", 2, TEXT))
         takers = [stay.enter_context(deaf(region.port, line, 400)) for line in (PAGE, COPY)]
         quiet = [stay.enter_context(deaf(region.port, line)) for line in (PAGE, COPY)]
-        start = time.monotonic()
+        start, took = time.monotonic(), [0] * len(takers)
         while time.monotonic() < start + TAKING or unread(session)["ended"] < len(quiet):
             same("the others are ended in time", time.monotonic() < start + LATER, True)
-            for client in takers:
-                same("a taker is sent something", len(client.recv(PART)) > 0, True)
+            for index, client in enumerate(takers):
+                took[index] += some_of(client)
             same("an honest one is answered", honest.read("k001")["row"]["key"], "k001")
             time.sleep(PAUSE)
+        same(f"each taker was sent something: {took}", min(took) > 0, True)
         same("how many were ended", unread(session)["ended"], len(quiet))
         for client in quiet:
             same("one that took nothing is sent no more than its system held", len(taken(client)) < PAGES * LEAST, True)
         same("the silent one is answered", silent.read("k001")["row"]["key"], "k001")
+
+
+def until_it_rests(session: Session) -> None:
+    """Waits until a client takes nothing more, and what its reply keeps stays."""
+    since, kept = time.monotonic(), 0
+    while not kept or time.monotonic() < since + QUIET / 2:
+        if (now := unread(session)["bytes"]) != kept:
+            since, kept = time.monotonic(), now
+        time.sleep(0.01)
 
 
 def has_come(client: Client) -> bool:
@@ -142,7 +161,7 @@ def has_come(client: Client) -> bool:
 def check_waiting(program: str, folder: str) -> None:
     """A page that would go past the limit waits until who takes nothing is ended. Short lines and small pages beside it do not wait."""
     with region_with(program, folder, "--unread", str(ROOM), threads=1) as (region, session), deaf(region.port):
-        until("it is counted", lambda: unread(session)["bytes"] > 0)
+        until_it_rests(session)
         with Client(region.port) as waiting, Client(region.port) as short:
             waiting.send(PAGE)
             slowest, start = 0.0, time.monotonic()

@@ -18,7 +18,7 @@ ends_longest longest before after most ends key = by (ends key)
   where
     by : EndsAt longest (before key) (after key) → (after key ≡ before key) ⊎ ((after key ≡ None) × (QUIET_QUARTERS ≤ quiet_in (before key)) × ((other : ℕ) → quiet_in (after other) ≤ quiet_in (before key)))
     by (inl same) = inl same
-    by (inr ended) = inr (ended.0, omega (arith, ended.1.0, ended.1.1), λ other. omega (arith, ended.1.0, stays_less longest (before other) (after other) (ends other), most other))
+    by (inr ended) = inr (ended.0, omega (arith, ended.1, ended.2), λ other. omega (arith, ended.1, stays_less longest (before other) (after other) (ends other), most other))
 
 -- again and again
 module _ (first between last : ℕ → Option UnreadValue) (before : EndsLongest first between) (after : EndsLongest between last) where
@@ -38,6 +38,6 @@ module _ (first between last : ℕ → Option UnreadValue) (before : EndsLongest
       by (inl same) (inl stays) = inl (stays ∙ same)
       by (inl same) (inr ended) =
           let long = ap quiet_in same in
-          inr (ended.0, omega (arith, long, ended.1.0), λ k. omega (arith, long, ended.1.1 k))
-      by (inr gone) (inl stays) = inr (stays ∙ gone.0, gone.1.0, λ k. omega (arith, gone.1.1 k, less k))
-      by (inr gone) (inr ended) = absurd (omega (arith, ap quiet_in gone.0, ended.1.0))
+          inr (ended.0, omega (arith, long, ended.1), λ k. omega (arith, long, ended.2 k))
+      by (inr gone) (inl stays) = inr (stays ∙ gone.0, gone.1, λ k. omega (arith, gone.2 k, less k))
+      by (inr gone) (inr ended) = absurd (omega (arith, ap quiet_in gone.0, ended.1))

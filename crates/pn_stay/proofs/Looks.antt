@@ -43,8 +43,8 @@ kept_line ended bytes text (Some line) is same = record { bytes_are = same.0 ∙
 pub begins_under : (old new : LiveReaderValue) (ended : EndedBy) (bytes text : List ℕ) (answer : Answer Going ReplyPieces) (outer : Answer Look ReplyPieces) → bytes ≡ kept_bytes text → KnowsNoLess old new
     → AnswersBy session_reads old ended text new (answer_of pieces_left answer) → LooksFor bytes ended answer outer → AnswersBy bounded_reads old ended text new (answer_of pieces_left outer)
 begins_under old new ended bytes text answer outer is moved answers looks =
-    subst (λ (a : Answer Look ReplyPieces). AnswersBy bounded_reads old ended text new (answer_of pieces_left a)) (sym looks.1.1)
-    (answers_under old old new ended text looks.0 answer (knows_itself old) moved (kept_line ended bytes text looks.0 is looks.1.0) answers)
+    subst (λ (a : Answer Look ReplyPieces). AnswersBy bounded_reads old ended text new (answer_of pieces_left a)) (sym looks.2)
+    (answers_under old old new ended text looks.0 answer (knows_itself old) moved (kept_line ended bytes text looks.0 is looks.1) answers)
 
 -- a look goes on
 module _ (old new : LiveReaderValue) (look : Going) (kept : Option AskedLine) (answer : Answer Going ReplyPieces) (outer : Answer Look ReplyPieces)
@@ -53,13 +53,13 @@ module _ (old new : LiveReaderValue) (look : Going) (kept : Option AskedLine) (a
   looks_by : (was between : LiveReaderValue) (ended : EndedBy) (line : List ℕ) → LooksOrWaits was ended line between (Under look kept) → KnowsNoLess between old → Comes kept answer outer → AnswersBy bounded_reads was ended line new (answer_of pieces_left outer)
   looks_by was between ended line so_far after (inl is) =
       subst (λ (a : Answer Look ReplyPieces). AnswersBy bounded_reads was ended line new (answer_of pieces_left a)) (sym is)
-      (answers_under was so_far.1.0.begun new ended line kept answer so_far.1.0.moved (knows_on was between new so_far.0 (knows_on between old new after moved)) so_far.1.1 (goes so_far.1.0.begun between ended line so_far.1.0.goes after))
+      (answers_under was so_far.1.begun new ended line kept answer so_far.1.moved (knows_on was between new so_far.0 (knows_on between old new after moved)) so_far.2 (goes so_far.1.begun between ended line so_far.1.goes after))
   looks_by was between ended line so_far after (inr off) =
       let (own, weight, some, is) = off in
       let now = knows_on between old new after moved in
-      let keeps : KeepsLine ended line own = subst (λ (k : Option AskedLine). IfSome k (KeepsLine ended line)) some so_far.1.1 in
+      let keeps : KeepsLine ended line own = subst (λ (k : Option AskedLine). IfSome k (KeepsLine ended line)) some so_far.2 in
       subst (λ (a : Answer Look ReplyPieces). AnswersBy bounded_reads was ended line new (answer_of pieces_left a)) (sym is)
-      (knows_on was between new so_far.0 now, keeps, (between, look, so_far.1.0, now))
+      (knows_on was between new so_far.0 now, keeps, (between, look, so_far.1, now))
 
   pub looks_under : Comes kept answer outer → LooksOn old new look kept (answer_of pieces_left outer)
   looks_under comes = λ was between ended line so_far after. looks_by was between ended line so_far after comes
@@ -68,16 +68,16 @@ module _ (old new : LiveReaderValue) (look : Going) (kept : Option AskedLine) (a
 pub asks_under : (old new : LiveReaderValue) (kept : AskedLine) (waits : ℕ) (answer : Answer Going ReplyPieces) (outer : Answer Look ReplyPieces)
     → ((text : List ℕ) → kept.bytes.items ≡ kept_bytes text → AnswersBy session_reads old kept.ended text new (answer_of pieces_left answer)) → KnowsNoLess old new → outer ≡ under None answer → AsksAgain old new kept waits (answer_of pieces_left outer)
 asks_under old new kept waits answer outer asks moved is = λ was between ended text weight so_far after.
-    let then = knows_on was between old so_far.0 after in
+    let later = knows_on was between old so_far.0 after in
     subst (λ (a : Answer Look ReplyPieces). AnswersBy bounded_reads was ended text new (answer_of pieces_left a)) (sym is)
-    (answers_under was old new ended text None answer then (knows_on was old new then moved) tt
-    (subst (λ (e : EndedBy). AnswersBy session_reads old e text new (answer_of pieces_left answer)) so_far.1.0.ended_is (asks text so_far.1.0.bytes_are)))
+    (answers_under was old new ended text None answer later (knows_on was old new later moved) tt
+    (subst (λ (e : EndedBy). AnswersBy session_reads old e text new (answer_of pieces_left answer)) so_far.1.ended_is (asks text so_far.1.bytes_are)))
 
 -- or it waits on
-pub waits_on : (old : LiveReaderValue) (kept : AskedLine) (waits weight left : ℕ) → AsksAgain old old kept waits (answer_of {G = Look} pieces_left (GoesOn (PutOff kept weight left)))
+pub waits_on : (old : LiveReaderValue) (kept : AskedLine) (waits weight left : ℕ) → AsksAgain old old kept waits (answer_of pieces_left (GoesOn (PutOff kept weight left)))
 waits_on old kept waits weight left = λ was between ended text own so_far after.
-    let (reached, look, looked, moved) = so_far.1.1 in
-    (knows_on was between old so_far.0 after, so_far.1.0, (reached, look, looked, knows_on reached between old moved after))
+    let (reached, look, looked, moved) = so_far.2 in
+    (knows_on was between old so_far.0 after, so_far.1, (reached, look, looked, knows_on reached between old moved after))
 
 -- ---- less is left
 

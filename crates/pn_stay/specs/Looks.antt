@@ -1,7 +1,7 @@
 -- Looks for the replies to lines, which are put off where there is no room for what they keep.
 use Rattle.std.specs.Prelude.{◌≡◌, ◌⊎◌, ℕ, ◌+◌, ◌^◌, List, Option, None, Some, IfSome}
 use Rattle.pn_line.specs.Prelude.{kept_bytes}
-use Rattle.pn_lines.specs.Answers.{AnswerValue, AnswersBy, going}
+use Rattle.pn_lines.specs.Answers.{AnswerValue, AnswersBy}
 use Rattle.pn_lines.specs.Handling.{Answers, Handling, by}
 use Rattle.pn_lines.specs.declared.handler.Answer.{Answer}
 use Rattle.pn_lines.specs.declared.handler.Answer.TheVariants.{Done, Going as GoesOn}

@@ -1,11 +1,7 @@
 -- Room for the records that replies keep.
-use Rattle.std.specs.Prelude.{◌==◌, ◌-◌, ◌^◌, ℕ, zero, suc, Option, None, Some, if◌then◌else◌}
+use Rattle.std.specs.Prelude.{◌==◌, ℕ, Option, None, Some, if◌then◌else◌}
 use Rattle.pn_stay.specs.declared.room.Room.{Room}
 use Rattle.pn_stay.specs.declared.room.Room.TheVariants.{Given, Unasked, Wanted}
-
--- how much room there is beside what others keep and wait for: any where that is nothing
-abbrev pub room_beside : ℕ → ℕ → ℕ
-room_beside others limit = if others == 0 then 2 ^ 64 - 1 else limit - others
 
 -- for how many bytes a line waits
 abbrev pub wanted_in : Room → ℕ
@@ -25,11 +21,10 @@ number_in Unasked = None
 number_in (Wanted number bytes) = Some number
 number_in (Given line bytes) = None
 
--- a line that waits has a number
+-- a line that waits has this number if it had none
 abbrev pub numbered : ℕ → Room → Room
 numbered number Unasked = Unasked
-numbered number (Wanted zero bytes) = Wanted number bytes
-numbered number (Wanted (suc other) bytes) = Wanted (suc other) bytes
+numbered number (Wanted own bytes) = Wanted (if own == 0 then number else own) bytes
 numbered number (Given line bytes) = Given line bytes
 
 -- a line that waits is let in for what it waits for
@@ -38,16 +33,24 @@ let_in line Unasked = Unasked
 let_in line (Wanted number bytes) = Given line bytes
 let_in line (Given own bytes) = Given own bytes
 
--- room that was given is kept for its line alone
-abbrev pub kept_for : Option ℕ → Room → Room
-kept_for None room = Unasked
-kept_for (Some going) Unasked = Unasked
-kept_for (Some going) (Wanted number bytes) = Unasked
-kept_for (Some going) (Given line bytes) = if going == line then Given line bytes else Unasked
+-- a line was put off for so much, now; or before
+abbrev pub put_off_for : ℕ → Room → Room
+put_off_for bytes Unasked = Wanted 0 bytes
+put_off_for bytes (Wanted number waits) = Wanted number waits
+put_off_for bytes (Given line was) = Wanted 0 bytes
 
--- after a turn: a line was put off, now or before; or none was
+-- room that was given is kept for its line alone
+abbrev pub kept_for : ℕ → Room → Room
+kept_for going Unasked = Unasked
+kept_for going (Wanted number bytes) = Unasked
+kept_for going (Given line bytes) = if line == going then Given line bytes else Unasked
+
+-- while that is looked for
+abbrev pub kept_after : Option ℕ → Room → Room
+kept_after None room = Unasked
+kept_after (Some going) room = kept_for going room
+
+-- after a turn in which a line was put off, or none
 abbrev pub after_turn : Option ℕ → Option ℕ → Room → Room
-after_turn None going room = kept_for going room
-after_turn (Some bytes) going Unasked = Wanted 0 bytes
-after_turn (Some bytes) going (Wanted number waits) = Wanted number waits
-after_turn (Some bytes) going (Given line was) = Wanted 0 bytes
+after_turn None going room = kept_after going room
+after_turn (Some bytes) going room = put_off_for bytes room

@@ -95,7 +95,9 @@ impl Connection {
         let before = self.lines.counts();
         let turned = self.lines.turn(buffers, reader, &mut input, &mut output);
         add_lines(counted, before, self.lines.counts());
-        self.note_turn(turned, reader.wanted(), output.has_moved())
+        let wanted = reader.wanted();
+        let has_taken = output.has_moved();
+        self.note_turn(turned, wanted, has_taken)
     }
 
     // Notes what a turn came to, for how many bytes its line waits, if it does, and whether the client took a byte. A line that waits asks

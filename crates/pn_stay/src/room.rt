@@ -1,7 +1,8 @@
 //! Room for the records that replies keep: how much there is, and which line waits for it.
 
-ghost use Rattle.std.specs.Prelude.{◌≡◌, ◌⊎◌, ◌≤◌, ◌+◌, ◌↔◌, nat_lt, IsTrue, Option};
-ghost use Rattle.pn_stay.specs.Rooms.{after_turn as becomes, given_in, let_in as lets_in, number_in, numbered, room_beside as room_left, wanted_in};
+ghost use Rattle.std.specs.Prelude.{◌≡◌, ◌==◌, ◌⊎◌, ◌<◌, ◌≤◌, ◌+◌, ◌-◌, ◌^◌, ◌↔◌, IsTrue, if◌then◌else◌};
+ghost use Rattle.pn_stay.specs.Rooms.{after_turn as becomes, given_in, kept_after, kept_for, let_in as lets_in, number_in, numbered, put_off_for, wanted_in};
+ghost use Rattle.pn_stay.specs.declared.room.Room.TheVariants.{Given, Unasked};
 ghost use Rattle.pn_stay.specs.declared.room.TheConstants.{SMALL_REPLY};
 
 /// How many bytes the records of a reply may have that never waits for room.
@@ -57,8 +58,12 @@ impl Room {
         ensures { result ≡ numbered number self }
     {
         match self {
-            Room::Wanted { number: 0, bytes } => Room::Wanted { number, bytes },
-            room => room,
+            Room::Unasked => Room::Unasked,
+            Room::Wanted { number: own, bytes } => Room::Wanted {
+                number: number_or(own, number),
+                bytes,
+            },
+            Room::Given { line, bytes } => Room::Given { line, bytes },
         }
     }
 
@@ -67,8 +72,9 @@ impl Room {
         ensures { result ≡ lets_in line self }
     {
         match self {
+            Room::Unasked => Room::Unasked,
             Room::Wanted { bytes, .. } => Room::Given { line, bytes },
-            room => room,
+            Room::Given { line, bytes } => Room::Given { line, bytes },
         }
     }
 
@@ -79,41 +85,72 @@ impl Room {
     {
         match wanted {
             Some(bytes) => self.put_off(bytes),
-            None => self.kept_for(going),
+            None => self.kept_after(going),
         }
     }
 
     // A line was put off, now or before.
     fn put_off(self, bytes: u64) -> Room
-        ensures { result ≡ becomes (Some bytes) None self }
+        ensures { result ≡ put_off_for bytes self }
     {
         match self {
-            Room::Wanted { number, bytes } => Room::Wanted { number, bytes },
             Room::Unasked | Room::Given { .. } => Room::Wanted { number: 0, bytes },
+            Room::Wanted { number, bytes } => Room::Wanted { number, bytes },
+        }
+    }
+
+    // None was put off.
+    fn kept_after(self, going: Option<u64>) -> Room
+        ensures { result ≡ kept_after going self }
+    {
+        match going {
+            Some(line) => self.kept_for(line),
+            None => Room::Unasked,
         }
     }
 
     // Room that was given is kept for its line.
-    fn kept_for(self, going: Option<u64>) -> Room
-        ensures { result ≡ becomes None going self }
+    fn kept_for(self, going: u64) -> Room
+        ensures { result ≡ kept_for going self }
     {
         match self {
-            Room::Given { line, bytes } if going == Some(line) => Room::Given { line, bytes },
-            _ => Room::Unasked,
+            Room::Unasked | Room::Wanted { .. } => Room::Unasked,
+            Room::Given { line, bytes } => given_if(line == going, line, bytes),
         }
     }
 }
 
+// Room for a line, if this is so.
+fn given_if(is_so: bool, line: u64, bytes: u64) -> Room
+    ensures { result ≡ (if is_so then Given line bytes else Unasked) }
+{
+    if is_so {
+        return Room::Given { line, bytes };
+    }
+    Room::Unasked
+}
+
+// A line's own number, or this one where it has none.
+fn number_or(own: u64, number: u64) -> u64
+    ensures { result ≡ (if own == 0 then number else own) }
+{
+    if own == 0 {
+        return number;
+    }
+    own
+}
+
 /// Whether what unread replies keep and what lines wait for are past the limit.
 pub(crate) fn is_past(kept: u64, wanted: u64, limit: u64) -> bool
-    ensures { result ≡ nat_lt limit (kept + wanted) }
+    ensures { IsTrue result ↔ ((limit - kept < wanted) ⊎ (limit < kept)) }
 {
     limit.saturating_sub(kept) < wanted || limit < kept
 }
 
 /// How much room there is for a reply, where others keep and wait for so much: any, where that is nothing.
 pub(crate) fn room_beside(kept: u64, wanted: u64, limit: u64) -> u64
-    ensures { result ≡ room_left (kept + wanted) limit }
+    ensures any { kept + wanted ≡ 0 → result ≡ 2 ^ 64 - 1 }
+    ensures left { 0 < kept + wanted → result ≡ limit - (kept + wanted) }
 {
     let taken = kept.saturating_add(wanted);
     if taken == 0 {
@@ -124,7 +161,7 @@ pub(crate) fn room_beside(kept: u64, wanted: u64, limit: u64) -> u64
 
 /// Whether there is room for a line that waits: within the limit, or where nobody keeps anything.
 pub(crate) fn has_room(bytes: u64, kept: u64, limit: u64) -> bool
-    ensures { IsTrue result ↔ ((kept ≡ 0) ⊎ (kept + bytes ≤ limit)) }
+    ensures { IsTrue result ↔ ((kept ≡ 0) ⊎ ((kept ≤ limit) × (bytes ≤ limit - kept))) }
 {
     kept == 0 || (kept <= limit && bytes <= limit.saturating_sub(kept))
 }

@@ -22,7 +22,7 @@ replied was between now ended line look so_far moved =
 given_up : GivesUp bounded_reads
 given_up was between now ended line (Under look kept) so_far moved = replied was between now ended line look so_far.1 moved
 given_up was between now ended line (PutOff kept weight waits) so_far moved =
-    let (reached, look, looked, after) = so_far.1.1 in
+    let (reached, look, looked, after) = so_far.2 in
     replied was reached now ended line look looked (knows_on reached between now after moved)
 
 pub reads_steadily : IsPreorder KnowsNoLess × IsPreorder KnowsNoLess × GivesUp bounded_reads

@@ -124,6 +124,7 @@ impl EventLoop {
         let quarters = quiet_of_client(&self.connections, key);
         if is_ended(quarters, longest, self.counters.unread.is_past()) {
             self.end_client(rt, mailbox, key);
+            return;
         }
     }
 }

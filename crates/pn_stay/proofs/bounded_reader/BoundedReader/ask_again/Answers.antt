@@ -1,5 +1,5 @@
 -- The line waits on, or is asked again.
-use Rattle.std.proofs.Common.{refl, subst, arith}
+use Rattle.std.proofs.Common.{sym, subst, arith}
 use Rattle.pn_live.specs.Readers.{LiveReaderValue}
 use Rattle.pn_serve.specs.Proofs.Steady.{knows_itself}
 use Rattle.pn_serve.specs.Session.Knowing.{KnowsNoLess}
@@ -8,13 +8,14 @@ use Rattle.pn_stay.proofs.Looks.{asks_under, left_begun, waits_on}
 use Rattle.pn_stay.proofs.bounded_reader.BoundedReader.ask_again.Goals as goal
 
 pub returns-then-must_wait-clause-asks : goal.returns-then-must_wait-clause-asks
-returns-then-must_wait-clause-asks c = waits_on c.args.self.now c.args.line c.args.waits c.args.weight _
+returns-then-must_wait-clause-asks c =
+    subst (λ (r : LiveReaderValue). AsksAgain c.args.self.now r c.args.line c.args.waits _) (sym c.self.view_is) (waits_on c.args.self.now c.args.line c.args.waits c.args.weight _)
 
 pub returns-then-must_wait-clause-nearer : goal.returns-then-must_wait-clause-nearer
 returns-then-must_wait-clause-nearer c = omega (arith, c.must_wait.ensures c.if-must_wait.true)
 
 pub returns-then-must_wait-clause-kept : goal.returns-then-must_wait-clause-kept
-returns-then-must_wait-clause-kept c = knows_itself c.args.self.now
+returns-then-must_wait-clause-kept c = subst (λ (r : LiveReaderValue). KnowsNoLess c.args.self.now r) (sym c.self.view_is) (knows_itself c.args.self.now)
 
 pub returns-clause-asks : goal.returns-clause-asks
 returns-clause-asks c =
