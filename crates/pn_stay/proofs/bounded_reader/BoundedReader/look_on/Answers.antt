@@ -1,7 +1,9 @@
 -- The look goes on, or its reply is settled.
 use Rattle.std.proofs.Common.{ap, sym, subst, inl}
+use Rattle.pn_lines.specs.Answers.{answer_of}
 use Rattle.pn_lines.specs.declared.handler.Answer.TheVariants.{Going as GoesOn}
 use Rattle.pn_live.specs.Readers.{LiveReaderValue}
+use Rattle.pn_serve.specs.Lines.Handled.{pieces_left}
 use Rattle.pn_serve.specs.Session.Knowing.{KnowsNoLess}
 use Rattle.pn_stay.specs.Looks.{LooksOn, under}
 use Rattle.pn_stay.specs.declared.bounded_reader.Look.TheVariants.{Under}
@@ -10,7 +12,7 @@ use Rattle.pn_stay.proofs.bounded_reader.BoundedReader.look_on.Goals as goal
 
 pub returns-in-Going-clause-looks : goal.returns-in-Going-clause-looks
 returns-in-Going-clause-looks c =
-    subst (λ (r : LiveReaderValue). LooksOn r c.go_on-answer.new.self c.args.going c.args.line _) c.self.view_is
+    subst (λ (r : LiveReaderValue). LooksOn r c.go_on-answer.new.self c.args.going c.args.line (answer_of pieces_left (GoesOn (Under c.in-Going.going c.args.line)))) c.self.view_is
     (looks_under c.self.inside.reader c.go_on-answer.new.self c.args.going c.args.line c.go_on-answer.result.answer (GoesOn (Under c.in-Going.going c.args.line)) c.go_on-answer.ensures.answers c.go_on-answer.ensures.kept (inl (ap (under c.args.line) (sym c.in-Going.is))))
 
 pub returns-in-Going-clause-nearer : goal.returns-in-Going-clause-nearer
@@ -22,8 +24,8 @@ returns-in-Going-clause-kept c = subst (λ (r : LiveReaderValue). KnowsNoLess r 
 
 pub returns-in-Done-clause-looks : goal.returns-in-Done-clause-looks
 returns-in-Done-clause-looks c =
-    subst (λ (n : LiveReaderValue). LooksOn c.args.self.now n c.args.going c.args.line _) (sym c.settle.ensures.kept)
-    (subst (λ (r : LiveReaderValue). LooksOn r c.go_on-answer.new.self c.args.going c.args.line _) c.self.view_is
+    subst (λ (n : LiveReaderValue). LooksOn c.args.self.now n c.args.going c.args.line (answer_of pieces_left c.settle.result)) (sym c.settle.ensures.kept)
+    (subst (λ (r : LiveReaderValue). LooksOn r c.go_on-answer.new.self c.args.going c.args.line (answer_of pieces_left c.settle.result)) c.self.view_is
     (looks_under c.self.inside.reader c.go_on-answer.new.self c.args.going c.args.line c.go_on-answer.result.answer c.settle.result c.go_on-answer.ensures.answers c.go_on-answer.ensures.kept
     (comes_settled c.args.line c.go_on-answer.result.answer c.in-Done.reply c.settle.result c.in-Done.is c.settle.ensures.settles)))
 
