@@ -1,5 +1,6 @@
 -- What was read of a writer's input, one look after another.
 use Rattle.std.proofs.Common.{◌≡◌, ℕ, ◌+◌, ◌≤◌, max, pred, List, [], ◌++◌, length, Option, None, Some, IfSome, inl, inr, refl, sym, ap, ◌∙◌, subst, arith, length-append}
+use Rattle.std.specs.Prelude.{Result, Ok, Err, IfOk}
 use Rattle.pn_record.specs.declared.image.Image.{Image}
 use Rattle.pn_stream.specs.Batches.{Stream, Batch, SoFar}
 use Rattle.pn_stream.specs.Resuming.{Begins, Lacks}
@@ -159,6 +160,6 @@ module _ {S : Type 0} (left : S → Option (List ℕ)) where
       (gives.3 ∙ ap (λ (n : ℕ). n + 1) (sym at), gives.4)
 
 -- what holds of how an input ended, where it is answered
-pub on_end : (answer : Option WriterEnd) (end : WriterEnd) (P : WriterEnd → Type 0) → IfSome answer (λ ended. ended ≡ end) → P end → IfSome answer P
-on_end None end P same holds = tt
-on_end (Some ended) end P same holds = subst P (sym same) holds
+pub on_end : {E : Type 0} (answer : Result WriterEnd E) (end : WriterEnd) (P : WriterEnd → Type 0) → IfOk answer (λ ended. ended ≡ end) → P end → IfOk answer P
+on_end (Err error) end P same holds = tt
+on_end (Ok ended) end P same holds = subst P (sym same) holds

@@ -4,6 +4,7 @@ pub mod Faults
 pub mod Gathering
 pub mod Honest
 pub mod HonestEvents
+pub mod Mailboxes
 pub mod Messages
 pub mod Opened
 pub mod Reading

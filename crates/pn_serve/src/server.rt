@@ -22,6 +22,7 @@ mod counter;
 mod events;
 mod fault;
 mod fault_log;
+mod held_report;
 mod limits;
 pub(crate) mod mailboxes;
 mod messages;

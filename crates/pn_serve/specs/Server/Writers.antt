@@ -10,6 +10,8 @@ use Rattle.pn_stream.specs.declared.fault.StreamFault.{StreamFault}
 use Rattle.pn_stream.specs.declared.fault.StreamFault.TheVariants.{Failed}
 use Rattle.pn_serve.specs.Server.Whole.{IsAllMessages}
 use Rattle.pn_serve.specs.declared.server.messages.TheConstants.{MAX_MESSAGES}
+use Rattle.pn_serve.specs.declared.server.reports.Report.{Report}
+use Rattle.pn_serve.specs.declared.server.reports.Report.TheVariants.{Messages as Brought, End as AtEnd, Fault as AtFault}
 use Rattle.pn_serve.specs.declared.server.writer_input.Given.{Given}
 use Rattle.pn_serve.specs.declared.server.writer_input.Given.TheVariants.{Messages, Ended}
 use Rattle.pn_serve.specs.declared.server.writers.WriterEnd.{WriterEnd}
@@ -52,6 +54,21 @@ GivesFirst left old (Ended (Fault fault position line)) now new = (now ≡ None)
 abbrev pub Gives : {S : Type 0} → (S → Option (List ℕ)) → Option ℕ → Stream S → Given → Option ℕ → Stream S → Type 0
 Gives left (Some before) old given now new = (now ≡ Some before) × GivesNext left before old given new
 Gives left None old given now new = GivesFirst left old given now new
+
+-- the last message of the delivery is that at the position of the stream
+abbrev pub IsUpTo : {S : Type 0} → Stream S → DeliveryValue → Type 0
+IsUpTo stream delivery = (delivery.stream ≡ stream.name) × (delivery.first + length delivery.images ≡ stream.position + 1)
+
+-- what comes next is no messages, or messages up to the position of the stream
+abbrev pub GivesUpTo : {S : Type 0} → Stream S → Given → Type 0
+GivesUpTo stream (Messages messages) = IsUpTo stream messages.delivery
+GivesUpTo stream (Ended end) = Unit {0}
+
+-- the report has messages up to the position of the stream
+abbrev pub HasUpTo : {S : Type 0} → Stream S → Report → Type 0
+HasUpTo stream (Brought messages) = IsUpTo stream messages.delivery
+HasUpTo stream (AtEnd name) = ⊥
+HasUpTo stream (AtFault name) = ⊥
 
 -- where the messages of a writer begin, which are read from this position on if its first message was there
 abbrev pub start_of : Option ℕ → Option ℕ → ℕ → ℕ

@@ -1,16 +1,15 @@
 //! The mailboxes in which the threads of streams leave reports.
 
-ghost use Rattle.std.specs.Prelude.{◌≡◌, ◌≢◌, [], ◌∷◌, ◌++◌, map, vec_len, None, IfOk, IfSome, OnOk, MatchBool, MatchOption};
+ghost use Rattle.std.specs.Prelude.{◌≡◌, [], ◌∷◌, ◌++◌, map, vec_len, IfOk, IfSome, OnOk};
 ghost use Rattle.pn_serve.specs.Server.Reports.{name_in};
-ghost use Rattle.pn_serve.specs.declared.server.mailboxes.HeldReport.TheVariants.{Nothing, Left, Closed};
 
 use crate::server::counter::Counter;
+use crate::server::held_report::{ClosedMailbox, HeldReport, LeftReport};
 use crate::server::reporter::Reporter;
 use crate::server::reports::Report;
 use crate::server::wakeup::Wakeup;
 use pn_join::{Marks, StreamName};
 use std::alloc::{AllocError, Global};
-use std::mem;
 use std::sync::{Arc, Condvar, CondvarTimeouts, Mutex, Wait};
 use std::time::{Clock, Duration};
 
@@ -183,16 +182,6 @@ pub(crate) struct Mailbox {
     emptied: Condvar,
 }
 
-// What a mailbox holds.
-#[derive(Drop)]
-enum HeldReport {
-    Nothing,
-    /// A report, until it is taken.
-    Left(Report),
-    /// Nothing: from now on no report is taken.
-    Closed,
-}
-
 impl Mailbox {
     /// A mailbox that holds nothing.
     pub(crate) fn new() -> Mailbox {
@@ -202,8 +191,10 @@ impl Mailbox {
         }
     }
 
-    /// Puts a report into the mailbox once it is empty. False if it is closed.
-    pub(crate) fn put<R: Wait>(&self, rt: &R, report: Report) -> bool {
+    /// Puts a report into the mailbox once it holds none. The error shows that it is closed.
+    pub(crate) fn put<R: Wait>(&self, rt: &R, report: Report) -> Result<LeftReport, ClosedMailbox>
+        ensures { IfOk result (λ left. left ≡ report) }
+    {
         let guard = self.held.lock(rt);
         let mut held = self.emptied.wait_while(rt, guard, |held| held.is_left());
         held.put(report)
@@ -233,56 +224,14 @@ impl Mailbox {
         !held.is_closed()
     }
 
-    /// Whether it is closed.
-    pub(crate) fn is_closed<R: Wait>(&self, rt: &R) -> bool {
-        self.held.lock(rt).is_closed()
+    /// That it is closed, if it is.
+    pub(crate) fn closed<R: Wait>(&self, rt: &R) -> Option<ClosedMailbox> {
+        self.held.lock(rt).closed()
     }
 
     /// Closes the mailbox, and wakes the thread that waits there.
     pub(crate) fn close<R: Wait>(&self, rt: &R) {
         self.held.lock(rt).close();
         self.emptied.notify_one();
-    }
-}
-
-impl HeldReport {
-    fn is_left(&self) -> bool {
-        matches!(self, HeldReport::Left(_))
-    }
-
-    fn is_closed(&self) -> bool {
-        matches!(self, HeldReport::Closed)
-    }
-
-    // Puts a report into an empty mailbox. False if it is not empty.
-    fn put(&mut self, report: Report) -> bool
-        ensures { MatchBool result ((self.old ≡ Nothing) × (self.new ≡ Left report)) ((self.old ≢ Nothing) × (self.new ≡ self.old)) }
-    {
-        if !matches!(self, HeldReport::Nothing) {
-            return false;
-        }
-        *self = HeldReport::Left(report);
-        true
-    }
-
-    // Takes the report, if there is one. A closed mailbox stays closed.
-    fn take(&mut self) -> Option<Report>
-        ensures taken { MatchOption result (self.new ≡ self.old) (λ report. (self.old ≡ Left report) × (self.new ≡ Nothing)) }
-        ensures none { result ≡ None → self.old ≢ Nothing → self.old ≡ Closed }
-    {
-        match mem::replace(self, HeldReport::Nothing) {
-            HeldReport::Left(report) => Some(report),
-            HeldReport::Nothing => None,
-            HeldReport::Closed => {
-                *self = HeldReport::Closed;
-                None
-            }
-        }
-    }
-
-    fn close(&mut self)
-        ensures { self.new ≡ Closed }
-    {
-        *self = HeldReport::Closed;
     }
 }

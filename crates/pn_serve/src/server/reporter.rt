@@ -1,6 +1,9 @@
 //! Where the thread of a stream leaves its reports, and how it waits for memory.
 
+ghost use Rattle.std.specs.Prelude.{◌≡◌, IfOk};
+
 use crate::server::counter::Counter;
+use crate::server::held_report::{ClosedMailbox, LeftReport};
 use crate::server::mailboxes::{AtFault, Mailbox};
 use crate::server::reports::Report;
 use crate::server::wakeup::Wakeup;
@@ -25,11 +28,13 @@ pub(crate) struct Reporter {
 }
 
 impl Reporter {
-    /// Leaves a report once the last one is taken, and wakes the thread that takes it. False if no more are taken.
-    pub(crate) fn leave<R: Wait>(&self, rt: &R, report: Report) -> bool {
-        let is_wanted = self.mailbox.put(rt, report);
+    /// Leaves a report once the last one is taken, and wakes the thread that takes it. The error shows that no more are taken.
+    pub(crate) fn leave<R: Wait>(&self, rt: &R, report: Report) -> Result<LeftReport, ClosedMailbox>
+        ensures { IfOk result (λ left. left ≡ report) }
+    {
+        let left = self.mailbox.put(rt, report);
         self.wakeup.notify(rt);
-        is_wanted
+        left
     }
 
     /// Shows whether the stream waits for memory.
@@ -45,9 +50,13 @@ impl Reporter {
         }
     }
 
-    /// Whether the stream ended since memory ran out and it is read no more.
-    pub(crate) fn is_stopped<R: Wait>(&self, rt: &R, end: &WriterEnd) -> bool {
-        self.at_fault == AtFault::GoOn && lacks_memory(end) && self.mailbox.is_closed(rt)
+    /// That no more reports are taken, if the stream ended since memory ran out and it is read no more.
+    pub(crate) fn stopped<R: Wait>(&self, rt: &R, end: &WriterEnd) -> Option<ClosedMailbox> {
+        if self.at_fault == AtFault::GoOn && lacks_memory(end) {
+            self.mailbox.closed(rt)
+        } else {
+            None
+        }
     }
 
     // Waits for a second where a fault ends this stream alone. False where no more reports are taken, or where it does not wait.

@@ -6,6 +6,7 @@ ghost use Rattle.pn_serve.specs.Server.Whole.{EndsStream};
 ghost use Rattle.pn_serve.specs.Server.Writers.{EndsInput, IsReaderFrom};
 ghost use Rattle.pn_serve.specs.declared.server.writers.WriterEnd.TheVariants.{End};
 
+use crate::server::held_report::ClosedMailbox;
 use crate::server::reporter::{Reporter, StreamMemory};
 use crate::server::reports::Report;
 use crate::server::writer_input::{Given, WriterInput};
@@ -38,8 +39,9 @@ pub(crate) fn report_stream<R: Threads + Wait + Clock, S: Source + Drop, O: Orig
     let mut input = input;
     let mut origin = origin;
     for _ in rt.forever() {
-        let Some(end) = read_writer(rt, alloc, &mut input, &mut origin, reporter) else {
-            return Err(stop_reading(input, &mut origin));
+        let end = match read_writer(rt, alloc, &mut input, &mut origin, reporter) {
+            Ok(end) => end,
+            Err(closed) => return Err(stop_reading(input, &mut origin, closed)),
         };
         let ended = end_of(&input, &end);
         match what_comes_next(alloc, input, &end, &mut origin) {
@@ -53,8 +55,12 @@ pub(crate) fn report_stream<R: Threads + Wait + Clock, S: Source + Drop, O: Orig
     unreachable!()
 }
 
-// Gives back what a writer was read from before its end. Answers the stream's name.
-fn stop_reading<S: Source + Drop, O: Origin<S>>(input: WriterInput<S>, origin: &mut O) -> StreamName
+// Gives back what a writer was read from before its end, since its mailbox is closed. Answers the stream's name.
+fn stop_reading<S: Source + Drop, O: Origin<S>>(
+    input: WriterInput<S>,
+    origin: &mut O,
+    _closed: ClosedMailbox,
+) -> StreamName
     ensures { result ≡ input.reader.name }
 {
     let name = input.name();
@@ -62,16 +68,16 @@ fn stop_reading<S: Source + Drop, O: Origin<S>>(input: WriterInput<S>, origin: &
     name
 }
 
-// Reports the messages of a writer. Answers how its input ended, or None where the mailbox takes nothing more.
+// Reports the messages of a writer. Answers how its input ended. The error shows that the mailbox takes nothing more.
 fn read_writer<R: Threads + Wait + Clock, S: Source + Drop, O: Origin<S>>(
     rt: &R,
     alloc: Global,
     input: &mut WriterInput<S>,
     origin: &mut O,
     reporter: &Reporter,
-) -> Option<WriterEnd>
-    ensures ends { IfSome result (λ end. EndsInput S.left input.old.before input.old.reader end input.new.before input.new.reader) }
-    ensures last { input.old.reader.position ≤ input.old.last → IsSome result → input.new.last ≡ max input.old.last input.new.reader.position }
+) -> Result<WriterEnd, ClosedMailbox>
+    ensures ends { IfOk result (λ end. EndsInput S.left input.old.before input.old.reader end input.new.before input.new.reader) }
+    ensures last { input.old.reader.position ≤ input.old.last → IsOk result → input.new.last ≡ max input.old.last input.new.reader.position }
     ensures name { input.new.reader.name ≡ input.old.reader.name }
 {
     let memory = StreamMemory {
@@ -83,10 +89,9 @@ fn read_writer<R: Threads + Wait + Clock, S: Source + Drop, O: Origin<S>>(
         match input.next(rt, &memory) {
             Given::Messages(messages) => {
                 reporter.show_shortage(false);
-                if !reporter.leave(rt, Report::Messages(messages.into_share(alloc))) {
-                    return None;
-                }
-                input.hand_on();
+                let share = messages.into_share(alloc);
+                let left = reporter.leave(rt, Report::Messages(share))?;
+                input.hand_on(left);
                 origin.hand_on(input.last);
             }
             Given::Ended(end) => {
@@ -99,13 +104,17 @@ fn read_writer<R: Threads + Wait + Clock, S: Source + Drop, O: Origin<S>>(
 }
 
 // How a writer's input ended, unless memory ran out for it and the mailbox takes nothing more.
-fn unless_stopped<R: Wait>(rt: &R, reporter: &Reporter, end: WriterEnd) -> Option<WriterEnd>
-    ensures { IfSome result (λ ended. ended ≡ end) }
+fn unless_stopped<R: Wait>(
+    rt: &R,
+    reporter: &Reporter,
+    end: WriterEnd,
+) -> Result<WriterEnd, ClosedMailbox>
+    ensures { IfOk result (λ ended. ended ≡ end) }
 {
-    if reporter.is_stopped(rt, &end) {
-        return None;
+    match reporter.stopped(rt, &end) {
+        Some(closed) => Err(closed),
+        None => Ok(end),
     }
-    Some(end)
 }
 
 // How a stream ends if no writer follows this one.

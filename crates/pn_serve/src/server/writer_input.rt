@@ -2,8 +2,9 @@
 
 ghost use Rattle.std.specs.Prelude.{◌≡◌, ◌+◌, max, min, None, Some, IsSome};
 ghost use Rattle.pn_join.specs.declared.marks.TheConstants.{LAST_POSITION};
-ghost use Rattle.pn_serve.specs.Server.Writers.{Gives, IsReaderFrom, line_after};
+ghost use Rattle.pn_serve.specs.Server.Writers.{Gives, GivesUpTo, HasUpTo, IsReaderFrom, line_after};
 
+use crate::server::held_report::LeftReport;
 use crate::server::messages::{MAX_MESSAGES, RoundMessages};
 use crate::server::writers::{NextWriter, WriterEnd};
 use pn_join::{LAST_POSITION, StreamName};
@@ -83,6 +84,7 @@ impl<S: Source + Drop> WriterInput<S> {
     /// Waits for the next message, and gives it with those at hand, or says how the input ended.
     pub(crate) fn next<R: Threads, M: ReaderMemory>(&mut self, rt: &R, memory: &M) -> Given
         ensures gives { Gives S.left self.old.before self.old.reader result self.new.before self.new.reader }
+        ensures up_to { GivesUpTo self.new.reader result }
         ensures name { self.new.reader.name ≡ self.old.reader.name }
         ensures last { self.new.last ≡ self.old.last }
     {
@@ -96,6 +98,7 @@ impl<S: Source + Drop> WriterInput<S> {
     fn next_messages<R: Threads, M: ReaderMemory>(&mut self, rt: &R, memory: &M) -> Given
         requires { IsSome self.old.before }
         ensures gives { Gives S.left self.old.before self.old.reader result self.new.before self.new.reader }
+        ensures up_to { GivesUpTo self.new.reader result }
         ensures name { self.new.reader.name ≡ self.old.reader.name }
         ensures last { self.new.last ≡ self.old.last }
     {
@@ -113,6 +116,7 @@ impl<S: Source + Drop> WriterInput<S> {
     fn first_message<M: ReaderMemory>(&mut self, memory: &M) -> Given
         requires { self.old.before ≡ None }
         ensures gives { Gives S.left self.old.before self.old.reader result self.new.before self.new.reader }
+        ensures up_to { GivesUpTo self.new.reader result }
         ensures name { self.new.reader.name ≡ self.old.reader.name }
         ensures last { self.new.last ≡ self.old.last }
     {
@@ -142,12 +146,14 @@ impl<S: Source + Drop> WriterInput<S> {
         }
     }
 
-    /// Notes that its messages so far were handed on.
-    pub(crate) fn hand_on(&mut self)
+    /// Notes that its messages so far were handed on, the last of them in this report.
+    pub(crate) fn hand_on(&mut self, left: LeftReport)
+        requires { HasUpTo self.old.reader left }
         ensures last { self.new.last ≡ max self.old.last self.old.reader.position }
         ensures reader { self.new.reader ≡ self.old.reader }
         ensures before { self.new.before ≡ self.old.before }
     {
+        drop(left);
         self.last = self.last.max(self.reader.position());
     }
 }

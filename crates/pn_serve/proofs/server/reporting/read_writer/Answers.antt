@@ -1,13 +1,21 @@
 -- Messages that were handed on go on from what was read.
 use Rattle.std.proofs.Common.{ℕ, Option, refl, sym, ap, ◌∙◌, subst, arith}
 use Rattle.pn_stream.specs.Batches.{Stream}
-use Rattle.pn_serve.specs.Server.Writers.{EndsInput}
+use Rattle.pn_stream.specs.Positions.{DeliveryValue}
+use Rattle.pn_serve.specs.Server.Writers.{EndsInput, HasUpTo, IsUpTo}
+use Rattle.pn_serve.specs.declared.server.reports.Report.{Report}
 use Rattle.pn_serve.specs.declared.server.writers.WriterEnd.{WriterEnd}
 use Rattle.pn_serve.proofs.WritersRead.{WasReadBy, read_none, read_on, last_more, ends_input, on_end}
 use Rattle.pn_serve.proofs.server.reporting.read_writer.Goals as goal
 
 pub loop-init : goal.loop-init
 loop-init g c = record { read = read_none g.S.Source.left c.args.input.now.before c.args.input.now.reader; last = λ within. omega (arith, within); name = refl }
+
+pub hand_on-requires : goal.hand_on-requires
+hand_on-requires g c =
+    let reader = c.next-in-loop.new.self.reader in
+    subst (λ (report : Report). HasUpTo reader report) (sym c.in_ok-left.ensures)
+    (subst (λ (delivery : DeliveryValue). IsUpTo reader delivery) (sym c.into_share.ensures) c.in-Messages.ensures.up_to)
 
 pub loop-preserved : goal.loop-preserved
 loop-preserved g c =
