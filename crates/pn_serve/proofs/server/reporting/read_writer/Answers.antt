@@ -2,14 +2,27 @@
 use Rattle.std.proofs.Common.{ℕ, Option, refl, sym, ap, ◌∙◌, subst, arith}
 use Rattle.pn_stream.specs.Batches.{Stream}
 use Rattle.pn_stream.specs.Positions.{DeliveryValue}
+use Rattle.pn_serve.specs.Server.Sent.{IsSent}
 use Rattle.pn_serve.specs.Server.Writers.{EndsInput, HasUpTo, IsUpTo}
 use Rattle.pn_serve.specs.declared.server.reports.Report.{Report}
 use Rattle.pn_serve.specs.declared.server.writers.WriterEnd.{WriterEnd}
+use Rattle.pn_serve.proofs.SentRead.{was_read}
 use Rattle.pn_serve.proofs.WritersRead.{WasReadBy, read_none, read_on, last_more, ends_input, on_end}
 use Rattle.pn_serve.proofs.server.reporting.read_writer.Goals as goal
 
 pub loop-init : goal.loop-init
 loop-init g c = record { read = read_none g.S.Source.left c.args.input.now.before c.args.input.now.reader; last = λ within. omega (arith, within); name = refl }
+
+pub leave-requires : goal.leave-requires
+leave-requires g c =
+    let first = c.args.input.now in
+    let old = c.loop.input in
+    let new = c.next-in-loop.new.self in
+    let sends = g.M.Sending.sends in
+    subst (IsSent g.M.Sending.known sends) (sym c.into_share.ensures)
+    ∣ (λ known.
+    was_read g.S.Source.left sends first.before first.reader old.reader new.reader c.in-Messages.messages old.before new.before c.loop.invariant.read c.in-Messages.ensures.gives c.in-Messages.ensures.up_to
+    (c.next-in-loop.ensures.name ∙ c.loop.invariant.name) (c.requires known)) ∣₁
 
 pub hand_on-requires : goal.hand_on-requires
 hand_on-requires g c =
