@@ -1,5 +1,5 @@
 -- Live tablets with one operation more.
-use Rattle.std.proofs.Common.{◌≡◌, ℕ, zero, suc, ◌+◌, ◌<◌, ◌≤◌, List, [], ◌∷◌, ◌++◌, length, map, take, drop, set, get_or, refl, sym, ap, ◌∙◌, inl, Ok, subst, arith}
+use Rattle.std.proofs.Common.{◌≡◌, ℕ, zero, suc, ◌+◌, ◌<◌, ◌≤◌, List, [], ◌∷◌, ◌++◌, length, map, take, drop, set, get_or, refl, sym, ap, ◌∙◌, Ok, subst, arith}
 use Rattle.std.proofs.lemmas.List.{length-map, map-append, append_assoc, take_more}
 use Rattle.logbook.specs.Pages.{Book}
 use Rattle.pn_tablet.specs.Operations.{HasPositions}
@@ -8,7 +8,7 @@ use Rattle.pn_tablet.specs.Tablets.{TabletStateValue, empty_tablet}
 use Rattle.pn_tablet.specs.declared.state.TabletOp.{TabletOp}
 use Rattle.pn_apply.specs.Applying.{IsJoinIn, AreJoinsIn, HavePositions, all_stepped}
 use Rattle.pn_apply.proofs.Prefixes.{same_length, mapped_at, join_at, positions_at}
-use Rattle.pn_live.specs.PublishedTablets.{PublishedTabletValue, books_of, state_at, with_op, with_ops, AreOldOrAppended}
+use Rattle.pn_live.specs.PublishedTablets.{PublishedTabletValue, books_of, state_at, with_op, with_ops}
 use Rattle.pn_live.proofs.Joining.{joins_well}
 use Rattle.pn_live.proofs.Replays.{fold_last}
 use Rattle.pn_live.proofs.Walks.{DoneFirst, done_count, done_at, done_more, within_of, first_of}
@@ -32,11 +32,6 @@ all_first (suc n) (old ∷ olds) [] news done past = absurd done
 all_first (suc n) (old ∷ olds) (op ∷ ops) [] done past = absurd done
 all_first (suc n) (old ∷ olds) (op ∷ ops) (new ∷ news) done past =
     let rest = all_first n olds ops news done.1 (omega arith) in cc (done.0, rest)
-
-pub none_appended : (olds : List PublishedTabletValue) (ops : List TabletOp) → AreOldOrAppended olds ops olds
-none_appended [] ops = refl
-none_appended (old ∷ olds) [] = refl
-none_appended (old ∷ olds) (op ∷ ops) = (inl refl, none_appended olds ops)
 
 pub states_appended : (olds : List PublishedTabletValue) (ops : List TabletOp) → length olds ≡ length ops → map state_at (with_ops olds ops) ≡ all_stepped (map state_at olds) ops
 states_appended [] [] same = refl

@@ -1,8 +1,8 @@
 -- Calls of a live region are events of a region, and what they take is there when it is closed.
-use Rattle.std.proofs.Common.{◌≡◌, List, [], ◌∷◌, refl, sym, ap, ◌∙◌, subst}
+use Rattle.std.proofs.Common.{◌≡◌, List, [], ◌∷◌, refl, sym, ap, ◌∙◌, subst, arith}
 use Rattle.pn_record.specs.CellMap.{table_of}
+use Rattle.pn_record.specs.declared.image.Image.{Image}
 use Rattle.pn_stream.specs.Brokers.{BrokerRecord}
-use Rattle.pn_stream.specs.Positions.{DeliveryValue}
 use Rattle.pn_tablet.specs.Layouts.{Bounds, IsLayout}
 use Rattle.pn_tablet.specs.declared.state.TabletOp.TheVariants.{Lose}
 use Rattle.pn_apply.specs.Reducing.{ranges}
@@ -10,12 +10,9 @@ use Rattle.pn_region.specs.Events.{RegionEvent, round, half_round, loss, adoptio
 use Rattle.pn_region.specs.Laws.{AreIn}
 use Rattle.pn_region.specs.Logged.{LoggedRegion, with_break}
 use Rattle.pn_region.specs.Regions.{RegionValue, new_region, all_cells}
-use Rattle.pn_region.specs.Rising.{AllRise}
 use Rattle.pn_region.specs.Serving.{AllServe}
 use Rattle.pn_region.specs.Taken.{all_taken, all_left, IsRound, AreRounds, LosesNothing, LoseNothing}
 use Rattle.pn_region.proofs.EventImages.{taken_together, rounds_together}
-use Rattle.pn_region.proofs.Repeats.{makes_up}
-use Rattle.pn_region.proofs.RisingRegions.{new_region_rises, event_rises}
 use Rattle.pn_live.specs.Events.{LeadsLive, AllLeadLive}
 use Rattle.pn_live.specs.LiveRegions.{LiveRegionValue, IsNewLive, core}
 use Rattle.pn_live.specs.Recovery.{with_op_at}
@@ -28,7 +25,7 @@ new_core bounds live new = λ i. record { layout = new.layout i; tablets = new_s
 -- a call that did an event leads where the event does
 one_leads : (event : RegionEvent) (old new : LiveRegionValue) → LeadsLive event old new → LeadsTo event (core old) (core new)
 one_leads (round deliveries) old new did = did.0
-one_leads (half_round deliveries) old new did = did.1
+one_leads (half_round deliveries) old new did = absurd did
 one_leads (loss tablet) old new did = ap core did ∙ core_after old tablet Lose (with_op_at tablet Lose old.tablets) refl (with_break old.log)
 one_leads (adoption copy) old new did = record { tablet = did.1.tablet; lawful = did.0; adopted = did.1.adopted }
 one_leads (relayout bounds) old new did = absurd did
@@ -52,6 +49,16 @@ rounds_lose_nothing : (events : List RegionEvent) → AreRounds events → LoseN
 rounds_lose_nothing [] are = tt
 rounds_lose_nothing (event ∷ events) are = (round_loses_nothing event are.0, rounds_lose_nothing events are.1)
 
+-- no call leaves images in some tablets alone
+none_left : (events : List RegionEvent) (old new : LiveRegionValue) → AllLeadLive events old new → all_left events ≡ []
+none_left [] old new led = refl
+none_left (round deliveries ∷ events) old new led = none_left events led.1 new led.4
+none_left (half_round deliveries ∷ events) old new led = absurd led.3
+none_left (loss tablet ∷ events) old new led = none_left events led.1 new led.4
+none_left (adoption copy ∷ events) old new led = none_left events led.1 new led.4
+none_left (relayout bounds ∷ events) old new led = absurd led.3
+none_left (advance ∷ events) old new led = none_left events led.1 new led.4
+
 module _ (broker : BrokerRecord) (bounds : Bounds) (events : List RegionEvent) (opened live : LiveRegionValue) (closed : LoggedRegion)
     (lawful : IsLayout bounds) (new : IsNewLive bounds opened) (led : AllLeadLive events opened live) (is : closed.state ≡ core live) where
   leads : AllLeadTo events (new_region bounds) closed.state
@@ -59,23 +66,11 @@ module _ (broker : BrokerRecord) (bounds : Bounds) (events : List RegionEvent) (
       subst (λ (r : RegionValue). AllLeadTo events r closed.state) (new_core bounds opened new)
       (subst (λ (r : RegionValue). AllLeadTo events (core opened) r) (sym is) (all_lead events opened live led))
 
-  pub honest_calls : AreHonestEvents broker events → AllServe closed.state → AreIn (all_left events) (all_taken broker events) → all_cells closed.state ≡ table_of (all_taken broker events)
-  honest_calls honest serve again = taken_together broker bounds events closed.state lawful leads honest serve again
+  none_more : AreIn (all_left events) (all_taken broker events)
+  none_more = subst (λ (left : List Image). AreIn left (all_taken broker events)) (sym (none_left events opened live led)) (λ image there. absurd (omega (arith, there.1)))
 
-  pub round_calls : AreRounds events → AreIn (all_left events) (all_taken broker events) → all_cells closed.state ≡ table_of (all_taken broker events)
-  round_calls are again = rounds_together broker bounds events closed.state lawful leads (rounds_lose_nothing events are) again
+  pub honest_calls : AreHonestEvents broker events → AllServe closed.state → all_cells closed.state ≡ table_of (all_taken broker events)
+  honest_calls honest serve = taken_together broker bounds events closed.state lawful leads honest serve none_more
 
--- a repeated round makes up for a failed one
-pub live_makes_up : (start failed later end : LiveRegionValue) (deliveries : List DeliveryValue) (events : List RegionEvent)
-    → AllRise (core start) → LeadsLive (half_round deliveries) start failed → AreRounds events → AllLeadLive events failed later
-    → LeadsLive (round deliveries) later end
-    → (other : RegionValue) × AllLeadTo events (core start) other × LeadsTo (round deliveries) other (core end)
-live_makes_up start failed later end deliveries events rise left are led is =
-    makes_up (core start) (core failed) (core later) (core end) deliveries events rise are (all_lead events failed later led) is.0 left.1
-
--- names of marks and covers rise in a new live region, and after each call
-pub new_rises : (bounds : Bounds) (live : LiveRegionValue) → IsNewLive bounds live → AllRise (core live)
-new_rises bounds live new = subst AllRise (sym (new_core bounds live new)) (new_region_rises bounds)
-
-pub call_rises : (event : RegionEvent) (old new : LiveRegionValue) → AllRise (core old) → LeadsLive event old new → AllRise (core new)
-call_rises event old new rise did = event_rises event (core old) (core new) rise (one_leads event old new did)
+  pub round_calls : AreRounds events → all_cells closed.state ≡ table_of (all_taken broker events)
+  round_calls are = rounds_together broker bounds events closed.state lawful leads (rounds_lose_nothing events are) none_more

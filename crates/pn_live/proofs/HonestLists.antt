@@ -1,7 +1,7 @@
 -- Published lists stay honest, and readers of honest lists find no less after a loss.
 use Rattle.std.proofs.Common.{◌≡◌, ◌⊎◌, ℕ, zero, suc, Bool, true, false, if◌then◌else◌, List, [], ◌∷◌, ◌++◌, fold, map, refl, sym, ap, ◌∙◌, subst, inl, inr, ⊎_elim, Ok, Err, IsTrue, Contains, arith}
 use Rattle.std.specs.FinMap.{find}
-use Rattle.std.specs.Prelude.{Option, Some, Result, MatchResult}
+use Rattle.std.specs.Prelude.{Option, Some}
 use mathlib.Core.List.{IsPrefix}
 use Rattle.pn_join.specs.Marks.{Positions, Reaches}
 use Rattle.pn_record.specs.declared.image.Image.{Image}
@@ -22,7 +22,7 @@ use Rattle.pn_tablet.specs.declared.state.Status.TheVariants.{Serving}
 use Rattle.pn_tablet.proofs.TabletLaws.{never_falls}
 use Rattle.pn_apply.specs.Reducing.{all_images, images_in, join_in}
 use Rattle.pn_apply.proofs.ReduceLaws.{cells_inside}
-use Rattle.pn_region.specs.Events.{round, half_round, loss, adoption}
+use Rattle.pn_region.specs.Events.{round, loss, adoption}
 use Rattle.pn_region.specs.Faith.{IsFaithful, AreFaithful}
 use Rattle.pn_region.specs.Held.{HoldsStill}
 use Rattle.pn_region.specs.Honest.{IsHonestCopy}
@@ -30,7 +30,6 @@ use Rattle.pn_region.specs.Marking.{new_marks}
 use Rattle.pn_region.specs.Regions.{IsRegion}
 use Rattle.pn_region.specs.Rounds as rounds
 use Rattle.pn_region.specs.Rounds.{joins}
-use Rattle.pn_region.specs.declared.fault.RoundFault.{RoundFault}
 use Rattle.pn_region.proofs.Faith.{brought}
 use Rattle.pn_region.proofs.FaithfulCopies.{serving_has_all}
 use Rattle.pn_region.proofs.FaithfulEvents.{event_faithful}
@@ -40,8 +39,8 @@ use Rattle.pn_region.proofs.StillHeld.{more_held}
 use Rattle.pn_region.proofs.UpTo.{up_to_more}
 use Rattle.pn_live.specs.Honest.{IsHonestList, AreHonestTablets}
 use Rattle.pn_live.specs.Laws.{HasImage}
-use Rattle.pn_live.specs.LiveRegions.{LiveRegionValue, core, tablets_after_round, IsHalfPublished}
-use Rattle.pn_live.specs.PublishedTablets.{PublishedTabletValue, state_at, AreNewTablets, with_op, with_ops, AreOldOrAppended, note_of}
+use Rattle.pn_live.specs.LiveRegions.{LiveRegionValue, core, tablets_after_round}
+use Rattle.pn_live.specs.PublishedTablets.{PublishedTabletValue, state_at, AreNewTablets, with_op, with_ops, note_of}
 use Rattle.pn_live.specs.Recovery.{with_op_at, after_op_at, Adopts, Advances}
 use Rattle.pn_live.specs.TabletReaders.{TabletReaderValue, Finds, Learns, KnowsMore}
 use Rattle.pn_live.proofs.ListLaws.{fold_on, range_kept}
@@ -80,16 +79,6 @@ all_grow : (ps : List PublishedTabletValue) (ops : List TabletOp) → EachGrows 
 all_grow [] ops = tt
 all_grow (p ∷ ps) [] = none_grow (p ∷ ps)
 all_grow (p ∷ ps) (op ∷ ops) = (inr (op, refl), all_grow ps ops)
-
-one_half : (old new : PublishedTabletValue) (op : TabletOp) → (new ≡ old) ⊎ (new ≡ with_op old op) → (new ≡ old) ⊎ ((op : TabletOp) × (new ≡ with_op old op))
-one_half old new op (inl same) = inl same
-one_half old new op (inr more) = inr (op, more)
-
-half_grow : (ps : List PublishedTabletValue) (ops : List TabletOp) (news : List PublishedTabletValue) → AreOldOrAppended ps ops news → EachGrows ps news
-half_grow [] ops news half = subst (EachGrows []) (sym half) tt
-half_grow (p ∷ ps) [] news half = subst (EachGrows (p ∷ ps)) (sym half) (none_grow (p ∷ ps))
-half_grow (p ∷ ps) (op ∷ ops) [] half = absurd half
-half_grow (p ∷ ps) (op ∷ ops) (new ∷ news) half = (one_half p new op half.0, half_grow ps ops news half.1)
 
 one_grows : (n : ℕ) (op : TabletOp) (ps : List PublishedTabletValue) → EachGrows ps (with_op_at n op ps)
 one_grows n op [] = tt
@@ -145,19 +134,6 @@ module _ (broker : BrokerRecord) where
     round_honest deliveries brings leads all =
         grown old.tablets new.tablets (subst (EachGrows old.tablets) (sym all) (all_grow old.tablets (joins (core old) deliveries new.marks))) honest
         (event_faithful broker (round deliveries) (core old) (core new) is (now_faithful old.tablets honest) brings leads)
-
-    half_by : (deliveries : List DeliveryValue) (right : Result Positions RoundFault) → MatchResult right (λ marks. AreOldOrAppended old.tablets (joins (core old) deliveries marks) new.tablets) (λ fault. new.tablets ≡ old.tablets)
-        → EachGrows old.tablets new.tablets
-    half_by deliveries (Ok marks) left = half_grow old.tablets (joins (core old) deliveries marks) new.tablets left
-    half_by deliveries (Err fault) left = subst (EachGrows old.tablets) (sym left) (none_grow old.tablets)
-
-    half_grows : (deliveries : List DeliveryValue) → IsHalfPublished old deliveries new → EachGrows old.tablets new.tablets
-    half_grows deliveries half = half_by deliveries (new_marks old.marks deliveries) half.2
-
-    pub half_honest : (deliveries : List DeliveryValue) → AreHonest broker deliveries → IsHalfPublished old deliveries new → rounds.IsHalfTaken (core old) deliveries (core new) → AreHonestTablets broker new.tablets
-    half_honest deliveries brings half leads =
-        grown old.tablets new.tablets (half_grows deliveries half) honest
-        (event_faithful broker (half_round deliveries) (core old) (core new) is (now_faithful old.tablets honest) brings leads)
 
     pub loss_honest : (n : ℕ) → new ≡ after_op_at old n Lose → AreHonestTablets broker new.tablets
     loss_honest n now =

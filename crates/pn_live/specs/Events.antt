@@ -4,13 +4,13 @@ use Rattle.pn_tablet.specs.Copies.{IsCopy}
 use Rattle.pn_tablet.specs.declared.state.TabletOp.TheVariants.{Lose}
 use Rattle.pn_region.specs.Events.{RegionEvent, round, half_round, loss, adoption, relayout, advance}
 use Rattle.pn_region.specs.Rounds as rounds
-use Rattle.pn_live.specs.LiveRegions.{LiveRegionValue, core, tablets_after_round, IsHalfPublished}
+use Rattle.pn_live.specs.LiveRegions.{LiveRegionValue, core, tablets_after_round}
 use Rattle.pn_live.specs.Recovery.{after_op_at, Adopts, Advances}
 
--- a call did the event: it took a round, ran out of memory in one, lost a tablet, adopted a copy, or advanced the marks
+-- a call did the event: it took a round, lost a tablet, adopted a copy, or advanced the marks
 abbrev pub LeadsLive : RegionEvent → LiveRegionValue → LiveRegionValue → Type 0
 LeadsLive (round deliveries) old new = (rounds.round (core old) deliveries ≡ Ok (core new)) × (new.tablets ≡ tablets_after_round old deliveries new.marks)
-LeadsLive (half_round deliveries) old new = IsHalfPublished old deliveries new × rounds.IsHalfTaken (core old) deliveries (core new)
+LeadsLive (half_round deliveries) old new = ⊥
 LeadsLive (loss tablet) old new = new ≡ after_op_at old tablet Lose
 LeadsLive (adoption copy) old new = IsCopy copy.range copy.marks copy.cells × Adopts copy old new
 LeadsLive (relayout bounds) old new = ⊥

@@ -1,17 +1,14 @@
--- The state of a live region, and what its rounds leave.
-use Rattle.std.specs.Prelude.{◌≡◌, List, [], map, MatchResult}
+-- The state of a live region, and what its rounds publish.
+use Rattle.std.specs.Prelude.{◌≡◌, List, [], map}
 use Rattle.logbook.specs.Pages.{Book}
 use Rattle.pn_join.specs.Marks.{Positions}
 use Rattle.pn_stream.specs.Positions.{DeliveryValue}
 use Rattle.pn_tablet.specs.Layouts.{Bounds}
 use Rattle.pn_apply.specs.Reducing.{ranges}
-use Rattle.pn_region.specs.Marking.{new_marks}
 use Rattle.pn_region.specs.Regions.{RegionValue}
 use Rattle.pn_region.specs.Rounds.{joins}
 use Rattle.pn_region.specs.declared.notices.Entry.{Entry}
-use Rattle.pn_region.specs.declared.fault.RoundFault.{RoundFault}
-use Rattle.pn_region.specs.declared.fault.RoundFault.TheVariants.{Memory}
-use Rattle.pn_live.specs.PublishedTablets.{PublishedTabletValue, AreNewTablets, books_of, state_at, with_ops, AreOldOrAppended}
+use Rattle.pn_live.specs.PublishedTablets.{PublishedTabletValue, AreNewTablets, books_of, state_at, with_ops}
 use Rattle.pn_live.specs.Readers.{LiveReaderValue, Tablets, tablets_of}
 
 -- a layout, a live tablet for each of its ranges, marks, the entries of the log, and the tablets that rounds published, in that order
@@ -45,15 +42,3 @@ IsReaderIn live reader = tablets_of reader ≡ tablets_in live
 -- the live tablets after a round: the join of each is published
 abbrev pub tablets_after_round : LiveRegionValue → List DeliveryValue → Positions → List PublishedTabletValue
 tablets_after_round live deliveries marks = with_ops live.tablets (joins (core live) deliveries marks)
-
--- what a round leaves that ran out of memory: each tablet's join is published or not, and none if the round would be refused
-abbrev pub IsHalfPublished : LiveRegionValue → List DeliveryValue → LiveRegionValue → Type 0
-IsHalfPublished old deliveries new = (new.layout ≡ old.layout) × (new.marks ≡ old.marks)
-    × MatchResult (new_marks old.marks deliveries)
-    (λ marks. AreOldOrAppended old.tablets (joins (core old) deliveries marks) new.tablets)
-    (λ fault. new.tablets ≡ old.tablets)
-
--- what a refused round leaves: out of memory, some joins may be published; every other fault changes nothing
-abbrev pub LeavesLive : RoundFault → LiveRegionValue → List DeliveryValue → LiveRegionValue → Type 0
-LeavesLive Memory old deliveries new = IsHalfPublished old deliveries new
-LeavesLive _ old deliveries new = new ≡ old

@@ -1,5 +1,5 @@
 -- What is published of each live tablet of a region.
-use Rattle.std.specs.Prelude.{◌≡◌, ◌⊎◌, List, [], ◌∷◌, ◌++◌, map}
+use Rattle.std.specs.Prelude.{◌≡◌, List, [], ◌∷◌, ◌++◌, map}
 use Rattle.logbook.specs.Pages.{Book}
 use Rattle.pn_tablet.specs.Ranges.{Ends}
 use Rattle.pn_tablet.specs.Steps.{state_of}
@@ -38,13 +38,6 @@ with_op tablet op = record tablet { list = tablet.list ++ op ∷ [] }
 abbrev pub with_ops : List PublishedTabletValue → List TabletOp → List PublishedTabletValue
 with_ops (tablet ∷ tablets) (op ∷ ops) = with_op tablet op ∷ with_ops tablets ops
 with_ops tablets _ = tablets
-
--- each tablet has its operation, or is as it was
-abbrev pub AreOldOrAppended : List PublishedTabletValue → List TabletOp → List PublishedTabletValue → Type 0
-AreOldOrAppended [] ops nows = nows ≡ []
-AreOldOrAppended tablets [] nows = nows ≡ tablets
-AreOldOrAppended (tablet ∷ tablets) (op ∷ ops) [] = ⊥
-AreOldOrAppended (tablet ∷ tablets) (op ∷ ops) (now ∷ nows) = ((now ≡ tablet) ⊎ (now ≡ with_op tablet op)) × AreOldOrAppended tablets ops nows
 
 -- a note of a tablet: which one it is, and the operations that were published
 pub record TabletNoteValue : Type 0 where

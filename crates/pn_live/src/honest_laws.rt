@@ -10,25 +10,22 @@ ghost use Rattle.pn_tablet.specs.Prelude.{TabletCopyValue, IsCopy, Ends, in_rang
 ghost use Rattle.pn_tablet.specs.declared.state.TabletOp.TheVariants.{Lose};
 ghost use Rattle.pn_tablet.specs.declared.state.Status.TheVariants.{Serving};
 ghost use Rattle.pn_apply.specs.Prelude.{all_images, join_in};
-ghost use Rattle.pn_region.specs.Prelude.{HoldsStill, IsHonestCopy, new_marks, IsRegion, round, IsHalfTaken};
+ghost use Rattle.pn_region.specs.Prelude.{HoldsStill, IsHonestCopy, new_marks, IsRegion, round};
 ghost use Rattle.pn_live.specs.Honest.{IsHonestList, AreHonestTablets};
 ghost use Rattle.pn_live.specs.Laws.{HasImage};
-ghost use Rattle.pn_live.specs.LiveRegions.{LiveRegionValue, core, tablets_after_round, IsHalfPublished};
+ghost use Rattle.pn_live.specs.LiveRegions.{LiveRegionValue, core, tablets_after_round};
 ghost use Rattle.pn_live.specs.PublishedTablets.{PublishedTabletValue, AreNewTablets, with_op, note_of};
 ghost use Rattle.pn_live.specs.Recovery.{after_op_at, Adopts, Advances};
 ghost use Rattle.pn_live.specs.TabletReaders.{TabletReaderValue, Finds, Learns, KnowsMore};
 
-/// Honest deliveries and copies keep what is published honest, through rounds, also those that ran out of memory, losses
-/// and adoptions, and where marks advance. All other refusals change nothing.
+/// Honest deliveries and copies keep what is published honest, through rounds, losses and adoptions, and where marks
+/// advance. What is refused publishes nothing.
 pub fn honest_calls_keep_lists_honest()
     ensures opened { (broker : BrokerRecord) (ranges : List Ends) (tablets : List PublishedTabletValue) → AreNewTablets ranges tablets
         → AreHonestTablets broker tablets }
     ensures round { (broker : BrokerRecord) (old new : LiveRegionValue) (deliveries : List DeliveryValue) → IsRegion (core old)
         → AreHonestTablets broker old.tablets → AreHonest broker deliveries
         → round (core old) deliveries ≡ Ok (core new) → new.tablets ≡ tablets_after_round old deliveries new.marks → AreHonestTablets broker new.tablets }
-    ensures half { (broker : BrokerRecord) (old new : LiveRegionValue) (deliveries : List DeliveryValue) → IsRegion (core old)
-        → AreHonestTablets broker old.tablets → AreHonest broker deliveries
-        → IsHalfPublished old deliveries new → IsHalfTaken (core old) deliveries (core new) → AreHonestTablets broker new.tablets }
     ensures loss { (broker : BrokerRecord) (old new : LiveRegionValue) (tablet : ℕ) → IsRegion (core old) → AreHonestTablets broker old.tablets
         → new ≡ after_op_at old tablet Lose → AreHonestTablets broker new.tablets }
     ensures adoption { (broker : BrokerRecord) (old new : LiveRegionValue) (copy : TabletCopyValue) → IsRegion (core old) → AreHonestTablets broker old.tablets

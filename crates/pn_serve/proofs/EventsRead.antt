@@ -195,6 +195,9 @@ one_told at_fault names waiting old between new asked said so obeys = record {
 pub none_told : (at_fault : AtFault) (names : List (List ℕ)) (waiting : Option RoundInputValue) (old : LiveRegionValue) → ToldAll at_fault names waiting old old
 none_told at_fault names waiting old = record { events = []; alone = tt; done = (refl, refl, refl) }
 
+pub same_told : (at_fault : AtFault) (names : List (List ℕ)) (waiting : Option RoundInputValue) (old new : LiveRegionValue) → new ≡ old → ToldAll at_fault names waiting old new
+same_told at_fault names waiting old new same = record { events = []; done = (refl, refl, same) }
+
 -- the fault of a round is not that its threads were refused
 begun : (P : DeliveryValue → Type 0) (at_fault : AtFault) (names : List (List ℕ)) (waiting : Option RoundInputValue) (old new : LiveRegionValue) → StopsAt P at_fault names waiting old new Start → ⊥
 begun P at_fault names waiting old new (inl stops) = stops.2.takes

@@ -13,7 +13,6 @@ use Rattle.pn_tablet.specs.Tablets.{TabletStateValue}
 use Rattle.pn_tablet.specs.declared.state.Status.{Status}
 use Rattle.pn_tablet.specs.declared.state.Status.TheVariants.{Serving, Recovering}
 use Rattle.pn_region.specs.Held.{HoldsStill}
-use Rattle.pn_scan.specs.Candidates.{Look}
 use Rattle.pn_scan.specs.Pages.{refusal_by, unless}
 use Rattle.pn_scan.specs.Paging.{Moving}
 use Rattle.pn_scan.specs.Reads.{AnswersAfter, read_of, reaches, unless_behind}
@@ -65,7 +64,7 @@ honest_at broker (one ∷ readers) (suc n) reader honest there = honest_at broke
 
 -- ---- what a look found
 
-by_reach : (here cell : Option CellValue) (does : Bool) → (if does then Ok here else Err (fault.Behind (version_at here))) ≡ Ok {F = ScanFault} cell → cell ≡ here
+by_reach : (here cell : Option CellValue) (does : Bool) → (if does then Ok here else Err (fault.Behind (version_at here))) ≡ Ok cell → cell ≡ here
 by_reach here cell true is = cc
 by_reach here cell false is = absurd (cc)
 

@@ -7,8 +7,8 @@ ghost use Rattle.pn_tablet.specs.Prelude.{changes, Refuses};
 ghost use Rattle.pn_apply.specs.Prelude.{AreJoinsIn, HavePositions, all_stepped, all_changes};
 ghost use Rattle.pn_apply.specs.declared.reducing.TheConstants.{MAX_WORKERS};
 ghost use Rattle.pn_region.specs.declared.marking.TheConstants.{MAX_STREAMS};
-ghost use Rattle.pn_region.specs.Prelude.{with_notices, refused_log, is_memory, new_marks, AreRegionMarks, IsRegion, all_cells, joins, round, changed_count, Leaves};
-ghost use Rattle.pn_live.specs.LiveRegions.{core, tablets_after_round, LeavesLive, tablets_in};
+ghost use Rattle.pn_region.specs.Prelude.{with_notices, refused_log, is_memory, new_marks, AreRegionMarks, IsRegion, all_cells, joins, round, changed_count};
+ghost use Rattle.pn_live.specs.LiveRegions.{core, tablets_after_round, tablets_in};
 ghost use Rattle.pn_live.specs.PublishedTablets.{books_of, notes_of, state_at, with_ops};
 ghost use Rattle.pn_live.specs.Readers.{AreNotesOf};
 
@@ -42,15 +42,11 @@ impl LiveRegion {
         ensures ok { OnOk result (round (core self.old) deliveries.items ≡ Ok (core self.new)) }
         ensures published { OnOk result (self.new.tablets ≡ tablets_after_round self.old deliveries.items self.new.marks) }
         ensures order { OnOk result (self.new.order ≡ self.old.order ++ books_of self.old.tablets) }
-        ensures front { IfOk result (λ done. done.1 ≡ notes_of self.new.tablets) }
+        ensures front { IfOk result (λ done. (done.1 ≡ notes_of self.new.tablets) × AreNotesOf (tablets_in self.old) done.1) }
         ensures changed { IfOk result (λ done. done.0.changed ≡ changed_count (core self.old) (core self.new)) }
         ensures noted { OnOk result (self.new.log ≡ with_notices self.old.log (core self.old) (core self.new)) }
         ensures refused { IfErr result (λ fault. Refuses is_memory fault (round (core self.old) deliveries.items)) }
-        ensures err { IfErr result (λ fault. LeavesLive fault self.old deliveries.items self.new) }
-        ensures left { IfErr result (λ fault. Leaves fault (core self.old) deliveries.items (core self.new)) }
-        ensures broken { IfErr result (λ fault. self.new.log ≡ refused_log self.old.log fault) }
         ensures kept { IfErr result (λ fault. self.new ≡ record self.old { log = refused_log self.old.log fault }) }
-        ensures fits { IfOk result (λ done. AreNotesOf (tablets_in self.old) done.1) }
         ensures same { tablets_in self.new ≡ tablets_in self.old }
     {
         match self.shares_for(deliveries) {
@@ -95,15 +91,11 @@ impl LiveRegion {
         ensures ok { OnOk result (round (core self.old) shares.now ≡ Ok (core self.new)) }
         ensures published { OnOk result (self.new.tablets ≡ tablets_after_round self.old shares.now self.new.marks) }
         ensures order { OnOk result (self.new.order ≡ self.old.order ++ books_of self.old.tablets) }
-        ensures front { IfOk result (λ done. done.1 ≡ notes_of self.new.tablets) }
+        ensures front { IfOk result (λ done. (done.1 ≡ notes_of self.new.tablets) × AreNotesOf (tablets_in self.old) done.1) }
         ensures changed { IfOk result (λ done. done.0.changed ≡ changed_count (core self.old) (core self.new)) }
         ensures noted { OnOk result (self.new.log ≡ with_notices self.old.log (core self.old) (core self.new)) }
         ensures refused { IfErr result (λ fault. Refuses is_memory fault (round (core self.old) shares.now)) }
-        ensures err { IfErr result (λ fault. LeavesLive fault self.old shares.now self.new) }
-        ensures left { IfErr result (λ fault. Leaves fault (core self.old) shares.now (core self.new)) }
-        ensures broken { IfErr result (λ fault. self.new.log ≡ refused_log self.old.log fault) }
         ensures kept { IfErr result (λ fault. self.new ≡ record self.old { log = refused_log self.old.log fault }) }
-        ensures fits { IfOk result (λ done. AreNotesOf (tablets_in self.old) done.1) }
         ensures same { tablets_in self.new ≡ tablets_in self.old }
     {
         match self.take(rt, shares, workers, gate) {
@@ -132,14 +124,11 @@ impl LiveRegion {
         ensures ok { OnOk result (round (core self.old) shares.now ≡ Ok (core self.new)) }
         ensures published { OnOk result (self.new.tablets ≡ tablets_after_round self.old shares.now self.new.marks) }
         ensures order { OnOk result (self.new.order ≡ self.old.order ++ books_of self.old.tablets) }
-        ensures front { IfOk result (λ taken. taken.2 ≡ notes_of self.new.tablets) }
-        ensures changed { IfOk result (λ taken. taken.1.changed ≡ length (flat_map (λ list. list.items) taken.0.items)) }
-        ensures changes { IfOk result (λ taken. flat_map (λ list. list.items) taken.0.items ≡ changes (all_cells (core self.old)) (all_cells (core self.new))) }
+        ensures front { IfOk result (λ taken. (taken.2 ≡ notes_of self.new.tablets) × AreNotesOf (tablets_in self.old) taken.2) }
+        ensures changes { IfOk result (λ taken. (flat_map (λ list. list.items) taken.0.items ≡ changes (all_cells (core self.old)) (all_cells (core self.new)))
+            × (taken.1.changed ≡ length (flat_map (λ list. list.items) taken.0.items))) }
         ensures refused { IfErr result (λ fault. Refuses is_memory fault (round (core self.old) shares.now)) }
-        ensures err { IfErr result (λ fault. LeavesLive fault self.old shares.now self.new) }
-        ensures left { IfErr result (λ fault. Leaves fault (core self.old) shares.now (core self.new)) }
         ensures kept { OnErr result (self.new ≡ self.old) }
-        ensures fits { IfOk result (λ taken. AreNotesOf (tablets_in self.old) taken.2) }
         ensures log { self.new.log ≡ self.old.log }
         ensures same { tablets_in self.new ≡ tablets_in self.old }
     {
@@ -168,13 +157,13 @@ impl LiveRegion {
         gate: &G,
     ) -> Result<(Marks, Vec<TabletOp>, RoundPlan), RoundFault>
         requires workers { (1 ≤ workers) × (workers ≤ MAX_WORKERS) }
-        ensures marks { IfOk result (λ ready. new_marks self.old.marks shares.now ≡ Ok ready.0) }
-        ensures are_marks { IfOk result (λ ready. AreRegionMarks ready.0) }
+        ensures marks { IfOk result (λ ready. (new_marks self.old.marks shares.now ≡ Ok ready.0) × AreRegionMarks ready.0) }
         ensures joins { IfOk result (λ ready. AreJoinsIn (map state_at self.old.tablets) ready.1.items × HavePositions ready.1.items) }
         ensures operations { IfOk result (λ ready. ready.1.items ≡ joins (core self.old) shares.now ready.0) }
         ensures nexts { IfOk result (λ ready. ready.2.nexts.items ≡ all_stepped (map state_at self.old.tablets) ready.1.items) }
-        ensures changes { IfOk result (λ ready. flat_map (λ list. list.items) ready.2.lists.items ≡ flat_map (λ list. list) (all_changes (map state_at self.old.tablets) ready.1.items)) }
-        ensures changed { IfOk result (λ ready. ready.2.changed ≡ length (flat_map (λ list. list.items) ready.2.lists.items)) }
+        ensures changes { IfOk result (λ ready.
+            (flat_map (λ list. list.items) ready.2.lists.items ≡ flat_map (λ list. list) (all_changes (map state_at self.old.tablets) ready.1.items))
+            × (ready.2.changed ≡ length (flat_map (λ list. list.items) ready.2.lists.items))) }
         ensures notes { IfOk result (λ ready. (ready.2.notes.items ≡ []) × (vec_capacity ready.2.notes ≡ length self.old.tablets)) }
         ensures is_region { IsRegion (core self.old) }
         ensures same { self.new ≡ self.old }

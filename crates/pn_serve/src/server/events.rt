@@ -16,9 +16,10 @@ ghost use Rattle.pn_serve.specs.declared.server.mailboxes.AtFault.TheVariants.{G
 
 use crate::ServeFault;
 use crate::control::mailboxes::{ControlMailboxes, StopAsked};
-use crate::server::mailboxes::{StreamMailbox, StreamMailboxes};
+use crate::server::mailboxes::{ReportSeen, StreamMailbox, StreamMailboxes};
 use crate::server::rounds::{RoundInput, take_round};
 use crate::server::texts::{AnyWriters, Sending};
+use crate::server::wakeup::Waited;
 use pn_live::LiveRegion;
 use std::alloc::Global;
 use std::sync::{Arc, Wait};
@@ -59,7 +60,7 @@ pub(crate) fn run_rounds<R: Threads + Wait + Clock + Sync, M: Sending>(
         if let Some(asked) = find_stop(rt, controls) {
             return Ok(ReadingEnd::Stopped(asked));
         }
-        await_work(rt, mailboxes, is_short);
+        let _ = await_work(rt, mailboxes, is_short);
         obey_all(rt, alloc, live, controls, &mailboxes.streams);
         if waiting.is_none() && !mailboxes.has_report(rt) {
             continue;
@@ -80,16 +81,25 @@ fn has_ended<M: Sending>(mailboxes: &StreamMailboxes<M>, waiting: &Option<RoundI
     waiting.is_none() && mailboxes.streams.is_empty()
 }
 
+// Why the thread goes on: it has seen a report, or has waited.
+#[derive(Drop)]
+enum Awaited {
+    Report(ReportSeen),
+    Wait(Waited),
+}
+
 // Waits for a report or a command, unless there is a report; where memory is short, waits for a second at most.
 fn await_work<R: Wait + Clock, M: Sending>(
     rt: &R,
     mailboxes: &StreamMailboxes<M>,
     is_short: bool,
-) {
+) -> Awaited {
     if is_short {
-        mailboxes.wait_for_memory(rt);
-    } else if !mailboxes.has_report(rt) {
-        mailboxes.wait(rt);
+        return Awaited::Wait(mailboxes.wait_for_memory(rt));
+    }
+    match mailboxes.find_report(rt) {
+        Some(report) => Awaited::Report(report),
+        None => Awaited::Wait(mailboxes.wait(rt)),
     }
 }
 
@@ -153,7 +163,7 @@ pub fn take_commands<R: Wait>(
         if let Some(asked) = controls.show_stop(rt) {
             return asked;
         }
-        controls.wakeup.wait(rt);
+        let _ = controls.wakeup.wait(rt);
     }
     unreachable!()
 }
@@ -170,6 +180,6 @@ pub fn take_commands_for<R: Wait + Clock>(
     ensures runs { RunsCommands GoOn live.old live.new }
     ensures same { tablets_in live.new ≡ tablets_in live.old }
 {
-    controls.wakeup.wait_at_most(rt, most);
+    let _ = controls.wakeup.wait_at_most(rt, most);
     controls.obey_all::<R, AnyWriters>(rt, alloc, live, &[]);
 }

@@ -10,7 +10,7 @@ use crate::server::kept_report::KeptReport;
 use crate::server::reporter::Reporter;
 use crate::server::reports::Report;
 use crate::server::texts::Sending;
-use crate::server::wakeup::Wakeup;
+use crate::server::wakeup::{Waited, Wakeup};
 use pn_join::{Marks, StreamName};
 use std::alloc::{AllocError, Global};
 use std::sync::{Arc, Condvar, CondvarTimeouts, Mutex, Wait};
@@ -27,6 +27,10 @@ pub(crate) struct StreamMailboxes<M: Sending> {
     pub(crate) shortage: Option<Arc<Counter>>,
     pub(crate) waiting: Option<Arc<Counter>>,
 }
+
+/// Shows that the thread of some stream has left a report.
+#[derive(Drop)]
+pub(crate) struct ReportSeen(());
 
 /// What follows from a stream's fault.
 #[derive(Clone, Copy, Debug, PartialEq, Eq)]
@@ -118,22 +122,27 @@ impl<M: Sending> StreamMailboxes<M> {
 
     /// Whether the thread of some stream has left a report.
     pub(crate) fn has_report<R: Wait>(&self, rt: &R) -> bool {
+        self.find_report(rt).is_some()
+    }
+
+    /// Shows that the thread of some stream has left a report, if one has.
+    pub(crate) fn find_report<R: Wait>(&self, rt: &R) -> Option<ReportSeen> {
         for stream in self.streams.iter() {
             if stream.mailbox.has_report(rt) {
-                return true;
+                return Some(ReportSeen(()));
             }
         }
-        false
+        None
     }
 
     /// Waits until a report is left, or was left since the last call.
-    pub(crate) fn wait<R: Wait>(&self, rt: &R) {
-        self.wakeup.wait(rt);
+    pub(crate) fn wait<R: Wait>(&self, rt: &R) -> Waited {
+        self.wakeup.wait(rt)
     }
 
     /// Waits for a second, or until a report or a command is left. So a round that memory ran out for is tried again.
-    pub(crate) fn wait_for_memory<R: Wait + Clock>(&self, rt: &R) {
-        self.wakeup.wait_at_most(rt, Duration::from_secs(1));
+    pub(crate) fn wait_for_memory<R: Wait + Clock>(&self, rt: &R) -> Waited {
+        self.wakeup.wait_at_most(rt, Duration::from_secs(1))
     }
 
     /// Counts a round that was run, and shows how far it took the streams.

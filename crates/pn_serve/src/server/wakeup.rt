@@ -3,6 +3,10 @@
 use std::sync::{Condvar, CondvarTimeouts, Mutex, Wait};
 use std::time::{Clock, Duration};
 
+/// Shows that the thread waited until it was notified, or for a time.
+#[derive(Drop)]
+pub(crate) struct Waited(());
+
 /// Many threads notify it; one thread waits until it is notified.
 #[derive(Drop)]
 pub(crate) struct Wakeup {
@@ -26,20 +30,22 @@ impl Wakeup {
     }
 
     /// Waits until it is notified, or was notified since the last call.
-    pub(crate) fn wait<R: Wait>(&self, rt: &R) {
+    pub(crate) fn wait<R: Wait>(&self, rt: &R) -> Waited {
         let guard = self.is_notified.lock(rt);
         let mut is_notified = self
             .notified
             .wait_while(rt, guard, |is_notified| !*is_notified);
         *is_notified = false;
+        Waited(())
     }
 
     /// Waits as `wait` does, but for `most` at most.
-    pub(crate) fn wait_at_most<R: Wait + Clock>(&self, rt: &R, most: Duration) {
+    pub(crate) fn wait_at_most<R: Wait + Clock>(&self, rt: &R, most: Duration) -> Waited {
         let guard = self.is_notified.lock(rt);
         let (mut is_notified, _) = self
             .notified
             .wait_timeout_while(rt, guard, most, |is_notified| !*is_notified);
         *is_notified = false;
+        Waited(())
     }
 }

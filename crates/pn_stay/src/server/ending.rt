@@ -1,14 +1,17 @@
 //! How a server that stays ends.
 
 ghost use Rattle.std.specs.Prelude.{◌≡◌, false, is_some};
+ghost use Rattle.pn_live.specs.Prelude.{tablets_in};
 ghost use Rattle.pn_serve.specs.Server.Events.{RunsCommands};
 ghost use Rattle.pn_serve.specs.declared.server.mailboxes.AtFault.TheVariants.{GoOn};
 ghost use Rattle.pn_stay.specs.Servers.{Leaves, LeavesAfter};
 
 use super::StayingServer;
+use crate::server::stopping::Stopping;
 use pn_join::NoMemory;
+use pn_live::LiveRegion;
 use pn_region::Region;
-use pn_serve::{ControlsClosed, close_region, join_sessions, take_commands};
+use pn_serve::{ControlMailboxes, ControlsClosed, close_region, join_sessions, take_commands};
 use std::alloc::Global;
 use std::sync::Wait;
 use std::thread::Threads;
@@ -52,9 +55,8 @@ impl StayingServer {
     {
         match &self.watchers.controls {
             Some(controls) => {
-                let asked = take_commands(rt, alloc, &mut self.live, controls);
                 let stopping = &self.stopping;
-                Some(stopping.run(rt, alloc, &mut self.live, controls, asked))
+                Some(obey_until_stopped(rt, alloc, &mut self.live, controls, stopping))
             }
             None => None,
         }
@@ -92,4 +94,19 @@ impl StayingServer {
         join_sessions(rt, &live, running, &mut readers);
         close_region(rt, live, readers)
     }
+}
+
+// Does what control sessions ask for until one asks the server to stop, and stops it.
+fn obey_until_stopped<R: Wait + Clock>(
+    rt: &R,
+    alloc: Global,
+    live: &mut LiveRegion,
+    controls: &ControlMailboxes,
+    stopping: &Stopping,
+) -> ControlsClosed
+    ensures runs { RunsCommands GoOn live.old live.new }
+    ensures same { tablets_in live.new ≡ tablets_in live.old }
+{
+    let asked = take_commands(rt, alloc, live, controls);
+    stopping.run(rt, alloc, live, controls, asked)
 }

@@ -5,10 +5,9 @@ use Rattle.pn_stream.specs.Positions.{DeliveryValue}
 use Rattle.pn_tablet.specs.Refusals.{Refuses}
 use Rattle.pn_region.specs.Logged.{refused_log}
 use Rattle.pn_region.specs.Marking.{is_memory}
-use Rattle.pn_region.specs.Rounds.{round, Leaves}
+use Rattle.pn_region.specs.Rounds.{round}
 use Rattle.pn_region.specs.declared.fault.RoundFault.{RoundFault}
-use Rattle.pn_live.specs.LiveRegions.{LiveRegionValue, core, tablets_after_round, tablets_in, LeavesLive}
-use Rattle.pn_live.proofs.Rounds.{leaves_live, leaves}
+use Rattle.pn_live.specs.LiveRegions.{LiveRegionValue, core, tablets_after_round, tablets_in}
 use Rattle.pn_live.proofs.region.LiveRegion.round.Goals as goal
 
 pub returns-in-Ok-clause-ok : goal.returns-in-Ok-clause-ok
@@ -25,32 +24,9 @@ pub returns-in-Ok-clause-refused : goal.returns-in-Ok-clause-refused
 returns-in-Ok-clause-refused g c =
     subst (λ (ds : List DeliveryValue). IfErr c.join_shares.result (λ fault. Refuses is_memory fault (round (core c.args.self.now) ds))) (c.deref.ensures.value ∙ c.in-Ok.ensures.shares) c.join_shares.ensures.refused
 
-pub returns-in-Ok-clause-err : goal.returns-in-Ok-clause-err
-returns-in-Ok-clause-err g c =
-    subst (λ (ds : List DeliveryValue). IfErr c.join_shares.result (λ fault. LeavesLive fault c.args.self.now ds c.join_shares.new.self)) (c.deref.ensures.value ∙ c.in-Ok.ensures.shares) c.join_shares.ensures.err
-
-pub returns-in-Ok-clause-left : goal.returns-in-Ok-clause-left
-returns-in-Ok-clause-left g c =
-    subst (λ (ds : List DeliveryValue). IfErr c.join_shares.result (λ fault. Leaves fault (core c.args.self.now) ds (core c.join_shares.new.self))) (c.deref.ensures.value ∙ c.in-Ok.ensures.shares) c.join_shares.ensures.left
-
 pub returns-in-Err-clause-refused : goal.returns-in-Err-clause-refused
 returns-in-Err-clause-refused g c =
     subst (λ (fault : RoundFault). Refuses is_memory fault (round (core c.args.self.now) c.args.deliveries.items)) (sym c.refuse.ensures.fault) c.in-Err.ensures.refused
-
-pub returns-in-Err-clause-err : goal.returns-in-Err-clause-err
-returns-in-Err-clause-err g c =
-    let was = c.args.self.now in
-    subst (λ (fault : RoundFault). LeavesLive fault was c.args.deliveries.items c.refuse.new.self) (sym c.refuse.ensures.fault)
-    (leaves_live was c.args.deliveries.items c.shares_for.ensures.region c.refuse.new.self c.in-Err.fault c.refuse.ensures.kept)
-
-pub returns-in-Err-clause-left : goal.returns-in-Err-clause-left
-returns-in-Err-clause-left g c =
-    let was = c.args.self.now in
-    subst (λ (fault : RoundFault). Leaves fault (core was) c.args.deliveries.items (core c.refuse.new.self)) (sym c.refuse.ensures.fault)
-    (leaves was c.args.deliveries.items c.shares_for.ensures.region c.refuse.new.self c.in-Err.fault c.refuse.ensures.kept)
-
-pub returns-in-Err-clause-broken : goal.returns-in-Err-clause-broken
-returns-in-Err-clause-broken g c = ap (λ (live : LiveRegionValue). live.log) c.refuse.ensures.kept ∙ ap (refused_log c.args.self.now.log) (sym c.refuse.ensures.fault)
 
 pub returns-in-Err-clause-kept : goal.returns-in-Err-clause-kept
 returns-in-Err-clause-kept g c =

@@ -4,25 +4,11 @@ use Rattle.std.specs.Vec.{with_items}
 use Rattle.std.proofs.lemmas.List.{with_items_is}
 use Rattle.std.specs.List.{flat_map}
 use Rattle.pn_apply.specs.Applying.{AreJoinsIn, all_stepped}
-use Rattle.pn_region.specs.Rounds.{Leaves}
-use Rattle.pn_region.specs.declared.fault.RoundFault.{RoundFault}
-use Rattle.pn_region.proofs.RoundEnds.{same_left, whatever}
-use Rattle.pn_live.specs.LiveRegions.{LiveRegionValue, core, tablets_in, LeavesLive}
+use Rattle.pn_live.specs.LiveRegions.{LiveRegionValue, tablets_in}
 use Rattle.pn_live.specs.PublishedTablets.{PublishedTabletValue, TabletNoteValue, books_of, state_at, notes_of, with_ops}
 use Rattle.pn_live.specs.Readers.{AreNotesOf}
-use Rattle.pn_live.proofs.Rounds.{same_live}
 use Rattle.pn_live.proofs.Taken.{taken_lawful, takes}
 use Rattle.pn_live.proofs.region.LiveRegion.take.Goals as goal
-
-pub returns-in_err-ready-clause-err : goal.returns-in_err-ready-clause-err
-returns-in_err-ready-clause-err g c =
-    let was = c.args.self.now in
-    whatever c.from_residual.result _ (λ (fault : RoundFault). subst (LeavesLive fault was c.args.shares.now) (sym c.in_err-ready.ensures.same) (same_live was c.args.shares.now c.in_err-ready.ensures.is_region fault))
-
-pub returns-in_err-ready-clause-left : goal.returns-in_err-ready-clause-left
-returns-in_err-ready-clause-left g c =
-    let was = c.args.self.now in
-    whatever c.from_residual.result _ (λ (fault : RoundFault). subst (λ (l : LiveRegionValue). Leaves fault (core was) c.args.shares.now (core l)) (sym c.in_err-ready.ensures.same) (same_left (core was) c.args.shares.now c.in_err-ready.ensures.is_region fault))
 
 pub publish_tablets-requires-clause-joins : goal.publish_tablets-requires-clause-joins
 publish_tablets-requires-clause-joins g c =
@@ -46,7 +32,7 @@ invariant_of-self g c =
     let here : c.as_mut_slice-tablets.result.now ≡ was.tablets = c.as_mut_slice-tablets.ensures.value ∙ ap (λ (l : LiveRegionValue). l.tablets) (c.self.view_is ∙ said.same) in
     let layout : now.layout ≡ was.layout = ap (λ (l : LiveRegionValue). l.layout) (c.self.view_is ∙ said.same) in
     let all : now.tablets ≡ with_ops was.tablets ops = same ∙ (c.publish_tablets.ensures.tablets ∙ ap (λ (ts : List PublishedTabletValue). with_ops ts ops) here) in
-    taken_lawful was now c.args.shares.now said.is_region ops said.operations layout all said.are_marks
+    taken_lawful was now c.args.shares.now said.is_region ops said.operations layout all said.marks.1
 
 pub returns : goal.returns
 returns g c =
@@ -60,7 +46,7 @@ returns g c =
     let here : c.as_mut_slice-tablets.result.now ≡ was.tablets = c.as_mut_slice-tablets.ensures.value ∙ ap (λ (l : LiveRegionValue). l.tablets) (c.self.view_is ∙ said.same) in
     let layout : now.layout ≡ was.layout = ap (λ (l : LiveRegionValue). l.layout) (c.self.view_is ∙ said.same) in
     let all : now.tablets ≡ with_ops was.tablets ops = same ∙ (c.publish_tablets.ensures.tablets ∙ ap (λ (ts : List PublishedTabletValue). with_ops ts ops) here) in
-    let taken = takes was now c.args.shares.now said.is_region ops said.operations layout all said.marks (flat_map (λ list. list.items) c.in_ok-ready.ready.2.lists.items) said.changes in
+    let taken = takes was now c.args.shares.now said.is_region ops said.operations layout all said.marks.0 (flat_map (λ list. list.items) c.in_ok-ready.ready.2.lists.items) said.changes.0 in
     let front = c.front_of-front.ensures ∙ ap notes_of c.deref.ensures.value in
     record {
       ok = taken.ok;
@@ -68,14 +54,10 @@ returns g c =
       order = c.publish_tablets.ensures.order
           ∙ ap (λ (ts : List PublishedTabletValue). inside.order ++ books_of ts) c.as_mut_slice-tablets.ensures.value
           ∙ ap (λ (l : LiveRegionValue). l.order ++ books_of l.tablets) (c.self.view_is ∙ said.same);
-      front = front;
-      changed = said.changed;
-      changes = taken.tells;
+      front = (front, subst (λ (ns : List TabletNoteValue). AreNotesOf (tablets_in was) ns) (sym front) taken.fits);
+      changes = (taken.tells, said.changes.1);
       refused = tt;
-      err = tt;
-      left = tt;
       kept = tt;
-      fits = subst (λ (ns : List TabletNoteValue). AreNotesOf (tablets_in was) ns) (sym front) taken.fits;
       log = ap (λ (l : LiveRegionValue). l.log) (c.self.view_is ∙ said.same);
       same = taken.same;
     }

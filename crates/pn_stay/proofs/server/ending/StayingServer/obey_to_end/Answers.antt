@@ -1,12 +1,9 @@
--- Commands came, or none did.
-use Rattle.std.proofs.Common.{[], None, ap, sym, ◌∙◌}
+-- Without a control socket no command comes.
+use Rattle.std.proofs.Common.{[], None, ap}
 use Rattle.pn_serve.specs.declared.server.mailboxes.AtFault.TheVariants.{GoOn}
-use Rattle.pn_serve.proofs.EventsRead.{none_told, told_then}
+use Rattle.pn_serve.proofs.EventsRead.{same_told}
+use Rattle.pn_stay.specs.Servers.{ServerValue}
 use Rattle.pn_stay.proofs.server.ending.StayingServer.obey_to_end.Goals as goal
 
-pub returns-in-Some-clause-told : goal.returns-in-Some-clause-told
-returns-in-Some-clause-told g c =
-    told_then GoOn [] None c.args.self.inside.live c.take_commands.new.live c.run.new.live c.take_commands.ensures.runs c.run.ensures.runs
-
 pub returns-in-None-clause-told : goal.returns-in-None-clause-told
-returns-in-None-clause-told g c = none_told GoOn [] None c.args.self.inside.live
+returns-in-None-clause-told g c = same_told GoOn [] None _ _ (ap (λ (s : ServerValue). s.live) c.self.view_is)
