@@ -31,8 +31,8 @@ use crate::server::threads::start_answering;
 use pn_line::Source;
 use pn_live::{LiveReader, LiveRegion};
 use pn_serve::{
-    Acceptor, Counter, MAX_CONTROLS, OpenedRegion, Origin, ReadingEnd, Sending, ServeFault, SessionThread,
-    Settings, Stream, Watchers, open_region, read_streams,
+    Acceptor, Counter, MAX_CONTROLS, OpenedRegion, Origin, ReadingEnd, Sending, ServeFault,
+    SessionThread, Settings, Stream, Watchers, open_region, read_streams,
 };
 use pn_tablet::Layout;
 use std::alloc::{AllocError, Global};

@@ -10,8 +10,7 @@ use pn_live::LiveRegion;
 use pn_region::Region;
 use pn_serve::{
     AnyWriters, Counter, NextWriter, OpenedRegion, Origin, Settings, Stream, Watchers, WriterEnd,
-    close_region,
-    open_region, read_streams,
+    close_region, open_region, read_streams,
 };
 use pn_stream::StreamReader;
 use std::alloc::{AllocError, Global};

@@ -210,7 +210,9 @@ impl<M: Sending> Mailbox<M> {
         ensures { IfOk result (λ left. left ≡ report) }
     {
         let guard = self.held.lock(rt);
-        let mut held = self.emptied.wait_while(rt, guard, |held| held.held.is_left());
+        let mut held = self
+            .emptied
+            .wait_while(rt, guard, |held| held.held.is_left());
         held.put(report)
     }
 

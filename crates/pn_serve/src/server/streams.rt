@@ -73,7 +73,14 @@ where
     ensures same { tablets_in live.new ≡ tablets_in live.old }
 {
     let own = workers_of_each(workers, streams.len());
-    let mut mailboxes = start_threads::<R, S, O, M>(rt, alloc, live.marks(), streams, own, watchers)?;
+    let mut mailboxes = start_threads::<R, S, O, M>(
+        rt,
+        alloc,
+        live.marks(),
+        streams,
+        own,
+        watchers,
+    )?;
     let read = run_rounds(rt, alloc, live, workers, &mut mailboxes, &watchers.controls);
     mailboxes.close(rt);
     read
@@ -102,7 +109,14 @@ where
         return Err(ServeFault::Start);
     };
     for stream in streams {
-        if let Err(_) = start_thread::<R, S, O, M>(rt, alloc, marks, &mut mailboxes, stream, workers) {
+        if let Err(_) = start_thread::<R, S, O, M>(
+            rt,
+            alloc,
+            marks,
+            &mut mailboxes,
+            stream,
+            workers,
+        ) {
             mailboxes.close(rt);
             return Err(ServeFault::Start);
         }
