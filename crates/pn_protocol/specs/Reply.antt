@@ -14,5 +14,6 @@ pub mod Short
 pub mod Stats
 pub mod Tablets
 pub mod Texts
+pub mod TimeStats
 pub mod UnreadStats
 pub mod Weights

@@ -20,5 +20,6 @@ pub use reply::stats::{
 };
 pub use reply::tablets::{ShownTablets, marks_reply, tablets_reply};
 pub use reply::text::{MAX_PIECE_BYTES, ReplyText};
+pub use reply::time_stats::{TimeBucket, TimeCounts, TimeStats};
 pub use reply::unread_stats::UnreadStats;
 pub use reply::{PageReply, Reply};

@@ -17,6 +17,7 @@ pub(crate) mod shown_records;
 pub(crate) mod stats;
 pub(crate) mod tablets;
 pub(crate) mod text;
+pub(crate) mod time_stats;
 pub(crate) mod unread_stats;
 
 use crate::Refusal;

@@ -4,6 +4,7 @@ use Rattle.std.specs.declared.alloc.Global.{Global}
 use Rattle.serde_json.specs.Data.{Data, null, number, string, array, object, unsigned, Members, no_members, member}
 use Rattle.serde_json.specs.View.{items_of}
 use Rattle.pn_protocol.specs.Reply.LineStats.{count, lines_data}
+use Rattle.pn_protocol.specs.Reply.TimeStats.{times_data}
 use Rattle.pn_protocol.specs.Reply.UnreadStats.{unread_data}
 use Rattle.pn_protocol.specs.declared.reply.stats.ConnectionStats.{ConnectionStats}
 use Rattle.pn_protocol.specs.declared.reply.stats.Stats.{Stats}
@@ -77,6 +78,7 @@ stats_data stats =
     (count (codes "rounds") stats.rounds
     (member (codes "streams") (array (items_of (map stream_data stats.streams.items)))
     (member (codes "tablets") (array (items_of (map tablet_data stats.tablets.items)))
+    (member (codes "times") (times_data stats.times)
     (member (codes "unread") (unread_data stats.unread)
     (count (codes "uptime") stats.uptime
-    (member (codes "version") (string stats.version.now) no_members)))))))))
+    (member (codes "version") (string stats.version.now) no_members))))))))))

@@ -7,6 +7,7 @@ ghost use Rattle.pn_protocol.specs.Reply.Stats.{number_or_null, state_word as wo
 
 use crate::reply::line_stats::LineStats;
 use crate::reply::shown::{Shown, shown_line, write_array};
+use crate::reply::time_stats::TimeStats;
 use crate::reply::unread_stats::UnreadStats;
 use json::Writer;
 use pn_join::{NoMemory, StreamName};
@@ -24,6 +25,8 @@ pub struct Stats {
     pub streams: Vec<StreamStats>,
     /// The tablets, in their order.
     pub tablets: Vec<TabletStats>,
+    /// How long lines and rounds took.
+    pub times: TimeStats,
     pub unread: UnreadStats,
     /// For how many seconds the server runs.
     pub uptime: u64,
@@ -119,6 +122,8 @@ impl Shown for Stats {
         write_array(writer, &self.streams)?;
         writer.key("tablets")?;
         write_array(writer, &self.tablets)?;
+        writer.key("times")?;
+        self.times.write(writer)?;
         writer.key("unread")?;
         self.unread.write(writer)?;
         write_number_member(writer, "uptime", self.uptime)?;

@@ -7,6 +7,7 @@ use Rattle.pn_protocol.specs.declared.reply.stats.StreamStats.{StreamStats}
 use Rattle.pn_protocol.specs.declared.reply.stats.TabletStats.{TabletStats}
 use Rattle.pn_protocol.specs.Reply.LineStats.{count, lines_data}
 use Rattle.pn_protocol.specs.Reply.Stats.{connections_data, stats_data, stream_data, tablet_data}
+use Rattle.pn_protocol.specs.Reply.TimeStats.{times_data}
 use Rattle.pn_protocol.specs.Reply.UnreadStats.{unread_data}
 use Rattle.pn_json.specs.Tokens.{value_tokens}
 use Rattle.pn_json.proofs.TokenLists.{appends_token, appends_both, appends_as}
@@ -21,12 +22,13 @@ stats_of stats streams tablets =
     (count (codes "rounds") stats.rounds
     (member (codes "streams") (array (items_of (map stream_data streams)))
     (member (codes "tablets") (array (items_of (map tablet_data tablets)))
+    (member (codes "times") (times_data stats.times)
     (member (codes "unread") (unread_data stats.unread)
     (count (codes "uptime") stats.uptime
-    (member (codes "version") (string stats.version.now) no_members)))))))))
+    (member (codes "version") (string stats.version.now) no_members))))))))))
 
 pub returns : goal.returns
-unfolding stats_data connections_data lines_data unread_data
+unfolding stats_data connections_data lines_data times_data unread_data
 returns c =
     appends_as (λ i. value_tokens (stats_of c.args.self.now (c.deref.ensures.value i) (c.deref-2.ensures.value i)))
     (appends_both (appends_token c.in_ok-begin_object.ensures)
@@ -42,5 +44,7 @@ returns c =
     (appends_both c.in_ok-write_array-2.ensures
     (appends_both (appends_token c.in_ok-key-5.ensures)
     (appends_both c.in_ok-write-3.ensures
+    (appends_both (appends_token c.in_ok-key-6.ensures)
+    (appends_both c.in_ok-write-4.ensures
     (appends_both c.in_ok-write_number_member-3.ensures
-    (appends_both c.in_ok-write_text_member.ensures (appends_token c.in_ok-end_object.ensures))))))))))))))))
+    (appends_both c.in_ok-write_text_member.ensures (appends_token c.in_ok-end_object.ensures))))))))))))))))))
