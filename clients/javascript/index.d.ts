@@ -145,6 +145,13 @@ export interface LineCounts {
   readonly refused: number;
 }
 
+/** How many there were, how many microseconds they took together, and how many took at most `most`, but more than the bucket before. */
+export interface TimeCounts {
+  readonly buckets: readonly { readonly count: number; readonly most: number }[];
+  readonly count: number;
+  readonly total: number;
+}
+
 /** What a region has done so far: seconds that it runs, bytes of memory, rounds, and the connections and lines of clients. */
 export interface Stats {
   readonly version: string;
@@ -159,6 +166,8 @@ export interface Stats {
   readonly tablets?: readonly { readonly deleted: number; readonly records: number }[];
   /** Bytes of the records that unread replies keep, their limit, and how many clients were ended for it, where the region says it. */
   readonly unread?: { readonly bytes: number; readonly ended: number; readonly limit: number };
+  /** How long lines took, from when they were at hand until they had their replies, and how long rounds, where the region says it. */
+  readonly times?: { readonly lines: TimeCounts; readonly rounds: TimeCounts };
 }
 
 /** The control socket of a region, as unix:/run/pnuts/control. It reads records, too. */

@@ -29,7 +29,22 @@ type Stats struct {
 	Tablets []Tablet
 	// What unread replies keep; nil where the region does not say it.
 	Unread *Unread
+	// How long lines took, from when they were found at hand until they had their replies, and how long rounds; nil where the region
+	// does not say it.
+	Times *Times
 }
+
+// Times says how long lines took, and how long rounds.
+type Times struct{ Lines, Rounds TimeCounts }
+
+// TimeCounts says how many there were, how many microseconds they took together, and how many took how long, up to the greatest Most.
+type TimeCounts struct {
+	Buckets      []TimeBucket
+	Count, Total int64
+}
+
+// TimeBucket says how many took at most so many microseconds, but more than those of the bucket before.
+type TimeBucket struct{ Count, Most int64 }
 
 // Unread says how many bytes the records have that replies keep which clients have not taken, their limit, and how many clients were ended
 // for it.

@@ -37,8 +37,8 @@ pub use script::{Counts, MAX_LINES, RunFault, run, run_to_exit};
 pub use server::{
     Acceptor, AnyWriters, ComesBack, Counter, FaultLog, MAX_SESSIONS, NextWriter, OpenedRegion,
     Origin, ReadingEnd, Sending, ServeFault, SessionThread, Stream, StreamFailure, StreamPath,
-    Watchers, WriterEnd, close_region, join_sessions, open_region, read_streams, serve, serve_from,
-    take_commands, take_commands_for,
+    TimeCounters, Watchers, WriterEnd, close_region, join_sessions, open_region, read_streams,
+    serve, serve_from, take_commands, take_commands_for,
 };
 pub use sessions::counting_reader::CountingReader;
 pub use sessions::going::Going;

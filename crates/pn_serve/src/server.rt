@@ -38,6 +38,7 @@ mod stream_path;
 mod stream_threads;
 mod streams;
 pub(crate) mod texts;
+mod times;
 mod tries;
 pub(crate) mod wakeup;
 mod writer_input;
@@ -71,6 +72,7 @@ use std::time::Clock;
 pub use stream_path::StreamPath;
 pub use streams::{Watchers, read_streams};
 pub use texts::{AnyWriters, Sending};
+pub use times::TimeCounters;
 pub use writers::{NextWriter, Origin, Stream, WriterEnd};
 
 /// A live region and its readers. It is not `Drop`: end it by `close_region`.

@@ -1,8 +1,10 @@
 pub mod Buffers
 pub mod Crossing
 pub mod Endings
+pub mod EndsLongest
 pub mod Held
 pub mod Keys
+pub mod Looks
 pub mod Pieces
 pub mod Quarters
 pub mod UnreadClients

@@ -1,5 +1,5 @@
 -- What a client has not taken of its replies, and which clients are ended for it.
-use Rattle.std.specs.Prelude.{◌≡◌, ◌==◌, ◌≤◌, ℕ, Bool, ◌||◌, if◌then◌else◌, nat_le, true, Option, None, Some}
+use Rattle.std.specs.Prelude.{◌≡◌, ◌==◌, ◌⊎◌, ◌≤◌, ℕ, Bool, ◌||◌, if◌then◌else◌, nat_le, true, Option, None, Some}
 use Rattle.pn_stay.specs.IdleTimeouts.{IdleTimeoutValue, after_quarter, new_idle_timeout}
 use Rattle.pn_stay.specs.declared.unread.TheConstants.{DEAF_QUARTERS, QUIET_QUARTERS}
 
@@ -46,3 +46,12 @@ quiet_in (Some unread) = quiet_of unread
 abbrev pub EndsDeaf : Option UnreadValue → Option UnreadValue → Type 0
 EndsDeaf None after = after ≡ None
 EndsDeaf (Some unread) after = (is_deaf (aged unread) ≡ true → after ≡ None) × (¬ (is_deaf (aged unread) ≡ true) → after ≡ Some (aged unread))
+
+-- a client is as it was; or it was ended, that took no byte for so long, which is a second at least
+abbrev pub EndsAt : ℕ → Option UnreadValue → Option UnreadValue → Type 0
+EndsAt longest before after = (after ≡ before) ⊎ ((after ≡ None) × (quiet_in before ≡ longest) × (QUIET_QUARTERS ≤ longest))
+
+-- each client is as it was; or it was ended, that took no byte for a second at least, and for no less time than any that stays
+abbrev pub EndsLongest : (ℕ → Option UnreadValue) → (ℕ → Option UnreadValue) → Type 0
+EndsLongest before after = (key : ℕ)
+    → (after key ≡ before key) ⊎ ((after key ≡ None) × (QUIET_QUARTERS ≤ quiet_in (before key)) × ((other : ℕ) → quiet_in (after other) ≤ quiet_in (before key)))

@@ -6,26 +6,33 @@ ghost use Rattle.pn_stay.specs.IdleTimeouts.{new_idle_timeout, after_quarter};
 ghost use Rattle.std.specs.Option.{option_map};
 ghost use Rattle.pn_stay.specs.Unread.{aged, is_deaf, weight_in};
 
+use crate::bounded_reader::{BoundedReader, Look};
+use crate::counters::{Kept, UnreadCounters};
+use crate::line_clock::LineClock;
 use crate::polled_input::PolledInput;
+use crate::room::{ANY_ROOM, Room};
 use crate::socket::{Socket, TrackedSocket};
 use crate::unread::UnreadReply;
 use mio::event::Event;
-use pn_lines::{Counts, LineTurns, LinesEnd, Pause, TurnBuffers, TurnOutcome};
+use pn_lines::{Counts, LineTurns, LinesEnd, Pause, PieceText, TurnBuffers, TurnOutcome};
 use pn_protocol::LineCounts;
-use pn_serve::{CountingReader, Going, MAX_LINES, ReplyPieces};
+use pn_serve::{MAX_LINES, ReplyPieces, TimeCounters};
 use std::alloc::Global;
 use std::marker::Model;
+use std::time::{Clock, Instant};
 
 /// A connection with its socket.
 #[derive(Drop)]
 pub(crate) struct Connection {
     socket: Socket,
-    lines: LineTurns<Going, ReplyPieces>,
+    lines: LineTurns<Look, ReplyPieces>,
     pub(crate) idle: IdleTimeout,
+    clock: LineClock,
     /// What waits for its client, if anything does.
     pub(crate) unread: Option<UnreadReply>,
     // What the reply weighs that was weighed last, after the number of lines up to its own.
     weighed: (u64, u64),
+    pub(crate) room: Room,
     /// Whether it is among those that are to have a turn.
     pub(crate) is_ready: bool,
     /// Whether its socket is kept until its client has taken the replies: it had as many lines as may be.
@@ -43,8 +50,10 @@ impl Connection {
             socket,
             lines: LineTurns::new(alloc, MAX_LINES),
             idle: IdleTimeout::new(),
+            clock: LineClock::new(),
             unread: None,
             weighed: (0, 0),
+            room: Room::Unasked,
             is_ready: false,
             lingers: false,
             is_ending: false,
@@ -73,7 +82,7 @@ impl Connection {
     pub(crate) fn turn(
         &mut self,
         buffers: &mut TurnBuffers,
-        reader: &mut CountingReader,
+        reader: &mut BoundedReader,
         counted: &mut LineCounts,
     ) -> Option<Pause>
         ensures knows { KnowsNoLess reader.old reader.new }
@@ -86,12 +95,24 @@ impl Connection {
         let before = self.lines.counts();
         let turned = self.lines.turn(buffers, reader, &mut input, &mut output);
         add_lines(counted, before, self.lines.counts());
-        let has_taken = output.has_moved();
-        let is_busy = turned == TurnOutcome::Goes(Pause::Turn) || self.lines.is_going();
-        self.idle.note_activity(is_busy || has_taken);
+        self.note_turn(turned, reader.wanted(), output.has_moved())
+    }
+
+    // Notes what a turn came to, for how many bytes its line waits, if it does, and whether the client took a byte. A line that waits asks
+    // for no turn.
+    fn note_turn(
+        &mut self,
+        turned: TurnOutcome,
+        wanted: Option<u64>,
+        has_taken: bool,
+    ) -> Option<Pause> {
+        let has_more = turned == TurnOutcome::Goes(Pause::Turn) || self.lines.is_going();
+        self.idle.note_activity(has_more || has_taken);
+        self.room = self.room.after_turn(wanted, self.going_line());
         self.note_unread(turned == TurnOutcome::Goes(Pause::Output), has_taken);
         match turned {
-            TurnOutcome::Goes(_) if is_busy => Some(Pause::Turn),
+            TurnOutcome::Goes(_) if has_more && wanted.is_none() => Some(Pause::Turn),
+            TurnOutcome::Goes(Pause::Turn) => Some(Pause::Input),
             TurnOutcome::Goes(pause) => Some(pause),
             TurnOutcome::Ended(end) => {
                 self.lingers = end != LinesEnd::Input;
@@ -100,9 +121,18 @@ impl Connection {
             TurnOutcome::Failed(_) => None,
         }
     }
-}
 
-impl Connection {
+    /// Counts how long the lines took that have their replies since the last turn. Those of this one were at hand then.
+    pub(crate) fn count_times<R: Clock>(
+        &mut self,
+        rt: &R,
+        at_hand: &Option<Instant>,
+        times: &TimeCounters,
+    ) {
+        let (lines, is_going) = (self.lines.counts().lines, self.lines.is_going());
+        self.clock.end_turn(rt, at_hand, lines, is_going, times);
+    }
+
     /// What the records weigh that its reply keeps, where that waits for its client.
     pub(crate) fn unread_weight(&self) -> u64
         ensures { result ≡ weight_in self.now.unread }
@@ -113,11 +143,52 @@ impl Connection {
         }
     }
 
-    /// A quarter of a second is over for the client, if replies wait for it. Whether it took no byte for half a minute.
+    /// What it counts for.
+    pub(crate) fn kept(&self) -> Kept {
+        Kept {
+            bytes: self.unread_weight(),
+            wanted: self.room.wanted(),
+        }
+    }
+
+    /// How many bytes of records the reply may keep that its next turn comes to. A line that was put off is let in before.
+    pub(crate) fn room_in(&self, unread: &UnreadCounters) -> u64 {
+        match self.room {
+            Room::Unasked => unread.room_beside(self.unread_weight()),
+            Room::Wanted { .. } => 0,
+            Room::Given { .. } => ANY_ROOM,
+        }
+    }
+
+    /// The number of its line that waits for room, if one does, and the client has taken all replies before.
+    pub(crate) fn waits(&self) -> Option<u64> {
+        match &self.unread {
+            Some(_) => None,
+            None => self.room.number(),
+        }
+    }
+
+    /// Its line is let in that waits for room.
+    pub(crate) fn let_in(&mut self) {
+        self.room = self.room.let_in(self.lines.counts().lines);
+        self.unread = Some(UnreadReply::new(self.room.given()));
+    }
+
+    // The line whose reply is looked for, if one is.
+    fn going_line(&self) -> Option<u64> {
+        if self.lines.is_going() {
+            return Some(self.lines.counts().lines);
+        }
+        None
+    }
+
+    /// A quarter of a second is over for the client, if replies wait for it. Whether it took no byte for half a minute. One whose line
+    /// waits for room is not idle.
     pub(crate) fn age_unread(&mut self) -> Option<bool>
         ensures aged { self.new.unread ≡ option_map aged self.old.unread }
         ensures deaf { result ≡ option_map is_deaf self.new.unread }
     {
+        self.idle.note_activity(self.lines.is_going());
         match &mut self.unread {
             Some(unread) => {
                 unread.end_quarter();
@@ -127,29 +198,33 @@ impl Connection {
         }
     }
 
-    // Notes after a turn whether replies wait for the client, and whether it took a byte.
+    // Notes after a turn whether replies wait for the client, and whether it took a byte. A reply whose text is still to be made keeps
+    // its records also where nothing waits: then the client is not what holds it up.
     fn note_unread(&mut self, waits: bool, has_taken: bool) {
-        if !waits {
+        let weight = self.weigh();
+        if !waits && weight == 0 {
             self.unread = None;
             return;
         }
-        let weight = self.weigh();
         match &mut self.unread {
-            Some(unread) => unread.note_turn(has_taken, weight),
+            Some(unread) => unread.note_turn(has_taken || !waits, weight),
             None => self.unread = Some(UnreadReply::new(weight)),
         }
     }
 
-    // What the reply weighs of which text is still to be made. It is looked over once: its line is the last that was taken.
+    // What the reply weighs of which text is still to be made, or the room that was given for it. It is looked over once: its line is the
+    // last that was taken.
     fn weigh(&mut self) -> u64 {
         let line = self.lines.counts().lines;
-        let Some(text) = self.lines.unmade() else {
-            return 0;
-        };
-        if self.weighed.0 != line {
-            self.weighed = (line, text.0.weight());
+        match self.lines.unmade() {
+            Some(text) if !text.is_made() => {
+                if self.weighed.0 != line {
+                    self.weighed = (line, text.0.weight());
+                }
+                self.weighed.1
+            }
+            _ => self.room.given(),
         }
-        self.weighed.1
     }
 }
 

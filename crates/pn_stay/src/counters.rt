@@ -4,11 +4,11 @@ ghost use Rattle.std.specs.Prelude.{◌≡◌};
 
 use crate::line_counters::KindCounters;
 use crate::memory::MemoryMeter;
+use crate::room::{has_room, is_past, room_beside};
 use crate::streams::status::StreamStatus;
-use crate::unread::is_past;
 use pn_join::Name;
 use pn_line::{LineBuffer, Piece, Source};
-use pn_serve::Counter;
+use pn_serve::{Counter, TimeCounters};
 use std::alloc::{AllocError, Global};
 use std::io;
 use std::sync::Arc;
@@ -90,11 +90,20 @@ impl ConnectionCounters {
     }
 }
 
+/// How many bytes of records the reply of a connection keeps, and how many its line waits for.
+#[derive(Clone, Copy, Debug, PartialEq, Eq)]
+pub(crate) struct Kept {
+    pub(crate) bytes: u64,
+    pub(crate) wanted: u64,
+}
+
 /// What is counted of replies that clients have not taken.
 #[derive(Drop)]
 pub struct UnreadCounters {
     /// How many bytes the records have that these replies keep.
     pub bytes: Counter,
+    /// How many bytes of records lines wait for that were put off.
+    pub(crate) wanted: Counter,
     /// How many clients were ended that took nothing.
     pub ended: Counter,
     /// How many bytes there may be before clients are ended that take nothing for a second.
@@ -105,22 +114,40 @@ impl UnreadCounters {
     fn new() -> UnreadCounters {
         UnreadCounters {
             bytes: Counter::new(),
+            wanted: Counter::new(),
             ended: Counter::new(),
             limit: DEFAULT_UNREAD,
         }
     }
 
-    /// A reply that kept so many bytes keeps so many now.
-    pub(crate) fn replace(&self, before: u64, after: u64) {
-        if before != after {
-            self.bytes.add(after);
-            self.bytes.subtract(before);
-        }
+    /// What a connection counts for has changed.
+    pub(crate) fn replace(&self, before: Kept, after: Kept) {
+        replace_in(&self.bytes, before.bytes, after.bytes);
+        replace_in(&self.wanted, before.wanted, after.wanted);
     }
 
-    /// Whether there are more bytes than the limit.
+    /// Whether more bytes are kept and waited for than the limit allows.
     pub(crate) fn is_past(&self) -> bool {
-        is_past(self.bytes.get(), self.limit)
+        is_past(self.bytes.get(), self.wanted.get(), self.limit)
+    }
+
+    /// How much room there is for a reply of a connection that keeps so many bytes.
+    pub(crate) fn room_beside(&self, own: u64) -> u64 {
+        let others = self.bytes.get().saturating_sub(own);
+        room_beside(others, self.wanted.get(), self.limit)
+    }
+
+    /// Whether there is room for a line that waits for so many bytes.
+    pub(crate) fn has_room(&self, bytes: u64) -> bool {
+        has_room(bytes, self.bytes.get(), self.limit)
+    }
+}
+
+// Most turns change nothing, and touch no counter.
+fn replace_in(counter: &Counter, before: u64, after: u64) {
+    if before != after {
+        counter.add(after);
+        counter.subtract(before);
     }
 }
 
@@ -137,6 +164,9 @@ pub struct Counters {
     pub refused: Counter,
     /// Their lines by what they ask for.
     pub(crate) kinds: KindCounters,
+    /// How long these took, and how long rounds.
+    pub line_times: TimeCounters,
+    pub round_times: Arc<TimeCounters>,
     pub connections: ConnectionCounters,
     pub unread: UnreadCounters,
     pub streams: Vec<StreamCounters>,
@@ -147,6 +177,7 @@ impl Counters {
     /// The counters of a server that has done nothing so far.
     pub fn new(alloc: Global, streams: Vec<StreamCounters>) -> Result<Counters, AllocError> {
         let rounds = Arc::new(alloc, Counter::new())?;
+        let round_times = Arc::new(alloc, TimeCounters::new(alloc)?)?;
         let shortage = Arc::new(alloc, Counter::new())?;
         let waiting = Arc::new(alloc, Counter::new())?;
         let clients = Arc::new(alloc, InputCounters::new())?;
@@ -157,6 +188,8 @@ impl Counters {
             clients,
             refused: Counter::new(),
             kinds: KindCounters::new(),
+            line_times: TimeCounters::new(alloc)?,
+            round_times,
             connections: ConnectionCounters::new(),
             unread: UnreadCounters::new(),
             streams,

@@ -5,7 +5,7 @@ use crate::socket::Socket;
 use crate::streams::status::StreamStatus;
 use pn_join::NoMemory;
 use pn_protocol::{
-    ConnectionStats, LineCounts, LineStats, Stats, StreamStats, TabletStats, UnreadStats,
+    ConnectionStats, LineCounts, LineStats, Stats, StreamStats, TabletStats, TimeStats, UnreadStats,
 };
 use pn_serve::{StatsSource, VERSION};
 use std::alloc::{AllocError, Global};
@@ -42,6 +42,10 @@ impl<R: Wait + Clock> StatsSource for CurrentStats<'_, R> {
             rounds: counters.rounds.get(),
             streams: stats_of_streams(self.rt, alloc, &counters.streams)?,
             tablets,
+            times: TimeStats {
+                lines: counters.line_times.counts(alloc)?,
+                rounds: counters.round_times.counts(alloc)?,
+            },
             unread: UnreadStats {
                 bytes: counters.unread.bytes.get(),
                 ended: counters.unread.ended.get(),

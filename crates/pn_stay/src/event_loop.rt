@@ -9,9 +9,11 @@ ghost use Rattle.slab.specs.Slab.{slab_len, Updates};
 mod ending;
 mod idle;
 mod unread;
+mod waiting;
 
+use crate::bounded_reader::BoundedReader;
 use crate::connection::Connection;
-use crate::counters::Counters;
+use crate::counters::{Counters, Kept};
 use crate::lingering::LingeringSockets;
 use crate::quarter_clock::QuarterClock;
 use crate::socket::Socket;
@@ -19,11 +21,10 @@ use crate::socket_mailbox::SocketMailbox;
 use mio::{Events, Poll, Token};
 use pn_lines::{Pause, TurnBuffers};
 use pn_protocol::LineCounts;
-use pn_serve::CountingReader;
 use slab::Slab;
 use std::alloc::Global;
 use std::sync::{Arc, Wait};
-use std::time::{Clock, Duration};
+use std::time::{Clock, Duration, Instant};
 use std::{io, mem};
 
 /// How many events one wait gives at most.
@@ -36,6 +37,12 @@ const QUARTERS: u32 = 4;
 const NO_LINES: LineCounts = LineCounts {
     answered: 0,
     refused: 0,
+};
+
+/// What a connection counts for that is gone.
+const NOTHING: Kept = Kept {
+    bytes: 0,
+    wanted: 0,
 };
 
 /// The token of the mailbox.
@@ -60,8 +67,13 @@ pub(crate) struct EventLoop {
     spare: Vec<usize>,
     // The sockets of connections that a stop has ended, or that had as many lines as may be.
     lingering: LingeringSockets,
-    // It runs while replies wait for clients.
+    // It runs while replies wait for clients, or lines for room.
     quarters: QuarterClock,
+    // The number of the next line that waits for room, and whether one may wait.
+    number: u64,
+    has_waiting: bool,
+    // When the lines were at hand that are taken now, where the clock says it.
+    at_hand: Option<Instant>,
 }
 
 impl EventLoop {
@@ -90,6 +102,9 @@ impl EventLoop {
             spare: Vec::new(alloc),
             lingering: LingeringSockets::new(alloc),
             quarters: QuarterClock::new(),
+            number: 1,
+            has_waiting: false,
+            at_hand: None,
         })
     }
 
@@ -100,7 +115,7 @@ impl EventLoop {
         &mut self,
         rt: &R,
         mailbox: &SocketMailbox,
-        reader: &mut CountingReader,
+        reader: &mut BoundedReader,
     ) -> io::Result<()>
         ensures knows { KnowsNoLess reader.old reader.new }
     {
@@ -112,6 +127,7 @@ impl EventLoop {
             }
             self.end_unread(rt, mailbox);
             self.take_turns(rt, mailbox, reader);
+            self.let_waiting_in();
             self.lingering.close_ended(rt);
             if mailbox.is_cut(rt) || self.is_over(rt, mailbox) {
                 return Ok(());
@@ -192,7 +208,7 @@ impl EventLoop {
     {
         if let Some(connection) = self.connections.try_remove(key) {
             self.counters.connections.end();
-            self.counters.unread.replace(connection.unread_weight(), 0);
+            self.counters.unread.replace(connection.kept(), NOTHING);
             if connection.lingers || mailbox.is_stopping(rt) {
                 self.lingering.add(connection.into_socket());
             }
@@ -209,16 +225,22 @@ impl EventLoop {
     }
 
     // Gives each connection that is ready one turn, while the thread is to answer.
-    fn take_turns<R: Wait>(&mut self, rt: &R, mailbox: &SocketMailbox, reader: &mut CountingReader)
+    fn take_turns<R: Wait + Clock>(
+        &mut self,
+        rt: &R,
+        mailbox: &SocketMailbox,
+        reader: &mut BoundedReader,
+    )
         ensures knows { KnowsNoLess reader.old reader.new }
     {
+        self.at_hand = Instant::now(rt).ok();
         let spare = mem::replace(&mut self.spare, Vec::new(self.alloc));
         let mut ready = mem::replace(&mut self.ready, spare);
         for key in ready.iter() {
             if mailbox.is_cut(rt) {
                 continue;
             }
-            match self.give_turn(*key, reader) {
+            match self.give_turn(rt, *key, reader) {
                 Some(Pause::Turn) => make_ready(&mut self.connections, &mut self.ready, *key),
                 Some(Pause::Input | Pause::Output) => {}
                 None => self.remove(rt, mailbox, *key),
@@ -233,17 +255,21 @@ impl EventLoop {
     }
 
     // One turn of the connection of a key. Where it is gone, nothing is at hand.
-    fn give_turn(&mut self, key: usize, reader: &mut CountingReader) -> Option<Pause>
+    fn give_turn<R: Clock>(
+        &mut self,
+        rt: &R,
+        key: usize,
+        reader: &mut BoundedReader,
+    ) -> Option<Pause>
         ensures knows { KnowsNoLess reader.old reader.new }
     {
         match self.connections.get_mut(key) {
             Some(connection) => {
-                let before = connection.unread_weight();
+                let before = connection.kept();
+                reader.begin_turn(connection.room_in(&self.counters.unread));
                 let next = connection.turn(&mut self.buffers, reader, &mut self.counted);
-                self.counters
-                    .unread
-                    .replace(before, connection.unread_weight());
-                self.quarters.run_if(connection.unread.is_some());
+                connection.count_times(rt, &self.at_hand, &self.counters.line_times);
+                self.note_kept(key, before);
                 next
             }
             None => Some(Pause::Input),

@@ -2,6 +2,7 @@
 #![tactic(auto)]
 
 mod acceptor;
+mod bounded_reader;
 mod connection;
 mod connection_limit;
 mod counters;
@@ -11,6 +12,7 @@ mod event_loop;
 mod input_buffer;
 mod interrupts;
 mod laws;
+mod line_clock;
 mod line_counters;
 mod lingering;
 mod listener;
@@ -20,6 +22,7 @@ mod polled_input;
 mod progress;
 mod quarter_clock;
 mod reasons;
+mod room;
 mod scripted;
 mod seldom;
 mod server;

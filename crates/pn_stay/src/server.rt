@@ -32,7 +32,7 @@ use pn_line::Source;
 use pn_live::{LiveReader, LiveRegion};
 use pn_serve::{
     Acceptor, Counter, MAX_CONTROLS, OpenedRegion, Origin, ReadingEnd, Sending, ServeFault,
-    SessionThread, Settings, Stream, Watchers, open_region, read_streams,
+    SessionThread, Settings, Stream, TimeCounters, Watchers, open_region, read_streams,
 };
 use pn_tablet::Layout;
 use std::alloc::{AllocError, Global};
@@ -174,6 +174,7 @@ where
         running: answering.running,
         watchers: Watchers {
             rounds: kept.rounds,
+            times: kept.times,
             shortage: kept.shortage,
             waiting: kept.waiting,
             controls: controls.mailboxes,
@@ -192,6 +193,7 @@ where
 #[derive(Drop)]
 struct KeptHandles {
     rounds: Option<Arc<Counter>>,
+    times: Option<Arc<TimeCounters>>,
     shortage: Option<Arc<Counter>>,
     waiting: Option<Arc<Counter>>,
     listener: Listener,
@@ -200,12 +202,14 @@ struct KeptHandles {
 
 fn keep_handles(acceptor: &SocketAcceptor) -> io::Result<KeptHandles> {
     let rounds = acceptor.round_counter();
+    let times = Some(Arc::try_clone(&acceptor.counters.round_times)?);
     let shortage = Some(Arc::try_clone(&acceptor.counters.shortage)?);
     let waiting = Some(Arc::try_clone(&acceptor.counters.waiting)?);
     let listener = acceptor.listener.try_clone()?;
     let counters = Arc::try_clone(&acceptor.counters)?;
     Ok(KeptHandles {
         rounds,
+        times,
         shortage,
         waiting,
         listener,

@@ -1,6 +1,6 @@
 //! What a client has not taken of its replies, and which clients are ended for it.
 
-ghost use Rattle.std.specs.Prelude.{◌≡◌, ◌↔◌, nat_lt, IsTrue};
+ghost use Rattle.std.specs.Prelude.{◌≡◌, ◌↔◌, IsTrue};
 ghost use Rattle.pn_stay.specs.Unread.{IsEnded, after_turn, aged, is_deaf as deaf, new_unread, quiet_of};
 
 use crate::connection::IdleTimeout;
@@ -84,11 +84,4 @@ pub(crate) fn is_ended(quarters: u32, longest: u32, is_past: bool) -> bool
     ensures { IsTrue result ↔ IsEnded quarters longest is_past }
 {
     is_past && quarters == longest && longest >= QUIET_QUARTERS
-}
-
-/// Whether the records that unread replies keep are past their limit.
-pub(crate) fn is_past(weight: u64, limit: u64) -> bool
-    ensures { result ≡ nat_lt limit weight }
-{
-    limit < weight
 }

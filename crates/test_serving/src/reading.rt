@@ -179,6 +179,7 @@ where
 {
     let watchers = Watchers {
         rounds,
+        times: None,
         shortage: None,
         waiting: None,
         controls: None,

@@ -115,10 +115,35 @@ class Unread:
 
 
 @dataclass(frozen=True, slots=True)
+class TimeBucket:
+    """How many took at most so many microseconds, but more than those of the bucket before."""
+
+    count: int
+    most: int
+
+
+@dataclass(frozen=True, slots=True)
+class TimeCounts:
+    """How many there were, how many microseconds they took together, and how many took how long, up to the greatest `most`."""
+
+    buckets: list[TimeBucket]
+    count: int
+    total: int
+
+
+@dataclass(frozen=True, slots=True)
+class Times:
+    """How long lines took, from when they were found at hand until they had their replies, and how long rounds."""
+
+    lines: TimeCounts
+    rounds: TimeCounts
+
+
+@dataclass(frozen=True, slots=True)
 class Stats:
     """What a region has done so far; `uptime` is in seconds, `bytes` its memory. `reply` is the whole reply.
 
-    `tablets` are in their order, and none where the region does not say what they hold; `unread` likewise.
+    `tablets` are in their order, and none where the region does not say what they hold; `unread` and `times` likewise.
     """
 
     version: str
@@ -130,6 +155,7 @@ class Stats:
     streams: list[StreamStats]
     tablets: list[TabletStats]
     unread: Unread | None
+    times: Times | None
     reply: dict[str, Any]
 
 
@@ -205,8 +231,13 @@ def _stats(reply: Any) -> Stats:
         streams=[_of(StreamStats, it) for it in reply["streams"]],
         tablets=[_of(TabletStats, it) for it in reply.get("tablets", [])],
         unread=_of(Unread, reply["unread"]) if "unread" in reply else None,
+        times=Times(_times(reply["times"]["lines"]), _times(reply["times"]["rounds"])) if "times" in reply else None,
         reply=reply,
     )
+
+
+def _times(reply: Any) -> TimeCounts:
+    return TimeCounts([_of(TimeBucket, it) for it in reply["buckets"]], reply["count"], reply["total"])
 
 
 def _lines(reply: Any) -> Lines:

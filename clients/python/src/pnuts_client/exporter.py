@@ -10,6 +10,7 @@ import socket
 import threading
 from collections.abc import Callable, Iterable, Iterator
 from dataclasses import dataclass, field
+from itertools import accumulate
 from socketserver import ThreadingMixIn
 from typing import Any, cast
 from urllib.parse import parse_qs
@@ -18,9 +19,10 @@ from wsgiref.simple_server import WSGIRequestHandler, WSGIServer, make_server
 from prometheus_client import CollectorRegistry, Metric, make_wsgi_app
 from prometheus_client.core import CounterMetricFamily as Counter
 from prometheus_client.core import GaugeMetricFamily as Gauge
+from prometheus_client.core import HistogramMetricFamily as Histogram
 
 from .control import Control
-from .control_requests import Stats, StreamStats, Tablet
+from .control_requests import Stats, StreamStats, Tablet, TimeCounts
 from .errors import PnutsError
 from .figures import Beside, Lags
 from .history import History
@@ -66,6 +68,7 @@ class Collector:
         yield from of_lags(self._beside.lags(stats.streams))
         yield from of_tablets(tablets)
         yield from of_contents(stats)
+        yield from of_times(stats)
 
 
 def of_machine(beside: Beside) -> Iterator[Metric]:
@@ -152,6 +155,22 @@ def of_contents(stats: Stats) -> Iterable[Metric]:
         records.add_metric([str(number)], tablet.records)
         deleted.add_metric([str(number)], tablet.deleted)
     return records, deleted
+
+
+def of_times(stats: Stats) -> Iterator[Metric]:
+    """How long lines and rounds took, where the region says it."""
+    if stats.times is not None:
+        yield histogram("pnuts_line_seconds", "How long lines of clients took, from when they were at hand to their replies", stats.times.lines)
+        yield histogram("pnuts_round_seconds", "How long rounds took", stats.times.rounds)
+
+
+def histogram(name: str, text: str, times: TimeCounts) -> Metric:
+    """Times as Prometheus has them: each bucket has the shorter ones, too."""
+    so_far = list(accumulate(bucket.count for bucket in times.buckets))
+    buckets = [(str(bucket.most / 1e6), float(count)) for bucket, count in zip(times.buckets, so_far, strict=True)]
+    # A line may be counted between the buckets and their sum.
+    whole = max(times.count, *so_far, 0)
+    return Histogram(name, text, buckets=[*buckets, ("+Inf", float(whole))], sum_value=times.total / 1e6)
 
 
 def faults(region: Control, shown: Shown, lag: float | None) -> tuple[list[str], list[str]]:

@@ -20,3 +20,15 @@ counted Get refused kinds = record kinds { get = one_line_more refused kinds.get
 counted Other refused kinds = record kinds { other = one_line_more refused kinds.other }
 counted Read refused kinds = record kinds { read = one_line_more refused kinds.read }
 counted Scan refused kinds = record kinds { scan = one_line_more refused kinds.scan }
+
+-- one answered line less
+abbrev pub one_line_less : LineCounts → LineCounts
+one_line_less counts = record counts { answered = counts.answered - 1 }
+
+-- one answered line of a kind less
+abbrev pub taken_back : LineKind → LineKinds → LineKinds
+taken_back Copy kinds = record kinds { copy = one_line_less kinds.copy }
+taken_back Get kinds = record kinds { get = one_line_less kinds.get }
+taken_back Other kinds = record kinds { other = one_line_less kinds.other }
+taken_back Read kinds = record kinds { read = one_line_less kinds.read }
+taken_back Scan kinds = record kinds { scan = one_line_less kinds.scan }

@@ -106,6 +106,10 @@ going_left (Page query walk) = (walk.end - walk.next) * 2 ^ 129 + steps_left wal
 going_left (Keys walk) = length walk.keys - walk.read
 going_left (Copy count) = length count.copy.cells - count.index
 
+-- a lookup that begins has less left than this
+abbrev pub most_left : ℕ
+most_left = 2 ^ 194
+
 -- the kind of a line that is looked up so far
 abbrev pub kind_of : Going → LineKind
 kind_of (Page query walk) = kinds.Scan

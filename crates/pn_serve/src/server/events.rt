@@ -19,6 +19,7 @@ use crate::control::mailboxes::{ControlMailboxes, StopAsked};
 use crate::server::mailboxes::{ReportSeen, StreamMailbox, StreamMailboxes};
 use crate::server::rounds::{RoundInput, take_round};
 use crate::server::texts::{AnyWriters, Sending};
+use crate::server::times::{begin_time, end_time};
 use crate::server::wakeup::Waited;
 use pn_live::LiveRegion;
 use std::alloc::Global;
@@ -65,7 +66,9 @@ pub(crate) fn run_rounds<R: Threads + Wait + Clock + Sync, M: Sending>(
         if waiting.is_none() && !mailboxes.has_report(rt) {
             continue;
         }
+        let began = begin_time(rt, &mailboxes.times);
         let is_taken = take_round(rt, alloc, live, workers, mailboxes, &mut waiting)?;
+        end_time(rt, &mailboxes.times, &began, is_taken);
         is_short = !is_taken;
         mailboxes.show_shortage(is_short);
         note_log(rt, live, controls);

@@ -10,6 +10,7 @@ use crate::server::kept_report::KeptReport;
 use crate::server::reporter::Reporter;
 use crate::server::reports::Report;
 use crate::server::texts::Sending;
+use crate::server::times::TimeCounters;
 use crate::server::wakeup::{Waited, Wakeup};
 use pn_join::{Marks, StreamName};
 use std::alloc::{AllocError, Global};
@@ -24,6 +25,7 @@ pub(crate) struct StreamMailboxes<M: Sending> {
     pub(crate) at_fault: AtFault,
     pub(crate) wakeup: Arc<Wakeup>,
     pub(crate) rounds: Option<Arc<Counter>>,
+    pub(crate) times: Option<Arc<TimeCounters>>,
     pub(crate) shortage: Option<Arc<Counter>>,
     pub(crate) waiting: Option<Arc<Counter>>,
 }
@@ -87,6 +89,7 @@ impl<M: Sending> StreamMailboxes<M> {
             at_fault,
             wakeup,
             rounds,
+            times: None,
             shortage: None,
             waiting: None,
         })
@@ -181,7 +184,7 @@ pub(crate) fn show_marks<M: Sending>(streams: &[StreamMailbox<M>], marks: &Marks
 }
 
 /// The same counter, where there is one.
-pub(crate) fn share(counter: &Option<Arc<Counter>>) -> Result<Option<Arc<Counter>>, AllocError> {
+pub(crate) fn share<T: Drop>(counter: &Option<Arc<T>>) -> Result<Option<Arc<T>>, AllocError> {
     match counter {
         Some(counter) => Ok(Some(Arc::try_clone(counter)?)),
         None => Ok(None),

@@ -102,6 +102,7 @@ where
     Ok(started)
 }
 
+#[tactic(auto, using(crate::proofs::Crossing::reporter_send))]
 fn start_stream<R, S>(
     rt: &R,
     alloc: Global,

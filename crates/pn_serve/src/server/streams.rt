@@ -20,6 +20,7 @@ use crate::server::reporter::Reporter;
 use crate::server::reporting::{next_input, report_stream};
 use crate::server::reports::Report;
 use crate::server::texts::Sending;
+use crate::server::times::TimeCounters;
 use crate::server::wakeup::Wakeup;
 use crate::server::writer_input::workers_of_each;
 use crate::server::writers::{Origin, Stream};
@@ -37,6 +38,8 @@ use std::time::Clock;
 pub struct Watchers {
     /// Counts the rounds, where somebody looks at them.
     pub rounds: Option<Arc<Counter>>,
+    /// Counts how long they take, where somebody looks at that.
+    pub times: Option<Arc<TimeCounters>>,
     /// Stands at 1 while a round waits for memory, and else at 0, where somebody looks at that.
     pub shortage: Option<Arc<Counter>>,
     /// Counts the streams that wait for memory, where somebody looks at that.
@@ -140,6 +143,7 @@ fn new_mailboxes<M: Sending>(
     };
     let rounds = share(&watchers.rounds)?;
     let mut mailboxes = StreamMailboxes::new(alloc, streams, AtFault::GoOn, rounds, wakeup)?;
+    mailboxes.times = share(&watchers.times)?;
     mailboxes.shortage = share(&watchers.shortage)?;
     mailboxes.waiting = share(&watchers.waiting)?;
     Ok(mailboxes)

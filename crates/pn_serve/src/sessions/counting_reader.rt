@@ -1,16 +1,21 @@
 //! A session's reader that counts the lines which it answers.
 
-ghost use Rattle.std.specs.Prelude.{◌≡◌};
-ghost use Rattle.pn_serve.specs.Lines.Going.{AnswersWith};
+ghost use Rattle.std.specs.Prelude.{◌≡◌, ◌≤◌, ℕ, List};
+ghost use Rattle.pn_line.specs.Prelude.{kept_bytes};
+ghost use Rattle.pn_lines.specs.Answers.{AnswersBy, answer_left as engine_left, answer_of};
+ghost use Rattle.pn_lines.specs.declared.handler.TheConstants.{MAX_ANSWER_UNITS};
+ghost use Rattle.pn_serve.specs.Lines.Going.{AnswersWith, answer_left};
+ghost use Rattle.pn_serve.specs.Lines.Handled.{pieces_left};
+ghost use Rattle.pn_serve.specs.Session.Handling.{reads_lines};
 ghost use Rattle.pn_serve.specs.Session.Knowing.{KnowsNoLess};
 ghost use Rattle.pn_serve.specs.Session.Lines.{AnswersLine};
-ghost use Rattle.pn_serve.specs.Session.Looking.{LooksFor};
+ghost use Rattle.pn_serve.specs.Session.Looking.{LooksFor, going_left, most_left};
 
 use crate::machine::line_answers::{
     Answer, ReplyPieces, answered, is_no_line, is_refusal, line_reply,
 };
 use crate::sessions::going::Going;
-use crate::sessions::kinds::{NO_LINES, count_line};
+use crate::sessions::kinds::{NO_LINES, count_line, take_line_back};
 use crate::sessions::lookups::answer_with_kind;
 use pn_lines::{Answered, EndedBy, LineHandler, LineReply, RefusesLong};
 use pn_live::LiveReader;
@@ -67,9 +72,36 @@ impl CountingReader {
         mem::replace(&mut self.kinds, NO_LINES)
     }
 
+    /// A line of a kind that was answered is to be asked again: it counts no longer.
+    pub fn take_back(&mut self, kind: LineKind)
+        ensures { self.new ≡ self.old }
+    {
+        take_line_back(&mut self.kinds, kind);
+    }
+
+    /// Answers a line, or begins to. How much is left of it then is bounded.
+    pub fn begin_line(
+        &mut self,
+        alloc: Global,
+        line: &[u8],
+        ended: EndedBy,
+    ) -> Answered<Going, ReplyPieces>
+        ensures answers { (text : List ℕ) → line.now ≡ kept_bytes text
+            → AnswersBy (reads_lines KnowsNoLess) self.old ended text self.new (answer_of pieces_left result.answer) }
+        ensures bounded { engine_left going_left (answer_of pieces_left result.answer) ≤ most_left }
+        ensures few { result.units ≤ MAX_ANSWER_UNITS }
+        ensures kept { KnowsNoLess self.old self.new }
+    {
+        if is_no_line(line, ended) {
+            return answered(Answer::Done(Reply::Silent), 0);
+        }
+        answered(self.answer_line(alloc, line), 1)
+    }
+
     // Answers a line, or begins to look for the reply.
     fn answer_line(&mut self, alloc: Global, line: &[u8]) -> Answer
-        ensures { AnswersWith (AnswersLine KnowsNoLess) (LooksFor KnowsNoLess) self.old line.now self.new result }
+        ensures answers { AnswersWith (AnswersLine KnowsNoLess) (LooksFor KnowsNoLess) self.old line.now self.new result }
+        ensures bounded { answer_left result ≤ most_left }
     {
         let (kind, answer) = answer_with_kind(alloc, &mut self.reader, line);
         self.count(kind, answer)
@@ -113,10 +145,7 @@ impl LineHandler for CountingReader {
         line: &[u8],
         ended: EndedBy,
     ) -> Answered<Going, ReplyPieces> {
-        if is_no_line(line, ended) {
-            return answered(Answer::Done(Reply::Silent), 0);
-        }
-        answered(self.answer_line(alloc, line), 1)
+        self.begin_line(alloc, line, ended)
     }
 
     fn go_on(&mut self, alloc: Global, going: Going, units: u32) -> Answered<Going, ReplyPieces> {

@@ -1,6 +1,6 @@
 //! Lookups of a session that are resumed: a page, the records of keys, or a copy.
 
-ghost use Rattle.std.specs.Prelude.{◌≡◌, ◌<◌, ◌≤◌, ◌*◌, ℕ, max, min, List, length, IfErr, IfOk};
+ghost use Rattle.std.specs.Prelude.{◌≡◌, ◌<◌, ◌≤◌, ◌*◌, ◌^◌, ℕ, max, min, List, length, IfErr, IfOk};
 ghost use Rattle.pn_live.specs.Getting.{IsOnGet};
 ghost use Rattle.pn_live.specs.Prelude.{LiveReaderValue};
 ghost use Rattle.pn_lines.specs.declared.handler.TheConstants.{MAX_ANSWER_UNITS};
@@ -11,7 +11,7 @@ ghost use Rattle.pn_serve.specs.Lines.Going.{answer_left};
 ghost use Rattle.pn_serve.specs.declared.sessions.going.Going.{Going as GoingOn};
 ghost use Rattle.pn_serve.specs.Session.Knowing.{KnowsNoLess};
 ghost use Rattle.pn_serve.specs.Session.Looking.{AreNewKeys, CopyAnswer, CountsLooks, CountsStep, HasFew, IsNewPage, KeysAnswer};
-ghost use Rattle.pn_serve.specs.Session.Looking.{LooksOn, LooksTo, PageAnswer, going_left, kind_of};
+ghost use Rattle.pn_serve.specs.Session.Looking.{LooksOn, LooksTo, PageAnswer, going_left, kind_of, most_left};
 ghost use Rattle.pn_tablet.specs.CopyCounts.{CountsOn};
 ghost use Rattle.pn_tablet.specs.CopyMaking.{CopyCountValue};
 ghost use Rattle.pn_tablet.specs.Layouts.{Bounds};
@@ -20,9 +20,9 @@ use crate::machine::line_answers::Answer;
 use pn_join::NoMemory;
 use pn_live::{GetWalk, LiveReader};
 use pn_protocol::{CommandFault, LineKind, Refusal, Reply, answer_get, answer_scan, refuse};
-use pn_record::Key;
+use pn_record::{Key, Records};
 use pn_scan::{PageStep, PageWalk, Query, ScanFault, View};
-use pn_tablet::{CopyCount, CopyStep, TabletCopy};
+use pn_tablet::{CopyCount, CopyStep, Layout, TabletCopy};
 use std::alloc::Global;
 
 /// How many lines of a copy are counted in one unit of work.
@@ -42,28 +42,34 @@ pub enum Going {
 impl Going {
     /// A page of which nothing was looked for.
     pub(super) fn page(alloc: Global, reader: &LiveReader, query: Query) -> Going
-        ensures { IsNewPage reader.now.layout query result }
+        ensures new { IsNewPage reader.now.layout query result }
+        ensures bounded { going_left result < most_left }
     {
+        recall_tablets(reader.layout());
         let walk = PageWalk::new(alloc, reader.layout(), &query);
         Going::Page(query, walk)
     }
 
     /// The records of keys of which none was read.
     pub(super) fn keys(alloc: Global, keys: Vec<Key>) -> Going
-        ensures { AreNewKeys keys.items result }
+        ensures new { AreNewKeys keys.items result }
+        ensures bounded { going_left result < most_left }
     {
+        let _ = keys.len();
         Going::Keys(GetWalk::new(alloc, keys))
     }
 
     /// A copy of which no line is counted.
     pub(super) fn copy(copy: TabletCopy) -> Going
-        ensures { result ≡ Going.Copy (record { copy = copy; index = 0 }) }
+        ensures new { result ≡ Going.Copy (record { copy = copy; index = 0 }) }
+        ensures bounded { going_left result < most_left }
     {
+        recall_records(&copy.cells);
         Going::Copy(CopyCount::new(copy))
     }
 
     /// The kind of its line.
-    pub(super) fn kind(&self) -> LineKind
+    pub fn kind(&self) -> LineKind
         ensures { result ≡ kind_of self.now }
     {
         match self {
@@ -100,6 +106,20 @@ impl Going {
             Going::Copy(count) => (copy_answer(count.go_on(lines_in(units))), units),
         }
     }
+}
+
+// Recalls for the prover that tablets can be counted.
+fn recall_tablets(layout: &Layout)
+    ensures { length layout.now < 2 ^ 64 }
+{
+    let _ = layout.count();
+}
+
+// Recalls for the prover that records can be counted.
+fn recall_records(cells: &Records)
+    ensures { length cells.now < 2 ^ 64 }
+{
+    let _ = cells.len();
 }
 
 // How many units of work a step of a page was. Where memory ran out, all that it was to do.

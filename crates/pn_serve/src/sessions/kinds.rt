@@ -1,7 +1,7 @@
 //! Lines of sessions, counted by their kinds.
 
 ghost use Rattle.std.specs.Prelude.{◌≡◌};
-ghost use Rattle.pn_serve.specs.Session.Counting.{counted, one_line_more};
+ghost use Rattle.pn_serve.specs.Session.Counting.{counted, one_line_less, one_line_more, taken_back};
 
 use pn_protocol::{LineCounts, LineKind, LineKinds};
 
@@ -31,6 +31,25 @@ pub(super) fn count_line(kinds: &mut LineKinds, kind: LineKind, is_refused: bool
         LineKind::Read => count_one(&mut kinds.read, is_refused),
         LineKind::Scan => count_one(&mut kinds.scan, is_refused),
     }
+}
+
+/// A line of a kind that was answered counts no longer.
+pub(super) fn take_line_back(kinds: &mut LineKinds, kind: LineKind)
+    ensures { kinds.new ≡ taken_back kind kinds.old }
+{
+    match kind {
+        LineKind::Copy => take_one_back(&mut kinds.copy),
+        LineKind::Get => take_one_back(&mut kinds.get),
+        LineKind::Other => take_one_back(&mut kinds.other),
+        LineKind::Read => take_one_back(&mut kinds.read),
+        LineKind::Scan => take_one_back(&mut kinds.scan),
+    }
+}
+
+fn take_one_back(counts: &mut LineCounts)
+    ensures { counts.new ≡ one_line_less counts.old }
+{
+    counts.answered = counts.answered.saturating_sub(1);
 }
 
 fn count_one(counts: &mut LineCounts, is_refused: bool)

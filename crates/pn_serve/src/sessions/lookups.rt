@@ -1,15 +1,15 @@
 //! Answers to the lookups of a session.
 
-ghost use Rattle.std.specs.Prelude.{◌≡◌, ◌⊎◌};
+ghost use Rattle.std.specs.Prelude.{◌≡◌, ◌≤◌, ◌⊎◌};
 ghost use Rattle.pn_live.specs.Prelude.{tablets_of};
 ghost use Rattle.pn_protocol.specs.Prelude.{command_value, copy as copy_asked, kind_at};
 ghost use Rattle.pn_protocol.specs.declared.refusal.Refusal.TheVariants.{Memory as no_memory};
 ghost use Rattle.pn_protocol.specs.declared.reply.Reply.TheVariants.{Refused};
 ghost use Rattle.pn_scan.specs.Prelude.{Stays};
-ghost use Rattle.pn_serve.specs.Lines.Going.{AnswersWith};
+ghost use Rattle.pn_serve.specs.Lines.Going.{AnswersWith, answer_left};
 ghost use Rattle.pn_serve.specs.declared.machine.line_answers.Answer.TheVariants.{Done};
 ghost use Rattle.pn_serve.specs.Session.Lines.{AnswersLine, LooksUp};
-ghost use Rattle.pn_serve.specs.Session.Looking.{LooksFor, LooksTo};
+ghost use Rattle.pn_serve.specs.Session.Looking.{LooksFor, LooksTo, most_left};
 ghost use Rattle.pn_serve.specs.Session.Lookups.{LooksUpKey, LooksUpKeys, LooksUpPage, LooksUpCopy};
 
 use crate::machine::line_answers::Answer;
@@ -44,6 +44,7 @@ pub(super) fn answer_with_kind(
     ensures kind { (result.0 ≡ kind_at line.now) ⊎ (result.1 ≡ Done (Refused no_memory)) }
     ensures answers { AnswersWith (AnswersLine Stays) (LooksFor Stays) reader.old line.now reader.new result.1 }
     ensures same { tablets_of reader.new ≡ tablets_of reader.old }
+    ensures bounded { answer_left result.1 ≤ most_left }
 {
     let (kind, command) = kind_and_lookup_of(alloc, line);
     match command {
@@ -56,6 +57,7 @@ pub(super) fn answer_with_kind(
 fn begin(alloc: Global, reader: &mut LiveReader, command: Command) -> Answer
     ensures begins { LooksTo Stays reader.old (command_value command) reader.new result }
     ensures same { tablets_of reader.new ≡ tablets_of reader.old }
+    ensures bounded { answer_left result ≤ most_left }
 {
     match command {
         Command::Copy { need, tablet } => begin_copy(alloc, reader, &need, tablet),
@@ -76,6 +78,7 @@ fn begin(alloc: Global, reader: &mut LiveReader, command: Command) -> Answer
 fn begin_copy(alloc: Global, reader: &mut LiveReader, need: &Marks, tablet: u64) -> Answer
     ensures begins { LooksTo Stays reader.old (copy_asked need.now tablet) reader.new result }
     ensures same { tablets_of reader.new ≡ tablets_of reader.old }
+    ensures bounded { answer_left result ≤ most_left }
 {
     if tablet >= reader.layout().count() as u64 {
         return Answer::Done(Reply::Refused(Refusal::OutOfRange(Part::Tablet)));

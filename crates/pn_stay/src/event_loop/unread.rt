@@ -2,7 +2,7 @@
 
 ghost use Rattle.std.specs.Prelude.{◌≡◌, ◌≢◌, ◌⊎◌, ◌≤◌, ℕ, None, false, max, true};
 ghost use Rattle.std.specs.Option.{option_map};
-ghost use Rattle.pn_stay.specs.Unread.{EndsDeaf, aged, is_deaf as deaf, quiet_in};
+ghost use Rattle.pn_stay.specs.Unread.{EndsAt, EndsDeaf, EndsLongest, aged, is_deaf as deaf, quiet_in};
 ghost use Rattle.pn_stay.specs.UnreadClients.{quiet_at, unread_at};
 ghost use Rattle.slab.specs.Slab.{Updates};
 
@@ -83,23 +83,47 @@ impl EventLoop {
     }
 
     // Where the limit is passed, ends clients that took no byte for longest, until it is not, or the others took one within a second.
-    fn end_past<R: Wait>(&mut self, rt: &R, mailbox: &SocketMailbox) {
-        for _ in 0..DEAF_QUARTERS {
-            let longest = longest_quiet(&self.connections);
-            if longest < QUIET_QUARTERS || !self.counters.unread.is_past() {
-                return;
-            }
-            self.end_longest(rt, mailbox, longest);
+    fn end_past<R: Wait>(&mut self, rt: &R, mailbox: &SocketMailbox)
+        ensures { EndsLongest (unread_at self.old.connections) (unread_at self.new.connections) }
+    {
+        let mut goes_on = true;
+        'rounds: for _round in 0..DEAF_QUARTERS {
+            goes_on = self.end_next(rt, mailbox, goes_on);
         }
     }
 
+    // Where the limit is passed, ends clients that took no byte for longest. Whether there may be more to end.
+    fn end_next<R: Wait>(&mut self, rt: &R, mailbox: &SocketMailbox, goes_on: bool) -> bool
+        ensures { EndsLongest (unread_at self.old.connections) (unread_at self.new.connections) }
+    {
+        if !goes_on || !self.counters.unread.is_past() {
+            return false;
+        }
+        let longest = longest_quiet(&self.connections);
+        if longest < QUIET_QUARTERS {
+            return false;
+        }
+        self.end_longest(rt, mailbox, longest);
+        true
+    }
+
     // Ends clients that took no byte for longest, which is for so many quarters, until the limit is not passed.
-    fn end_longest<R: Wait>(&mut self, rt: &R, mailbox: &SocketMailbox, longest: u32) {
-        for key in 0..self.connections.capacity() {
-            let quarters = quiet_of_client(&self.connections, key);
-            if is_ended(quarters, longest, self.counters.unread.is_past()) {
-                self.end_client(rt, mailbox, key);
-            }
+    fn end_longest<R: Wait>(&mut self, rt: &R, mailbox: &SocketMailbox, longest: u32)
+        ensures { (key : ℕ) → EndsAt longest (unread_at self.old.connections key) (unread_at self.new.connections key) }
+    {
+        'clients: for key in 0..self.connections.capacity() {
+            self.end_longest_at(rt, mailbox, key, longest);
+        }
+    }
+
+    // Ends the client of a key, if it took no byte for longest and the limit is passed.
+    fn end_longest_at<R: Wait>(&mut self, rt: &R, mailbox: &SocketMailbox, key: usize, longest: u32)
+        ensures here { EndsAt longest (unread_at self.old.connections key) (unread_at self.new.connections key) }
+        ensures others { (other : ℕ) → other ≢ key → unread_at self.new.connections other ≡ unread_at self.old.connections other }
+    {
+        let quarters = quiet_of_client(&self.connections, key);
+        if is_ended(quarters, longest, self.counters.unread.is_past()) {
+            self.end_client(rt, mailbox, key);
         }
     }
 }

@@ -6,13 +6,14 @@ ghost use Rattle.pn_serve.specs.Server.Sessions.{AllRead};
 ghost use Rattle.pn_serve.specs.Session.Knowing.{KnowsNoLess};
 
 use crate::acceptor::SocketAcceptor;
+use crate::bounded_reader::BoundedReader;
 use crate::counters::Counters;
 use crate::event_loop::{EventLoop, MAILBOX};
 use crate::server::accepting::{Shared, begin_accepting, start_accepting};
 use crate::socket_mailbox::{Closed, SocketMailbox};
 use mio::{Poll, Waker};
 use pn_live::{LiveReader, LiveRegion};
-use pn_serve::{ComesBack, CountingReader, SessionThread};
+use pn_serve::{ComesBack, SessionThread};
 use std::alloc::Global;
 use std::net::Net;
 use std::snapshot::Snapshot;
@@ -172,7 +173,7 @@ fn answer_all<R: Wait + Clock>(rt: &R, body: LoopThread) -> EndedThread
         mailbox,
         reader,
     } = body;
-    let mut reader = CountingReader::new(reader);
+    let mut reader = BoundedReader::new(reader);
     let _ = run(
         rt,
         EventLoop::new(alloc, poll, idle, counters),
@@ -189,7 +190,7 @@ fn run<R: Wait + Clock>(
     rt: &R,
     begun: io::Result<EventLoop>,
     mailbox: &SocketMailbox,
-    reader: &mut CountingReader,
+    reader: &mut BoundedReader,
 ) -> io::Result<()>
     ensures { KnowsNoLess reader.old reader.new }
 {

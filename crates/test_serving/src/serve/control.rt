@@ -7,7 +7,7 @@ use pn_lines::LineBuffers;
 use pn_live::{LiveReader, LiveRegion};
 use pn_protocol::{
     ConnectionStats, LineCounts, LineKinds, LineStats, Stats, StreamFaultStats, StreamState,
-    StreamStats, TabletStats, UnreadStats,
+    StreamStats, TabletStats, TimeBucket, TimeCounts, TimeStats, UnreadStats,
 };
 use pn_serve::{
     ControlMailboxes, ControlSession, StatsSource, Stream, close_region, open_region, take_commands,
@@ -43,6 +43,7 @@ impl StatsSource for SomeStats {
             rounds: 8,
             streams,
             tablets,
+            times: times(alloc)?,
             unread: unread(),
             uptime: 9,
             version: "0",
@@ -61,6 +62,30 @@ fn connections() -> ConnectionStats {
         open: 4,
         refused: 5,
     }
+}
+
+fn times(alloc: Global) -> Result<TimeStats, NoMemory> {
+    let mut buckets = Vec::with_capacity(alloc, 2)?;
+    buckets.push(TimeBucket {
+        count: 23,
+        most: 24,
+    })?;
+    buckets.push(TimeBucket {
+        count: 25,
+        most: 26,
+    })?;
+    Ok(TimeStats {
+        lines: TimeCounts {
+            buckets,
+            count: 27,
+            total: 28,
+        },
+        rounds: TimeCounts {
+            buckets: Vec::new(alloc),
+            count: 29,
+            total: 30,
+        },
+    })
 }
 
 fn unread() -> UnreadStats {

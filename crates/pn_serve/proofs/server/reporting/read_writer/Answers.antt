@@ -7,7 +7,7 @@ use Rattle.pn_serve.specs.Server.Writers.{EndsInput, HasUpTo, IsUpTo}
 use Rattle.pn_serve.specs.declared.server.reports.Report.{Report}
 use Rattle.pn_serve.specs.declared.server.writers.WriterEnd.{WriterEnd}
 use Rattle.pn_serve.proofs.SentRead.{was_read}
-use Rattle.pn_serve.proofs.WritersRead.{WasReadBy, read_none, read_on, last_more, ends_input, on_end}
+use Rattle.pn_serve.proofs.WritersRead.{WasReadBy, read_none, read_on, last_more, up_to, ends_input, on_end}
 use Rattle.pn_serve.proofs.server.reporting.read_writer.Goals as goal
 
 pub loop-init : goal.loop-init
@@ -15,20 +15,25 @@ loop-init g c = record { read = read_none g.S.Source.left c.args.input.now.befor
 
 pub leave-requires : goal.leave-requires
 leave-requires g c =
+    let left = g.S.Source.left in
+    let sends = g.M.Sending.sends in
     let first = c.args.input.now in
     let old = c.loop.input in
     let new = c.next-in-loop.new.self in
-    let sends = g.M.Sending.sends in
-    subst (IsSent g.M.Sending.known sends) (sym c.into_share.ensures)
-    ∣ (λ known.
-    was_read g.S.Source.left sends first.before first.reader old.reader new.reader c.in-Messages.messages old.before new.before c.loop.invariant.read c.in-Messages.ensures.gives c.in-Messages.ensures.up_to
-    (c.next-in-loop.ensures.name ∙ c.loop.invariant.name) (c.requires known)) ∣₁
+    let gives = c.in-Messages.ensures.gives in
+    let messages = c.in-Messages.messages in
+    let last = up_to left old.reader new.reader messages old.before new.before gives c.next-in-loop.ensures.name in
+    let same = c.next-in-loop.ensures.name ∙ c.loop.invariant.name in
+    subst (λ (delivery : DeliveryValue). IsSent g.M.Sending.known sends delivery) (sym c.into_share-share.ensures)
+    ∣ (λ known. was_read left sends first.before first.reader old.reader new.reader messages old.before new.before c.loop.invariant.read gives last same (c.requires known)) ∣₁
 
 pub hand_on-requires : goal.hand_on-requires
 hand_on-requires g c =
-    let reader = c.next-in-loop.new.self.reader in
-    subst (λ (report : Report). HasUpTo reader report) (sym c.in_ok-left.ensures)
-    (subst (λ (delivery : DeliveryValue). IsUpTo reader delivery) (sym c.into_share.ensures) c.in-Messages.ensures.up_to)
+    let old = c.loop.input in
+    let new = c.next-in-loop.new.self in
+    let so = up_to g.S.Source.left old.reader new.reader c.in-Messages.messages old.before new.before c.in-Messages.ensures.gives c.next-in-loop.ensures.name in
+    subst (λ (report : Report). HasUpTo new.reader report) (sym c.in_ok-left-in-Messages.ensures)
+    (subst (λ (delivery : DeliveryValue). IsUpTo new.reader delivery) (sym c.into_share-share.ensures) so)
 
 pub loop-preserved : goal.loop-preserved
 loop-preserved g c =

@@ -30,7 +30,7 @@ as_streams P names old new (Err Write) reads = reads
 not_begun : (P : DeliveryValue → Type 0) (names : List (List ℕ)) (old : LiveRegionValue) (fault : ServeFault) (result : Result ReadingEnd ServeFault) → IsErrAnd result (λ other. other ≡ fault) → fault ≡ Start → ReadsStreams P names old old result
 not_begun P names old fault result answered start =
     let (other, is, same) = err_from_is_err_and result answered in
-    subst (ReadsStreams P names old old) (sym is) (subst (λ (f : ServeFault). ReadsStreams P names old old (Err f)) (sym (same ∙ start)) refl)
+    subst (ReadsStreams P names old old) (sym is) (subst (λ (f : ServeFault). ReadsStreams P {T = ReadingEnd} names old old (Err f)) (sym (same ∙ start)) refl)
 
 none_beside : (P : DeliveryValue → Type 0) (names : List (List ℕ)) (old : LiveRegionValue) (fault : ServeFault) (result : Result ReadingEnd ServeFault) → IsErrAnd result (λ other. other ≡ fault) → fault ≡ Start → ReadsBesides P names old old result
 none_beside P names old fault result answered start =

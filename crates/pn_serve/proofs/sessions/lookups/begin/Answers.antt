@@ -12,9 +12,9 @@ use Rattle.pn_serve.proofs.sessions.lookups.begin.Goals as goal
 pub returns-in-Get-clause-begins : goal.returns-in-Get-clause-begins
 returns-in-Get-clause-begins c =
     subst (λ (command : Command). LooksTo Stays c.args.reader.now (command_value command) c.args.reader.now (Begun c.keys.result)) (sym c.in-Get.is)
-    (begins_keys Stays stays_preorder c.args.reader.now c.in-Get.keys.items c.keys.result c.keys.ensures)
+    (begins_keys Stays stays_preorder c.args.reader.now c.in-Get.keys.items c.keys.result c.keys.ensures.new)
 
 pub returns-in-Scan-clause-begins : goal.returns-in-Scan-clause-begins
 returns-in-Scan-clause-begins c =
     subst (λ (command : Command). LooksTo Stays c.args.reader.now (command_value command) c.args.reader.now (Begun c.page.result)) (sym c.in-Scan.is)
-    (begins_page Stays stays_preorder c.args.reader.now c.in-Scan.query c.page.result c.page.ensures)
+    (begins_page Stays stays_preorder c.args.reader.now c.in-Scan.query c.page.result c.page.ensures.new)

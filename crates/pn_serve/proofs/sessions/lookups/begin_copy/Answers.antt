@@ -10,5 +10,5 @@ use Rattle.pn_serve.proofs.sessions.lookups.begin_copy.Goals as goal
 pub returns-in-Ok-clause-begins : goal.returns-in-Ok-clause-begins
 returns-in-Ok-clause-begins c =
     let found = c.in-Ok.ensures.copy in
-    subst (λ (going : Going). LooksOn Stays c.args.reader.now (copy c.args.need.now c.args.tablet) c.copy.new.self going) (sym c.copy-in-Ok.ensures)
+    subst (λ (going : Going). LooksOn Stays c.args.reader.now (copy c.args.need.now c.args.tablet) c.copy.new.self going) (sym c.copy-in-Ok.ensures.new)
     (record { within = omega (arith, ap (λ (b : Bounds). length b) c.layout.ensures); found = found.0; reached = c.copy.new.self; copied = found.1; moved = refl })

@@ -3,4 +3,4 @@ use Rattle.pn_serve.proofs.Knowing.{knows_itself}
 use Rattle.pn_stay.proofs.event_loop.EventLoop.give_turn.Goals as goal
 
 pub returns-in-None : goal.returns-in-None
-returns-in-None c = record { knows = knows_itself _ }
+returns-in-None g c = record { knows = knows_itself _ }

@@ -10,8 +10,8 @@ use Rattle.pn_serve.proofs.Knowing.{knows_preorder}
 use Rattle.pn_serve.proofs.Lookups.{answers_too}
 use Rattle.pn_serve.proofs.sessions.counting_reader.CountingReader.answer_line.Goals as goal
 
-pub returns : goal.returns
-returns c =
+pub returns-clause-answers : goal.returns-clause-answers
+returns-clause-answers c =
     subst (λ (a : Answer). AnswersWith (AnswersLine KnowsNoLess) (LooksFor KnowsNoLess) c.args.self.now c.args.line.now c.count.new.self a) (sym c.count.ensures.same)
     (subst (λ (r : LiveReaderValue). AnswersWith (AnswersLine KnowsNoLess) (LooksFor KnowsNoLess) c.args.self.now c.args.line.now r c.answer_with_kind-kind.result.1) (sym c.count.ensures.kept)
     (subst (λ (r : LiveReaderValue). AnswersWith (AnswersLine KnowsNoLess) (LooksFor KnowsNoLess) r c.args.line.now c.answer_with_kind-kind.new.reader c.answer_with_kind-kind.result.1) c.self.view_is

@@ -6,7 +6,7 @@ use Rattle.pn_serve.specs.Session.Handling.{reads_lines}
 use Rattle.pn_serve.specs.declared.sessions.going.Going.{Going}
 use Rattle.pn_serve.proofs.Knowing.{answer_knows, knows_itself, knows_preorder, moves_knows}
 use Rattle.pn_serve.proofs.Lookups.{answers_by, answers_none, when_false, when_true}
-use Rattle.pn_serve.proofs.sessions.counting_reader.CountingReaderLineHandler.answer.Goals as goal
+use Rattle.pn_serve.proofs.sessions.counting_reader.CountingReader.begin_line.Goals as goal
 
 pub returns-then-is_no_line-clause-answers : goal.returns-then-is_no_line-clause-answers
 returns-then-is_no_line-clause-answers c text is =
@@ -19,7 +19,7 @@ returns-then-is_no_line-clause-kept c = knows_itself _
 pub returns-clause-answers : goal.returns-clause-answers
 returns-clause-answers c text is =
     subst (λ (a : AnswerValue Going). AnswersBy (reads_lines KnowsNoLess) c.args.self.now c.args.ended text c.answer_line.new.self a) (sym c.answered-2.ensures.answer)
-    (answers_by KnowsNoLess knows_preorder c.args.self.now c.answer_line.new.self c.args.ended c.args.line.now text c.answer_line.result is (when_false _ c.if-is_no_line.false _ _ c.is_no_line.ensures) c.answer_line.ensures)
+    (answers_by KnowsNoLess knows_preorder c.args.self.now c.answer_line.new.self c.args.ended c.args.line.now text c.answer_line.result is (when_false _ c.if-is_no_line.false _ _ c.is_no_line.ensures) c.answer_line.ensures.answers)
 
 pub returns-clause-kept : goal.returns-clause-kept
-returns-clause-kept c = answer_knows KnowsNoLess moves_knows _ _ _ _ c.answer_line.ensures
+returns-clause-kept c = answer_knows KnowsNoLess moves_knows _ _ _ _ c.answer_line.ensures.answers

@@ -1,0 +1,4 @@
+pub mod CheckedLines
+pub mod KeptLines
+pub mod Pieces
+pub mod ToldLines

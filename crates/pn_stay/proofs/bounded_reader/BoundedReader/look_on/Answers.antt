@@ -1,0 +1,38 @@
+-- The look goes on, or its reply is settled.
+use Rattle.std.proofs.Common.{ap, sym, subst, inl}
+use Rattle.pn_lines.specs.declared.handler.Answer.TheVariants.{Going as GoesOn}
+use Rattle.pn_live.specs.Readers.{LiveReaderValue}
+use Rattle.pn_serve.specs.Session.Knowing.{KnowsNoLess}
+use Rattle.pn_stay.specs.Looks.{LooksOn, under}
+use Rattle.pn_stay.specs.declared.bounded_reader.Look.TheVariants.{Under}
+use Rattle.pn_stay.proofs.Looks.{comes_settled, left_under, looks_under}
+use Rattle.pn_stay.proofs.bounded_reader.BoundedReader.look_on.Goals as goal
+
+pub returns-in-Going-clause-looks : goal.returns-in-Going-clause-looks
+returns-in-Going-clause-looks c =
+    subst (λ (r : LiveReaderValue). LooksOn r c.go_on-answer.new.self c.args.going c.args.line _) c.self.view_is
+    (looks_under c.self.inside.reader c.go_on-answer.new.self c.args.going c.args.line c.go_on-answer.result.answer (GoesOn (Under c.in-Going.going c.args.line)) c.go_on-answer.ensures.answers c.go_on-answer.ensures.kept (inl (ap (under c.args.line) (sym c.in-Going.is))))
+
+pub returns-in-Going-clause-nearer : goal.returns-in-Going-clause-nearer
+returns-in-Going-clause-nearer c = λ some.
+    left_under c.args.going c.args.line c.go_on-answer.result.answer (GoesOn (Under c.in-Going.going c.args.line)) (c.go_on-answer.ensures.nearer some) (inl (ap (under c.args.line) (sym c.in-Going.is)))
+
+pub returns-in-Going-clause-kept : goal.returns-in-Going-clause-kept
+returns-in-Going-clause-kept c = subst (λ (r : LiveReaderValue). KnowsNoLess r c.go_on-answer.new.self) c.self.view_is c.go_on-answer.ensures.kept
+
+pub returns-in-Done-clause-looks : goal.returns-in-Done-clause-looks
+returns-in-Done-clause-looks c =
+    subst (λ (n : LiveReaderValue). LooksOn c.args.self.now n c.args.going c.args.line _) (sym c.settle.ensures.kept)
+    (subst (λ (r : LiveReaderValue). LooksOn r c.go_on-answer.new.self c.args.going c.args.line _) c.self.view_is
+    (looks_under c.self.inside.reader c.go_on-answer.new.self c.args.going c.args.line c.go_on-answer.result.answer c.settle.result c.go_on-answer.ensures.answers c.go_on-answer.ensures.kept
+    (comes_settled c.args.line c.go_on-answer.result.answer c.in-Done.reply c.settle.result c.in-Done.is c.settle.ensures.settles)))
+
+pub returns-in-Done-clause-nearer : goal.returns-in-Done-clause-nearer
+returns-in-Done-clause-nearer c = λ some.
+    left_under c.args.going c.args.line c.go_on-answer.result.answer c.settle.result (c.go_on-answer.ensures.nearer some)
+    (comes_settled c.args.line c.go_on-answer.result.answer c.in-Done.reply c.settle.result c.in-Done.is c.settle.ensures.settles)
+
+pub returns-in-Done-clause-kept : goal.returns-in-Done-clause-kept
+returns-in-Done-clause-kept c =
+    subst (λ (n : LiveReaderValue). KnowsNoLess c.args.self.now n) (sym c.settle.ensures.kept)
+    (subst (λ (r : LiveReaderValue). KnowsNoLess r c.go_on-answer.new.self) c.self.view_is c.go_on-answer.ensures.kept)

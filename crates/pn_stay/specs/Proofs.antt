@@ -1,0 +1,2 @@
+-- Proofs of what traits promise of handlers.
+pub mod Steady
