@@ -48,8 +48,8 @@ pub record ToldAll (at_fault : AtFault) (names : List (List ℕ)) (waiting : Opt
   pub done : AllDone at_fault names waiting old events names waiting new
 
 -- commands alone came
-abbrev pub RunsCommands : AtFault → LiveRegionValue → LiveRegionValue → Type 0
-RunsCommands at_fault old new = ToldAll at_fault [] None old new
+abbrev pub RunsCommands : LiveRegionValue → LiveRegionValue → Type 0
+RunsCommands old new = ToldAll GoOn [] None old new
 
 -- where reading ends: no stream is left, and no input waits; or a stop was asked for
 abbrev pub IsEnd : ReadingEnd → List (List ℕ) → Option RoundInputValue → Type 0

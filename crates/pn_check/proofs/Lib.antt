@@ -1,4 +1,0 @@
-pub mod CheckedLines
-pub mod KeptLines
-pub mod Pieces
-pub mod ToldLines
