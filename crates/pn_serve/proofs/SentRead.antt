@@ -1,14 +1,17 @@
 -- What the thread of a stream hands over was read of what a writer of the stream may send, and so it is honest where they are.
-use Rattle.std.proofs.Common.{◌≡◌, ℕ, ◌+◌, pred, List, [], ◌++◌, Option, None, Some, IfSome, refl, sym, ap, ◌∙◌, subst, arith}
-use Rattle.std.specs.Prelude.{Result, Ok, Err, MatchResult, length}
+use Rattle.std.proofs.Common.{◌≡◌, ℕ, ◌+◌, ◌≤◌, nat_le, min, pred, true, List, [], ◌∷◌, ◌++◌, length, Option, None, Some, IfSome, sym, ap, ◌∙◌, subst, arith}
+use Rattle.std.specs.Prelude.{Result, Ok, Err, MatchResult}
+use Rattle.std.proofs.lemmas.Bool.{and_parts}
 use Rattle.std.specs.Coded.{Coded-set, coded_list, le_prop, ×_prop}
 use Rattle.std.proofs.Math.Logic.{∥∥₁_elim}
+use Rattle.pn_join.specs.Marks.{is_position}
+use Rattle.pn_join.specs.declared.marks.TheConstants.{LAST_POSITION}
 use Rattle.pn_record.specs.declared.image.Image.{Image}
 use Rattle.pn_stream.specs.Batches.{Stream, Batch}
 use Rattle.pn_stream.specs.Brokers.{BrokerRecord, IsHonest}
 use Rattle.pn_stream.specs.Positions.{DeliveryValue}
 use Rattle.pn_stream.specs.Resuming.{Begins}
-use Rattle.pn_stream.specs.Streams.{Run}
+use Rattle.pn_stream.specs.Streams.{InStep, Run}
 use Rattle.pn_stream.proofs.Runs.{Run-none, on_rest}
 use Rattle.pn_tablet.specs.Proofs.DraftCoding.{image_code}
 use Rattle.pn_serve.specs.declared.server.messages.RoundMessages.{RoundMessages}
@@ -24,6 +27,16 @@ use Rattle.pn_serve.specs.Server.Whole.{IsReadUpTo}
 use Rattle.pn_serve.specs.Server.Writers.{Gives, IsReaderFrom, IsUpTo, start_of}
 use Rattle.pn_serve.proofs.HonestStreams.{rest_is_honest, run_is_honest}
 use Rattle.pn_serve.proofs.WritersRead.{WasReadBy}
+
+within_positions : (n : ℕ) → is_position n ≡ true → n ≤ LAST_POSITION
+within_positions n is = grind (arith, (and_parts (nat_le 1 n) (nat_le n LAST_POSITION) is).1)
+
+-- the first of some messages in step has a position of a stream
+first_within : (position : ℕ) (lines : List (List ℕ)) (images : List Image) → InStep position lines images → 1 ≤ length images → position + 1 ≤ LAST_POSITION
+first_within position [] [] step some = absurd (omega (arith, some))
+first_within position [] (image ∷ images) step some = absurd step
+first_within position (line ∷ lines) [] step some = absurd step
+first_within position (line ∷ lines) (image ∷ images) step some = within_positions (position + 1) step.1.spelled.position
 
 module _ {S : Type 0} (left : S → Option (List ℕ)) (sends : List ℕ → List ℕ → Type 0) where
   -- a new reader of a source is of the writer that may send what that has left
@@ -41,9 +54,8 @@ module _ {S : Type 0} (left : S → Option (List ℕ)) (sends : List ℕ → Lis
       let text = first.part ++ of.0 in
       let batch : Batch 1 1 (pred new.position) text messages.delivery.images None new.part (left new.source) =
       subst (λ (l : Option (List ℕ)). IfSome l (λ rest. Batch 1 1 (pred new.position) (first.part ++ rest) messages.delivery.images None new.part (left new.source))) of.1 begins.batch in
-      let one = begins.one in
+      let first_at : messages.delivery.first ≡ new.position = ap (λ (d : DeliveryValue). d.first) begins.value in
       let least = begins.least in
-      let last = up.1 in
       let at : pred new.position ≡ pred new.position + 0 = omega arith in
       record {
         text = text;
@@ -54,7 +66,7 @@ module _ {S : Type 0} (left : S → Option (List ℕ)) (sends : List ℕ → Lis
         skipped = Run-none (pred new.position) text;
         rest = batch.rest;
         run = subst (λ (n : ℕ). Run n text messages.delivery.images batch.rest) at batch.run;
-        first_is = omega (arith, last, one, least);
+        first_is = omega (arith, first_at, least);
       }
 
   -- messages that a writer gives were read of its text
@@ -67,8 +79,8 @@ module _ {S : Type 0} (left : S → Option (List ℕ)) (sends : List ℕ → Lis
       subst (λ (l : Option (List ℕ)). IfSome l (λ rest. IsReadUpTo start (first.part ++ rest) old.position old.part (left old.source))) of.1 (was.read gives.1.0).1 in
       let more =
       on_rest so.read.rest old.part (left old.source) (λ (t : List ℕ). Batch 1 MAX_MESSAGES old.position t messages.delivery.images new.fault new.part (left new.source)) so.read.is_left gives.1.3 in
-      let last = up.1 in
-      let ends = gives.1.2 in
+      let first_at : messages.delivery.first ≡ min (old.position + 1) LAST_POSITION = ap (λ (d : DeliveryValue). d.first) gives.1.1 in
+      let within = first_within old.position more.run.lines messages.delivery.images more.run.in_step messages.fit.0 in
       let at = so.last_is in
       record {
         text = text;
@@ -79,7 +91,7 @@ module _ {S : Type 0} (left : S → Option (List ℕ)) (sends : List ℕ → Lis
         skipped = so.read.run;
         rest = more.rest;
         run = subst (λ (n : ℕ). Run n so.read.rest messages.delivery.images more.rest) at more.run;
-        first_is = omega (arith, last, ends, at);
+        first_is = omega (arith, first_at, within, at);
       }
   was_read (Some before) first old new messages None next was gives up same of = let no = was.begins in absurd (cc)
   was_read None first old new messages None next was gives up same of =

@@ -7,7 +7,7 @@ use crate::server::counter::Counter;
 use crate::server::held_report::{ClosedMailbox, LeftReport};
 use crate::server::mailboxes::{AtFault, Mailbox};
 use crate::server::reports::Report;
-use crate::server::texts::Sending;
+use crate::server::texts::{AnyWriters, Sending};
 use crate::server::wakeup::Wakeup;
 use crate::server::writers::WriterEnd;
 use pn_join::StreamName;
@@ -27,6 +27,18 @@ pub(crate) struct Reporter<M: Sending> {
     pub(crate) waiting: Option<Arc<Counter>>,
     /// At 1 while this stream waits for memory, and else at 0.
     pub(crate) waits: Counter,
+}
+
+/// What a thread is given that leaves reports of writers of which nothing is known.
+pub(crate) trait HasReporter {
+    /// Where it leaves them.
+    fn reporter(&self) -> &Reporter<AnyWriters>;
+}
+
+impl HasReporter for Reporter<AnyWriters> {
+    fn reporter(&self) -> &Reporter<AnyWriters> {
+        self
+    }
 }
 
 impl<M: Sending> Reporter<M> {

@@ -10,7 +10,7 @@ use crate::ServeFault;
 use crate::server::counter::Counter;
 use crate::server::fault_log::{FaultLog, OneWriter};
 use crate::server::mailboxes::{AtFault, StreamMailboxes};
-use crate::server::reporter::Reporter;
+use crate::server::reporter::{HasReporter, Reporter};
 use crate::server::reporting::{StreamEnd, report_stream};
 use crate::server::texts::AnyWriters;
 use crate::server::wakeup::Wakeup;
@@ -102,7 +102,6 @@ where
     Ok(started)
 }
 
-#[tactic(auto, using(crate::proofs::Crossing::reporter_send))]
 fn start_stream<R, S>(
     rt: &R,
     alloc: Global,
@@ -122,18 +121,37 @@ where
 {
     let name = *stream.name();
     let reporter = started.mailboxes.add(alloc, name, None)?;
-    let host = *rt;
     let origin = OneWriter {
-        rt: host,
+        rt: *rt,
         name,
         faults: share(faults)?,
     };
-    let promise = SaysWhetherWhole(Snapshot::of(&stream));
-    let thread = thread::spawn_with(rt, promise, move || {
-        report_to_end(&host, alloc, stream, workers, origin, &reporter)
-    })?;
+    let thread = spawn_reporting(rt, alloc, stream, workers, origin, reporter)?;
     started.threads.push(thread)?;
     Ok(())
+}
+
+// Starts the thread that reports a stream.
+fn spawn_reporting<R, S, P>(
+    rt: &R,
+    alloc: Global,
+    stream: StreamReader<S>,
+    workers: usize,
+    origin: OneWriter<R>,
+    reporter: P,
+) -> Result<StreamThread<S>, AllocError>
+where
+    R: Threads + Wait + Clock + Copy + Send + 'static,
+    S: Source + Drop + Send + 'static,
+    P: HasReporter + Drop + Send + 'static,
+    ensures { IfOk result (λ thread. thread.promise.0.value ≡ stream) }
+{
+    let host = *rt;
+    let promise = SaysWhetherWhole(Snapshot::of(&stream));
+    let thread = thread::spawn_with(rt, promise, move || {
+        report_to_end(&host, alloc, stream, workers, origin, reporter.reporter())
+    })?;
+    Ok(thread)
 }
 
 // Another handle of the log, if there is one.

@@ -27,6 +27,9 @@ loop-init g c =
 pub take_round-requires-clause-continues : goal.take_round-requires-clause-continues
 take_round-requires-clause-continues g c = λ lifetimes among. waits_on c.loop.waiting c.loop.live.marks c.obey_all.new.live.marks c.obey_all.ensures.rise c.loop.invariant.continues
 
+pub take_round-requires-clause-sent : goal.take_round-requires-clause-sent
+take_round-requires-clause-sent g c = λ lifetimes among. c.loop.invariant.sent
+
 pub loop-preserved-then-not-has_report : goal.loop-preserved-then-not-has_report
 loop-preserved-then-not-has_report g c =
     let name = λ (s : StreamMailbox g.row.M.Denot g.M.Sending). s.name in
