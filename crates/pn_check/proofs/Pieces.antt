@@ -1,8 +1,9 @@
 -- A text that is made a piece at a time.
 use Rattle.std.proofs.Common.{◌≡◌, ℕ, ◌+◌, ◌-◌, ◌<◌, ◌≤◌, List, [], ◌++◌, length, take, drop, refl, sym, ap, ◌∙◌, arith, append-nil, length-append, length-drop, drop-drop}
-use Rattle.std.specs.Prelude.{Vec, min, vec_capacity}
+use Rattle.std.specs.Prelude.{IsTrue, Vec, min, nat_le, vec_capacity}
 use Rattle.std.specs.declared.alloc.Global.{Global}
-use Rattle.std.proofs.lemmas.List.{length-take, take-append-drop}
+use Rattle.std.proofs.lemmas.Bool.Decides.{nat_tests}
+use Rattle.std.proofs.lemmas.List.{drop_all, length-take, take-append-drop}
 use Rattle.pn_json.specs.AppendedText.{AppendsText}
 use Rattle.pn_lines.specs.Giving.{Gives}
 
@@ -31,3 +32,14 @@ few_bytes text made end old new is appended room =
     let part = take (end - made) (drop made text) in
     let fits : length old.items + length part ≤ vec_capacity old = omega (arith, room, is, length-take (end - made) (drop made text), length-drop made text) in
     omega (arith, room, is, ap length (appended.items fits), length-append old.items part, length-take (end - made) (drop made text), length-drop made text)
+
+-- all is made exactly where nothing is left
+pub all_made : (text : List ℕ) (made size : ℕ) → size ≡ length text → (IsTrue (nat_le size made) → drop made text ≡ []) × (drop made text ≡ [] → IsTrue (nat_le size made))
+all_made text made size is =
+    (λ yes. drop_all made text (omega (arith, is, le_of size made yes)), λ none. le_then size made (omega (arith, is, ap length none, length-drop made text)))
+  where
+    le_of : (a b : ℕ) → IsTrue (nat_le a b) → a ≤ b
+    le_of a b yes = grind (arith, nat_tests, yes)
+
+    le_then : (a b : ℕ) → a ≤ b → IsTrue (nat_le a b)
+    le_then a b le = grind (arith, nat_tests, le)

@@ -67,7 +67,19 @@ impl Checker {
         ensures { (text : List ℕ) → line.now ≡ kept_bytes text
             → Checks self.old ended text self.new (replied_of (option_map (λ told. told.items) result)) }
     {
-        if self.is_spent || is_no_line(line, ended) {
+        if self.is_spent {
+            return None;
+        }
+        self.check_next(alloc, line, ended)
+    }
+
+    // The same, where memory has not run out.
+    fn check_next(&mut self, alloc: Global, line: &[u8], ended: EndedBy) -> Option<Vec<u8>>
+        requires { self.old.is_spent ≡ false }
+        ensures { (text : List ℕ) → line.now ≡ kept_bytes text
+            → Checks self.old ended text self.new (replied_of (option_map (λ told. told.items) result)) }
+    {
+        if is_no_line(line, ended) {
             return None;
         }
         self.tell_next(alloc, line)

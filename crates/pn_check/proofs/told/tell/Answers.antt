@@ -7,5 +7,5 @@ use Rattle.pn_check.proofs.told.tell.Goals as goal
 
 pub returns : goal.returns
 returns c =
-    let value = told_data c.args.fault.now c.args.number (seen_text c.args.name.entry) in
+    let value = told_data c.args.fault.now c.args.number (seen_text c.args.name) in
     IfOk-weaker c.finish_line.result _ _ (λ text is. is value (has_value value _ _ c.in_ok-writer.ensures c.in_ok-write_fault.ensures)) c.finish_line.ensures
