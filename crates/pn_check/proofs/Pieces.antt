@@ -1,8 +1,8 @@
 -- A text that is made a piece at a time.
-use Rattle.std.proofs.Common.{◌≡◌, ℕ, ◌+◌, ◌-◌, ◌<◌, ◌≤◌, List, [], ◌++◌, length, take, drop, refl, sym, ap, ◌∙◌, arith, append-nil, length-append, length-drop, drop-drop}
+use Rattle.std.proofs.Common.{◌≡◌, ℕ, ◌+◌, ◌-◌, ◌<◌, ◌≤◌, inl, inr, false, true, List, [], ◌++◌, length, take, drop, refl, sym, ap, ◌∙◌, arith, append-nil, length-append, length-drop, drop-drop}
 use Rattle.std.specs.Prelude.{IsTrue, Vec, min, nat_le, vec_capacity}
 use Rattle.std.specs.declared.alloc.Global.{Global}
-use Rattle.std.proofs.lemmas.Bool.Decides.{nat_tests}
+use Rattle.std.proofs.lemmas.Bool.Decides.{leb_tells}
 use Rattle.std.proofs.lemmas.List.{drop_all, length-take, take-append-drop}
 use Rattle.pn_json.specs.AppendedText.{AppendsText}
 use Rattle.pn_lines.specs.Giving.{Gives}
@@ -39,7 +39,13 @@ all_made text made size is =
     (λ yes. drop_all made text (omega (arith, is, le_of size made yes)), λ none. le_then size made (omega (arith, is, ap length none, length-drop made text)))
   where
     le_of : (a b : ℕ) → IsTrue (nat_le a b) → a ≤ b
-    le_of a b yes = grind (arith, nat_tests, yes)
+    le_of a b yes = elim (leb_tells a b) [
+      | inl is ↦ is.1
+      | inr other ↦ absurd (let never : false ≡ true = sym other.0 ∙ yes in cc)
+    ]
 
     le_then : (a b : ℕ) → a ≤ b → IsTrue (nat_le a b)
-    le_then a b le = grind (arith, nat_tests, le)
+    le_then a b le = elim (leb_tells a b) [
+      | inl is ↦ is.0
+      | inr other ↦ absurd (omega (arith, le, other.1))
+    ]
