@@ -1,5 +1,7 @@
 """Clients that leave pages and copies unread, and what these keep: checks of `checks/run stay`."""
+import concurrent.futures
 import contextlib
+import json
 import os
 import socket
 import subprocess
@@ -8,7 +10,7 @@ from collections.abc import Iterator
 
 from common.served import SECONDS, Client, Json, row_of, same, written
 from serving.controlled import Session
-from serving.staying import KEYS, PAGE, Staying, messages, until
+from serving.staying import KEYS, PAGE, Staying, key_of, messages, until
 from serving.staying_clients import deaf_client
 
 COPY = b'{"do":"copy","need":{},"tablet":0}\n'
@@ -22,6 +24,14 @@ PAGES = 40
 MOST_BYTES, NO_BYTES = 4_000_000_000, ("0", "-1", "4000000001", "1e6", "64M", "")
 # After how many seconds a client is ended that takes nothing, at least, and at most on a busy machine.
 QUIET, DEAF, LATER = 1.0, 30.0, 30.0
+# Room for one of these pages, and for no second one. A page of ten records is small.
+ROOM = LEAST + MOST // 2
+SMALL_PAGE = b'{"do":"scan","query":{"limit":10}}\n'
+GET = json.dumps({"do": "get", "keys": [key_of(number) for number in range(KEYS)]}).encode() + b"\n"
+# How many clients take nothing, and how many take all, though only one page is kept at a time; and how often these ask.
+SILENT, TAKING_ALL, ASKED = 8, 8, 10
+# How long short lines take at most on a busy machine while others wait for room.
+SHORT = 0.5
 # A taker's pauses, for how long it takes, and what it takes at a time.
 PAUSE, TAKING, PART = 0.2, 6.0, 1 << 17
 
@@ -32,10 +42,10 @@ def rows(folder: str) -> list[tuple[str, str]]:
 
 
 @contextlib.contextmanager
-def region_with(program: str, folder: str, *words: str) -> Iterator[tuple[Staying, Session]]:
+def region_with(program: str, folder: str, *words: str, threads: int = 4) -> Iterator[tuple[Staying, Session]]:
     """A region with its records, and a control session of it."""
     control = os.path.join(folder, "control")
-    with Staying(program, folder, rows(folder), "--control", control, *words) as region, Session(control) as session:
+    with Staying(program, folder, rows(folder), "--control", control, *words, threads=threads) as region, Session(control) as session:
         until("all is read", lambda: b"stream east ended" in region.said())
         yield region, session
 
@@ -120,6 +130,69 @@ def check_takers(program: str, folder: str) -> None:
         for client in quiet:
             same("one that took nothing is sent no more than its system held", len(taken(client)) < PAGES * LEAST, True)
         same("the silent one is answered", silent.read("k001")["row"]["key"], "k001")
+
+
+def has_come(client: Client) -> bool:
+    """Whether some of a reply is there."""
+    with contextlib.suppress(BlockingIOError):
+        return len(client.socket.recv(1, socket.MSG_PEEK | socket.MSG_DONTWAIT)) > 0
+    return False
+
+
+def check_waiting(program: str, folder: str) -> None:
+    """A page that would go past the limit waits until who takes nothing is ended. Short lines and small pages beside it do not wait."""
+    with region_with(program, folder, "--unread", str(ROOM), threads=1) as (region, session), deaf(region.port):
+        until("it is counted", lambda: unread(session)["bytes"] > 0)
+        with Client(region.port) as waiting, Client(region.port) as short:
+            waiting.send(PAGE)
+            slowest, start = 0.0, time.monotonic()
+            while not has_come(waiting):
+                same("within the limit", unread(session)["bytes"] <= ROOM, True)
+                same("it comes in time", time.monotonic() < start + LATER, True)
+                asked = time.monotonic()
+                same("a read beside it", short.read("k001")["row"]["key"], "k001")
+                short.send(SMALL_PAGE)
+                same("rows of a small page beside it", len(json.loads(short.reply())["rows"]), 10)
+                slowest = max(slowest, time.monotonic() - asked)
+            same("who took nothing was ended", unread(session)["ended"], 1)
+            same("rows of the page", len(json.loads(waiting.reply())["rows"]), KEYS)
+            same(f"short lines took {slowest:.3f} s, which is little enough", slowest < SHORT, True)
+            until("nothing is kept", lambda: unread(session)["bytes"] == 0)
+
+
+def check_many_waiting(program: str, folder: str) -> None:
+    """However many clients take nothing, their replies keep no more than the limit, and each is ended in its turn."""
+    with region_with(program, folder, "--unread", str(ROOM), threads=1) as (region, session), contextlib.ExitStack() as stay:
+        for number in range(SILENT):
+            stay.enter_context(deaf(region.port, COPY if number % 2 else PAGE))
+        start = time.monotonic()
+        while unread(session)["ended"] < SILENT:
+            same("within the limit", unread(session)["bytes"] <= ROOM, True)
+            same("they are ended in time", time.monotonic() < start + SILENT * LATER, True)
+            time.sleep(0.01)
+        same("no sooner than a second each", time.monotonic() - start >= SILENT * QUIET, True)
+        same("nothing is kept", unread(session)["bytes"], 0)
+
+
+def all_taken(port: int) -> list[bytes]:
+    """What a client gets that asks for pages and gets, and reads, at once, and takes each reply."""
+    with Client(port) as client:
+        client.send((PAGE + b'{"do":"read","key":"k001"}\n' + GET) * ASKED)
+        return [client.reply() for _ in range(3 * ASKED)]
+
+
+def check_takers_that_wait(program: str, folder: str) -> None:
+    """Clients that take all have all their replies, in order, though only one at a time may keep a page."""
+    with region_with(program, folder, "--unread", str(ROOM)) as (region, session):
+        wanted = all_taken(region.port)
+        same("kinds of replies", [reply[2:6] for reply in wanted[:3]], [b"next", b"row\"", b"rows"])
+        with concurrent.futures.ThreadPoolExecutor(TAKING_ALL) as pool:
+            for found in pool.map(all_taken, [region.port] * TAKING_ALL):
+                same("the replies", found == wanted, True)
+        same("nobody was ended", unread(session)["ended"], 0)
+        until("nothing is kept", lambda: unread(session)["bytes"] == 0)
+        pages = (1 + TAKING_ALL) * ASKED
+        until("each page is counted once", lambda: session.told(do="stats")["lines"]["kinds"]["scan"]["answered"] == pages)
 
 
 def check_half_minute(program: str, folder: str) -> None:

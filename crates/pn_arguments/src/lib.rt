@@ -3,7 +3,6 @@
 
 mod bounds;
 mod faults;
-mod help;
 mod options;
 mod permissions;
 mod planning;

@@ -5,7 +5,7 @@ use Rattle.std.proofs.lemmas.Result.{err_from_is_err_and}
 use Rattle.pn_live.specs.LiveRegions.{LiveRegionValue}
 use Rattle.pn_serve.specs.Control.Commands.{ObeysLive, Said}
 use Rattle.pn_serve.specs.declared.control.commands.WriterCommand.{WriterCommand}
-use Rattle.pn_serve.specs.Server.Events.{AllDone, IsEnd, ReadsBesides, RunsEvents, RunsOn, RunsUpTo, ToldAll, WriterEvent, gathered, tried, taken, told}
+use Rattle.pn_serve.specs.Server.Events.{AllDone, IsEnd, ReadsBesides, RunsCommands, RunsEvents, RunsOn, RunsUpTo, ToldAll, WriterEvent, gathered, tried, taken, told}
 use Rattle.pn_serve.specs.Server.Reading.{AreOfStreams, ReadToEnds, ReadUpTo, RunsRounds}
 use Rattle.pn_serve.specs.Server.Rounds.{RoundInputValue, IsRoundTried, TakesInput}
 use Rattle.pn_serve.specs.Server.Tries.{IsNextInput, StopsAt, TakesRound, Waits}
@@ -156,8 +156,12 @@ one_told at_fault names waiting old between new asked said so obeys = record {
 pub none_told : (at_fault : AtFault) (names : List (List ℕ)) (waiting : Option RoundInputValue) (old : LiveRegionValue) → ToldAll at_fault names waiting old old
 none_told at_fault names waiting old = record { events = []; done = (refl, refl, refl) }
 
-pub same_told : (at_fault : AtFault) (names : List (List ℕ)) (waiting : Option RoundInputValue) (old new : LiveRegionValue) → new ≡ old → ToldAll at_fault names waiting old new
-same_told at_fault names waiting old new same = record { events = []; done = (refl, refl, same) }
+-- commands alone, and those after them; or none
+pub more_commands : (old between new : LiveRegionValue) → RunsCommands old between → RunsCommands between new → RunsCommands old new
+more_commands old between new so more = told_then GoOn [] None old between new so more
+
+pub no_commands : (old new : LiveRegionValue) → new ≡ old → RunsCommands old new
+no_commands old new same = record { events = []; done = (refl, refl, same) }
 
 -- the fault of a round is not that its threads were refused
 begun : (at_fault : AtFault) (names : List (List ℕ)) (waiting : Option RoundInputValue) (old new : LiveRegionValue) → StopsAt at_fault names waiting old new Start → ⊥

@@ -1,8 +1,10 @@
 -- What was read of a writer's input, one look after another.
-use Rattle.std.proofs.Common.{◌≡◌, ℕ, ◌+◌, ◌≤◌, max, pred, List, [], ◌++◌, length, Option, None, Some, IfSome, inl, inr, refl, sym, ap, ◌∙◌, subst, arith, length-append}
+use Rattle.std.proofs.Common.{◌≡◌, ℕ, ◌+◌, ◌<◌, ◌≤◌, max, min, pred, List, [], ◌++◌, length, Option, None, Some, IfSome, inl, inr, refl, sym, ap, ◌∙◌, subst, arith, length-append}
 use Rattle.std.specs.Prelude.{Result, Ok, Err, IfOk}
 use Rattle.pn_record.specs.declared.image.Image.{Image}
+use Rattle.pn_join.specs.declared.marks.TheConstants.{LAST_POSITION}
 use Rattle.pn_stream.specs.Batches.{Stream, Batch, SoFar}
+use Rattle.pn_stream.specs.Positions.{DeliveryValue}
 use Rattle.pn_stream.specs.Resuming.{Begins, Lacks}
 use Rattle.pn_stream.specs.Streams.{Run, NoLine, IsLeft}
 use Rattle.pn_stream.specs.declared.fault.StreamFault.{StreamFault}
@@ -13,7 +15,7 @@ use Rattle.pn_serve.specs.declared.server.writer_input.Given.TheVariants.{Messag
 use Rattle.pn_serve.specs.declared.server.writers.WriterEnd.{WriterEnd}
 use Rattle.pn_serve.specs.declared.server.writers.WriterEnd.TheVariants.{End, Fault}
 use Rattle.pn_serve.specs.Server.Whole.{IsAllMessages, IsReadUpTo}
-use Rattle.pn_serve.specs.Server.Writers.{BeginsWithin, EndsInput, Gives, line_after, start_of}
+use Rattle.pn_serve.specs.Server.Writers.{BeginsWithin, EndsInput, Gives, IsUpTo, line_after, start_of}
 
 none_yet : (position : ℕ) (part : List ℕ) (left : Option (List ℕ)) → IfSome left (λ text. SoFar position (part ++ text) [] part left) → IfSome left (λ text. IsReadUpTo position (part ++ text) position part left)
 none_yet position part None so = tt
@@ -127,6 +129,16 @@ module _ {S : Type 0} (left : S → Option (List ℕ)) where
   last_more before first old new messages (Some from) next was last so gives within is = omega (arith, gives.1.2, is)
   last_more before first old new messages None next was last so gives within is =
       let same : old.position ≡ first.position = ap (λ (s : Stream S). s.position) (so.nothing_yet refl) in omega (arith, same, within, is)
+
+  -- messages that were given are those up to the position
+  pub up_to : (old new : Stream S) (messages : RoundMessages) (now next : Option ℕ) → Gives left now old (of_messages messages) next new → new.name ≡ old.name → IsUpTo new messages.delivery
+  up_to old new messages (Some from) next gives name =
+      let first : messages.delivery.first ≡ min (old.position + 1) LAST_POSITION = ap (λ (d : DeliveryValue). d.first) gives.1.1 in
+      (ap (λ (d : DeliveryValue). d.stream) gives.1.1 ∙ sym name, λ within. omega (arith, first, gives.1.2, within))
+  up_to old new messages None next gives name =
+      let begins : Begins left old new messages.delivery = gives.2 in
+      let first : messages.delivery.first ≡ new.position = ap (λ (d : DeliveryValue). d.first) begins.value in
+      (ap (λ (d : DeliveryValue). d.stream) begins.value ∙ sym name, λ within. omega (arith, first, begins.one))
 
   -- how the input ended
   pub ends_input : (before : Option ℕ) (first old new : Stream S) (end : WriterEnd) (now next : Option ℕ) → WasReadBy left before first now old

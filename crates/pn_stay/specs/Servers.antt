@@ -6,7 +6,6 @@ use Rattle.pn_live.specs.LiveRegions.{LiveRegionValue, core}
 use Rattle.pn_live.specs.Proofs.Coding.{live_code}
 use Rattle.pn_region.specs.Logged.{LoggedRegion}
 use Rattle.pn_serve.specs.Server.Events.{RunsCommands}
-use Rattle.pn_serve.specs.declared.server.mailboxes.AtFault.TheVariants.{GoOn}
 
 -- the live region of a server, how many threads answer from it, and whether there may be control sessions
 pub record ServerValue : Type 0 where
@@ -21,7 +20,7 @@ Leaves live left = IfOk left (λ region. (region.state ≡ core live) × (region
 -- commands alone came, and then the region was left
 pub record LeavesAfter (old : LiveRegionValue) (left : Result LoggedRegion NoMemory) : Type 0 where
   pub last : LiveRegionValue
-  pub told : RunsCommands GoOn old last
+  pub told : RunsCommands old last
   pub leaves : Leaves last left
 
 -- how a server is stored in a proof

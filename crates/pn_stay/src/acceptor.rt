@@ -55,7 +55,6 @@ impl SocketAcceptor {
     }
 
     // Answers the lines of a client.
-    #[tactic(auto, using(pn_serve::specs::Proofs::Steady::knows_itself))]
     fn answer(&self, alloc: Global, reader: &mut LiveReader, socket: &Socket) -> io::Result<()>
         ensures { KnowsNoLess reader.old reader.new }
     {
@@ -83,7 +82,6 @@ impl Acceptor for SocketAcceptor {
         })
     }
 
-    #[tactic(auto, using(pn_serve::specs::Proofs::Steady::knows_itself))]
     fn answer_client(&self, alloc: Global, reader: &mut LiveReader) -> io::Result<()> {
         let socket = self.accept()?;
         self.counters.connections.begin();

@@ -10,7 +10,7 @@ use crate::bounded_reader::{BoundedReader, Look};
 use crate::counters::{Kept, UnreadCounters};
 use crate::line_clock::LineClock;
 use crate::polled_input::PolledInput;
-use crate::room::{ANY_ROOM, Room};
+use crate::room::Room;
 use crate::socket::{Socket, TrackedSocket};
 use crate::unread::UnreadReply;
 use mio::event::Event;
@@ -151,12 +151,12 @@ impl Connection {
         }
     }
 
-    /// How many bytes of records the reply may keep that its next turn comes to. A line that was put off is let in before.
+    /// How many bytes of records a reply may keep in its next turn: what its line was let in for, if it was.
     pub(crate) fn room_in(&self, unread: &UnreadCounters) -> u64 {
         match self.room {
             Room::Unasked => unread.room_beside(self.unread_weight()),
             Room::Wanted { .. } => 0,
-            Room::Given { .. } => ANY_ROOM,
+            Room::Given { bytes, .. } => bytes,
         }
     }
 

@@ -269,15 +269,7 @@ impl EventLoop {
                 reader.begin_turn(connection.room_in(&self.counters.unread));
                 let next = connection.turn(&mut self.buffers, reader, &mut self.counted);
                 connection.count_times(rt, &self.at_hand, &self.counters.line_times);
-                let after = connection.kept();
-                self.counters.unread.replace(before, after);
-                let waits = after.wanted > 0;
-                self.quarters.run_if(waits || connection.unread.is_some());
-                if waits {
-                    connection.room = connection.room.numbered(self.number);
-                    self.number = self.number.saturating_add(1);
-                    self.has_waiting = true;
-                }
+                self.note_kept(key, before);
                 next
             }
             None => Some(Pause::Input),

@@ -65,8 +65,8 @@ RunsEvents at_fault names old new (Ok end) = RunsOn at_fault names old new end
 RunsEvents at_fault names old new (Err fault) = RunsUpTo at_fault names old new fault
 
 -- commands alone came
-abbrev pub RunsCommands : AtFault → LiveRegionValue → LiveRegionValue → Type 0
-RunsCommands at_fault old new = ToldAll at_fault [] None old new
+abbrev pub RunsCommands : LiveRegionValue → LiveRegionValue → Type 0
+RunsCommands old new = ToldAll GoOn [] None old new
 
 -- streams were read beside the commands of control sessions; none was read if their threads were refused
 abbrev pub ReadsBesides : List (List ℕ) → LiveRegionValue → LiveRegionValue → Result ReadingEnd ServeFault → Type 0

@@ -1,5 +1,5 @@
 -- What the writers of a stream give.
-use Rattle.std.specs.Prelude.{◌≡◌, ℕ, ◌+◌, ◌-◌, ◌≤◌, pred, List, [], ◌++◌, length, min, Option, None, Some, IfSome}
+use Rattle.std.specs.Prelude.{◌≡◌, ℕ, ◌+◌, ◌-◌, ◌<◌, ◌≤◌, pred, List, [], ◌++◌, length, min, Option, None, Some, IfSome}
 use Rattle.pn_join.specs.declared.marks.TheConstants.{LAST_POSITION}
 use Rattle.pn_stream.specs.Batches.{Stream, Batch}
 use Rattle.pn_stream.specs.Faults.{Stands}
@@ -55,14 +55,9 @@ abbrev pub Gives : {S : Type 0} → (S → Option (List ℕ)) → Option ℕ →
 Gives left (Some before) old given now new = (now ≡ Some before) × GivesNext left before old given new
 Gives left None old given now new = GivesFirst left old given now new
 
--- the last message of the delivery is that at the position of the stream
+-- the last message of the delivery is that at the position of the stream, unless no position comes after that
 abbrev pub IsUpTo : {S : Type 0} → Stream S → DeliveryValue → Type 0
-IsUpTo stream delivery = (delivery.stream ≡ stream.name) × (delivery.first + length delivery.images ≡ stream.position + 1)
-
--- what comes next is no messages, or messages up to the position of the stream
-abbrev pub GivesUpTo : {S : Type 0} → Stream S → Given → Type 0
-GivesUpTo stream (Messages messages) = IsUpTo stream messages.delivery
-GivesUpTo stream (Ended end) = Unit {0}
+IsUpTo stream delivery = (delivery.stream ≡ stream.name) × (stream.position < LAST_POSITION → delivery.first + length delivery.images ≡ stream.position + 1)
 
 -- the report has messages up to the position of the stream
 abbrev pub HasUpTo : {S : Type 0} → Stream S → Report → Type 0

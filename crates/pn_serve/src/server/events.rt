@@ -11,7 +11,6 @@ ghost use Rattle.pn_serve.specs.Server.Events.{RunsCommands, RunsEvents, ToldAll
 ghost use Rattle.pn_serve.specs.Server.Reading.{RunsRounds};
 ghost use Rattle.pn_serve.specs.Server.Rounds.{RoundInputValue};
 ghost use Rattle.pn_serve.specs.declared.server.mailboxes.AtFault.{AtFault};
-ghost use Rattle.pn_serve.specs.declared.server.mailboxes.AtFault.TheVariants.{GoOn};
 
 use crate::ServeFault;
 use crate::control::mailboxes::{ControlMailboxes, StopAsked};
@@ -150,7 +149,7 @@ pub fn take_commands<R: Wait>(
     live: &mut LiveRegion,
     controls: &ControlMailboxes,
 ) -> StopAsked
-    ensures runs { RunsCommands GoOn live.old live.new }
+    ensures runs { RunsCommands live.old live.new }
     ensures same { tablets_in live.new ≡ tablets_in live.old }
 {
     controls.note_log(rt, live);
@@ -173,7 +172,7 @@ pub fn take_commands_for<R: Wait + Clock>(
     _asked: &StopAsked,
     most: Duration,
 )
-    ensures runs { RunsCommands GoOn live.old live.new }
+    ensures runs { RunsCommands live.old live.new }
     ensures same { tablets_in live.new ≡ tablets_in live.old }
 {
     let _ = controls.wakeup.wait_at_most(rt, most);

@@ -122,7 +122,6 @@ impl Acceptor for TcpListener {
         TcpListener::try_clone(self)
     }
 
-    #[tactic(auto, using(crate::specs::Proofs::Steady::knows_itself))]
     fn answer_client(&self, alloc: Global, reader: &mut LiveReader) -> io::Result<()> {
         let (stream, _) = self.accept()?;
         stream.set_nodelay(true)?;

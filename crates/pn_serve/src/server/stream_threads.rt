@@ -101,6 +101,7 @@ where
     Ok(started)
 }
 
+#[tactic(auto, using(crate::proofs::Crossing::reporter_send))]
 fn start_stream<R, S>(
     rt: &R,
     alloc: Global,

@@ -2,7 +2,7 @@
 
 ghost use Rattle.std.specs.Prelude.{◌≡◌, ◌+◌, max, min, None, Some, IsSome};
 ghost use Rattle.pn_join.specs.declared.marks.TheConstants.{LAST_POSITION};
-ghost use Rattle.pn_serve.specs.Server.Writers.{Gives, GivesUpTo, HasUpTo, IsReaderFrom, line_after};
+ghost use Rattle.pn_serve.specs.Server.Writers.{Gives, HasUpTo, IsReaderFrom, line_after};
 
 use crate::server::held_report::LeftReport;
 use crate::server::messages::{MAX_MESSAGES, RoundMessages};
@@ -84,7 +84,6 @@ impl<S: Source + Drop> WriterInput<S> {
     /// Waits for the next message, and gives it with those at hand, or says how the input ended.
     pub(crate) fn next<R: Threads, M: ReaderMemory>(&mut self, rt: &R, memory: &M) -> Given
         ensures gives { Gives S.left self.old.before self.old.reader result self.new.before self.new.reader }
-        ensures up_to { GivesUpTo self.new.reader result }
         ensures name { self.new.reader.name ≡ self.old.reader.name }
         ensures last { self.new.last ≡ self.old.last }
     {
@@ -98,7 +97,6 @@ impl<S: Source + Drop> WriterInput<S> {
     fn next_messages<R: Threads, M: ReaderMemory>(&mut self, rt: &R, memory: &M) -> Given
         requires { IsSome self.old.before }
         ensures gives { Gives S.left self.old.before self.old.reader result self.new.before self.new.reader }
-        ensures up_to { GivesUpTo self.new.reader result }
         ensures name { self.new.reader.name ≡ self.old.reader.name }
         ensures last { self.new.last ≡ self.old.last }
     {
@@ -116,7 +114,6 @@ impl<S: Source + Drop> WriterInput<S> {
     fn first_message<M: ReaderMemory>(&mut self, memory: &M) -> Given
         requires { self.old.before ≡ None }
         ensures gives { Gives S.left self.old.before self.old.reader result self.new.before self.new.reader }
-        ensures up_to { GivesUpTo self.new.reader result }
         ensures name { self.new.reader.name ≡ self.old.reader.name }
         ensures last { self.new.last ≡ self.old.last }
     {

@@ -20,7 +20,7 @@ use crate::machine::line_answers::Answer;
 use pn_join::NoMemory;
 use pn_live::{GetWalk, LiveReader};
 use pn_protocol::{CommandFault, LineKind, Refusal, Reply, answer_get, answer_scan, refuse};
-use pn_record::Key;
+use pn_record::{Key, Records};
 use pn_scan::{PageStep, PageWalk, Query, ScanFault, View};
 use pn_tablet::{CopyCount, CopyStep, Layout, TabletCopy};
 use std::alloc::Global;
@@ -64,7 +64,7 @@ impl Going {
         ensures new { result ≡ Going.Copy (record { copy = copy; index = 0 }) }
         ensures bounded { going_left result < most_left }
     {
-        let _ = copy.cells.len();
+        recall_records(&copy.cells);
         Going::Copy(CopyCount::new(copy))
     }
 
@@ -113,6 +113,13 @@ fn recall_tablets(layout: &Layout)
     ensures { length layout.now < 2 ^ 64 }
 {
     let _ = layout.count();
+}
+
+// Recalls for the prover that records can be counted.
+fn recall_records(cells: &Records)
+    ensures { length cells.now < 2 ^ 64 }
+{
+    let _ = cells.len();
 }
 
 // How many units of work a step of a page was. Where memory ran out, all that it was to do.

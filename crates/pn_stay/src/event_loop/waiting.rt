@@ -1,10 +1,27 @@
 //! How an event loop lets in lines that were put off, one after another.
 
 use crate::connection::Connection;
+use crate::counters::Kept;
 use crate::event_loop::{EventLoop, make_ready};
 use slab::Slab;
 
 impl EventLoop {
+    /// Counts what the connection of a key keeps after a turn, before which it kept so much, and what its line waits for.
+    pub(super) fn note_kept(&mut self, key: usize, before: Kept) {
+        let Some(connection) = self.connections.get_mut(key) else {
+            return;
+        };
+        let after = connection.kept();
+        self.counters.unread.replace(before, after);
+        let waits = after.wanted > 0;
+        self.quarters.run_if(waits || connection.unread.is_some());
+        if waits {
+            connection.room = connection.room.numbered(self.number);
+            self.number = self.number.saturating_add(1);
+            self.has_waiting = true;
+        }
+    }
+
     /// Lets in lines that wait for room, in the order in which they were put off, while there is room for the next.
     pub(super) fn let_waiting_in(&mut self) {
         if !self.has_waiting {

@@ -3,7 +3,6 @@
 ghost use Rattle.std.specs.Prelude.{◌≡◌, false, is_some};
 ghost use Rattle.pn_live.specs.Prelude.{tablets_in};
 ghost use Rattle.pn_serve.specs.Server.Events.{RunsCommands};
-ghost use Rattle.pn_serve.specs.declared.server.mailboxes.AtFault.TheVariants.{GoOn};
 ghost use Rattle.pn_stay.specs.Servers.{Leaves, LeavesAfter};
 
 use super::StayingServer;
@@ -51,7 +50,7 @@ impl StayingServer {
     fn obey_to_end<R: Wait + Clock>(&mut self, rt: &R, alloc: Global) -> Option<ControlsClosed>
         ensures stop { is_some result ≡ self.old.controlled }
         ensures alone { self.old.controlled ≡ false → self.new.live ≡ self.old.live }
-        ensures told { RunsCommands GoOn self.old.live self.new.live }
+        ensures told { RunsCommands self.old.live self.new.live }
     {
         match &self.watchers.controls {
             Some(controls) => {
@@ -104,7 +103,7 @@ fn obey_until_stopped<R: Wait + Clock>(
     controls: &ControlMailboxes,
     stopping: &Stopping,
 ) -> ControlsClosed
-    ensures runs { RunsCommands GoOn live.old live.new }
+    ensures runs { RunsCommands live.old live.new }
     ensures same { tablets_in live.new ≡ tablets_in live.old }
 {
     let asked = take_commands(rt, alloc, live, controls);

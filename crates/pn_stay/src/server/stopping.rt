@@ -3,7 +3,6 @@
 ghost use Rattle.std.specs.Prelude.{◌≡◌};
 ghost use Rattle.pn_live.specs.Prelude.{tablets_in};
 ghost use Rattle.pn_serve.specs.Server.Events.{RunsCommands};
-ghost use Rattle.pn_serve.specs.declared.server.mailboxes.AtFault.TheVariants.{GoOn};
 
 use crate::counters::{Counters, StreamCounters};
 use crate::listener::Listener;
@@ -53,7 +52,7 @@ impl Stopping {
         controls: &ControlMailboxes,
         asked: StopAsked,
     ) -> ControlsClosed
-        ensures runs { RunsCommands GoOn live.old live.new }
+        ensures runs { RunsCommands live.old live.new }
         ensures same { tablets_in live.new ≡ tablets_in live.old }
     {
         self.end_connections(rt);
@@ -81,7 +80,7 @@ impl Stopping {
         controls: &ControlMailboxes,
         asked: &StopAsked,
     )
-        ensures runs { RunsCommands GoOn live.old live.new }
+        ensures runs { RunsCommands live.old live.new }
         ensures same { tablets_in live.new ≡ tablets_in live.old }
     {
         let began = Instant::now(rt).ok();
@@ -152,7 +151,7 @@ impl Stopping {
         controls: &ControlMailboxes,
         asked: &StopAsked,
     )
-        ensures runs { RunsCommands GoOn live.old live.new }
+        ensures runs { RunsCommands live.old live.new }
         ensures same { tablets_in live.new ≡ tablets_in live.old }
     {
         let began = Instant::now(rt).ok();

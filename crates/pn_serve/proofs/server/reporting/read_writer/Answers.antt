@@ -5,7 +5,7 @@ use Rattle.pn_stream.specs.Positions.{DeliveryValue}
 use Rattle.pn_serve.specs.Server.Writers.{EndsInput, HasUpTo, IsUpTo}
 use Rattle.pn_serve.specs.declared.server.reports.Report.{Report}
 use Rattle.pn_serve.specs.declared.server.writers.WriterEnd.{WriterEnd}
-use Rattle.pn_serve.proofs.WritersRead.{WasReadBy, read_none, read_on, last_more, ends_input, on_end}
+use Rattle.pn_serve.proofs.WritersRead.{WasReadBy, read_none, read_on, last_more, up_to, ends_input, on_end}
 use Rattle.pn_serve.proofs.server.reporting.read_writer.Goals as goal
 
 pub loop-init : goal.loop-init
@@ -13,9 +13,11 @@ loop-init g c = record { read = read_none g.S.Source.left c.args.input.now.befor
 
 pub hand_on-requires : goal.hand_on-requires
 hand_on-requires g c =
-    let reader = c.next-in-loop.new.self.reader in
-    subst (λ (report : Report). HasUpTo reader report) (sym c.in_ok-left.ensures)
-    (subst (λ (delivery : DeliveryValue). IsUpTo reader delivery) (sym c.into_share.ensures) c.in-Messages.ensures.up_to)
+    let old = c.loop.input in
+    let new = c.next-in-loop.new.self in
+    let so = up_to g.S.Source.left old.reader new.reader c.in-Messages.messages old.before new.before c.in-Messages.ensures.gives c.next-in-loop.ensures.name in
+    subst (λ (report : Report). HasUpTo new.reader report) (sym c.in_ok-left-in-Messages.ensures)
+    (subst (λ (delivery : DeliveryValue). IsUpTo new.reader delivery) (sym c.into_share-share.ensures) so)
 
 pub loop-preserved : goal.loop-preserved
 loop-preserved g c =

@@ -25,7 +25,7 @@ as_streams names old new (Err Write) reads = reads
 not_begun : (names : List (List ℕ)) (old : LiveRegionValue) (fault : ServeFault) (result : Result ReadingEnd ServeFault) → IsErrAnd result (λ other. other ≡ fault) → fault ≡ Start → ReadsStreams names old old result
 not_begun names old fault result answered start =
     let (other, is, same) = err_from_is_err_and result answered in
-    subst (ReadsStreams names old old) (sym is) (subst (λ (f : ServeFault). ReadsStreams names old old (Err f)) (sym (same ∙ start)) refl)
+    subst (ReadsStreams names old old) (sym is) (subst (λ (f : ServeFault). ReadsStreams {T = ReadingEnd} names old old (Err f)) (sym (same ∙ start)) refl)
 
 none_beside : (names : List (List ℕ)) (old : LiveRegionValue) (fault : ServeFault) (result : Result ReadingEnd ServeFault) → IsErrAnd result (λ other. other ≡ fault) → fault ≡ Start → ReadsBesides names old old result
 none_beside names old fault result answered start =

@@ -1,9 +1,8 @@
 -- Without a control socket no command comes.
-use Rattle.std.proofs.Common.{[], None, ap}
-use Rattle.pn_serve.specs.declared.server.mailboxes.AtFault.TheVariants.{GoOn}
-use Rattle.pn_serve.proofs.EventsRead.{same_told}
+use Rattle.std.proofs.Common.{ap}
+use Rattle.pn_serve.proofs.EventsRead.{no_commands}
 use Rattle.pn_stay.specs.Servers.{ServerValue}
 use Rattle.pn_stay.proofs.server.ending.StayingServer.obey_to_end.Goals as goal
 
 pub returns-in-None-clause-told : goal.returns-in-None-clause-told
-returns-in-None-clause-told g c = same_told GoOn [] None _ _ (ap (λ (s : ServerValue). s.live) c.self.view_is)
+returns-in-None-clause-told g c = no_commands _ _ (ap (λ (s : ServerValue). s.live) c.self.view_is)

@@ -1,2 +1,0 @@
--- What handlers owe for their contracts.
-pub mod Steady
