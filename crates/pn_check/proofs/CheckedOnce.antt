@@ -6,6 +6,7 @@ use Rattle.serde_json.specs.Data.{Data}
 use Rattle.pn_json.specs.Answers.{◌>>=◌}
 use Rattle.pn_line.specs.Line.{kept_bytes, max_kept}
 use Rattle.pn_line.specs.Text.{last_line}
+use Rattle.pn_line.specs.declared.line_buffer.TheConstants.{MAX_KEPT_BYTES}
 use Rattle.pn_line.proofs.LineLaws.{kept_bytes-nil}
 use Rattle.pn_lines.specs.Replies.{one_if}
 use Rattle.pn_lines.specs.declared.handler.EndedBy.{EndedBy}
@@ -35,7 +36,7 @@ message_fault line d is says =
 -- of no byte none was kept
 kept_none : (text : List ℕ) → kept_bytes text ≡ [] → text ≡ []
 unfolding max_kept
-kept_none text none = nil_from_length text (omega (arith, ap length none, length-take max_kept text))
+kept_none text none = nil_from_length text (omega (arith, ap length none, length-take MAX_KEPT_BYTES text))
 
 pub no_line : (was : Checker) (line : List ℕ) (ended : EndedBy) (no : Bool) (text : List ℕ) → was.is_spent ≡ false
     → MatchBool no ((ended ≡ Input) × (line ≡ [])) (ended ≡ Input → line ≢ []) → no ≡ true → line ≡ kept_bytes text → Checks was ended text was (replied_of None)
