@@ -43,7 +43,7 @@ def check_counts_of_records(program: str, folder: str) -> None:
 
 
 def check_kinds_of_lines(program: str, folder: str) -> None:
-    """`stats` counts the lines of clients by their kinds, which refused lines have too."""
+    """`stats` counts the lines of clients by their kinds, which refused lines have too, and by their times."""
     wanted = {kind: {"answered": 0, "refused": 0} for _, kind, _ in sorted(LINES, key=lambda it: it[1])}
     for _, kind, is_refused in LINES:
         wanted[kind]["answered"] += 1
@@ -57,3 +57,11 @@ def check_kinds_of_lines(program: str, folder: str) -> None:
             replies.read()
         until("all are counted", lambda: session.told(do="stats")["lines"]["answered"] == len(LINES))
         same("the kinds", session.told(do="stats")["lines"]["kinds"], wanted)
+        times = session.told(do="stats")["times"]
+        same("how many are timed", times["lines"]["count"], len(LINES))
+        for it in times.values():
+            limits = [bucket["most"] for bucket in it["buckets"]]
+            same("the buckets' limits rise", limits, sorted(set(limits)))
+            in_buckets = sum(bucket["count"] for bucket in it["buckets"])
+            same("no bucket has more than there are", in_buckets <= it["count"], True)
+            same("their time", it["total"] <= SECONDS * 1_000_000 * it["count"], True)

@@ -71,6 +71,9 @@ def check_metrics(program: str, folder: str) -> None:
                 wanted |= {f'pnuts_kind_lines_{name}_total{{kind="{kind}"}}': count for name, count in it.items()}
             for number, it in enumerate(stats.get("tablets", [])):
                 wanted |= {f'pnuts_tablet_{name}{{tablet="{number}"}}': count for name, count in it.items()}
+            for name, it in (("line", stats["times"]["lines"]), ("round", stats["times"]["rounds"])):
+                wanted |= {f"pnuts_{name}_seconds_count": it["count"], f"pnuts_{name}_seconds_sum": it["total"] / 1e6,
+                           f'pnuts_{name}_seconds_bucket{{le="+Inf"}}': it["count"]}
             same("its metrics", {name: found.get(name) for name in wanted}, wanted)
         until("its stream is silent", lambda: exporter.health()[0] == 503)
         same("what is wrong", exporter.health()[1].startswith("stream east brought nothing for "), True)
