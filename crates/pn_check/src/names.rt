@@ -6,7 +6,7 @@ ghost use Rattle.std.specs.Str.{bytes_eq};
 ghost use Rattle.serde_json.specs.View.{view, members_view};
 ghost use Rattle.pn_json.specs.Prelude.{seen, seen_text};
 ghost use Rattle.pn_record.specs.Grammar.{image_members};
-ghost use Rattle.pn_check.specs.Names.{image_of, field_name, first_flawed as first_with, is_flawed as has_flaw, name_in, other_name};
+ghost use Rattle.pn_check.specs.Names.{image_of, field_name, first_flawed as first_with, is_flawed as has_flaw, name_in, other_name as other_in, other_of};
 
 use crate::faults::is_message;
 use pn_record::{ImageFault, Member, is_field, value_of};
@@ -47,10 +47,17 @@ fn flawed_field(value: &Value, flaw: Flaw) -> Option<&str>
 
 // The name of the first member that an image does not have, or else a message.
 fn unknown_member(value: &Value) -> Option<&str>
-    ensures { seen_text result ≡ other_name (view value.now) }
+    ensures { seen_text result ≡ other_in (view value.now) }
 {
     let image = image_in(value)?;
-    match first_flawed(image.as_object()?, Flaw::OfNoImage) {
+    other_name(value, image.as_object()?)
+}
+
+// The name of the first of an image's members that an image does not have, or else of a value's that a message does not have.
+fn other_name<'v>(value: &'v Value, members: &'v Map<String, Value>) -> Option<&'v str>
+    ensures { seen_text result ≡ other_of (view value.now) (members_view members.now.entries) }
+{
+    match first_flawed(members, Flaw::OfNoImage) {
         Some(name) => Some(name),
         None => first_flawed(value.as_object()?, Flaw::OfNoMessage),
     }
