@@ -69,8 +69,8 @@ lines_in {lines = lines} {part = part} left read gone =
 
 -- nothing is refused exactly where no refusal was counted
 none_refused : (lines : List (ℕ × List ℕ)) (count : ℕ) → count ≡ min (length lines) (2 ^ 64 - 1) → IsTrue (count == 0) ↔ (lines ≡ [])
-none_refused [] count is = (λ yes. refl, λ none. (let zero : count ≡ 0 = omega (arith, is) in ap (λ (n : ℕ). n == 0) zero))
-none_refused (line ∷ lines) count is = (λ yes. absurd (omega (arith, is, eqb-true count 0 yes)), λ none. absurd (cc))
+none_refused [] count is = (λ holds. refl, λ none. (let zero : count ≡ 0 = omega (arith, is) in ap (λ (n : ℕ). n == 0) zero))
+none_refused (line ∷ lines) count is = (λ holds. absurd (omega (arith, is, eqb-true count 0 holds)), λ none. absurd (cc))
 
 has_checked : (start : Start Checker) (text : List ℕ) (left written : Option (List ℕ)) (machine : Checker) (counts : Counts) → start.machine.lines ≡ 0 → machine.is_spent ≡ false
     → Ended checks 18446744073709551615 start text left written machine counts → HasChecked text (counts.refused == 0) start.written written

@@ -38,14 +38,14 @@ kept_none : (text : List ℕ) → kept_bytes text ≡ [] → text ≡ []
 unfolding max_kept
 kept_none text none = nil_from_length text (omega (arith, ap length none, length-take MAX_KEPT_BYTES text))
 
-pub no_line : (was : Checker) (line : List ℕ) (ended : EndedBy) (no : Bool) (text : List ℕ) → was.is_spent ≡ false
-    → MatchBool no ((ended ≡ Input) × (line ≡ [])) (ended ≡ Input → line ≢ []) → no ≡ true → line ≡ kept_bytes text → Checks was ended text was (replied_of None)
-no_line was line ended true text goes says yes is =
+pub no_line : (was : Checker) (line : List ℕ) (ended : EndedBy) (lacks : Bool) (text : List ℕ) → was.is_spent ≡ false
+    → MatchBool lacks ((ended ≡ Input) × (line ≡ [])) (ended ≡ Input → line ≢ []) → lacks ≡ true → line ≡ kept_bytes text → Checks was ended text was (replied_of None)
+no_line was line ended true text goes says holds is =
     let empty : text ≡ [] = kept_none text (sym is ∙ says.1) in
     let none : lines_by ended text ≡ [] = ap (λ (e : EndedBy). lines_by e text) says.0 ∙ ap last_line empty in
     let nothing : Tells was was [] (replied_of None) = record { goes = goes; counts = refl; goes_on = goes; text = refl; refuses = refl } in
     inr (subst (λ (lines : List (List ℕ)). Tells was was lines (replied_of None)) (sym none) nothing)
-no_line was line ended false text goes says yes is = absurd (cc)
+no_line was line ended false text goes says holds is = absurd (cc)
 
 -- ---- a line
 
@@ -54,11 +54,11 @@ one_line Newline line text some is = refl
 one_line Input line [] some is = absurd (some refl (is ∙ kept_bytes-nil))
 one_line Input line (b ∷ text) some is = refl
 
-pub next_line : (was now : Checker) (line : List ℕ) (ended : EndedBy) (no : Bool) (said : Option (List ℕ)) (text : List ℕ) → was.is_spent ≡ false
-    → MatchBool no ((ended ≡ Input) × (line ≡ [])) (ended ≡ Input → line ≢ []) → no ≡ false → line ≡ kept_bytes text → TellsNext was line now said
+pub next_line : (was now : Checker) (line : List ℕ) (ended : EndedBy) (lacks : Bool) (said : Option (List ℕ)) (text : List ℕ) → was.is_spent ≡ false
+    → MatchBool lacks ((ended ≡ Input) × (line ≡ [])) (ended ≡ Input → line ≢ []) → lacks ≡ false → line ≡ kept_bytes text → TellsNext was line now said
     → Checks was ended text now (replied_of said)
-next_line was now line ended true said text goes says yes is tells = absurd (cc)
-next_line was now line ended false said text goes says yes is tells = elim tells [
+next_line was now line ended true said text goes says holds is tells = absurd (cc)
+next_line was now line ended false said text goes says holds is tells = elim tells [
   | inl spent ↦ inl (spent.0, ap (λ (s : Option (List ℕ)). (replied_of s).text) spent.1)
   | inr told_next ↦ inr (subst (λ (lines : List (List ℕ)). Tells was now lines (replied_of said)) (sym (one_line ended line text says is)) (tells_one told_next))
 ]
