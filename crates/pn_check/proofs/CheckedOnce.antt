@@ -65,9 +65,9 @@ next_line was now line ended false said text goes says holds is tells = elim tel
   where
     tells_one : (now.is_spent ≡ was.is_spent) × (now.lines ≡ next was.lines) × (said ≡ told (next was.lines) line) → Tells was now (text ∷ []) (replied_of said)
     tells_one told_next =
-        let same : said ≡ told (next was.lines) text = told_next.1.1 ∙ told-kept (next was.lines) line text is in record {
+        let same : said ≡ told (next was.lines) text = told_next.2 ∙ told-kept (next was.lines) line text is in record {
           goes = goes;
-          counts = told_next.1.0;
+          counts = told_next.1;
           goes_on = told_next.0 ∙ goes;
           text = ap (λ (s : Option (List ℕ)). (replied_of s).text) same ∙ reply_text was.lines text;
           refuses = ap (λ (s : Option (List ℕ)). one_if (replied_of s).refused) same ∙ reply_refuses was.lines text;
