@@ -202,4 +202,13 @@ fn is_timed(member: &str) -> bool {
         || member.starts_with("uptime")
         || member.starts_with("rounds")
         || member.starts_with("{\"bytes")
+        || is_of_times(member)
+}
+
+// Whether a member is one of `times`, or stands in them.
+fn is_of_times(member: &str) -> bool {
+    member.starts_with("times")
+        || member.starts_with("most")
+        || member.starts_with("count")
+        || member.starts_with("total")
 }
