@@ -12,6 +12,7 @@ pub mod Reports
 pub mod Rounds
 pub mod Served
 pub mod Sessions
+pub mod Shown
 pub mod Tries
 pub mod Whole
 pub mod Writers

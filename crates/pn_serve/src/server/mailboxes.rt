@@ -7,6 +7,7 @@ use crate::server::counter::Counter;
 use crate::server::held_report::{ClosedMailbox, HeldReport, LeftReport};
 use crate::server::reporter::Reporter;
 use crate::server::reports::Report;
+use crate::server::shown_mark::{MarkSeen, ShownMark};
 use crate::server::times::TimeCounters;
 use crate::server::wakeup::{Waited, Wakeup};
 use pn_join::{Marks, StreamName};
@@ -45,7 +46,7 @@ pub(crate) enum AtFault {
 pub(crate) struct StreamMailbox {
     pub(crate) name: StreamName,
     pub(crate) mailbox: Arc<Mailbox>,
-    pub(crate) taken: Option<Arc<Counter>>,
+    pub(crate) taken: Option<Arc<ShownMark>>,
 }
 
 impl StreamMailbox {
@@ -62,7 +63,7 @@ impl StreamMailbox {
     // Shows how far the stream was taken.
     fn show(&self, marks: &Marks) {
         if let Some(taken) = &self.taken {
-            taken.set(marks.position(&self.name));
+            taken.show(MarkSeen::of(marks, &self.name));
         }
     }
 }
@@ -96,7 +97,7 @@ impl StreamMailboxes {
         &mut self,
         alloc: Global,
         name: StreamName,
-        taken: Option<Arc<Counter>>,
+        taken: Option<Arc<ShownMark>>,
     ) -> Result<Reporter, AllocError>
         ensures names { OnOk result (map (λ stream. stream.name) self.new.streams.items
             ≡ map (λ stream. stream.name) self.old.streams.items ++ name ∷ []) }

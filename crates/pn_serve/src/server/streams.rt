@@ -1,6 +1,6 @@
 //! Streams that are read from one writer after another into a live region, each in its own thread.
 
-ghost use Rattle.std.specs.Prelude.{◌≡◌, [], ◌∷◌, ◌++◌, ◌≤◌, map, None, IfErr, IfOk, OnOk};
+ghost use Rattle.std.specs.Prelude.{◌≡◌, [], ◌∷◌, ◌++◌, ◌≤◌, map, None, IfErr, IfOk, IfSome, OnOk};
 ghost use Rattle.pn_apply.specs.declared.reducing.TheConstants.{MAX_WORKERS};
 ghost use Rattle.pn_live.specs.Prelude.{tablets_in};
 ghost use Rattle.pn_serve.specs.Server.Events.{ReadsBesides};
@@ -15,11 +15,12 @@ use crate::server::mailboxes::{AtFault, StreamMailboxes, share};
 use crate::server::reporter::Reporter;
 use crate::server::reporting::{next_input, report_stream};
 use crate::server::reports::Report;
+use crate::server::shown_mark::MarkSeen;
 use crate::server::times::TimeCounters;
 use crate::server::wakeup::Wakeup;
-use crate::server::writer_input::workers_of_each;
+use crate::server::writer_input::{WriterInput, workers_of_each};
 use crate::server::writers::{Origin, Stream};
-use pn_join::Marks;
+use pn_join::{Marks, StreamName};
 use pn_line::Source;
 use pn_live::LiveRegion;
 use std::alloc::{AllocError, Global};
@@ -144,7 +145,7 @@ where
         origin,
         taken,
     } = stream;
-    let after = marks.position(&name);
+    let after = MarkSeen::of(marks, &name);
     let reporter = mailboxes.add(alloc, name, taken)?;
     let host = *rt;
     thread::spawn(rt, move || {
@@ -153,17 +154,17 @@ where
     Ok(())
 }
 
-// Reports a stream from its first writer on. All up to this position was taken before.
+// Reports a stream from its first writer on. All up to its mark was taken before.
 fn report_writers<R: Threads + Wait + Clock, S: Source + Drop, O: Origin<S> + Drop>(
     rt: &R,
     alloc: Global,
-    after: u64,
+    after: MarkSeen,
     workers: usize,
     origin: O,
     reporter: &Reporter,
 ) {
     let mut origin = origin;
-    match next_input::<S, O>(alloc, reporter.name, after, workers, &mut origin) {
+    match first_input::<S, O>(alloc, reporter.name, after, workers, &mut origin) {
         Some(input) => {
             let _ = report_stream(rt, alloc, input, origin, reporter);
         }
@@ -171,4 +172,17 @@ fn report_writers<R: Threads + Wait + Clock, S: Source + Drop, O: Origin<S> + Dr
             let _ = reporter.leave(rt, Report::End(reporter.name));
         }
     }
+}
+
+// The input of a stream's first writer, which begins after its mark or later. None where the stream has ended.
+fn first_input<S: Source + Drop, O: Origin<S>>(
+    alloc: Global,
+    name: StreamName,
+    after: MarkSeen,
+    workers: usize,
+    origin: &mut O,
+) -> Option<WriterInput<S>>
+    ensures { IfSome result (λ first. after.position ≤ first.last) }
+{
+    next_input::<S, O>(alloc, name, after.position, workers, origin)
 }
