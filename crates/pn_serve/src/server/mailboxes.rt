@@ -7,7 +7,7 @@ use crate::server::counter::Counter;
 use crate::server::held_report::{ClosedMailbox, HeldReport, LeftReport};
 use crate::server::reporter::Reporter;
 use crate::server::reports::Report;
-use crate::server::shown_mark::{MarkSeen, ShownMark};
+use crate::server::shown_mark::ShownMark;
 use crate::server::times::TimeCounters;
 use crate::server::wakeup::{Waited, Wakeup};
 use pn_join::{Marks, StreamName};
@@ -63,7 +63,7 @@ impl StreamMailbox {
     // Shows how far the stream was taken.
     fn show(&self, marks: &Marks) {
         if let Some(taken) = &self.taken {
-            taken.show(MarkSeen::of(marks, &self.name));
+            taken.show(marks, &self.name);
         }
     }
 }

@@ -44,8 +44,9 @@ impl ShownMark {
         ShownMark(AtomicIn::new(0))
     }
 
-    /// Shows a mark in its place.
-    pub(crate) fn show(&self, seen: MarkSeen) {
+    /// Shows how far these marks have come of the stream of this name.
+    pub fn show(&self, marks: &Marks, name: &StreamName) {
+        let seen = MarkSeen::of(marks, name);
         self.0.store(seen.position, Ordering::SeqCst);
     }
 
