@@ -11,6 +11,7 @@ use Rattle.pn_serve.specs.Server.Reading.{ReadToEnds, ReadUpTo, RunsRounds}
 use Rattle.pn_serve.specs.declared.server.mailboxes.AtFault.{AtFault}
 use Rattle.pn_serve.specs.declared.server.mailboxes.AtFault.TheVariants.{Stop}
 use Rattle.pn_serve.proofs.RoundsRead.{of_rounds}
+use Rattle.pn_serve.specs.Server.Sent.{AnyDelivery}
 use Rattle.pn_serve.specs.Server.Served.{EndsReading, EndsRegion, EndsServing}
 use Rattle.pn_serve.specs.Server.Whole.{IsTakenWhole}
 use Rattle.pn_serve.specs.declared.server.fault.ServeFault.{ServeFault}
@@ -18,7 +19,7 @@ use Rattle.pn_serve.specs.declared.server.fault.ServeFault.TheVariants.{Start, S
 
 module _ {S : Type 0} (left : S → Option (List ℕ)) (streams : List (batches.Stream S)) where
   -- rounds stopped
-  rounds_stopped : (old new : LiveRegionValue) (fault : ServeFault) → IsOfRounds (names_of streams) fault → ReadUpTo Stop (names_of streams) old new fault → EndsReading left streams old new (Err fault)
+  rounds_stopped : (old new : LiveRegionValue) (fault : ServeFault) → IsOfRounds (names_of streams) fault → ReadUpTo AnyDelivery Stop (names_of streams) old new fault → EndsReading left streams old new (Err fault)
   rounds_stopped old new (Stream name) named read = (named, inl read)
   rounds_stopped old new Round named read = read
   rounds_stopped old new Start named read = absurd named
@@ -26,14 +27,14 @@ module _ {S : Type 0} (left : S → Option (List ℕ)) (streams : List (batches.
   rounds_stopped old new Write named read = absurd named
 
   -- a thread's stream is not taken
-  not_taken : (old new : LiveRegionValue) (fault : ServeFault) → ReadToEnds Stop (names_of streams) old new → NamesOne (names_of streams) fault → EndsReading left streams old new (Err fault)
+  not_taken : (old new : LiveRegionValue) (fault : ServeFault) → ReadToEnds AnyDelivery Stop (names_of streams) old new → NamesOne (names_of streams) fault → EndsReading left streams old new (Err fault)
   not_taken old new (Stream name) read named = (named, inr read)
   not_taken old new Start read named = absurd named
   not_taken old new Round read named = absurd named
   not_taken old new Close read named = absurd named
   not_taken old new Write read named = absurd named
 
-  all_read : (old new : LiveRegionValue) (result : Result (Unit {0}) ServeFault) → ReadToEnds Stop (names_of streams) old new → OnOk result (All (IsTakenWhole left new.marks) streams) → IfErr result (NamesOne (names_of streams))
+  all_read : (old new : LiveRegionValue) (result : Result (Unit {0}) ServeFault) → ReadToEnds AnyDelivery Stop (names_of streams) old new → OnOk result (All (IsTakenWhole left new.marks) streams) → IfErr result (NamesOne (names_of streams))
       → EndsReading left streams old new result
   all_read old new (Ok done) read taken named = record { read = read; taken = taken }
   all_read old new (Err fault) read taken named = not_taken old new fault read named
@@ -46,19 +47,19 @@ module _ {S : Type 0} (left : S → Option (List ℕ)) (streams : List (batches.
 
   -- all threads ended, or sessions were refused
   pub reading_ends : (at_fault : AtFault) (names : List (List ℕ)) (read_by : List (batches.Stream S)) (old new : LiveRegionValue) (is_refused : Bool) (marks : Positions) (read result : Result (Unit {0}) ServeFault)
-      → at_fault ≡ Stop → names ≡ names_of streams → read_by ≡ streams → (is_refused ≡ true → (read ≡ Err Start) × (new ≡ old)) → (is_refused ≡ false → RunsRounds at_fault names old new read)
+      → at_fault ≡ Stop → names ≡ names_of streams → read_by ≡ streams → (is_refused ≡ true → (read ≡ Err Start) × (new ≡ old)) → (is_refused ≡ false → RunsRounds AnyDelivery at_fault names old new read)
       → IfErr read (λ fault. result ≡ Err fault)
       → marks ≡ new.marks → OnOk read (OnOk result (All (IsTakenWhole left marks) read_by)) → OnOk read (IfErr result (NamesOne (names_of read_by))) → EndsReading left streams old new result
   reading_ends at_fault names read_by old new true marks read result stop same_names are refused reads first same taken rest =
       let start = subst (λ (r : Result (Unit {0}) ServeFault). IfErr r (λ fault. result ≡ Err fault)) (refused refl).0 first in
       subst (EndsReading left streams old new) (sym start) (refused refl).1
   reading_ends at_fault names read_by old new false marks (Err fault) result stop same_names are refused reads first same taken rest =
-      let read_up : ReadUpTo Stop (names_of streams) old new fault =
-      subst (λ (a : AtFault). ReadUpTo a (names_of streams) old new fault) stop (subst (λ (ns : List (List ℕ)). ReadUpTo at_fault ns old new fault) same_names (reads refl)) in
-      subst (EndsReading left streams old new) (sym first) (rounds_stopped old new fault (of_rounds Stop (names_of streams) old new fault read_up) read_up)
+      let read_up : ReadUpTo AnyDelivery Stop (names_of streams) old new fault =
+      subst (λ (a : AtFault). ReadUpTo AnyDelivery a (names_of streams) old new fault) stop (subst (λ (ns : List (List ℕ)). ReadUpTo AnyDelivery at_fault ns old new fault) same_names (reads refl)) in
+      subst (EndsReading left streams old new) (sym first) (rounds_stopped old new fault (of_rounds AnyDelivery Stop (names_of streams) old new fault read_up) read_up)
   reading_ends at_fault names read_by old new false marks (Ok done) result stop same_names are refused reads first same taken rest =
       all_read old new result
-      (subst (λ (a : AtFault). ReadToEnds a (names_of streams) old new) stop (subst (λ (ns : List (List ℕ)). ReadToEnds at_fault ns old new) same_names (reads refl)))
+      (subst (λ (a : AtFault). ReadToEnds AnyDelivery a (names_of streams) old new) stop (subst (λ (ns : List (List ℕ)). ReadToEnds AnyDelivery at_fault ns old new) same_names (reads refl)))
       (subst (λ (ss : List (batches.Stream S)). OnOk result (All (IsTakenWhole left new.marks) ss)) are (subst (λ (m : Positions). OnOk result (All (IsTakenWhole left m) read_by)) same taken))
       (subst (λ (ss : List (batches.Stream S)). IfErr result (NamesOne (names_of ss))) are rest)
 

@@ -13,6 +13,7 @@ ghost use Rattle.pn_live.specs.declared.region.opening.TheConstants.{MAX_READERS
 ghost use Rattle.pn_serve.specs.declared.server.limits.TheConstants.{MAX_SESSIONS};
 ghost use Rattle.pn_serve.specs.Server.Faults.{NamesOne, names_of};
 ghost use Rattle.pn_serve.specs.Server.Reading.{RunsRounds};
+ghost use Rattle.pn_serve.specs.Server.Sent.{AnyDelivery};
 ghost use Rattle.pn_serve.specs.Server.Served.{EndsReading, EndsRegion, EndsServing};
 ghost use Rattle.pn_serve.specs.Server.Sessions.{AllRead};
 ghost use Rattle.pn_serve.specs.Server.Whole.{IsTakenWhole};
@@ -23,6 +24,7 @@ mod events;
 mod fault;
 mod fault_log;
 mod held_report;
+mod kept_report;
 mod limits;
 pub(crate) mod mailboxes;
 mod messages;
@@ -35,6 +37,7 @@ mod session_threads;
 mod stream_path;
 mod stream_threads;
 mod streams;
+pub(crate) mod texts;
 mod times;
 mod tries;
 pub(crate) mod wakeup;
@@ -68,6 +71,7 @@ use std::thread::Threads;
 use std::time::Clock;
 pub use stream_path::StreamPath;
 pub use streams::{Watchers, read_streams};
+pub use texts::{AnyWriters, Sending};
 pub use times::TimeCounters;
 pub use writers::{NextWriter, Origin, Stream, WriterEnd};
 
@@ -244,12 +248,12 @@ fn run_unless_refused<R: Threads + Wait + Clock + Sync>(
     alloc: Global,
     live: &mut LiveRegion,
     workers: usize,
-    mailboxes: &mut StreamMailboxes,
+    mailboxes: &mut StreamMailboxes<AnyWriters>,
     is_refused: bool,
 ) -> Result<(), ServeFault>
     requires workers { (1 ≤ workers) × (workers ≤ MAX_WORKERS) }
     ensures refused { IsTrue is_refused → (result ≡ Err ServeFault.Start) × (live.new ≡ live.old) }
-    ensures reads { IsFalse is_refused → RunsRounds mailboxes.old.at_fault (map (λ stream. stream.name) mailboxes.old.streams.items) live.old live.new result }
+    ensures reads { IsFalse is_refused → RunsRounds AnyDelivery mailboxes.old.at_fault (map (λ stream. stream.name) mailboxes.old.streams.items) live.old live.new result }
     ensures same { tablets_in live.new ≡ tablets_in live.old }
 {
     if is_refused {

@@ -12,6 +12,7 @@ use crate::server::fault_log::{FaultLog, OneWriter};
 use crate::server::mailboxes::{AtFault, StreamMailboxes};
 use crate::server::reporter::{HasReporter, Reporter};
 use crate::server::reporting::{StreamEnd, report_stream};
+use crate::server::texts::AnyWriters;
 use crate::server::wakeup::Wakeup;
 use crate::server::writer_input::WriterInput;
 use pn_join::{Marks, StreamName};
@@ -43,7 +44,7 @@ pub(crate) type StreamThread<S> = PromisedHandle<
 /// Streams that are being read: their mailboxes and threads.
 #[derive(Drop)]
 pub(crate) struct StartedStreams<S: Source + Drop> {
-    pub(crate) mailboxes: StreamMailboxes,
+    pub(crate) mailboxes: StreamMailboxes<AnyWriters>,
     pub(crate) threads: Vec<StreamThread<S>>,
 }
 
@@ -168,11 +169,11 @@ fn report_to_end<R: Threads + Wait + Clock + Copy, S: Source + Drop>(
     stream: StreamReader<S>,
     workers: usize,
     origin: OneWriter<R>,
-    reporter: &Reporter,
+    reporter: &Reporter<AnyWriters>,
 ) -> Result<StreamEnd, StreamName>
     ensures { EndsStream S.left stream result }
 {
-    report_stream(
+    report_stream::<R, S, OneWriter<R>, AnyWriters>(
         rt,
         alloc,
         WriterInput::of(stream, workers),
