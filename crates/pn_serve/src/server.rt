@@ -12,11 +12,14 @@ ghost use Rattle.pn_live.specs.Prelude.{IsNewLive, tablets_in};
 ghost use Rattle.pn_live.specs.declared.region.opening.TheConstants.{MAX_READERS};
 ghost use Rattle.pn_serve.specs.declared.server.limits.TheConstants.{MAX_SESSIONS};
 ghost use Rattle.pn_serve.specs.Server.Faults.{NamesOne, names_of};
+ghost use Rattle.pn_serve.specs.Server.Honest.{AreHonestWriters};
 ghost use Rattle.pn_serve.specs.Server.Reading.{RunsRounds};
-ghost use Rattle.pn_serve.specs.Server.Sent.{AnyDelivery};
+ghost use Rattle.pn_serve.specs.Server.Sent.{IsOfWriter, IsSent};
 ghost use Rattle.pn_serve.specs.Server.Served.{EndsReading, EndsRegion, EndsServing};
 ghost use Rattle.pn_serve.specs.Server.Sessions.{AllRead};
 ghost use Rattle.pn_serve.specs.Server.Whole.{IsTakenWhole};
+ghost use Rattle.pn_stream.specs.Brokers.{IsHonest};
+ghost use Rattle.pn_stream.specs.Prelude.{BrokerRecord};
 ghost use Rattle.pn_protocol.specs.Prelude.{served_line};
 
 mod counter;
@@ -86,7 +89,7 @@ pub struct OpenedRegion {
 ///
 /// After a fault of a stream or a round, the sessions are still served. A session's fault ends that session alone.
 /// Faults come in the order of `ServeFault`.
-pub fn serve<R, L, S, W>(
+pub fn serve<R, L, S, W, M>(
     rt: &R,
     alloc: Global,
     listener: &L,
@@ -100,15 +103,26 @@ where
     L: Acceptor + Drop + Send + 'static,
     S: Source + Drop + Send + 'static,
     W: Sink,
-    requires { (1 ≤ sessions) × (sessions ≤ MAX_SESSIONS) }
-    ensures ends { EndsServing S.left settings.layout streams.items result }
+    M: Sending + Send + 'static,
+    requires sessions { (1 ≤ sessions) × (sessions ≤ MAX_SESSIONS) }
+    requires sent { M.known → All (IsOfWriter M.sends S.left) streams.items }
+    ensures ends { EndsServing (IsSent M.known M.sends) S.left settings.layout streams.items result }
+    ensures honest { (broker : BrokerRecord) → M.known → AreHonestWriters broker M.sends
+        → EndsServing (IsHonest broker) S.left settings.layout streams.items result }
     ensures served { OnOk result (Appends (W.contents out.old) (W.contents out.new) (served_line sessions)) }
     ensures silent { IfErr result (λ fault. fault ≢ ServeFault.Write → Keeps (W.contents out.old) (W.contents out.new)) }
     ensures part { IsErrOf result ServeFault.Write → AppendsPrefix (W.contents out.old) (W.contents out.new) (served_line sessions) }
     ensures write { IsErrOf result ServeFault.Write → W.may_fail }
     ensures handed_on { OnOk result (W.is_handed_on out.new) }
 {
-    let served = serve_region(rt, alloc, settings, listener, sessions, streams);
+    let served = serve_region::<R, L, S, M>(
+        rt,
+        alloc,
+        settings,
+        listener,
+        sessions,
+        streams,
+    );
     tell_served(served, out)
 }
 
@@ -128,7 +142,7 @@ fn tell_served<W: Sink>(served: Result<usize, ServeFault>, out: &mut W) -> Resul
 }
 
 // Serves over a new live region, and closes it. Answers how many readers came back.
-fn serve_region<R, L, S>(
+fn serve_region<R, L, S, M>(
     rt: &R,
     alloc: Global,
     settings: Settings,
@@ -140,15 +154,17 @@ where
     R: Threads + Wait + Clock + Sync + Copy + Send + 'static,
     L: Acceptor + Drop + Send + 'static,
     S: Source + Drop + Send + 'static,
-    requires { (1 ≤ sessions) × (sessions ≤ MAX_SESSIONS) }
-    ensures ends { EndsRegion S.left settings.layout streams.items result }
+    M: Sending + Send + 'static,
+    requires sessions { (1 ≤ sessions) × (sessions ≤ MAX_SESSIONS) }
+    requires sent { M.known → All (IsOfWriter M.sends S.left) streams.items }
+    ensures ends { EndsRegion (IsSent M.known M.sends) S.left settings.layout streams.items result }
     ensures fault { IfErr result (λ fault. fault ≢ ServeFault.Write) }
     ensures count { IfOk result (λ count. count ≡ sessions) }
 {
     let Settings { layout, workers } = settings;
     let (live, readers) = open_region(rt, alloc, layout, sessions)?;
     let opened = OpenedRegion { live, readers };
-    serve_opened(rt, alloc, listener, opened, workers, streams)
+    serve_opened::<R, L, S, M>(rt, alloc, listener, opened, workers, streams)
 }
 
 /// Opens a live region with this many readers.
@@ -202,7 +218,7 @@ fn conclude(
 }
 
 // Reads the streams while the sessions are served, and takes the readers back from the sessions.
-fn serve_streams<R, L, S>(
+fn serve_streams<R, L, S, M>(
     rt: &R,
     alloc: Global,
     listener: &L,
@@ -214,15 +230,17 @@ where
     R: Threads + Wait + Clock + Sync + Copy + Send + 'static,
     L: Acceptor + Drop + Send + 'static,
     S: Source + Drop + Send + 'static,
+    M: Sending + Send + 'static,
     requires workers { (1 ≤ workers) × (workers ≤ MAX_WORKERS) }
     requires own { AllRead (tablets_in region.old.live) region.old.readers.items }
+    requires sent { M.known → All (IsOfWriter M.sends S.left) streams.items }
     ensures own { AllRead (tablets_in region.new.live) region.new.readers.items }
     ensures all { OnOk result (vec_len region.new.readers ≡ vec_len region.old.readers) }
-    ensures ends { EndsReading S.left streams.items region.old.live region.new.live result }
+    ensures ends { EndsReading (IsSent M.known M.sends) S.left streams.items region.old.live region.new.live result }
 {
     let (rounds, faults) = (listener.round_counter(), listener.fault_log());
     let own = workers_of_each(workers, streams.len());
-    let started = start_streams(rt, alloc, streams, own, rounds, faults)?;
+    let started = start_streams::<R, S, M>(rt, alloc, streams, own, rounds, faults)?;
     let StartedStreams { mailboxes, threads } = started;
     let mut mailboxes = mailboxes;
     let StartedSessions {
@@ -243,17 +261,17 @@ where
 }
 
 // Runs the rounds, unless a session was refused.
-fn run_unless_refused<R: Threads + Wait + Clock + Sync>(
+fn run_unless_refused<R: Threads + Wait + Clock + Sync, M: Sending>(
     rt: &R,
     alloc: Global,
     live: &mut LiveRegion,
     workers: usize,
-    mailboxes: &mut StreamMailboxes<AnyWriters>,
+    mailboxes: &mut StreamMailboxes<M>,
     is_refused: bool,
 ) -> Result<(), ServeFault>
     requires workers { (1 ≤ workers) × (workers ≤ MAX_WORKERS) }
     ensures refused { IsTrue is_refused → (result ≡ Err ServeFault.Start) × (live.new ≡ live.old) }
-    ensures reads { IsFalse is_refused → RunsRounds AnyDelivery mailboxes.old.at_fault (map (λ stream. stream.name) mailboxes.old.streams.items) live.old live.new result }
+    ensures reads { IsFalse is_refused → RunsRounds (IsSent M.known M.sends) mailboxes.old.at_fault (map (λ stream. stream.name) mailboxes.old.streams.items) live.old live.new result }
     ensures same { tablets_in live.new ≡ tablets_in live.old }
 {
     if is_refused {

@@ -28,7 +28,3 @@ pub record WasRead (sends : List ℕ → List ℕ → Type 0) (delivery : Delive
 -- so it was, if the texts of writers are known
 abbrev pub IsSent : Type 0 → (List ℕ → List ℕ → Type 0) → DeliveryValue → Type 0
 IsSent known sends delivery = ∥ (known → WasRead sends delivery) ∥₁
-
--- any delivery: nothing is known of writers
-abbrev pub AnyDelivery : DeliveryValue → Type 0
-AnyDelivery delivery = IsSent ⊥ (λ name text. ⊥) delivery

@@ -7,7 +7,7 @@ use crate::server::counter::Counter;
 use crate::server::held_report::{ClosedMailbox, LeftReport};
 use crate::server::mailboxes::{AtFault, Mailbox};
 use crate::server::reports::Report;
-use crate::server::texts::{AnyWriters, Sending};
+use crate::server::texts::Sending;
 use crate::server::wakeup::Wakeup;
 use crate::server::writers::WriterEnd;
 use pn_join::StreamName;
@@ -29,14 +29,14 @@ pub(crate) struct Reporter<M: Sending> {
     pub(crate) waits: Counter,
 }
 
-/// What a thread is given that leaves reports of writers of which nothing is known.
-pub(crate) trait HasReporter {
+/// What a thread is given that leaves reports.
+pub(crate) trait HasReporter<M: Sending> {
     /// Where it leaves them.
-    fn reporter(&self) -> &Reporter<AnyWriters>;
+    fn reporter(&self) -> &Reporter<M>;
 }
 
-impl HasReporter for Reporter<AnyWriters> {
-    fn reporter(&self) -> &Reporter<AnyWriters> {
+impl<M: Sending> HasReporter<M> for Reporter<M> {
+    fn reporter(&self) -> &Reporter<M> {
         self
     }
 }
