@@ -1,7 +1,7 @@
 //! Reads streams into a live region while sessions are answered from it.
 
 ghost use Rattle.std.specs.Prelude.{◌≡◌, ◌≢◌, ◌≤◌, map, vec_len, All, Ok, Err};
-ghost use Rattle.std.specs.Prelude.{IfOk, IfErr, IsOk, OnOk, OnErr, IsErrOf, IsTrue, IsFalse, MatchResult};
+ghost use Rattle.std.specs.Prelude.{IfOk, IfErr, OnOk, IsErrOf, IsTrue, IsFalse, MatchResult};
 ghost use Rattle.std.specs.List.{AllByRecursion};
 ghost use Rattle.std.specs.Io.KnownBytes.{Appends, Keeps};
 ghost use Rattle.pn_apply.specs.declared.reducing.TheConstants.{MAX_WORKERS};
@@ -23,6 +23,7 @@ ghost use Rattle.pn_stream.specs.Prelude.{BrokerRecord};
 ghost use Rattle.pn_protocol.specs.Prelude.{served_line};
 
 mod counter;
+mod ending_line;
 mod events;
 mod fault;
 mod fault_log;
@@ -48,6 +49,7 @@ mod writer_input;
 mod writers;
 
 use crate::Settings;
+use crate::server::ending_line::tell_served;
 use crate::server::events::run_rounds;
 use crate::server::mailboxes::StreamMailboxes;
 use crate::server::session_threads::{StartedSessions, start_sessions};
@@ -61,9 +63,8 @@ pub use limits::MAX_SESSIONS;
 pub use opened::serve_from;
 use opened::serve_opened;
 use pn_join::{Marks, NoMemory};
-use pn_line::{Sink, Source, WriteFault, write_all_of};
+use pn_line::{Sink, Source};
 use pn_live::{LiveReader, LiveRegion};
-use pn_protocol::served_reply;
 use pn_region::Region;
 use pn_stream::StreamReader;
 use pn_tablet::Layout;
@@ -115,30 +116,8 @@ where
     ensures write { IsErrOf result ServeFault.Write → W.may_fail }
     ensures handed_on { OnOk result (W.is_handed_on out.new) }
 {
-    let served = serve_region::<R, L, S, M>(
-        rt,
-        alloc,
-        settings,
-        listener,
-        sessions,
-        streams,
-    );
+    let served = serve_region::<R, L, S, M>(rt, alloc, settings, listener, sessions, streams);
     tell_served(served, out)
-}
-
-// Writes `served N`, unless an earlier fault is answered.
-fn tell_served<W: Sink>(served: Result<usize, ServeFault>, out: &mut W) -> Result<(), ServeFault>
-    ensures fault { IfErr served (λ fault. (result ≡ Err fault) × (out.new ≡ out.old)) }
-    ensures all { OnOk result (IsOk served) }
-    ensures ok { IfOk served (λ count. OnOk result (Appends (W.contents out.old) (W.contents out.new) (served_line count))) }
-    ensures err { IfOk served (λ count. OnErr result (AppendsPrefix (W.contents out.old) (W.contents out.new) (served_line count))) }
-    ensures write { OnOk served (IfErr result (λ fault. (fault ≡ ServeFault.Write) × W.may_fail)) }
-    ensures handed_on { OnOk result (W.is_handed_on out.new) }
-{
-    match served {
-        Ok(count) => write_served(out, count),
-        Err(fault) => Err(fault),
-    }
 }
 
 // Serves over a new live region, and closes it. Answers how many readers came back.
@@ -296,29 +275,4 @@ fn join_after_rounds<R: Threads, S: Source + Drop>(
         Ok(()) => join_streams(rt, threads, marks),
         Err(fault) => Err(fault),
     }
-}
-
-// Writes `served N`.
-fn write_served<W: Sink>(out: &mut W, sessions: usize) -> Result<(), ServeFault>
-    ensures ok { OnOk result (Appends (W.contents out.old) (W.contents out.new) (served_line sessions)) }
-    ensures err { OnErr result (AppendsPrefix (W.contents out.old) (W.contents out.new) (served_line sessions)) }
-    ensures fault { IfErr result (λ fault. (fault ≡ ServeFault.Write) × W.may_fail) }
-    ensures handed_on { OnOk result (W.is_handed_on out.new) }
-{
-    let line = served_reply(sessions);
-    match send_line(out, line.as_bytes()) {
-        Ok(()) => Ok(()),
-        Err(_) => Err(ServeFault::Write),
-    }
-}
-
-// Writes a line and flushes it.
-fn send_line<W: Sink>(out: &mut W, line: &[u8]) -> Result<(), WriteFault>
-    ensures ok { OnOk result (Appends (W.contents out.old) (W.contents out.new) line.now) }
-    ensures err { OnErr result (AppendsPrefix (W.contents out.old) (W.contents out.new) line.now) }
-    ensures fault { OnErr result W.may_fail }
-    ensures handed_on { OnOk result (W.is_handed_on out.new) }
-{
-    write_all_of(out, line)?;
-    out.hand_on()
 }

@@ -13,9 +13,9 @@ ghost use Rattle.pn_serve.specs.Server.Sessions.{AllRead};
 ghost use Rattle.pn_stream.specs.Brokers.{IsHonest};
 ghost use Rattle.pn_stream.specs.Prelude.{BrokerRecord};
 
+use crate::server::ending_line::tell_served;
 use crate::server::{
     Acceptor, OpenedRegion, Sending, ServeFault, close_region, conclude, serve_streams,
-    tell_served,
 };
 use pn_line::{Sink, Source};
 use pn_stream::StreamReader;
@@ -79,14 +79,7 @@ where
     ensures count { IfOk result (λ count. count ≡ vec_len opened.readers) }
 {
     let mut region = opened;
-    let served = serve_streams::<R, L, S, M>(
-        rt,
-        alloc,
-        listener,
-        &mut region,
-        workers,
-        streams,
-    );
+    let served = serve_streams::<R, L, S, M>(rt, alloc, listener, &mut region, workers, streams);
     let OpenedRegion { live, readers } = region;
     let count = readers.len();
     let closed = close_region(rt, live, readers);

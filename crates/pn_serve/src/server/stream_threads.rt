@@ -97,14 +97,7 @@ where
         return Err(ServeFault::Start);
     };
     for stream in streams {
-        if let Err(_) = start_stream::<R, S, M>(
-            rt,
-            alloc,
-            &mut started,
-            stream,
-            workers,
-            &faults,
-        ) {
+        if let Err(_) = start_stream::<R, S, M>(rt, alloc, &mut started, stream, workers, &faults) {
             started.mailboxes.close(rt);
             return Err(ServeFault::Start);
         }
@@ -139,12 +132,7 @@ where
         faults: share(faults)?,
     };
     let thread = spawn_reporting::<R, S, Reporter<M>, M>(
-        rt,
-        alloc,
-        stream,
-        workers,
-        origin,
-        reporter,
+        rt, alloc, stream, workers, origin, reporter,
     )?;
     started.threads.push(thread)?;
     Ok(())
@@ -169,11 +157,13 @@ where
 {
     let host = *rt;
     let promise = SaysWhetherWhole(Snapshot::of(&stream));
-    let thread = thread::spawn_with(rt, promise, move ||
-        requires { M.known → IsOfWriter M.sends S.left stream }
-    {
-        report_to_end::<R, S, M>(&host, alloc, stream, workers, origin, reporter.reporter())
-    })?;
+    let thread = thread::spawn_with(
+        rt,
+        promise,
+        move ||
+            requires { M.known → IsOfWriter M.sends S.left stream }
+        { report_to_end::<R, S, M>(&host, alloc, stream, workers, origin, reporter.reporter()) },
+    )?;
     Ok(thread)
 }
 
