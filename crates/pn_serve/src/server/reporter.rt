@@ -25,7 +25,7 @@ pub(crate) struct Reporter<M: Sending> {
     pub(crate) at_fault: AtFault,
     /// How many streams wait for memory, where somebody looks at that.
     pub(crate) waiting: Option<Arc<Counter>>,
-    /// At 1 while this stream waits for memory, and else at 0.
+    /// 1 while this stream waits for memory, otherwise 0.
     pub(crate) waits: Counter,
 }
 

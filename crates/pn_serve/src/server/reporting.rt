@@ -150,7 +150,7 @@ fn end_of<S: Source + Drop>(
     }
 }
 
-// What comes after a writer's input: that of the next one, which begins after what was handed on or later, with no part of the
+// What comes after a writer's input: that of the next one, which begins after what was reported or later, with no part of the
 // last one's line. None where the stream has ended.
 fn what_comes_next<S: Source + Drop, O: Origin<S, M>, M: Sending>(
     alloc: Global,
@@ -176,7 +176,7 @@ fn what_comes_next<S: Source + Drop, O: Origin<S, M>, M: Sending>(
     next_input::<S, O, M>(alloc, name, last, workers, origin)
 }
 
-/// The input of the next writer of a stream, all of which was handed on up to `last`. It begins after the position that the
+/// The input of the next writer of a stream, all of which was reported up to `last`. It begins after the position that the
 /// origin says. None where the stream has ended.
 pub(crate) fn next_input<S: Source + Drop, O: Origin<S, M>, M: Sending>(
     alloc: Global,

@@ -40,7 +40,7 @@ pub struct Watchers {
     pub rounds: Option<Arc<Counter>>,
     /// Counts how long they take, where somebody looks at that.
     pub times: Option<Arc<TimeCounters>>,
-    /// Stands at 1 while a round waits for memory, and else at 0, where somebody looks at that.
+    /// 1 while a round waits for memory, otherwise 0, where somebody looks at that.
     pub shortage: Option<Arc<Counter>>,
     /// Counts the streams that wait for memory, where somebody looks at that.
     pub waiting: Option<Arc<Counter>>,
