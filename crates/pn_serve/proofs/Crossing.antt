@@ -18,10 +18,11 @@ use Rattle.pn_serve.specs.contracts.control.commands.WriterCommand as command
 use Rattle.pn_serve.specs.contracts.control.commands.WriterAnswer as answer
 use Rattle.pn_serve.specs.contracts.control.answers.Question as question
 use Rattle.pn_serve.specs.contracts.control.answers.GivenAnswer as given
-use Rattle.pn_serve.specs.contracts.control.mailboxes.HeldCommand as held_command
+use Rattle.pn_serve.specs.contracts.control.held_command.HeldCommand as held_command
 use Rattle.pn_serve.specs.contracts.control.mailboxes.ControlMailbox as control_mailbox
 use Rattle.pn_serve.specs.contracts.control.mailboxes.ControlMailboxes as controls
 use Rattle.pn_serve.specs.contracts.server.counter.Counter as counter
+use Rattle.pn_serve.specs.contracts.server.shown_mark.ShownMark as shown_mark
 use Rattle.pn_serve.specs.contracts.server.fault_log.StreamFailure as failure
 use Rattle.pn_serve.specs.contracts.server.fault_log.FaultLog as faults
 use Rattle.pn_serve.specs.contracts.server.messages.RoundShare as messages
@@ -127,6 +128,12 @@ counter_send = search (sendable, crosses) depth 40
 
 pub counter_sync : IsSync counter.the_row
 counter_sync = search (sendable, crosses) depth 40
+
+pub shown_mark_send : IsSend shown_mark.the_row
+shown_mark_send = search (sendable, crosses) depth 40
+
+pub shown_mark_sync : IsSync shown_mark.the_row
+shown_mark_sync = search (sendable, crosses) depth 40
 
 failure_send : IsSend failure.the_row
 failure_send = search (sendable, crosses, name_send) depth 40 fits 20000

@@ -14,6 +14,7 @@ pub mod Sent
 pub mod SentReports
 pub mod Served
 pub mod Sessions
+pub mod Shown
 pub mod Tries
 pub mod Whole
 pub mod Writers

@@ -9,6 +9,7 @@ use crate::server::held_report::{ClosedMailbox, LeftReport};
 use crate::server::kept_report::KeptReport;
 use crate::server::reporter::Reporter;
 use crate::server::reports::Report;
+use crate::server::shown_mark::ShownMark;
 use crate::server::texts::Sending;
 use crate::server::times::TimeCounters;
 use crate::server::wakeup::{Waited, Wakeup};
@@ -48,7 +49,7 @@ pub(crate) enum AtFault {
 pub(crate) struct StreamMailbox<M: Sending> {
     pub(crate) name: StreamName,
     pub(crate) mailbox: Arc<Mailbox<M>>,
-    pub(crate) taken: Option<Arc<Counter>>,
+    pub(crate) taken: Option<Arc<ShownMark>>,
 }
 
 impl<M: Sending> StreamMailbox<M> {
@@ -66,7 +67,7 @@ impl<M: Sending> StreamMailbox<M> {
     // Shows how far the stream was taken.
     fn show(&self, marks: &Marks) {
         if let Some(taken) = &self.taken {
-            taken.set(marks.position(&self.name));
+            taken.show(marks, &self.name);
         }
     }
 }
@@ -100,7 +101,7 @@ impl<M: Sending> StreamMailboxes<M> {
         &mut self,
         alloc: Global,
         name: StreamName,
-        taken: Option<Arc<Counter>>,
+        taken: Option<Arc<ShownMark>>,
     ) -> Result<Reporter<M>, AllocError>
         ensures names { OnOk result (map (λ stream. stream.name) self.new.streams.items
             ≡ map (λ stream. stream.name) self.old.streams.items ++ name ∷ []) }

@@ -1,12 +1,12 @@
 //! Streams that are read from one writer after another into a live region, each in its own thread.
 
-ghost use Rattle.std.specs.Prelude.{◌≡◌, [], ◌∷◌, ◌++◌, ◌≤◌, map, None, IfErr, IfOk, OnOk};
+ghost use Rattle.std.specs.Prelude.{◌≡◌, [], ◌∷◌, ◌++◌, ◌≤◌, map, None, IfErr, IfOk, IfSome, OnOk};
 ghost use Rattle.pn_apply.specs.declared.reducing.TheConstants.{MAX_WORKERS};
 ghost use Rattle.pn_live.specs.Prelude.{tablets_in};
 ghost use Rattle.pn_serve.specs.Server.Events.{ReadsBesides};
 ghost use Rattle.pn_serve.specs.Server.Honest.{AreHonestWriters};
 ghost use Rattle.pn_serve.specs.Server.Reading.{ReadsStreams};
-ghost use Rattle.pn_serve.specs.Server.Sent.{IsSent};
+ghost use Rattle.pn_serve.specs.Server.Sent.{IsOfWriter, IsSent};
 ghost use Rattle.pn_serve.specs.declared.server.mailboxes.AtFault.TheVariants.{GoOn};
 ghost use Rattle.pn_stream.specs.Brokers.{IsHonest};
 ghost use Rattle.pn_stream.specs.Prelude.{BrokerRecord};
@@ -19,12 +19,13 @@ use crate::server::mailboxes::{AtFault, StreamMailboxes, share};
 use crate::server::reporter::Reporter;
 use crate::server::reporting::{next_input, report_stream};
 use crate::server::reports::Report;
+use crate::server::shown_mark::MarkSeen;
 use crate::server::texts::Sending;
 use crate::server::times::TimeCounters;
 use crate::server::wakeup::Wakeup;
-use crate::server::writer_input::workers_of_each;
+use crate::server::writer_input::{WriterInput, workers_of_each};
 use crate::server::writers::{Origin, Stream};
-use pn_join::Marks;
+use pn_join::{Marks, StreamName};
 use pn_line::Source;
 use pn_live::LiveRegion;
 use std::alloc::{AllocError, Global};
@@ -171,7 +172,7 @@ where
         origin,
         taken,
     } = stream;
-    let after = marks.position(&name);
+    let after = MarkSeen::of(marks, &name);
     let reporter = mailboxes.add(alloc, name, taken)?;
     let host = *rt;
     thread::spawn(rt, move || {
@@ -180,11 +181,11 @@ where
     Ok(())
 }
 
-// Reports a stream from its first writer on. All up to this position was taken before.
+// Reports a stream from its first writer on. All up to its mark was taken before.
 fn report_writers<R, S, O, M>(
     rt: &R,
     alloc: Global,
-    after: u64,
+    after: MarkSeen,
     workers: usize,
     origin: O,
     reporter: &Reporter<M>,
@@ -196,7 +197,7 @@ where
     M: Sending,
 {
     let mut origin = origin;
-    match next_input::<S, O, M>(alloc, reporter.name, after, workers, &mut origin) {
+    match first_input::<S, O, M>(alloc, reporter.name, after, workers, &mut origin) {
         Some(input) => {
             let _ = report_stream::<R, S, O, M>(rt, alloc, input, origin, reporter);
         }
@@ -204,4 +205,18 @@ where
             let _ = reporter.leave(rt, Report::End(reporter.name));
         }
     }
+}
+
+// The input of a stream's first writer, which begins after its mark or later. None where the stream has ended.
+fn first_input<S: Source + Drop, O: Origin<S, M>, M: Sending>(
+    alloc: Global,
+    name: StreamName,
+    after: MarkSeen,
+    workers: usize,
+    origin: &mut O,
+) -> Option<WriterInput<S>>
+    ensures last { IfSome result (λ first. after.position ≤ first.last) }
+    ensures sent { IfSome result (λ first. M.known → IsOfWriter M.sends S.left first.reader) }
+{
+    next_input::<S, O, M>(alloc, name, after.position, workers, origin)
 }

@@ -1,6 +1,6 @@
 //! Writers of streams: where they come from, one after another, and how their inputs end.
 
-use crate::server::counter::Counter;
+use crate::server::shown_mark::ShownMark;
 use crate::server::texts::Sending;
 use pn_join::StreamName;
 use pn_line::Source;
@@ -64,5 +64,5 @@ pub struct Stream<O: Drop> {
     pub name: StreamName,
     pub origin: O,
     /// Set to the region's mark of the stream, at first and after each round.
-    pub taken: Option<Arc<Counter>>,
+    pub taken: Option<Arc<ShownMark>>,
 }
