@@ -1,5 +1,6 @@
 -- What threads share of a server may go to another thread, and may be shared: what control sessions and the writer leave for each
 -- other, counters, and faults of streams.
+use denote.RattleType.{RattleType}
 use denote.Param.Send.{IsSend, IsSync, sendable}
 use denote.Param.SendFields.{declared_send, variants_send}
 use denote.Struct.Record.{declared}
@@ -27,7 +28,9 @@ use Rattle.pn_serve.specs.contracts.server.fault_log.FaultLog as faults
 use Rattle.pn_serve.specs.contracts.server.messages.RoundShare as messages
 use Rattle.pn_serve.specs.contracts.server.reports.Report as report
 use Rattle.pn_serve.specs.contracts.server.held_report.HeldReport as held_report
+use Rattle.pn_serve.specs.contracts.server.kept_report.KeptReport as kept_report
 use Rattle.pn_serve.specs.contracts.server.mailboxes.Mailbox as mailbox
+use Rattle.pn_serve.specs.declared.server.texts.Sending as sending
 use Rattle.pn_serve.specs.contracts.server.reporter.Reporter as reporter
 
 pub name_send : IsSend name.the_row
@@ -150,11 +153,15 @@ report_send = variants_send report.enum ((messages_send, tt), ((name_send, tt), 
 held_report_send : IsSend held_report.the_row
 held_report_send = variants_send held_report.enum (tt, ((report_send, tt), (tt, tt)))
 
-mailbox_send : IsSend mailbox.the_row
-mailbox_send = search (sendable, crosses, held_report_send) depth 60 fits 20000
+module _ (M : RattleType) (g : sending.Ghosts M.Denot) where
+  kept_report_send : IsSend (kept_report.the_row M g)
+  kept_report_send = search (sendable, crosses, held_report_send) depth 60 fits 20000
 
-mailbox_sync : IsSync mailbox.the_row
-mailbox_sync = search (sendable, crosses, held_report_send) depth 60 fits 20000
+  mailbox_send : IsSend (mailbox.the_row M g)
+  mailbox_send = search (sendable, crosses, kept_report_send) depth 60 fits 20000
 
-pub reporter_send : IsSend reporter.the_row
-reporter_send = search (sendable, crosses, name_send, mailbox_send, mailbox_sync, counter_send, counter_sync) depth 60 fits 20000
+  mailbox_sync : IsSync (mailbox.the_row M g)
+  mailbox_sync = search (sendable, crosses, kept_report_send) depth 60 fits 20000
+
+  pub reporter_send : IsSend (reporter.the_row M g)
+  reporter_send = search (sendable, crosses, name_send, mailbox_send, mailbox_sync, counter_send, counter_sync) depth 60 fits 20000

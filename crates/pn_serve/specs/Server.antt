@@ -10,6 +10,8 @@ pub mod Opened
 pub mod Reading
 pub mod Reports
 pub mod Rounds
+pub mod Sent
+pub mod SentReports
 pub mod Served
 pub mod Sessions
 pub mod Shown

@@ -14,6 +14,7 @@ use crate::control::held_command::HeldCommand;
 use crate::control::log_watch::LogWatch;
 use crate::control::stop::{StopRequest, StopSaid, StopTime};
 use crate::server::mailboxes::{StreamMailbox, show_marks};
+use crate::server::texts::Sending;
 use crate::server::wakeup::Wakeup;
 use pn_live::LiveRegion;
 use std::alloc::{AllocError, Global};
@@ -138,12 +139,12 @@ impl ControlMailboxes {
 
     /// Does one command of each session that asks, and notes the log. The marks of these streams are shown before a session is
     /// answered, so that a writer that comes after the reply begins after them.
-    pub(crate) fn obey_all<R: Wait>(
+    pub(crate) fn obey_all<R: Wait, M: Sending>(
         &self,
         rt: &R,
         alloc: Global,
         live: &mut LiveRegion,
-        streams: &[StreamMailbox],
+        streams: &[StreamMailbox<M>],
     )
         ensures told { (at_fault : AtFault) (names : List (List ℕ)) (waiting : Option RoundInputValue) → ToldAll at_fault names waiting live.old live.new }
         ensures same { tablets_in live.new ≡ tablets_in live.old }

@@ -52,7 +52,7 @@ pub(super) fn read_writer<R>(
 where
     R: Files<File = File> + Net + Wait + Clock + Copy + Drop,
 {
-    let NextWriter { source, after } = stream.origin.next_writer(last)?;
+    let NextWriter { source, after } = stream.origin.next_writer(&stream.name, last)?;
     let after = after.min(LAST_POSITION);
     let mut reader = StreamReader::new(alloc, stream.name, after, source);
     let end = read_to_end(alloc, stream, &mut reader)?;
