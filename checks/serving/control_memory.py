@@ -53,7 +53,7 @@ def waiting(region: Staying, path: str, limit: int) -> Iterator[Writer]:
 
 
 def asked(control: str, line: bytes, member: str) -> bool:
-    """Asks in a session of its own. Whether it is answered, and not refused for want of memory; something has to come."""
+    """Asks in a session of its own. Whether it is answered, and not refused for lack of memory; something has to come."""
     with Session(control) as session:
         session.socket.settimeout(SECONDS / 4)
         reply = session.ask(line)
@@ -64,7 +64,7 @@ def asked(control: str, line: bytes, member: str) -> bool:
 
 
 def check_asking_without_memory(program: str, folder: str) -> None:
-    """While a round waits for memory, each line of a new session is answered or refused for want of memory, and a tablet is lost; once there is
+    """While a round waits for memory, each line of a new session is answered or refused for lack of memory, and a tablet is lost; once there is
     memory, all is answered."""
     for limit in LIMITS:
         with region_in(folder, program, name=f"control-{limit}") as (region, control, path), Client(region.port) as client:

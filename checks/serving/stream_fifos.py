@@ -125,7 +125,7 @@ def check_beginnings_of_a_fifo(program: str, folder: str) -> None:
             said.append(failed("east", at, line, why))
             until(f"it says {said[-1]!r}", lambda: said_of_faults(region) == said)
             time.sleep(seen)
-            same(f"what is there behind {why}", client.read(key_of(has + 1)), {"row": None})
+            same(f"what is there after {why}", client.read(key_of(has + 1)), {"row": None})
         write(path, messages(has + 1, 1))
         wait_for(client, has + 1)
 
