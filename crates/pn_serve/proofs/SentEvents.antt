@@ -73,12 +73,12 @@ module _ (P Q : DeliveryValue → Type 0) (each : (delivery : DeliveryValue) →
 
   -- streams that were read alone
   pub streams_on : {T : Type 0} (names : List (List ℕ)) (old new : LiveRegionValue) (read : Result T ServeFault) → ReadsStreams P names old new read → ReadsStreams Q names old new read
-  streams_on {T} names old new (Ok done) ran = rounds_on {T} GoOn names old new (Ok done) ran
+  streams_on {T} names old new (Ok done) ran = rounds_on {T = T} GoOn names old new (Ok done) ran
   streams_on {T} names old new (Err Start) same = same
-  streams_on {T} names old new (Err (Stream name)) ran = rounds_on {T} GoOn names old new (Err (Stream name)) ran
-  streams_on {T} names old new (Err Round) ran = rounds_on {T} GoOn names old new (Err Round) ran
-  streams_on {T} names old new (Err Close) ran = rounds_on {T} GoOn names old new (Err Close) ran
-  streams_on {T} names old new (Err Write) ran = rounds_on {T} GoOn names old new (Err Write) ran
+  streams_on {T} names old new (Err (Stream name)) ran = rounds_on {T = T} GoOn names old new (Err (Stream name)) ran
+  streams_on {T} names old new (Err Round) ran = rounds_on {T = T} GoOn names old new (Err Round) ran
+  streams_on {T} names old new (Err Close) ran = rounds_on {T = T} GoOn names old new (Err Close) ran
+  streams_on {T} names old new (Err Write) ran = rounds_on {T = T} GoOn names old new (Err Write) ran
 
 -- ---- honest events
 
