@@ -155,7 +155,7 @@ held_report_send = variants_send held_report.enum (tt, ((report_send, tt), (tt, 
 
 module _ (M : RattleType) (g : sending.Ghosts M.Denot) where
   kept_report_send : IsSend (kept_report.the_row M g)
-  kept_report_send = search (sendable, crosses, held_report_send) depth 60 fits 20000
+  kept_report_send = declared_send (declared (kept_report.struct M g) _) (held_report_send, (search (sendable, crosses) depth 40 fits 20000, tt))
 
   mailbox_send : IsSend (mailbox.the_row M g)
   mailbox_send = search (sendable, crosses, kept_report_send) depth 60 fits 20000

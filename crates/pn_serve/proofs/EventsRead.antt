@@ -1,16 +1,18 @@
 -- Rounds of what streams gave, and commands of control sessions, one after another.
-use Rattle.std.proofs.Common.{◌≡◌, ◌≢◌, ◌⊎◌, ℕ, Bool, true, false, List, [], ◌∷◌, ◌++◌, Option, None, Some, IfSome, inl, inr, refl, sym, ◌∙◌, subst}
+use Rattle.std.proofs.Common.{◌≡◌, ◌≢◌, ℕ, Bool, true, false, List, [], ◌∷◌, ◌++◌, Option, None, Some, IfSome, inl, inr, refl, sym, ap, ◌∙◌, subst}
 use Rattle.std.specs.Prelude.{Result, Ok, Err, IsErrAnd}
 use Rattle.std.proofs.lemmas.Result.{err_from_is_err_and}
 use Rattle.std.specs.List.{All, AllByRecursion}
+use Rattle.pn_join.specs.Marks.{Positions}
 use Rattle.pn_live.specs.LiveRegions.{LiveRegionValue}
 use Rattle.pn_stream.specs.Positions.{DeliveryValue}
 use Rattle.pn_serve.specs.Control.Commands.{ObeysLive, Said}
 use Rattle.pn_serve.specs.declared.control.commands.WriterCommand.{WriterCommand}
 use Rattle.pn_serve.specs.Server.Events.{AllDone, BringAll, Brings, IsCommand, IsEnd, ReadsBesides, RunsCommands, RunsEvents, RunsOn, RunsUpTo, ToldAll, WriterEvent, gathered, tried, taken, told}
 use Rattle.pn_serve.specs.Server.Reading.{AreOfStreams, IsOfStreams, ReadToEnds, ReadUpTo, RunsRounds}
+use Rattle.pn_serve.specs.Server.Gathering.{value_of}
 use Rattle.pn_serve.specs.Server.Rounds.{RoundInputValue, IsRoundTried, TakesInput}
-use Rattle.pn_serve.specs.Server.Tries.{IsNextInput, StopsAt, TakesRound, Waits, waiting_value}
+use Rattle.pn_serve.specs.Server.Tries.{IsNextInput, RunsInput, StopsAt, TakesRound, Waits, waiting_value}
 use Rattle.pn_serve.specs.declared.server.events.ReadingEnd.{ReadingEnd}
 use Rattle.pn_serve.specs.declared.server.fault.ServeFault.{ServeFault}
 use Rattle.pn_serve.specs.declared.server.fault.ServeFault.TheVariants.{Start, Stream, Round, Close, Write}
@@ -84,6 +86,16 @@ module _ (P : DeliveryValue → Type 0) (at_fault : AtFault) (old : LiveRegionVa
     | inl nothing ↦ subst (λ (w : Option RoundInputValue). IfSome w (λ input. All P input.deliveries)) (sym nothing.2) tt
     | inr next ↦ subst (λ (w : Option RoundInputValue). IfSome w (λ input. All P input.deliveries)) (sym next.2) next.4
   ]
+
+-- an input of which a round was tried waits
+pub waits_again : (P : DeliveryValue → Type 0) (at_fault now_at : AtFault) (names left : List (List ℕ)) (waiting : Option RoundInputValue) (marks : Positions) (old new : LiveRegionValue) (asked given : Option RoundInput) (input back : RoundInput)
+    → asked ≡ Some input → given ≡ Some back → now_at ≡ at_fault → marks ≡ old.marks → IfSome asked (λ i. IsNextInput names waiting marks (value_of i) left) → IfSome asked (λ i. All P i.deliveries.items)
+    → RunsInput now_at (value_of input) old new (Ok given) → TakesRound P at_fault names waiting old left (Some (value_of back)) new (Ok false)
+waits_again P at_fault now_at names left waiting marks old new asked given input back is gives same marked next such runs =
+    let ran : RunsInput now_at (value_of input) old new (Ok (Some back)) = subst (λ (g : Option RoundInput). RunsInput now_at (value_of input) old new (Ok g)) gives runs in
+    let goes : IsNextInput names waiting marks (value_of input) left = subst (λ (a : Option RoundInput). IfSome a (λ i. IsNextInput names waiting marks (value_of i) left)) is next in
+    let are : All P input.deliveries.items = subst (λ (a : Option RoundInput). IfSome a (λ i. All P i.deliveries.items)) is such in
+    (sym same ∙ ran.0, inr (value_of input, subst (λ (m : Positions). IsNextInput names waiting m (value_of input) left) marked goes, ap Some ran.1, ran.2, are))
 
 -- so is the input itself
 pub such_input : (P : DeliveryValue → Type 0) (waiting : Option RoundInput) → IfSome (waiting_value waiting) (λ input. All P input.deliveries) → IfSome waiting (λ input. All P input.deliveries.items)

@@ -1,7 +1,7 @@
 -- What holds of all that streams brought holds of weaker things too; where it is honest, and so are adopted copies, events are.
-use Rattle.std.proofs.Common.{◌≡◌, ◌⊎◌, ℕ, List, [], ◌∷◌, Option, None, Some, inl, inr}
+use Rattle.std.proofs.Common.{ℕ, List, [], ◌∷◌, Option, None, Some, inl, inr}
 use Rattle.std.specs.Prelude.{Result, Ok, Err}
-use Rattle.std.specs.List.{All, AllByRecursion, Contains}
+use Rattle.std.specs.List.{All, AllByRecursion}
 use Rattle.std.proofs.lemmas.List.Elements.{All-contains, All-weaker}
 use Rattle.pn_stream.specs.Brokers.{AreHonest, BrokerRecord, IsHonest}
 use Rattle.pn_stream.specs.Positions.{DeliveryValue}
@@ -9,11 +9,11 @@ use Rattle.pn_region.specs.Events.{RegionEvent, AreHonestEvents}
 use Rattle.pn_tablet.specs.Layouts.{Bounds, IsLayout}
 use Rattle.pn_live.specs.LiveRegions.{IsNewLive, LiveRegionValue}
 use Rattle.pn_serve.specs.Control.Commands.{event_by, with_event}
-use Rattle.pn_serve.specs.Server.Events.{BringAll, ReadsBesides, RunsEvents, RunsOn, RunsUpTo, WriterEvent, gathered, tried, taken, told}
+use Rattle.pn_serve.specs.Server.Events.{BringAll, ReadsBesides, RunsEvents, RunsOn, WriterEvent, gathered, tried, taken, told}
 use Rattle.pn_serve.specs.Server.HonestEvents.{AdoptsHonestly, DidHonestly, TookHonestly, region_events}
-use Rattle.pn_serve.specs.Server.Reading.{AreOfStreams, ReadToEnds, ReadUpTo, ReadsStreams, RunsRounds}
+use Rattle.pn_serve.specs.Server.Reading.{AreOfStreams, ReadToEnds, ReadsStreams, RunsRounds}
 use Rattle.pn_serve.specs.Server.Rounds.{RoundInputValue}
-use Rattle.pn_serve.specs.Server.Tries.{RunsRound, StopsAt}
+use Rattle.pn_serve.specs.Server.Tries.{StopsAt}
 use Rattle.pn_serve.specs.declared.server.events.ReadingEnd.{ReadingEnd}
 use Rattle.pn_serve.specs.declared.server.fault.ServeFault.{ServeFault}
 use Rattle.pn_serve.specs.declared.server.fault.ServeFault.TheVariants.{Start, Stream, Round, Close, Write}
@@ -73,12 +73,12 @@ module _ (P Q : DeliveryValue → Type 0) (each : (delivery : DeliveryValue) →
 
   -- streams that were read alone
   pub streams_on : {T : Type 0} (names : List (List ℕ)) (old new : LiveRegionValue) (read : Result T ServeFault) → ReadsStreams P names old new read → ReadsStreams Q names old new read
-  streams_on names old new (Ok done) ran = rounds_on GoOn names old new (Ok done) ran
-  streams_on names old new (Err Start) same = same
-  streams_on names old new (Err (Stream name)) ran = rounds_on GoOn names old new (Err (Stream name)) ran
-  streams_on names old new (Err Round) ran = rounds_on GoOn names old new (Err Round) ran
-  streams_on names old new (Err Close) ran = rounds_on GoOn names old new (Err Close) ran
-  streams_on names old new (Err Write) ran = rounds_on GoOn names old new (Err Write) ran
+  streams_on {T} names old new (Ok done) ran = rounds_on {T = T} GoOn names old new (Ok done) ran
+  streams_on {T} names old new (Err Start) same = same
+  streams_on {T} names old new (Err (Stream name)) ran = rounds_on {T = T} GoOn names old new (Err (Stream name)) ran
+  streams_on {T} names old new (Err Round) ran = rounds_on {T = T} GoOn names old new (Err Round) ran
+  streams_on {T} names old new (Err Close) ran = rounds_on {T = T} GoOn names old new (Err Close) ran
+  streams_on {T} names old new (Err Write) ran = rounds_on {T = T} GoOn names old new (Err Write) ran
 
 -- ---- honest events
 

@@ -1,5 +1,5 @@
 -- How serving ends, where all that streams brought is such, ends so too where it is of a weaker kind.
-use Rattle.std.proofs.Common.{◌≡◌, ◌⊎◌, ℕ, List, Option, inl, inr}
+use Rattle.std.proofs.Common.{ℕ, List, Option, inl, inr}
 use Rattle.std.specs.Prelude.{Result, Ok, Err}
 use Rattle.pn_stream.specs.Batches as batches
 use Rattle.pn_stream.specs.Positions.{DeliveryValue}

@@ -252,7 +252,8 @@ fn run_unless_refused<R: Threads + Wait + Clock + Sync, M: Sending>(
 ) -> Result<(), ServeFault>
     requires workers { (1 ≤ workers) × (workers ≤ MAX_WORKERS) }
     ensures refused { IsTrue is_refused → (result ≡ Err ServeFault.Start) × (live.new ≡ live.old) }
-    ensures reads { IsFalse is_refused → RunsRounds (IsSent M.known M.sends) mailboxes.old.at_fault (map (λ stream. stream.name) mailboxes.old.streams.items) live.old live.new result }
+    ensures reads { IsFalse is_refused → RunsRounds (IsSent M.known M.sends) mailboxes.old.at_fault
+        (map (λ stream. stream.name) mailboxes.old.streams.items) live.old live.new result }
     ensures same { tablets_in live.new ≡ tablets_in live.old }
 {
     if is_refused {

@@ -48,7 +48,8 @@ pub(crate) fn run_rounds<R: Threads + Wait + Clock + Sync, M: Sending>(
     requires workers { (1 ≤ workers) × (workers ≤ MAX_WORKERS) }
     ensures alone { controls.now ≡ None → RunsRounds (IsSent M.known M.sends) mailboxes.old.at_fault (map (λ stream. stream.name) mailboxes.old.streams.items)
         live.old live.new result }
-    ensures runs { RunsEvents (IsSent M.known M.sends) mailboxes.old.at_fault (map (λ stream. stream.name) mailboxes.old.streams.items) live.old live.new result }
+    ensures runs { RunsEvents (IsSent M.known M.sends) mailboxes.old.at_fault (map (λ stream. stream.name) mailboxes.old.streams.items)
+        live.old live.new result }
     ensures same { tablets_in live.new ≡ tablets_in live.old }
 {
     let mut waiting = None;

@@ -47,8 +47,8 @@ pub(crate) fn take_round<R: Threads + Wait + Sync, M: Sending>(
     requires workers { (1 ≤ workers) × (workers ≤ MAX_WORKERS) }
     requires continues { IfSome waiting.old (λ input. All (Continues live.old.marks) input.deliveries.items) }
     requires sent { IfSome waiting.old (λ input. All (IsSent M.known M.sends) input.deliveries.items) }
-    ensures round { TakesRound (IsSent M.known M.sends) mailboxes.old.at_fault (map (λ stream. stream.name) mailboxes.old.streams.items) (waiting_value waiting.old) live.old
-        (map (λ stream. stream.name) mailboxes.new.streams.items) (waiting_value waiting.new) live.new result }
+    ensures round { TakesRound (IsSent M.known M.sends) mailboxes.old.at_fault (map (λ stream. stream.name) mailboxes.old.streams.items)
+        (waiting_value waiting.old) live.old (map (λ stream. stream.name) mailboxes.new.streams.items) (waiting_value waiting.new) live.new result }
     ensures continues { IfSome waiting.new (λ input. All (Continues live.new.marks) input.deliveries.items) }
     ensures at_fault { mailboxes.new.at_fault ≡ mailboxes.old.at_fault }
     ensures same { tablets_in live.new ≡ tablets_in live.old }
@@ -79,8 +79,8 @@ fn next_input<R: Wait, M: Sending>(
 ) -> Result<Option<RoundInput>, ServeFault>
     requires continues { IfSome waiting.old (λ input. All (Continues marks.now) input.deliveries.items) }
     requires sent { IfSome waiting.old (λ input. All (IsSent M.known M.sends) input.deliveries.items) }
-    ensures next { IfOk result (λ next. IfSome next (λ input. IsNextInput (map (λ stream. stream.name) mailboxes.old.streams.items) (waiting_value waiting.old) marks.now
-        (value_of input) (map (λ stream. stream.name) mailboxes.new.streams.items))) }
+    ensures next { IfOk result (λ next. IfSome next (λ input. IsNextInput (map (λ stream. stream.name) mailboxes.old.streams.items)
+        (waiting_value waiting.old) marks.now (value_of input) (map (λ stream. stream.name) mailboxes.new.streams.items))) }
     ensures continues { IfOk result (λ next. IfSome next (λ input. All (Continues marks.now) input.deliveries.items)) }
     ensures sent { IfOk result (λ next. IfSome next (λ input. All (IsSent M.known M.sends) input.deliveries.items)) }
     ensures none { IfOk result (λ next. next ≡ None → (mailboxes.old.at_fault ≡ GoOn) × (waiting.old ≡ None)

@@ -87,7 +87,7 @@ where
     R: Threads + Wait + Clock + Copy + Send + 'static,
     S: Source + Drop + Send + 'static,
     M: Sending + Send + 'static,
-    requires { M.known → All (IsOfWriter M.sends S.left) streams.items }
+    requires sent { M.known → All (IsOfWriter M.sends S.left) streams.items }
     ensures fault { IfErr result (λ fault. fault ≡ ServeFault.Start) }
     ensures threads { IfOk result (λ started. map (λ thread. thread.promise.0.value) started.threads.items ≡ streams.items) }
     ensures names { IfOk result (λ started. map (λ stream. stream.name) started.mailboxes.streams.items ≡ names_of streams.items) }
@@ -117,7 +117,7 @@ where
     R: Threads + Wait + Clock + Copy + Send + 'static,
     S: Source + Drop + Send + 'static,
     M: Sending + Send + 'static,
-    requires { M.known → IsOfWriter M.sends S.left stream }
+    requires sent { M.known → IsOfWriter M.sends S.left stream }
     ensures threads { OnOk result (map (λ thread. thread.promise.0.value) started.new.threads.items
         ≡ map (λ thread. thread.promise.0.value) started.old.threads.items ++ stream ∷ []) }
     ensures names { OnOk result (map (λ stream. stream.name) started.new.mailboxes.streams.items
@@ -152,7 +152,7 @@ where
     S: Source + Drop + Send + 'static,
     P: HasReporter<M> + Drop + Send + 'static,
     M: Sending + Send + 'static,
-    requires { M.known → IsOfWriter M.sends S.left stream }
+    requires sent { M.known → IsOfWriter M.sends S.left stream }
     ensures { IfOk result (λ thread. thread.promise.0.value ≡ stream) }
 {
     let host = *rt;
@@ -161,7 +161,7 @@ where
         rt,
         promise,
         move ||
-            requires { M.known → IsOfWriter M.sends S.left stream }
+            requires sent { M.known → IsOfWriter M.sends S.left stream }
         { report_to_end::<R, S, M>(&host, alloc, stream, workers, origin, reporter.reporter()) },
     )?;
     Ok(thread)
@@ -184,7 +184,7 @@ fn report_to_end<R: Threads + Wait + Clock + Copy, S: Source + Drop, M: Sending>
     origin: OneWriter<R>,
     reporter: &Reporter<M>,
 ) -> Result<StreamEnd, StreamName>
-    requires { M.known → IsOfWriter M.sends S.left stream }
+    requires sent { M.known → IsOfWriter M.sends S.left stream }
     ensures { EndsStream S.left stream result }
 {
     report_stream::<R, S, OneWriter<R>, M>(

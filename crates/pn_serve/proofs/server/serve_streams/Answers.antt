@@ -1,7 +1,11 @@
 -- The mailboxes and threads are those of the streams.
+use Rattle.std.proofs.Common.{sym, ◌∙◌}
 use Rattle.pn_serve.specs.Server.Sent.{IsSent}
 use Rattle.pn_serve.proofs.ServedStreams.{not_begun, reading_ends}
 use Rattle.pn_serve.proofs.server.serve_streams.Goals as goal
+
+pub join_sessions-requires-clause-readers : goal.join_sessions-requires-clause-readers
+join_sessions-requires-clause-readers g c = λ k d within. c.start_sessions-running.ensures.readers k d within ∙ sym c.run_unless_refused-read.ensures.same
 
 pub returns-clause-ends : goal.returns-clause-ends
 returns-clause-ends g c =

@@ -1,12 +1,13 @@
 -- The next stream is one of its writer.
-use Rattle.std.proofs.Common.{subst}
-use Rattle.std.specs.List.{All}
-use Rattle.std.specs.Vec.Iter.{into_iter_items}
-use Rattle.std.proofs.lemmas.List.Elements.{All-head}
+use Rattle.std.proofs.Common.{length, sym, subst, arith}
+use Rattle.std.proofs.lemmas.Iterator.Adapters.{YieldsList-from_vec}
+use Rattle.std.proofs.lemmas.Iterator.Consumers.{YieldsList-turn}
 use Rattle.pn_serve.specs.Server.Sent.{IsOfWriter}
 use Rattle.pn_serve.proofs.server.stream_threads.start_streams.Goals as goal
 
-pub start_stream-requires : goal.start_stream-requires
-start_stream-requires g c = λ κs within known.
-    let is_of = IsOfWriter g.M.Sending.sends g.S.Source.left in
-    All-head is_of c.in-Some.stream (into_iter_items c.next.new.self) (subst (All is_of) c.in-Some.ensures.steps.0 (c.loop-stream.invariant.sent known))
+pub start_stream-requires-clause-sent : goal.start_stream-requires-clause-sent
+start_stream-requires-clause-sent g c κs within known =
+    let gives = c.into_iter-stream-iterator.ensures.into_iter_gives in
+    let yields = YieldsList-from_vec {s = c.into_iter-stream-iterator.result} c.args.streams.items gives.0 (omega (arith, gives.1, c.args.streams.ok.0)) in
+    let at = YieldsList-turn yields c.loop-stream.yielded c.loop-stream.stream-iterator c.loop-stream.yielded_by c.next.result c.next.new.self c.in-Some.stream c.in-Some.is c.next.ensures.steps in
+    subst (IsOfWriter g.M.Sending.sends g.S.Source.left) (sym at.1) (c.requires.sent known (length c.loop-stream.yielded) c.in-Some.stream at.0)
