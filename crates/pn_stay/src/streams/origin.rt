@@ -5,7 +5,7 @@ ghost use Rattle.std.specs.Prelude.{◌≡◌, ◌≤◌};
 use crate::streams::fifo::FifoWriters;
 use crate::streams::input::StreamSource;
 use crate::streams::notes::StreamNotes;
-use crate::streams::sockets::{SocketWriters, end_socket};
+use crate::streams::sockets::{SocketWriters, end_socket, stop_socket};
 use crate::streams::writer::{StreamPositions, position_after};
 use pn_join::StreamName;
 use pn_serve::{AnyWriters, NextWriter, Origin, WriterEnd};
@@ -66,16 +66,22 @@ where
     }
 
     fn end_writer(&mut self, source: StreamSource<R>, end: &WriterEnd, _last: u64) {
-        self.notes.tell_end(self.notes.reopen(), end);
+        let how = self.notes.note_end(self.notes.reopen(), end);
         match &mut self.writers {
-            Writers::File(_) => {}
-            Writers::Fifo(writers) => writers.end_writer(source, end),
-            Writers::Socket(_) => end_socket(source, end),
+            Writers::File(_) => self.notes.leave(how),
+            Writers::Fifo(writers) => {
+                writers.turns.end(&self.notes, how);
+                writers.end_writer(source, end);
+            }
+            Writers::Socket(writers) => {
+                writers.turns.end(&self.notes, how);
+                end_socket(source, end);
+            }
         }
     }
 
     fn stop_writer(&mut self, source: StreamSource<R>) {
-        end_socket(source, &WriterEnd::End);
+        stop_socket(source);
         self.notes.end(self.notes.reopen());
     }
 }

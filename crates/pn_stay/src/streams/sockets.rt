@@ -14,6 +14,7 @@ use crate::streams::listener::StreamListener;
 use crate::streams::message_input::MessageInput;
 use crate::streams::notes::{OpenStream, StreamNotes};
 use crate::streams::remarks::format_other_stream;
+use crate::streams::turns::Turns;
 use crate::streams::writer::WriterSocket;
 use pn_line::Source;
 use pn_serve::{NextWriter, WriterEnd};
@@ -39,7 +40,7 @@ struct Accepted<R: Drop> {
 pub(crate) struct SocketWriters {
     listener: Arc<StreamListener>,
     path: String,
-    has_begun: bool,
+    pub(crate) turns: Turns,
     identity: StreamIdentity,
     // When the system refused a socket, and when a writer of another stream came.
     refusals: Seldom,
@@ -52,7 +53,7 @@ impl SocketWriters {
         SocketWriters {
             listener,
             path,
-            has_begun: false,
+            turns: Turns::new(),
             identity: StreamIdentity::new(),
             refusals: Seldom::new(),
             others: Seldom::new(),
@@ -80,7 +81,7 @@ impl SocketWriters {
                     }
                     notes.end(open);
                 }
-                Ok(None) => {}
+                Ok(None) => self.turns.look(notes),
                 Err(error) => self.note_refusal(notes, &error),
             }
         }
@@ -130,7 +131,7 @@ impl SocketWriters {
                 if !source.has_more().unwrap_or(false) {
                     return None;
                 }
-                self.note_begin(notes);
+                self.turns.begin(notes);
                 Some(source)
             }
             Err(error) => {
@@ -198,16 +199,6 @@ impl SocketWriters {
         Ok(Accepted { input, after })
     }
 
-    // Every writer but the first begins again.
-    fn note_begin<R: Wait + Drop>(&mut self, notes: &StreamNotes<R>)
-        ensures { self.new.has_begun ≡ true }
-    {
-        if self.has_begun {
-            notes.begin_again();
-        }
-        self.has_begun = true;
-    }
-
     fn note_refusal<R>(&mut self, notes: &StreamNotes<R>, error: &io::Error)
     where
         R: Wait + Clock + Drop,
@@ -219,14 +210,14 @@ impl SocketWriters {
     }
 }
 
-/// Sends a writer how its input ended, and closes its socket.
+/// Sends a writer how its input ended, and closes its socket. What was handed to rounds is waited for, but not for long.
 pub(crate) fn end_socket<R>(source: StreamSource<R>, end: &WriterEnd)
 where
     R: Files<File = File> + Net + Wait + Clock + Drop,
 {
-    let (reader, _) = source.into_parts();
-    if let StreamInput::Socket(input) = reader.into_inner() {
-        let mut socket = input.into_input();
+    if let Some(socket) = socket_of(source) {
+        let mut socket = socket;
+        socket.await_taken();
         socket.tell_taken();
         if let WriterEnd::Fault {
             fault,
@@ -236,5 +227,28 @@ where
         {
             socket.tell_fault(fault, *position);
         }
+    }
+}
+
+/// Sends a writer what was taken of its input, which is read no more, and closes its socket.
+pub(crate) fn stop_socket<R>(source: StreamSource<R>)
+where
+    R: Files<File = File> + Net + Wait + Clock + Drop,
+{
+    if let Some(socket) = socket_of(source) {
+        let mut socket = socket;
+        socket.tell_taken();
+    }
+}
+
+// The socket of a writer that is read from one.
+fn socket_of<R>(source: StreamSource<R>) -> Option<WriterSocket<R>>
+where
+    R: Files<File = File> + Net + Wait + Clock + Drop,
+{
+    let (reader, _) = source.into_parts();
+    match reader.into_inner() {
+        StreamInput::Socket(input) => Some(input.into_input()),
+        StreamInput::File(_) => None,
     }
 }

@@ -12,18 +12,23 @@ use pn_serve::{Counter, ShownMark};
 use pn_stream::ResumeFault;
 use std::alloc::{AllocError, Global};
 use std::fs::{File, Files};
-use std::io;
 use std::io::{ErrorKind, Read, Write};
 use std::net::Net;
 use std::os::unix::net::UnixStream;
 use std::sync::{Arc, Wait};
 use std::time::{Clock, Duration, Instant};
+use std::{io, thread};
 
 /// How many milliseconds lie at least between two lines that send a writer a position.
 const PAUSE: u64 = 100;
 
 /// For how many milliseconds a write waits for a writer that takes nothing.
 const PATIENCE: u64 = 1;
+
+/// How often it is looked at the end of a writer whether rounds have taken what it wrote, and how many milliseconds apart.
+const LAST_LOOKS: u32 = 100;
+
+const LAST_PAUSE: u64 = 10;
 
 /// The positions up to which a stream was handed to rounds and was taken by them, and the last one that its writer was sent.
 #[derive(Drop)]
@@ -195,6 +200,18 @@ impl<R: Clock + Drop> WriterSocket<R> {
     }
 }
 
+impl<R: Wait + Clock + Drop> WriterSocket<R> {
+    /// Waits until rounds have taken what was handed to them, for a second at most.
+    pub(crate) fn await_taken(&self) {
+        for _ in 0..LAST_LOOKS {
+            if self.positions.handed.get() <= self.positions.taken.get() {
+                return;
+            }
+            thread::sleep(&self.rt, Duration::from_millis(LAST_PAUSE));
+        }
+    }
+}
+
 impl<R: Files<File = File> + Net + Wait + Clock + Drop> WriterSocket<R> {
     // Looks whether further writers find the socket.
     fn look_in_time(&mut self) {
@@ -212,7 +229,7 @@ pub(crate) fn position_after(handed: u64, taken: u64) -> u64
     handed.max(taken)
 }
 
-// Whether a pause of so many milliseconds since then is over.
+// Whether `pause` milliseconds are over since then.
 fn is_over<R: Clock>(rt: &R, then: &Option<Instant>, pause: u64) -> bool {
     match then {
         Some(then) => has_passed(then.elapsed(rt), pause),
@@ -220,7 +237,7 @@ fn is_over<R: Clock>(rt: &R, then: &Option<Instant>, pause: u64) -> bool {
     }
 }
 
-// Whether a pause of so many milliseconds has passed. Where the clock fails, it has.
+// Whether `pause` milliseconds have passed. Where the clock fails, they have.
 fn has_passed(elapsed: io::Result<Duration>, pause: u64) -> bool
     ensures told { IfOk elapsed (λ elapsed. IsTrue result ↔ (pause * 1_000_000 ≤ as_nanos elapsed)) }
     ensures unknown { OnErr elapsed (result ≡ true) }
