@@ -5,9 +5,10 @@ ghost use Rattle.std.specs.Prelude.{◌≡◌, ◌≤◌};
 use crate::streams::fifo::FifoWriters;
 use crate::streams::input::StreamSource;
 use crate::streams::notes::StreamNotes;
-use crate::streams::sockets::{SocketWriters, end_socket, position_after};
-use crate::streams::writer::StreamPositions;
-use pn_serve::{NextWriter, Origin, WriterEnd};
+use crate::streams::sockets::{SocketWriters, end_socket};
+use crate::streams::writer::{StreamPositions, position_after};
+use pn_join::StreamName;
+use pn_serve::{AnyWriters, NextWriter, Origin, WriterEnd};
 use std::fs::{File, Files};
 use std::net::Net;
 use std::sync::Wait;
@@ -29,7 +30,7 @@ pub(crate) enum Writers<R: Drop> {
     Socket(SocketWriters),
 }
 
-impl<R> Origin<StreamSource<R>> for StreamOrigin<R>
+impl<R> Origin<StreamSource<R>, AnyWriters> for StreamOrigin<R>
 where
     R: Files<File = File> + Net + Wait + Clock + Copy + Drop,
 {
@@ -37,7 +38,11 @@ where
 
     ghost begins_after = { λ _ _. Unit {0} };
 
-    fn next_writer(&mut self, last: u64) -> Option<NextWriter<StreamSource<R>>> {
+    fn next_writer(
+        &mut self,
+        _name: &StreamName,
+        last: u64,
+    ) -> Option<NextWriter<StreamSource<R>>> {
         let (next, open) = match &mut self.writers {
             Writers::File(source) => {
                 let source = source.take()?;

@@ -1,6 +1,7 @@
 //! Streams from a socket: one writer after another.
 
-ghost use Rattle.std.specs.Prelude.{◌≡◌, ◌≤◌, max, true, IfOk, IfSome};
+ghost use Rattle.std.specs.Prelude.{◌≡◌, ◌≤◌, true, IfOk, IfSome};
+ghost use Rattle.pn_stay.specs.Positions.{GoesOn};
 
 use crate::seldom::Seldom;
 use crate::shared::share;
@@ -167,7 +168,8 @@ impl SocketWriters {
     fn accept<R>(&self, notes: &StreamNotes<R>, last: u64) -> io::Result<Option<Accepted<R>>>
     where
         R: Files<File = File> + Net + Wait + Clock + Copy + Drop,
-        ensures { IfOk result (λ accepted. IfSome accepted (λ accepted. last ≤ accepted.after)) }
+        ensures goes_on { IfOk result (λ accepted. IfSome accepted (λ accepted. GoesOn last accepted.after)) }
+        ensures later { IfOk result (λ accepted. IfSome accepted (λ accepted. last ≤ accepted.after)) }
     {
         match self.listener.accept(&notes.rt)? {
             Some(stream) => Ok(Some(self.begin(notes, stream, last)?)),
@@ -183,13 +185,14 @@ impl SocketWriters {
     ) -> io::Result<Accepted<R>>
     where
         R: Files<File = File> + Net + Wait + Clock + Copy + Drop,
-        ensures { IfOk result (λ accepted. last ≤ accepted.after) }
+        ensures goes_on { IfOk result (λ accepted. GoesOn last accepted.after) }
+        ensures later { IfOk result (λ accepted. last ≤ accepted.after) }
     {
         let positions = notes.positions.try_clone()?;
-        let after = position_after(last, positions.taken.get());
         let listener = Arc::try_clone(&self.listener)?;
         let alloc = notes.teller.alloc;
-        let socket = WriterSocket::begin(notes.rt, alloc, stream, positions, after, listener)?;
+        let begun = WriterSocket::begin(notes.rt, alloc, stream, positions, last, listener)?;
+        let (socket, after) = begun;
         let broker = BrokerListener::new(notes.rt, share(&notes.status)?);
         let input = MessageInput::new(alloc, socket, broker)?;
         Ok(Accepted { input, after })
@@ -214,13 +217,6 @@ impl SocketWriters {
         }
         thread::sleep(&notes.rt, Duration::from_millis(RETRY));
     }
-}
-
-/// The position after which a writer begins, where messages up to `last` were handed to rounds and up to `taken` were taken.
-pub(crate) fn position_after(last: u64, taken: u64) -> u64
-    ensures { result ≡ max last taken }
-{
-    last.max(taken)
 }
 
 /// Sends a writer how its input ended, and closes its socket.

@@ -1,13 +1,14 @@
 //! The socket of a stream's writer. While it is read, the writer is sent the positions that rounds have taken.
 
-ghost use Rattle.std.specs.Prelude.{◌≡◌, ◌≢◌, ◌*◌, ◌≤◌, ◌↔◌, ◌⊎◌, true, Ok, Err, IfOk, IsTrue, OnErr};
+ghost use Rattle.std.specs.Prelude.{◌≡◌, ◌≢◌, ◌*◌, ◌≤◌, ◌↔◌, ◌⊎◌, max, true, Ok, Err, IfOk, IsTrue, OnErr};
+ghost use Rattle.pn_stay.specs.Positions.{GoesOn};
 ghost use Rattle.std.specs.Duration.{as_nanos};
 ghost use Rattle.std.specs.IoError.{error_kind};
 
 use crate::interrupts::is_interrupted;
 use crate::reasons::{format_after, format_refusal, format_taken};
 use crate::streams::listener::{LOOK, StreamListener};
-use pn_serve::Counter;
+use pn_serve::{Counter, ShownMark};
 use pn_stream::ResumeFault;
 use std::alloc::{AllocError, Global};
 use std::fs::{File, Files};
@@ -28,7 +29,7 @@ const PATIENCE: u64 = 1;
 #[derive(Drop)]
 pub(crate) struct StreamPositions {
     pub(crate) handed: Arc<Counter>,
-    pub(crate) taken: Arc<Counter>,
+    pub(crate) taken: Arc<ShownMark>,
     pub(crate) told: Arc<Counter>,
 }
 
@@ -36,7 +37,7 @@ impl StreamPositions {
     /// The positions of a stream of which nothing was handed to rounds.
     pub(crate) fn new(alloc: Global) -> Result<StreamPositions, AllocError> {
         let handed = Arc::new(alloc, Counter::new())?;
-        let taken = Arc::new(alloc, Counter::new())?;
+        let taken = Arc::new(alloc, ShownMark::new())?;
         let told = Arc::new(alloc, Counter::new())?;
         Ok(StreamPositions {
             handed,
@@ -77,18 +78,24 @@ pub struct WriterSocket<R> {
 }
 
 impl<R: Clock + Drop> WriterSocket<R> {
-    /// Sends a writer the position after which the stream goes on. Further writers come to the listener.
+    /// Sends a writer the position after which the stream goes on: the greater of what was handed to rounds and the region's
+    /// mark. Answers it too. Further writers come to the listener.
     pub(crate) fn begin(
         rt: R,
         alloc: Global,
         stream: UnixStream,
         positions: StreamPositions,
-        last: u64,
+        handed: u64,
         listener: Arc<StreamListener>,
-    ) -> io::Result<WriterSocket<R>> {
+    ) -> io::Result<(WriterSocket<R>, u64)>
+        ensures goes_on { IfOk result (λ begun. GoesOn handed begun.1) }
+        ensures later { IfOk result (λ begun. handed ≤ begun.1) }
+    {
         stream.set_write_timeout(Some(Duration::from_millis(PATIENCE)))?;
         stream.set_read_timeout(Some(Duration::from_millis(LOOK)))?;
-        positions.told.set(last);
+        let taken = positions.taken.get();
+        let after = position_after(handed, taken);
+        positions.told.set(after);
         let mut socket = WriterSocket {
             rt,
             alloc,
@@ -100,8 +107,8 @@ impl<R: Clock + Drop> WriterSocket<R> {
             is_timed: false,
             is_told: true,
         };
-        let _ = socket.tell(format_after(alloc, last));
-        Ok(socket)
+        let _ = socket.tell(format_after(alloc, handed, taken));
+        Ok((socket, after))
     }
 
     /// Sends the writer the position that was taken, unless it was sent.
@@ -196,6 +203,13 @@ impl<R: Files<File = File> + Net + Wait + Clock + Drop> WriterSocket<R> {
             self.looked_at = Instant::now(&self.rt).ok();
         }
     }
+}
+
+/// The position after which a writer begins, where messages up to `handed` were handed to rounds and up to `taken` were taken.
+pub(crate) fn position_after(handed: u64, taken: u64) -> u64
+    ensures { result ≡ max handed taken }
+{
+    handed.max(taken)
 }
 
 // Whether a pause of so many milliseconds since then is over.
