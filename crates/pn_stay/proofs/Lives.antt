@@ -1,5 +1,5 @@
 -- What a server holds whose streams and copies were honest.
-use Rattle.std.proofs.Common.{◌≡◌, ℕ, List, [], ◌∷◌, ◌++◌, Option, None, Some, refl, sym, ap, ◌∙◌, subst}
+use Rattle.std.proofs.Common.{◌≡◌, List, [], ◌∷◌, ◌++◌, Option, None, Some, refl, sym, ap, ◌∙◌, subst}
 use Rattle.std.specs.Prelude.{Contains}
 use Rattle.std.specs.List.{AllByRecursion}
 use Rattle.std.proofs.lemmas.List.Elements.{Contains-append_right}
@@ -9,7 +9,7 @@ use Rattle.pn_record.specs.declared.image.Image.{Image}
 use Rattle.pn_stream.specs.Brokers.{BrokerRecord, IsHonest, up_to}
 use Rattle.pn_stream.specs.Positions.{DeliveryValue}
 use Rattle.pn_tablet.specs.Copies.{TabletCopyValue}
-use Rattle.pn_apply.specs.Reducing.{images_in, ranges}
+use Rattle.pn_apply.specs.Reducing.{images_in}
 use Rattle.pn_region.specs.Events.{RegionEvent, round, AllLeadTo, AreHonestEvents}
 use Rattle.pn_region.specs.Faith.{AreFaithful}
 use Rattle.pn_region.specs.Laws.{AreIn}
