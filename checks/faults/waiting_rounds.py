@@ -76,7 +76,7 @@ def check_waiting_rounds(program: str, folder: str, cases: int | None) -> None:
             thread.start()
         until("the first messages", lambda: len(asking.told(do="marks")["marks"]) == len(NAMES))
         limit(server.process.pid, space_of(server.process.pid) + MORE)
-        until("a round that waits", lambda: WAITS in server.said())
+        until("a round that waits", lambda: WAITS in server.said(), 4 * SECONDS)
         marks = still(asking, client)
         limit(server.process.pid, resource.RLIM_INFINITY)
         whole = {"marks": dict.fromkeys(NAMES, keys)}
