@@ -5,6 +5,7 @@ pub mod Looks
 pub mod Loops
 pub mod MessageSteps
 pub mod Messages
+pub mod Positions
 pub mod Proofs
 pub mod Reasons
 pub mod Remarks
