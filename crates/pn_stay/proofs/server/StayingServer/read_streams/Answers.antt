@@ -1,6 +1,6 @@
 -- What was read is honest where writers are.
-use Rattle.std.proofs.Common.{◌≡◌, ℕ, List, Result, ap, ◌∙◌, subst}
-use Rattle.core.proofs.option.Match.{None-if_not_some}
+use Rattle.std.proofs.Common.{◌≡◌, ℕ, false, List, Option, None, Some, Result, refl, ap, ◌∙◌, subst}
+use Rattle.std.specs.Prelude.{is_some}
 use Rattle.pn_stream.specs.Brokers.{IsHonest}
 use Rattle.pn_stream.specs.Positions.{DeliveryValue}
 use Rattle.pn_live.specs.LiveRegions.{LiveRegionValue}
@@ -10,6 +10,10 @@ use Rattle.pn_serve.specs.declared.server.events.ReadingEnd.{ReadingEnd}
 use Rattle.pn_serve.specs.declared.server.fault.ServeFault.{ServeFault}
 use Rattle.pn_stay.specs.Servers.{ServerValue}
 use Rattle.pn_stay.proofs.server.StayingServer.read_streams.Goals as goal
+
+none_there : {A : Type 0} (option : Option A) → is_some option ≡ false → option ≡ None
+none_there None off = refl
+none_there (Some value) off = absurd (cc)
 
 module _ (P : DeliveryValue → Type 0) (names : List (List ℕ)) (one other new : LiveRegionValue) (read : Result ReadingEnd ServeFault) (same : one ≡ other) where
   besides : ReadsBesides P names one new read → ReadsBesides P names other new read
@@ -25,4 +29,4 @@ returns-clause-honest g c = λ broker known honest.
 pub returns-clause-honest_alone : goal.returns-clause-honest_alone
 returns-clause-honest_alone g c = λ off broker known honest.
     alone (IsHonest broker) _ _ _ _ _ (ap (λ (s : ServerValue). s.live) c.self.view_is)
-    (c.read_streams-read.ensures.honest_alone (None-if_not_some _ (ap (λ (s : ServerValue). s.controlled) c.self.view_is ∙ off)) broker known honest)
+    (c.read_streams-read.ensures.honest_alone (none_there _ (ap (λ (s : ServerValue). s.controlled) c.self.view_is ∙ off)) broker known honest)
