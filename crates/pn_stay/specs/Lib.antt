@@ -1,6 +1,7 @@
 -- Connections that are answered in turns.
 pub mod Failures
 pub mod IdleTimeouts
+pub mod Lives
 pub mod Looks
 pub mod Loops
 pub mod MessageSteps
