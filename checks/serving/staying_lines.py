@@ -89,7 +89,7 @@ def check_records_of_many_contents(program: str, folder: str) -> None:
     light = [f"k{number:03}" for number in range(LIGHT)]
     with Staying(program, folder, [("east", path)], threads=1) as region:
         with Client(region.port) as client, Client(region.port) as other:
-            until("all contents are there", lambda: keys_shown(client, 1_000, ["eq", "part", HEAVY_CONTENTS - 1]) == heavy, 60)
+            until("all contents are there", lambda: keys_shown(client, 1_000, ["eq", "part", HEAVY_CONTENTS - 1]) == heavy, 4 * SECONDS)
             for limit in (1, 2, 1_000):
                 other.send(b'{"do":"scan","query":{"where":[["eq","all","y"]]}}\n' * 20)
                 for part in (1, HEAVY_CONTENTS // 2, HEAVY_CONTENTS - 1):
