@@ -1,6 +1,7 @@
 //! The memory of a reader, which may be waited for where it runs out.
 
-ghost use Rattle.std.specs.Prelude.{◌≡◌, ◌<◌, [], ◌∷◌, ◌++◌, false, vec_len, vec_capacity, IfOk, OnOk, OnErr};
+ghost use Rattle.std.specs.Prelude.{◌≡◌, ◌<◌, [], ◌∷◌, ◌++◌, false, vec_len, vec_capacity, None, IfOk, IfSome, OnOk, OnErr};
+ghost use Rattle.pn_stream.specs.Attempts.{FailedSoFar, MadeAtLast};
 ghost use Rattle.pn_line.specs.Prelude.{so_far};
 
 use pn_join::NoMemory;
@@ -51,21 +52,38 @@ impl ReaderMemory for NoWait {
     fn give_up(&self) {}
 }
 
+/// What an attempt makes. Where it makes nothing, memory ran out: it is waited for, and the attempt is made again.
+pub(crate) fn make_in_memory<T, M: ReaderMemory, F: FnMut() -> Option<T>>(
+    memory: &M,
+    attempt: &mut F,
+) -> Option<T>
+    requires { F.IsAlwaysCallable attempt.old }
+    ensures made { IfSome result (λ made. MadeAtLast F.step attempt.old made attempt.new) }
+    ensures failed { result ≡ None → FailedSoFar F.step attempt.old attempt.new }
+    ensures gives_up { result ≡ None → M.may_give_up }
+{
+    for _ in 0..u64::MAX {
+        if let Some(made) = attempt() {
+            return Some(made);
+        }
+        if !memory.wait() {
+            return None;
+        }
+    }
+    memory.give_up();
+    None
+}
+
 /// A line that has no byte yet.
 pub(crate) fn new_line<M: ReaderMemory>(memory: &M) -> Result<LineBuffer, NoMemory>
     ensures line { IfOk result (λ line. line ≡ so_far []) }
     ensures gives_up { OnErr result M.may_give_up }
 {
-    for _ in 0..u64::MAX {
-        if let Ok(line) = LineBuffer::new(memory.alloc()) {
-            return Ok(line);
-        }
-        if !memory.wait() {
-            return Err(NoMemory);
-        }
+    let mut attempt = || LineBuffer::new(memory.alloc()).ok();
+    match make_in_memory(memory, &mut attempt) {
+        Some(line) => Ok(line),
+        None => Err(NoMemory),
     }
-    memory.give_up();
-    Err(NoMemory)
 }
 
 // Reserves memory for one more.
@@ -74,16 +92,11 @@ fn reserve_one<T, M: ReaderMemory>(memory: &M, list: &mut Vec<T>) -> Result<(), 
     ensures items { list.new.items ≡ list.old.items }
     ensures gives_up { OnErr result M.may_give_up }
 {
-    for _ in 0..u64::MAX {
-        if list.reserve(1).is_ok() {
-            return Ok(());
-        }
-        if !memory.wait() {
-            return Err(NoMemory);
-        }
+    let mut attempt = || list.reserve(1).ok();
+    match make_in_memory(memory, &mut attempt) {
+        Some(()) => Ok(()),
+        None => Err(NoMemory),
     }
-    memory.give_up();
-    Err(NoMemory)
 }
 
 /// Adds one more. An error leaves the list as it was.

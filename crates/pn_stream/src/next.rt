@@ -1,6 +1,6 @@
 //! The next messages of a stream, read from the lines of its source.
 
-ghost use Rattle.std.specs.Prelude.{◌≡◌, ◌≢◌, ℕ, ◌+◌, ◌<◌, ◌≤◌, false, [], ◌++◌, length, IfOk, IfErr, IfSome, OnOk, OnSome, OnErr, IsErrOf, IsSome, IsTrue};
+ghost use Rattle.std.specs.Prelude.{◌≡◌, ◌≢◌, ℕ, ◌+◌, ◌<◌, ◌≤◌, false, [], ◌++◌, length, None, IfOk, IfErr, IfSome, OnOk, OnSome, OnErr, IsErrOf, IsSome, IsTrue};
 ghost use Rattle.pn_line.specs.Prelude.{HasShown};
 ghost use Rattle.pn_join.specs.Prelude.{is_position};
 ghost use Rattle.pn_join.specs.declared.marks.TheConstants.{LAST_POSITION};
@@ -10,7 +10,7 @@ ghost use Rattle.pn_stream.specs.Faults.{Refuses, Stands};
 ghost use Rattle.pn_stream.specs.Batches.{Batch, IsPart, IsNext, part_of};
 
 use crate::fault::StreamFault;
-use crate::memory::{ReaderMemory, new_line, push_one};
+use crate::memory::{ReaderMemory, make_in_memory, new_line, push_one};
 use crate::message::read_message;
 use pn_line::{BoundedEnd, LineBuffer, Source, read_bounded_line};
 use pn_record::{Image, ImageFault};
@@ -191,18 +191,23 @@ fn message_in_memory<M: ReaderMemory>(
     ensures any_step { IfErr result (λ fault. (named got : ℕ) → fault ≢ StreamFault.OutOfStep named got) }
     ensures gives_up { IsErrOf result StreamFault.Memory → M.may_give_up }
 {
-    for _ in 0..u64::MAX {
-        match message_of_line(memory.alloc(), line, wanted) {
-            Err(StreamFault::Memory) => {
-                if !memory.wait() {
-                    return Err(StreamFault::Memory);
-                }
-            }
-            read => return read,
-        }
+    let mut attempt = || unless_memory(message_of_line(memory.alloc(), line, wanted));
+    match make_in_memory(memory, &mut attempt) {
+        Some(read) => read,
+        None => Err(StreamFault::Memory),
     }
-    memory.give_up();
-    Err(StreamFault::Memory)
+}
+
+// What was read, unless memory ran out.
+fn unless_memory<T: Drop>(read: Result<T, StreamFault>) -> Option<Result<T, StreamFault>>
+    ensures same { IfSome result (λ made. made ≡ read) }
+    ensures memory { IfSome result (λ made. IsErrOf made StreamFault.Memory → ⊥) }
+    ensures none { result ≡ None → IsErrOf read StreamFault.Memory }
+{
+    match read {
+        Err(StreamFault::Memory) => None,
+        read => Some(read),
+    }
 }
 
 /// Whether a further newline was seen after the line, if a whole one was read.
