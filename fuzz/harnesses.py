@@ -60,7 +60,7 @@ def stream_of(*scripts: Stored) -> bytes:
 
 
 def session_stream() -> bytes:
-    """The stream behind the sessions: records, conflicts and deletions."""
+    """The stream that the sessions read: records, conflicts and deletions."""
     return stream_of(*map(stored, ["pages-and-continuations", "conditions-on-conflicts", "deletion-hides-and-stays"]))
 
 

@@ -160,7 +160,7 @@ func (a *answer) do() (err error) {
 	return chosen.do(a)
 }
 
-// readQuery reads what is behind `?`: members that are known, each at most once, but for `where`.
+// readQuery reads what follows `?`: members that are known, each at most once, but for `where`.
 func (a *answer) readQuery(known []string) (err error) {
 	if a.query, err = url.ParseQuery(a.request.URL.RawQuery); err != nil {
 		return bad("query", err.Error())

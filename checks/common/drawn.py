@@ -30,7 +30,7 @@ def seeds_of(case: Any) -> set[int]:
 
 def try_drawn(check: Callable[[Drawn], None], cases: st.SearchStrategy[Drawn], count: int, first: int, kept: Iterable[Drawn] = (),
               is_apart: bool = True) -> None:
-    """Tries the cases that are kept, and so many that are drawn. Fails with the smallest that is wrong, which can be kept.
+    """Tries the cases that are kept, and `count` that are drawn. Fails with the smallest that is wrong, which can be kept.
 
     Those that are apart have no seeds of others, unless they are made smaller.
     """

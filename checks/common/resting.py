@@ -67,7 +67,7 @@ def rest_of(process: int, when: str) -> Rest:
 
 
 def same_rest(process: int, before: Rest, when: str, more_kb: int) -> Rest:
-    """Fails unless it rests again, with as many descriptors as before and at most so many KB more."""
+    """Fails unless it rests again, with as many descriptors as before and at most `more_kb` KB more."""
     after = rest_of(process, when)
     same(f"how many descriptors it has {when}", after.descriptors, before.descriptors)
     grown = after.memory - before.memory

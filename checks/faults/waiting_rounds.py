@@ -2,9 +2,9 @@
 
   checks/run waiting-rounds PROGRAM [--cases N]
 
-Two streams are read while a client and a control session ask. The address space is limited (as `prlimit --as` does) until a round
-waits for memory, and the marks stand still; both who ask are answered meanwhile. Then the limit is lifted, and both streams are
-taken to their ends. As often as it is said that a round waits, it is said that rounds go on.
+Two streams are read while a client and a control session ask. The address space is limited (as `prlimit --as` does) until a round or
+a stream waits for memory, and the marks stand still; both that ask are answered meanwhile. Then the limit is lifted, and both streams
+are taken to their ends. As often as it is said that a round or a stream waits, it is said that they go on.
 """
 import json
 import os
@@ -16,9 +16,9 @@ import time
 from common.served import SECONDS, Client, Json, same
 from serving.controlled import Session
 from serving.staying import Staying, until
+from serving.stream_limits import goes_on, waiting_in
 
 NAMES, KEYS = ["east", "west"], 200_000
-WAITS, GOES_ON = b"pnuts: out of memory: a round waits\n", b"pnuts: rounds go on\n"
 # How much more than what it has when streams begin it may take, which is less than they need.
 MORE = 24 << 20
 # For how many seconds the marks stand still.
@@ -50,7 +50,7 @@ def space_of(process: int) -> int:
 
 
 def still(asking: Session, client: Client) -> Json:
-    """The marks, once they have stood still for so long while both who ask were answered."""
+    """The marks, once they have stood still for LONG seconds while both that ask were answered."""
     marks: Json = {}
     since, last = time.monotonic(), time.monotonic() + SECONDS
     while time.monotonic() < since + LONG:
@@ -76,12 +76,12 @@ def check_waiting_rounds(program: str, folder: str, cases: int | None) -> None:
             thread.start()
         until("the first messages", lambda: len(asking.told(do="marks")["marks"]) == len(NAMES))
         limit(server.process.pid, space_of(server.process.pid) + MORE)
-        until("a round that waits", lambda: WAITS in server.said())
+        until("a round or a stream that waits", lambda: waiting_in(server), 4 * SECONDS)
         marks = still(asking, client)
         limit(server.process.pid, resource.RLIM_INFINITY)
         whole = {"marks": dict.fromkeys(NAMES, keys)}
         until("the ends of streams", lambda: asking.told(do="marks") == whole, 4 * SECONDS)
         lost = [number for number in range(2, 2 * keys + 2, APART) if client.read(key_of(number))["row"] is None]
         same("keys that are not there", lost, [])
-        until("that rounds go on", lambda: server.said().count(WAITS) == server.said().count(GOES_ON))
+        until("that what waited goes on", lambda: goes_on(server))
         print(f"a round waited at {json.dumps(marks)}, and rounds went on to {keys} messages of each stream", flush=True)

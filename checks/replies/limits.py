@@ -4,7 +4,7 @@
 
 The ways are scripts, sessions of a program that ends, connections over TCP and a Unix socket, control sessions, and streams from
 files, FIFOs and sockets. A line comes at once, byte by byte (a long one only around its limit and at its end), or in pieces of some
-sizes, with lines before and behind it or none, and with a newline or at the end of input. Each has its reply, or the stream's
+sizes, with lines before and after it or none, and with a newline or at the end of input. Each has its reply, or the stream's
 message is taken or refused, within a second; then the program takes no processor.
 """
 import pytest

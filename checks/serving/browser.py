@@ -15,7 +15,7 @@ WORDS = ("--headless", "--no-sandbox", "--disable-gpu", "--disable-dev-shm-usage
 START = {"session.restore_on_startup": 4, "session.startup_urls": ["about:blank"]}
 # What is kept: what the page's scripts say and what goes wrong there, and what it asks for.
 LOGS = {"browser": "ALL", "performance": "ALL"}
-# A text that a page's script says, behind where.
+# A text that a page's script says, after where.
 SAID = re.compile(r'\S+ \S+ "(.*)"')
 
 

@@ -36,7 +36,7 @@ def send(session: Session, parts: Iterator[bytes]) -> threading.Thread:
 
 
 def check_long_adoptions(program: str, folder: str) -> None:
-    """An adoption of 1,000,000 lines and more is replied to behind its last line, and the session goes on, which says how far it was."""
+    """An adoption of 1,000,000 lines and more is replied to after its last line, and the session goes on, which says how far it was."""
     with region_in(folder, program) as (_, control, path), Session(control) as session:
         written(path, 1, 50)
         session.socket.settimeout(SECONDS * 2)

@@ -108,14 +108,14 @@ def check_states_of_streams(program: str, folder: str) -> None:
                 until(f"east is open before {text[:20]!r}", lambda: state_in(session, 0) == "open")
                 writer.send(text)
                 time.sleep(0.1)
-                same(f"whether east is open behind {text[:20]!r}", state_in(session, 0), "failed" if end == "failed" else "open")
+                same(f"whether east is open after {text[:20]!r}", state_in(session, 0), "failed" if end == "failed" else "open")
             has["east"] = max(has["east"], taken)
-            until(f"east has {end} behind {text[:20]!r}", lambda: state_in(session, 0) == end)
+            until(f"east has {end} after {text[:20]!r}", lambda: state_in(session, 0) == end)
             with open(fifo, "wb", buffering=0) as pipe:
                 pipe.write(text)
                 if text:
-                    until(f"west is open behind {text[:20]!r}", lambda: state_in(session, 1) == ("failed" if end == "failed" else "open"))
-            until(f"west is not open any more behind {text[:20]!r}", lambda: state_in(session, 1) != "open")
+                    until(f"west is open after {text[:20]!r}", lambda: state_in(session, 1) == ("failed" if end == "failed" else "open"))
+            until(f"west is not open any more after {text[:20]!r}", lambda: state_in(session, 1) != "open")
             time.sleep(0.3)
         with contextlib.ExitStack() as stay:
             for _ in range(20):

@@ -1,4 +1,4 @@
-"""Checks of `checks/run control`: a region whose rounds wait for memory, which is asked, loses tablets and stops all the same."""
+"""Checks of `checks/run control`: a region that waits for memory is asked, loses tablets and stops all the same."""
 import contextlib
 import json
 import resource
@@ -9,7 +9,7 @@ from collections.abc import Iterator
 from common.served import SECONDS, Client, in_time, same, seconds_of
 from serving.controlled import TABLETS, Session, region_in, written
 from serving.staying import Staying, until
-from serving.stream_limits import BIG, TEXT
+from serving.stream_limits import BIG, TEXT, goes_on, waiting_in
 from serving.writers import Writer
 
 MEMORY = b'{"error":"memory"}\n'
@@ -38,14 +38,14 @@ def feed(writer: Writer) -> None:
 
 @contextlib.contextmanager
 def waiting(region: Staying, path: str, limit: int) -> Iterator[Writer]:
-    """A region of which a round waits for memory, until the block ends."""
+    """A region of which a round or a stream waits for memory, until the block ends."""
     before = resource.prlimit(region.process.pid, limit)
     with Writer(path) as writer:
         same("what the region has", writer.begin(), 1_000)
         resource.prlimit(region.process.pid, limit, (taken(region, limit) + (SPARE_KB << 10), before[1]))
         feeding = threading.Thread(target=feed, args=[writer], daemon=True)
         feeding.start()
-        until("a round waits", lambda: b"out of memory: a round waits\n" in region.said())
+        until("a round or a stream waits", lambda: waiting_in(region))
         time.sleep(1.5)
         yield writer
         if region.is_running():
@@ -53,7 +53,7 @@ def waiting(region: Staying, path: str, limit: int) -> Iterator[Writer]:
 
 
 def asked(control: str, line: bytes, member: str) -> bool:
-    """Asks in a session of its own. Whether it is answered, and not refused for want of memory; something has to come."""
+    """Asks in a session of its own. Whether it is answered, and not refused for lack of memory; something has to come."""
     with Session(control) as session:
         session.socket.settimeout(SECONDS / 4)
         reply = session.ask(line)
@@ -64,7 +64,7 @@ def asked(control: str, line: bytes, member: str) -> bool:
 
 
 def check_asking_without_memory(program: str, folder: str) -> None:
-    """While a round waits for memory, each line of a new session is answered or refused for want of memory, and a tablet is lost; once there is
+    """While a region waits for memory, each line of a new session is answered or refused for lack of memory, and a tablet is lost; once there is
     memory, all is answered."""
     for limit in LIMITS:
         with region_in(folder, program, name=f"control-{limit}") as (region, control, path), Client(region.port) as client:
@@ -84,15 +84,15 @@ def check_asking_without_memory(program: str, folder: str) -> None:
                         same(f"whether one of sixteen is answered: {reply!r}", reply == MEMORY or reply.startswith(b'{"marks":'), True)
                 same("a record that is there", client.read("k001")["row"]["key"], "k001")
                 until("a tablet is lost", lambda: asked(control, b'{"do":"lose","tablet":1}\n', "lost"))
-            until("rounds go on", lambda: region.said().count(b"pnuts: rounds go on\n") == region.said().count(b"a round waits\n"))
+            until("what waited goes on", lambda: goes_on(region))
             for line, member in LINES.items():
                 same(f"whether {line!r} is answered once there is memory", asked(control, line, member), True)
             same("the tablets", [it["need"] is None for it in Session(control).told(do="tablets")["tablets"]], [True, False, True][:TABLETS])
-            print(f"  {answered} of {TIMES} lines were answered while a round waited")
+            print(f"  {answered} of {TIMES} lines were answered meanwhile")
 
 
 def check_stopping_without_memory(program: str, folder: str) -> None:
-    """While a round waits for memory a stop is taken, and the program ends by itself in its seconds."""
+    """While a region waits for memory a stop is taken, and the program ends by itself in its seconds."""
     for limit in LIMITS:
         with region_in(folder, program, name=f"stopped-{limit}") as (region, control, path):
             written(path, 1, 1_000)

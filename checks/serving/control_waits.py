@@ -22,7 +22,7 @@ REFUSED = {
     b'{"do":"advance","seconds":1}': b'{"error":"bad-shape","member":"other"}\n',
     b"x": b'{"error":"not-json"}\n', b"x" * 65_537: b'{"error":"too-long"}\n',
 }
-STATS = ["bytes", "connections", "lines", "rounds", "streams", "tablets", "unread", "uptime", "version"]
+STATS = ["bytes", "connections", "lines", "rounds", "streams", "tablets", "times", "unread", "uptime", "version"]
 CONNECTIONS, LINES = ["accepted", "idle", "open", "refused"], ["answered", "kinds", "refused"]
 STREAM = ["bytes", "heard", "line", "messages", "name", "newest", "path", "position", "reason", "since", "state", "stream"]
 

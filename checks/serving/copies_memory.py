@@ -11,7 +11,7 @@ from faults.memory_limit import limited
 # How many megabytes of address space a program has, and how many of a text it may read before it says what is wrong at its beginning.
 MEGABYTES, MOST_READ = 600, 64
 HEAD, IMAGE = b'{"copy":1,"from":null,"to":null}\n', b'{"fields":{"v":"%b"},"key":"k%08d","master":"w","version":[1,0]}\n'
-# Texts at fault, each with what is said of it; behind each come lines without end.
+# Texts at fault, each with what is said of it; after each come lines without end.
 FAULTS = {
     "a first line that is none": (b"x\n", "line 1: bad-line"),
     "a first line that is another one": (IMAGE % (b"x", 1), "line 1: bad-line"),
@@ -22,7 +22,7 @@ FAULTS = {
 
 
 def without_end(of: bytes) -> Iterator[bytes]:
-    """A text, and lines of images behind it."""
+    """A text, and lines of images after it."""
     yield of
     at = 10
     while True:

@@ -13,7 +13,7 @@ from serving.control_stops import HALF, READ, SCAN, Pipelining
 from serving.staying import KEYS, Staying
 
 CLIENTS, RUNS = 60, 24
-# Which of so many clients have gone before a stop: every second one, the first half, the last half, and all but one.
+# Which of the clients have gone before a stop: every second one, the first half, the last half, and all but one.
 GONE = [range(0, CLIENTS, 2), range(CLIENTS // 2), range(CLIENTS // 2, CLIENTS), range(1, CLIENTS)]
 # How many clients pipeline, and for how long, before a stop with no seconds.
 PIPELINING, WHILE = 48, 0.15
@@ -49,7 +49,7 @@ def ends(region: Staying, what: str, seconds: float, idle: float) -> float:
 
 
 def check_notices_that_wait(program: str, folder: str) -> None:
-    """At a stop `notices` that wait end at once with their reply, and all lines behind them have theirs."""
+    """At a stop `notices` that wait end at once with their reply, and all lines after them have theirs."""
     lines = [LONG_WAIT % 3, MARKS, LONG_WAIT % 3, b'{"do":"tablets"}\n', b'{"do":"notices","since":0,"wait":0}\n', LONG_WAIT % 3, MARKS]
     for count in (1, 3):
         with region_in(folder, program) as (region, control, path), contextlib.ExitStack() as stay:
@@ -147,7 +147,7 @@ def check_busy_control_sessions(program: str, folder: str) -> None:
 
 
 def look(client: Pipelining) -> int:
-    """How many replies came whole; behind them may be a part of one. Each is that of its line, where a part of a line is no JSON."""
+    """How many replies came whole; after them may be a part of one. Each is that of its line, where a part of a line is no JSON."""
     whole = client.came[: client.came.rfind(b"\n") + 1].removesuffix(HALF)
     lines = whole.splitlines()
     same("a reply that is not its line's", next((line for line in lines if b'{"row":{' not in line), None), None)

@@ -24,7 +24,7 @@ SEEN = 0.3
 
 
 class Told(NamedTuple):
-    """A message that is tried, how its text is cut, and what comes before and behind it."""
+    """A message that is tried, how its text is cut, and what comes before and after it."""
 
     limit: str
     size: int
@@ -53,7 +53,7 @@ class Told(NamedTuple):
 
     def __str__(self) -> str:
         return (f"{self.limit} of {self.size:,} in pieces of {self.piece or 'any size'}, with {self.before} messages before and "
-                f"{self.after} behind it{', cut' if self.is_cut else ''}")
+                f"{self.after} after it{', cut' if self.is_cut else ''}")
 
 
 def all_told(each: int, pieces: Sequence[int | None]) -> list[Told]:

@@ -8,11 +8,11 @@ from collections.abc import Callable, Sequence
 
 from common.served import TIMES
 
-# A text of up to so many bytes is sent byte by byte; of a longer one so many bytes are, around its limit and at its end.
+# A text of up to FEW bytes is sent byte by byte; of a longer one AROUND bytes are, before and after its limit and at its end.
 FEW, AROUND = 512, 8
 # Between two pieces of a text, so that each is read by itself. In the same time one of each other text is sent, too.
 PAUSE = 0.0005
-# Within how many seconds all is answered, or within so many times what an idle program takes.
+# Within how many seconds all is answered, beyond what an idle program takes.
 ANSWERED = 1.0
 CHUNK = 1 << 18
 # How many bytes a piece has; all at once where there is no such number.

@@ -18,7 +18,7 @@ from serving.staying import Staying
 
 NONE = ("east", os.devnull)
 READ, NO_ROW = b'{"do":"read","key":"z"}\n', b'{"row":null}\n'
-# Which lines come before and behind the one that is tried, and whether its input ends without a newline.
+# Which lines come before and after the one that is tried, and whether its input ends without a newline.
 AROUND = [(before, after, is_cut) for before in (0, 2) for after in (0, 2) for is_cut in (False, True)]
 # After how many faults no more is tried in a way.
 FAULTS = 3
@@ -110,7 +110,7 @@ def script(program: str, folder: str, count: int) -> Iterator[Server]:
 
 @contextlib.contextmanager
 def ending(program: str, folder: str, count: int) -> Iterator[Server]:
-    """A program that serves so many sessions, and ends with them."""
+    """A program that serves `count` sessions, and ends with them."""
     with Served(program, [NONE], sessions=count) as served:
         yield Server(served.process.pid, over_socket(socket.AF_INET, ("127.0.0.1", served.port)))
         same("how it ends", served.end(), (0, b"served %d\n" % count, b""))
@@ -177,7 +177,7 @@ def case_of(limit: Limit, name: str, size: int, wanted: bytes, piece: int | None
     text = READ * before + limit.text(size) + b"\n" + READ * after
     text = text[: len(text) - is_cut]
     start = len(READ) * before
-    told = f"{name} of {size:,} in pieces of {piece or 'any size'}, with {before} lines before and {after} behind it{', cut' if is_cut else ''}"
+    told = f"{name} of {size:,} in pieces of {piece or 'any size'}, with {before} lines before and {after} after it{', cut' if is_cut else ''}"
     return Case(told, text, ends_of(len(text), piece, [start, start + LINE]), is_cut, NO_ROW * before + wanted + NO_ROW * after)
 
 

@@ -129,7 +129,7 @@ class Staying:
         return rest_of(self.process.pid, when)
 
     def same_rest(self, before: Rest, when: str, more_kb: int) -> None:
-        """Fails unless it rests with what it had before, and at most so many KB more."""
+        """Fails unless it rests with what it had before, and at most `more_kb` KB more."""
         same_rest(self.process.pid, before, when, more_kb)
 
 

@@ -30,7 +30,7 @@ def limited(most: int) -> Callable[[], None]:
 
 
 def limit_fault(program: str, folder: str, most: int) -> str | None:
-    """What is wrong with a program that is allowed so many descriptors: it is refused, or serves all that its words allow."""
+    """What is wrong with a program that is allowed `most` descriptors: it is refused, or serves all that its words allow."""
     own = os.path.join(folder, str(most))
     os.mkdir(own)
     os.mkfifo(f"{own}/west")

@@ -30,7 +30,7 @@ IDLE, COMING, LATER = 3, 0.04, 2.5
 
 
 def send_and_go(port: int, rng: random.Random) -> None:
-    """A client that sends one long line, some of it or a line behind it, and goes in one of three ways."""
+    """A client that sends one long line, some of it or a line after it, and goes in one of three ways."""
     size, way = rng.choice(SIZES), rng.randrange(3)
     with contextlib.suppress(ConnectionError), socket.create_connection(("127.0.0.1", port), timeout=SECONDS) as client:
         client.sendall(b'{"do":"read","key":"k001"}'.ljust(size) + rng.choice([b"", b"\n", b"\n{}\n"]))
@@ -54,7 +54,7 @@ def check_long_lines_of_many(program: str, folder: str) -> None:
                 send_and_go(region.port, rng)
             with Client(region.port) as client:
                 client.socket.settimeout(PATIENCE)
-                in_time("the reply to one behind them", seconds_of(lambda: same("one behind them", client.read("k"), {"row": None})), 1.0, idle)
+                in_time("the reply to one after them", seconds_of(lambda: same("one after them", client.read("k"), {"row": None})), 1.0, idle)
             if before:
                 region.same_rest(before, "once as many have gone again", LEAK_KB)
             before = region.rest("once they have gone")
@@ -89,7 +89,7 @@ def check_records_of_many_contents(program: str, folder: str) -> None:
     light = [f"k{number:03}" for number in range(LIGHT)]
     with Staying(program, folder, [("east", path)], threads=1) as region:
         with Client(region.port) as client, Client(region.port) as other:
-            until("all contents are there", lambda: keys_shown(client, 1_000, ["eq", "part", HEAVY_CONTENTS - 1]) == heavy, 60)
+            until("all contents are there", lambda: keys_shown(client, 1_000, ["eq", "part", HEAVY_CONTENTS - 1]) == heavy, 4 * SECONDS)
             for limit in (1, 2, 1_000):
                 other.send(b'{"do":"scan","query":{"where":[["eq","all","y"]]}}\n' * 20)
                 for part in (1, HEAVY_CONTENTS // 2, HEAVY_CONTENTS - 1):

@@ -18,7 +18,7 @@ COPY = b'{"do":"copy","need":{},"tablet":0}\n'
 TEXT = "x" * 4_000
 # What one page of them weighs at least, and at most.
 LEAST, MOST = KEYS * 4_000, KEYS * 6_000
-# So many of these pages have more bytes than systems keep for a client that takes none.
+# How many of these pages have more bytes than systems keep for a client that takes none.
 PAGES = 40
 # The limit of the option, and words that are refused.
 MOST_BYTES, NO_BYTES = 4_000_000_000, ("0", "-1", "4000000001", "1e6", "64M", "")

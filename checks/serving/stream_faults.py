@@ -58,7 +58,7 @@ def check_beginnings(program: str, folder: str) -> None:
                 same("what a writer with a gap is told", writer.last_lines(), wanted)
         for at in (1, has):
             client.wait_for(key_of(at), row_of(key_of(at), 0, "x"))
-        same("what is there of those behind a gap", client.read(key_of(has + 2)), {"row": None})
+        same("what is there of those after a gap", client.read(key_of(has + 2)), {"row": None})
         written_by(path, messages(has + 1, 1), has)
         client.wait_for(key_of(has + 1), row_of(key_of(has + 1), 0, "x"))
         said = [failed("east", has + 1, 1, f"gap, got {first}, wanted {has + 1}") for first in (has + 2, has + 50, 10**15)]
@@ -66,7 +66,7 @@ def check_beginnings(program: str, folder: str) -> None:
 
 
 def check_faults(program: str, folder: str) -> None:
-    """Each fault, as a writer's first line and behind two others: its line to the writer and on standard error, and the next writer."""
+    """Each fault, as a writer's first line and after two others: its line to the writer and on standard error, and the next writer."""
     path, east = socket_in(folder)
     with Staying(program, folder, [east]) as region:
         has, said = 0, list[bytes]()

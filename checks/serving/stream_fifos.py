@@ -14,7 +14,7 @@ from serving.staying import Staying, key_of, messages, until
 from serving.writers import Writer, failed, made, said_of_faults, socket_in
 
 ENDED = b"pnuts: stream east ended\n"
-LIVES, RESTARTS, QUIET_LIVES = 200, 50, 300
+LIVES, RESTARTS, QUIET_LIVES = 50, 50, 300
 # How soon a feed is started again. How long a region is given to see the end of one that has gone: at least this many seconds, and this
 # many times as long as it took once.
 GAPS, SEEN, TIMES = (0.0, 0.0005, 0.002, 0.01, 0.05), 0.3, 20
@@ -63,7 +63,7 @@ def wait_at(errors: int, words: bytes) -> None:
 
 
 def check_writer_right_after_the_end(program: str, folder: str) -> None:
-    """A FIFO's writer that comes as soon as the end of the one before was told is read, two hundred times."""
+    """A FIFO's writer that comes as soon as the end of the one before was told is read, fifty times."""
     path, east = made(folder)
     ours, theirs = os.pipe()
     with open(ours, "rb"), Staying(program, folder, [east], errors=theirs) as region, Client(region.port) as client:
@@ -125,7 +125,7 @@ def check_beginnings_of_a_fifo(program: str, folder: str) -> None:
             said.append(failed("east", at, line, why))
             until(f"it says {said[-1]!r}", lambda: said_of_faults(region) == said)
             time.sleep(seen)
-            same(f"what is there behind {why}", client.read(key_of(has + 1)), {"row": None})
+            same(f"what is there after {why}", client.read(key_of(has + 1)), {"row": None})
         write(path, messages(has + 1, 1))
         wait_for(client, has + 1)
 

@@ -91,6 +91,12 @@ def waiting_in(region: Staying) -> set[bytes]:
     return set(re.findall(rb"pnuts: out of memory: a (\w+) waits\n", region.said()))
 
 
+def goes_on(region: Staying) -> bool:
+    """Whether all that waited for memory goes on: it is told as often as that it waits."""
+    said = region.said()
+    return all(said.count(b"a %b waits\n" % what) == said.count(b"pnuts: %bs go on\n" % what) for what in waiting_in(region))
+
+
 def check_little_memory(program: str, folder: str) -> None:
     """Where no memory is left a stream or a round waits, what was taken is shown, and once there is some the same writer is read on."""
     (path, west), (at, east) = made(folder, "west"), socket_in(folder)
@@ -108,7 +114,7 @@ def check_little_memory(program: str, folder: str) -> None:
                 time.sleep(LOOKED)
                 same("whether the writer still waits", filling.is_alive(), True)
             take_up_to(writer, FILLED)
-            until("what waited goes on", lambda: all(b"pnuts: %bs go on\n" % what in region.said() for what in waiting_in(region)))
+            until("what waited goes on", lambda: goes_on(region))
         with open(path, "wb", buffering=0) as pipe:
             pipe.write(messages(2, 1))
         client.wait_for(key_of(2), row_of(key_of(2), 0, "x"))

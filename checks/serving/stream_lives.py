@@ -1,15 +1,20 @@
 """Writers of a stream's socket that go in the middle, and the next ones: checks of `checks/run streams`."""
 import contextlib
+import json
 import random
+import socket
 import time
 from collections.abc import Callable, Iterator
 
-from common.served import Client, same, written
+from common.served import SECONDS, Client, same, written
 from serving.staying import Beside, Staying, messages, pages, replayed, until, watch
-from serving.writers import Writer, said_of_faults, socket_in
+from serving.writers import Writer, said_of_faults, socket_in, wait_for_after, written_by
 
 MESSAGES, CUTS, CLIENTS = 20_000, 1_000, 32
 KILLED, STREAMS, OF_EACH = 60, 16, 2_000
+HALVES, OF_HALF = 100, 500
+# How many turns of writers there are, and of how many a minute is told.
+TURNS, TOLD = 1_000, 60
 WORDS = ["--bounds", '["k030","k060"]', "--workers", "2"]
 
 
@@ -129,3 +134,40 @@ def check_sixteen_streams(program: str, folder: str) -> None:
         for writer in writers.values():
             writer.socket.close()
         same("what is said of faults", said_of_faults(region), [])
+
+
+def last_taken(path: str, after: int) -> int:
+    """A writer that ends its side once it has sent messages. The last position that it is told."""
+    with Writer(path) as writer:
+        same("what the region has", writer.begin(), after)
+        writer.send(messages(after + 1, OF_HALF))
+        writer.socket.shutdown(socket.SHUT_WR)
+        told = after
+        while line := writer.line():
+            told = json.loads(line)["taken"]
+        return told
+
+
+def check_half_closed_writers(program: str, folder: str) -> None:
+    """A hundred writers that end their side with their last message: each is told in the end that all of it was taken."""
+    path, east = socket_in(folder)
+    with Staying(program, folder, [east], *WORDS):
+        for after in range(0, HALVES * OF_HALF, OF_HALF):
+            same("what a writer is told last", last_taken(path, after), after + OF_HALF)
+
+
+def check_turns_that_are_told(program: str, folder: str) -> None:
+    """Of a thousand writers that come and go within a minute sixty are told, and then that the last one has gone."""
+    path, east = socket_in(folder)
+    ended, begun = b"pnuts: stream east ended\n", b"pnuts: stream east begins again\n"
+    with Staying(program, folder, [east]) as region:
+        start = time.monotonic()
+        for at in range(TURNS):
+            written_by(path, messages(at + 1, 1), at)
+        wait_for_after(path, TURNS)
+        most = TOLD * (1 + int(time.monotonic() - start) // 60)
+        said = region.said()
+        same("whether few are told", (said.count(ended) <= most, said.count(begun) <= most), (True, True))
+        until("the last end is told", lambda: region.said().endswith(ended), 2 * SECONDS)
+        written_by(path, messages(TURNS + 1, 1), TURNS)
+        until("a later turn is told", lambda: region.said().endswith(begun + ended))

@@ -114,7 +114,7 @@ def check_texts(program: str, folder: str) -> None:
 
 
 def check_first_alone(program: str, folder: str) -> None:
-    """Only the first line says whose stream it is; behind others it is refused, and what came before it is taken."""
+    """Only the first line says whose stream it is; after others it is refused, and what came before it is taken."""
     with region_in(folder, program) as (region, control, path), Session(control) as session:
         has = 0
         for first, count in ((messages(1, 2), 2), (NEWEST % 7, 0), (b'{"stream":"a"}\n', 0)):
@@ -166,7 +166,7 @@ def check_many(program: str, folder: str) -> None:
             while writer.taken() < MANY + 1:
                 pass
             print(f"  {STORM:,} lines in {time.monotonic() - start:.1f} s")
-            region.same_rest(before, "behind the storm", LEAK_KB)
+            region.same_rest(before, "after the storm", LEAK_KB)
         stream = stream_in(session)
         same("what is shown", [stream[it] for it in ("position", "messages", "bytes", "newest")], [MANY + 1, MANY + 1, len(messages(1, MANY + 1)), STORM - 1])
 

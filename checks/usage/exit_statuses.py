@@ -15,6 +15,8 @@ from common.tried import none_of
 SCAN = b'{"do":"scan","query":{}}\n'
 NO_ROWS = b'{"next":null,"rows":[]}\n'
 NOT_JSON = b'{"error":"not-json"}\n'
+IMAGE = b'{"deleted":true,"key":"k","master":"w","version":[1,0]}'
+NO_LINE = b'{"error":"not-json","line":2,"member":null,"name":null}\n'
 MARKS = b'{"do":"marks"}\n'
 NO_MARKS = b'{"marks":{}}\n'
 LAST_LINE = 1_000_000
@@ -29,6 +31,7 @@ End = tuple[int, bytes | bool | None, bytes]
 WORDS: dict[str, tuple[list[str], End]] = {
     "the version": (["--version"], (0, b"pnuts 0.3.0\n", b"")),
     "a command's version": (["replay", "--version"], (2, b"", b"error: unexpected argument '--version' found")),
+    "a word of a check": (["check", "images"], (2, b"", b"error: unexpected argument 'images' found")),
     "unknown arguments": (["replay", "--fast"], (2, b"", b"error: unexpected argument '--fast' found")),
     "an address of a script": (["replay", "--listen", "::1"], (2, b"", b"error: unexpected argument '--listen' found")),
     "a client idle for no time": (
@@ -109,11 +112,11 @@ WORDS: dict[str, tuple[list[str], End]] = {
 }
 
 
-def end_of(program: str, script: bytes, output: int | IO[bytes]) -> End:
+def end_of(program: str, script: bytes, output: int | IO[bytes], word: str = "replay") -> End:
     with tempfile.TemporaryFile() as file:
         file.write(script)
         file.seek(0)
-        ended = subprocess.run([program, "replay"], stdin=file, stdout=output, stderr=subprocess.PIPE, timeout=SECONDS)
+        ended = subprocess.run([program, word], stdin=file, stdout=output, stderr=subprocess.PIPE, timeout=SECONDS)
     return ended.returncode, ended.stdout, ended.stderr
 
 
@@ -129,11 +132,11 @@ def end_of_help(program: str, *words: str) -> End:
     return status, isinstance(shown, bytes) and b"\n\nUsage: " in shown, said
 
 
-def end_of_unreadable(program: str) -> End:
+def end_of_unreadable(program: str, word: str) -> End:
     """Where standard input is a folder, which opens and cannot be read."""
     folder = os.open("/", os.O_RDONLY)
     try:
-        ended = subprocess.run([program, "replay"], stdin=folder, capture_output=True, timeout=SECONDS)
+        ended = subprocess.run([program, word], stdin=folder, capture_output=True, timeout=SECONDS)
     finally:
         os.close(folder)
     return ended.returncode, ended.stdout, ended.stderr
@@ -170,10 +173,10 @@ def end_of_session(program: str, lines: bytes) -> End:
     return status, replies + shown, said
 
 
-def end_on_full(program: str) -> End:
+def end_on_full(program: str, word: str) -> End:
     """Where standard output is full."""
     with open("/dev/full", "wb") as full:
-        return end_of(program, SCAN, full)
+        return end_of(program, SCAN, full, word)
 
 
 def ends(program: str) -> Iterator[tuple[str, End, End]]:
@@ -188,13 +191,17 @@ def ends(program: str) -> Iterator[tuple[str, End, End]]:
     yield "one line more that asks for marks", end_of(program, MARKS * (LAST_LINE + 1), pipe), turns
     yield "a line without end", end_of_endless(program), (1, NO_ROWS, b"pnuts: too-many-turns\n")
     yield "one line more in a session", end_of_session(program, b"\n" * LAST_LINE), (0, NOT_JSON * LAST_LINE + b"served 1\n", b"")
-    yield "input that cannot be read", end_of_unreadable(program), (1, b"", b"pnuts: read\n")
-    yield "output that is full", end_on_full(program), (1, None, b"pnuts: write\n")
+    for word in ("check", "replay"):
+        yield f"input that {word} cannot read", end_of_unreadable(program, word), (1, b"", b"pnuts: read\n")
+        yield f"output of {word} that is full", end_on_full(program, word), (1, None, b"pnuts: write\n")
+    yield "no line that is checked", end_of(program, b"", pipe, "check"), (0, b"", b"")
+    yield "a line that regions take", end_of(program, IMAGE + b"\n" + IMAGE, pipe, "check"), (0, b"", b"")
+    yield "a line that no region takes", end_of(program, IMAGE + b"\n{", pipe, "check"), (1, NO_LINE, b"")
     for name, (words, wanted) in WORDS.items():
         yield name, end_of_words(program, *words), wanted
     yield "help", end_of_help(program, "--help"), (0, True, b"")
     yield "help on a command", end_of_help(program, "serve", "--help"), (0, True, b"")
-    for words in (["--help"], ["serve", "--help"], ["replay", "--help"]):
+    for words in (["--help"], ["check", "--help"], ["serve", "--help"], ["replay", "--help"]):
         name = " ".join(["help", *words[:-1]])
         yield name, end_of_words(program, *name.split()), end_of_words(program, *words)
 

@@ -16,7 +16,7 @@ from usage.packaged import check_serving, differing, trace
 
 PREFIX = "/usr/local"
 ENVIRONMENT = "etc/default/pnuts"
-FEEDS = ("check-images", "kafka", "postgres-outbox", "rabbitmq-stream", "redis-stream")
+FEEDS = ("kafka", "postgres-outbox", "rabbitmq-stream", "redis-stream")
 FILES = {
     "bin/pnuts": 0o755,
     "bin/pnuts-ctl": 0o755,
@@ -61,6 +61,7 @@ COMPLETIONS = {
     "pnuts h": {"help"},
     "pnuts help s": {"serve"},
     "pnuts r": {"replay"},
+    "pnuts c": {"check"},
     "pnuts s": {"serve"},
     "pnuts serve --b": {"--bounds"},
     "pnuts serve --co": {"--connections", "--control", "--copies"},

@@ -2,7 +2,7 @@
 
   checks/run links
 
-- Each link of a document leads to a file of the repository and, behind `#`, to a heading of it.
+- Each link of a document leads to a file of the repository and, after `#`, to a heading of it.
 - Each name in docs/guarantees.md is that of a function or a clause of the crates; a function in parentheses is of its section's crate.
 - Each `make` TARGET, part of `checks/run`, command of `pnuts-ctl`, path of a program and option of one that a document names is there.
 - The documents have at most as many words as they may.
@@ -67,7 +67,7 @@ def plain(name: str) -> str:
 
 
 def slug(heading: str) -> str:
-    """What a link to a heading has behind `#`."""
+    """What a link to a heading has after `#`."""
     words = re.sub(r"[^\w\- ]", "", heading.replace("`", "").lower())
     return words.strip().replace(" ", "-")
 

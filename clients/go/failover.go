@@ -7,7 +7,7 @@ import (
 	"time"
 )
 
-// backoff is for how long a region is left alone after so many failures in a row: 0.1 seconds, then twice as long each time, at most 10.
+// backoff is for how long a region is left alone after failures in a row: 0.1 seconds, then twice as long each time, at most 10.
 func backoff(failures int) time.Duration {
 	return time.Duration(math.Min(0.05*math.Exp2(float64(failures)), 10) * float64(time.Second))
 }
@@ -77,7 +77,7 @@ func (o *order) failed(done try, now time.Time) {
 	}
 }
 
-// Attempts are the tries of one line: each region once a round, and so many more rounds, before the deadline.
+// Attempts are the tries of one line: each region once a round, and `retries` more rounds, before the deadline.
 type attempts struct {
 	order    *order
 	retries  int

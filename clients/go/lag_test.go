@@ -13,7 +13,7 @@ import (
 )
 
 const (
-	// There are so many changes a second, of so many keys in turn, for some seconds.
+	// How many changes there are a second, of how many keys in turn, and how many in all.
 	changesASecond = 1000
 	changedKeys    = 40
 	changes        = 4 * changesASecond

@@ -13,7 +13,7 @@ type sight struct {
 	deleted bool
 }
 
-// Seen are the versions of the keys that a client has shown last, at most so many, so that no region shows it an older one. That of
+// Seen are the versions of the keys that a client has shown last, at most `size`, so that no region shows it an older one. That of
 // a client of one region is nil, and has none.
 type seen struct {
 	size  int

@@ -21,7 +21,7 @@ const (
 	firstOfLast = "k100"
 )
 
-// A proxy gives connections on to a region, and cuts each one after so many bytes of replies at most, if that is more than 0.
+// A proxy gives connections on to a region, and cuts each one after at most `most` bytes of replies, if that is more than 0.
 type proxy struct {
 	listener   net.Listener
 	target     string

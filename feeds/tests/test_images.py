@@ -1,4 +1,4 @@
-"""Whether an image is one that regions take: the checker in Python, and the program that names the lines that are not."""
+"""Whether an image is one that regions take: what a feed says of a refused one is what the program says."""
 
 from __future__ import annotations
 
@@ -18,7 +18,6 @@ from feed.running import run
 from feed.sockets import RegionSocket
 
 from .region import Region
-from .support import FEEDS
 from .test_sockets import Scripted
 
 RIGHT: dict[str, Any] = {"fields": {"n": -5, "v": "x"}, "key": "k", "master": "w", "version": [1, 0]}
@@ -60,10 +59,10 @@ WRONG: list[tuple[Any, str, str]] = [
 ]
 
 
-def checked(text: bytes) -> tuple[int, list[str]]:
-    """The status of the program, and its lines."""
-    ran = subprocess.run([FEEDS / "check-images"], input=text, capture_output=True, timeout=60)
-    return ran.returncode, ran.stdout.decode().splitlines()
+def checked(text: bytes) -> tuple[int, list[dict[str, Any]]]:
+    """The status of the program that checks lines, and what it tells."""
+    ran = subprocess.run([os.environ["PNUTS"], "check"], input=text, capture_output=True, timeout=60)
+    return ran.returncode, list(map(json.loads, ran.stdout.splitlines()))
 
 
 class Images(unittest.TestCase):
@@ -85,16 +84,20 @@ class Images(unittest.TestCase):
         told = [f"{it.get('error', 'taken')} {it.get('member', '')}".strip() for it in map(json.loads, ran.stdout.splitlines())]
         self.assertEqual(told, [it[1] for it in WRONG] + ["taken"] * 2)
 
-    def test_the_program_that_names_them(self) -> None:
+    @unittest.skipUnless(os.environ.get("PNUTS"), "PNUTS names no program")
+    def test_the_program_checks_the_same(self) -> None:
         self.assertEqual(checked(b""), (0, []))
+        status, said = checked("\n".join(json.dumps(it[0]) for it in WRONG).encode())
+        self.assertEqual((status, [f"{it['error']} {it['member']}" for it in said]), (1, [it[1] for it in WRONG]))
+        self.assertEqual([it["line"] for it in said], list(range(1, len(WRONG) + 1)))
+        self.assertEqual([it["name"] for it in said if it["name"] is not None], ["age", "age", "age", "size", "about", "é" * 33])
         lines = [json.dumps(RIGHT), json.dumps(other(fields={"age": None})), "{", json.dumps({"at": 9, "image": GONE}), json.dumps({"at": 10, "image": 3})]
         lines += ['{"at":-0,"image":{}}', '{"at":5,"image":{"deleted":true,"key":"k","master":"w","version":[1,-0]}}', '{"at":6}']
         status, said = checked("\n".join(lines).encode())
         self.assertEqual(status, 1)
-        self.assertEqual([line.split(": ")[:2] for line in said], [
-            ["line 2, position 2", "bad-shape fields"], ["line 3, position 3", "not-json whole"], ["line 5, position 10", "bad-shape whole"],
-            ["line 6, position 11", "bad-shape at"], ["line 7, position 5", "bad-shape version"], ["line 8, position 6", "bad-shape image"]])
-        self.assertIn("'age'", said[0])
+        self.assertEqual([(it["line"], it["error"], it["member"], it["name"]) for it in said], [
+            (2, "bad-shape", "fields", "age"), (3, "not-json", None, None), (5, "bad-shape", "whole", None), (6, "bad-shape", "at", None),
+            (7, "bad-shape", "version", None), (8, "bad-shape", "image", None)])
 
     def test_a_feed_names_the_field(self) -> None:
         self.assertEqual(why_refused(b'{"at":7,"image":{"fields":{"age":[]},"key":"k","master":"w","version":[1,0]}}\n'),

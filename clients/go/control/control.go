@@ -43,7 +43,7 @@ type TimeCounts struct {
 	Count, Total int64
 }
 
-// TimeBucket says how many took at most so many microseconds, but more than those of the bucket before.
+// TimeBucket says how many took at most Most microseconds, but more than those of the bucket before.
 type TimeBucket struct{ Count, Most int64 }
 
 // Unread says how many bytes the records have that replies keep which clients have not taken, their limit, and how many clients were ended

@@ -8,7 +8,7 @@ const OF_ANOTHER = [ConnectionFailed, TimedOut, Recovering, RecordBehind, CopyBe
 /** How many milliseconds to wait before another try: 100, and twice as many each time, at most 1,000. */
 export const pause = (tries) => Math.min(50 * 2 ** tries, 1000);
 
-/** For how many milliseconds a region is left alone after so many failures in a row: 100, then twice as many each time, at most 10,000. */
+/** For how many milliseconds a region is left alone after failures in a row: 100, then twice as many each time, at most 10,000. */
 export const backoff = (failures) => Math.min(50 * 2 ** failures, 10_000);
 
 /** Regions in the order in which they are asked. A try is a region, by its number, and how many of its failures were known then. */

@@ -9,7 +9,7 @@ import { compareVersions } from "../src/index.js";
 import { proxy } from "./proxy.js";
 import { folderOf, ofTheProgram, open, region } from "./support.js";
 
-/** So many changes a second, of so many keys in turn, for some seconds. */
+/** How many changes there are a second, of which keys in turn, and how many in all. */
 const RATE = 1000;
 const KEYS = Array.from({ length: 40 }, (_, at) => `k${String(at).padStart(2, "0")}`);
 const CHANGES = 4 * RATE;

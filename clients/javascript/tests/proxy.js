@@ -3,7 +3,7 @@
 import { once } from "node:events";
 import net from "node:net";
 
-/** Where it is, and what shuts it. It cuts each connection after so many bytes of replies at most, and all of them while it is shut. */
+/** Where it is, and what shuts it. It cuts each connection after at most `most` bytes of replies, and all of them while it is shut. */
 export async function proxy(t, address) {
   const { port } = new URL(address);
   const sockets = new Set();

@@ -13,7 +13,7 @@ PIECE = 4096
 
 
 class Proxy(socketserver.ThreadingTCPServer):
-    """Gives each connection on to a port. With `most`, it cuts each one after so many bytes of replies at most."""
+    """Gives each connection on to a port. With `most`, it cuts each one after at most that number of bytes of replies."""
 
     daemon_threads = True
     request_queue_size = 100

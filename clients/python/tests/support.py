@@ -1,4 +1,4 @@
-"""What the tests stand on: a running region, a server that does as it is told, and the vectors."""
+"""What the tests need: a running region, a server that does as it is told, and the vectors."""
 
 from __future__ import annotations
 

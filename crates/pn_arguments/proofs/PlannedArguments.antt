@@ -13,11 +13,11 @@ use Rattle.clap.specs.Walk.{Row, Text, Walk, finished, nothing_held, settled, wa
 use Rattle.pn_json.proofs.Inverses.{bind_ok}
 use Rattle.pn_arguments.specs.Options.{program}
 use Rattle.pn_arguments.specs.Plans.{Answers, HasSessions, IsTold, Plans, Says, Tells}
-use Rattle.pn_arguments.specs.Commands.{address_in, control_in, number_at, plan_in, replay_in, serve_in, service_in, settings_in, text_at}
+use Rattle.pn_arguments.specs.Commands.{address_in, control_in, number_at, plan_in, replay_in, script_in, serve_in, service_in, settings_in, text_at}
 use Rattle.pn_arguments.specs.Faults.{FaultValue, told_fault}
 use Rattle.pn_arguments.specs.Faults as faults
 use Rattle.pn_arguments.specs.Permissions.{permissions_in}
-use Rattle.pn_arguments.specs.PlanValues.{PlanValue, ServiceValue, help, plan_value, replay, serve, version}
+use Rattle.pn_arguments.specs.PlanValues.{PlanValue, ServiceValue, check, help, plan_value, replay, serve, version}
 use Rattle.pn_arguments.specs.Streams.{streams_in}
 use Rattle.pn_serve.specs.declared.server.limits.TheConstants.{MAX_SESSIONS}
 use Rattle.pn_arguments.specs.declared.plans.Plan.{Plan}
@@ -79,6 +79,7 @@ answered words kind (inl memory) (Ok (plan.Help text)) is = absurd (cc)
 answered words kind (inr among) (Ok (plan.Help text)) is = subst (λ (k : ErrorKind). IsAmong k (fault_of program words)) is among
 answered words kind (inl memory) (Ok (plan.Version text)) is = absurd (cc)
 answered words kind (inr among) (Ok (plan.Version text)) is = subst (λ (k : ErrorKind). IsAmong k (fault_of program words)) is among
+answered words kind has (Ok plan.Check) is = absurd is
 answered words kind has (Ok (plan.Replay settings)) is = absurd is
 answered words kind has (Ok (plan.Serve settings service streams)) is = absurd is
 answered words kind (inl memory) (Err (fault.Words text)) is = absurd (is.2 memory)
@@ -89,10 +90,11 @@ answered words kind has (Err (fault.Control refused)) is = absurd is
 answered words kind has (Err (fault.Stream refused)) is = absurd is
 answered words kind has (Err fault.Memory) is = tt
 
--- ---- a plan is a script's, or to serve with 1 to 16 sessions
+-- ---- a plan is to check lines, a script's, or to serve with 1 to 16 sessions
 
--- a plan of a script, or to serve with a few sessions
+-- a plan to check lines, of a script, or to serve with a few sessions
 abbrev IsPlanned : PlanValue → Type 0
+IsPlanned check = Unit {0}
 IsPlanned (replay settings) = Unit {0}
 IsPlanned (serve settings service streams) = (1 ≤ service.sessions) × (service.sessions ≤ MAX_SESSIONS)
 IsPlanned help = ⊥
@@ -128,9 +130,13 @@ replay_plans options value e =
     let same : replay one.0 ≡ value = cc in
     subst IsPlanned same tt
 
-plans : (b : Bool) (written : Option IpAddr) (options : List Row) (value : PlanValue) → cond b (serve_in written options) (replay_in options) ≡ Ok value → IsPlanned value
-plans true written options value e = serve_plans written options value e
-plans false written options value e = replay_plans options value e
+script_plans : (b : Bool) (options : List Row) (value : PlanValue) → cond b (Ok check) (replay_in options) ≡ Ok value → IsPlanned value
+script_plans true options value e = let same : check ≡ value = cc in subst IsPlanned same tt
+script_plans false options value e = replay_plans options value e
+
+plans : (b : Bool) (written : Option IpAddr) (command : Text × List Row) (value : PlanValue) → cond b (serve_in written command.1) (script_in command) ≡ Ok value → IsPlanned value
+plans true written command value e = serve_plans written command.1 value e
+plans false written command value e = script_plans _ command.1 value e
 
 -- ---- a command's plan is that of the words
 
@@ -156,10 +162,11 @@ no_words options option.Memory e = absurd (cc)
 
 pub planned : (words : List Text) → fault_of program words ≡ [] → (command : Text × List Row) → subcommand_of program words ≡ Some command
     → (result : Result Plan PlanFault) → Tells command result → Plans words result
+planned words taken command found (Ok plan.Check) tells = says words taken command found _ tells _ tells.shows
 planned words taken command found (Ok (plan.Replay settings)) tells = says words taken command found _ tells _ tells.shows
 planned words taken command found (Ok (plan.Serve settings service streams)) tells = says words taken command found _ tells _ tells.shows
-planned words taken command found (Ok (plan.Help text)) tells = absurd (plans _ tells.written command.1 help tells.shows)
-planned words taken command found (Ok (plan.Version text)) tells = absurd (plans _ tells.written command.1 version tells.shows)
+planned words taken command found (Ok (plan.Help text)) tells = absurd (plans _ tells.written command help tells.shows)
+planned words taken command found (Ok (plan.Version text)) tells = absurd (plans _ tells.written command version tells.shows)
 planned words taken command found (Err (fault.Words text)) tells = absurd (no_words command.1 tells.shows.0 tells.shows.2)
 planned words taken command found (Err (fault.Bounds refused)) tells = told words taken command found _ tells _ tells.shows
 planned words taken command found (Err (fault.Address refused)) tells = told words taken command found _ tells _ tells.shows
@@ -168,8 +175,9 @@ planned words taken command found (Err (fault.Stream refused)) tells = told word
 planned words taken command found (Err fault.Memory) tells = tt
 
 pub has_sessions : (words : List Text) (result : Result Plan PlanFault) → Plans words result → IfOk result HasSessions
+has_sessions words (Ok plan.Check) is = tt
 has_sessions words (Ok (plan.Replay settings)) is = tt
-has_sessions words (Ok (plan.Serve settings service streams)) is = plans _ is.written is.command.1 (plan_value (plan.Serve settings service streams)) is.means
+has_sessions words (Ok (plan.Serve settings service streams)) is = plans _ is.written is.command (plan_value (plan.Serve settings service streams)) is.means
 has_sessions words (Ok (plan.Help text)) is = tt
 has_sessions words (Ok (plan.Version text)) is = tt
 has_sessions words (Err found) is = tt

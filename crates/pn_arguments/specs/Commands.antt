@@ -1,4 +1,4 @@
--- What `serve` and `replay` say with their options.
+-- What commands say with their options.
 use Rattle.std.specs.Prelude.{ℕ, Bool, ◌==◌, ◌&&◌, not, nat_lt, if◌then◌else◌, List, [], length, codes, Option, Some, None, unwrap_or, option_and_then, min, max, Result, Ok, Err}
 use Rattle.std.specs.Net.Grammar.{IsIpText}
 use Rattle.std.specs.Option.{ok_or}
@@ -19,7 +19,7 @@ use Rattle.pn_arguments.specs.declared.faults.OptionFault.{OptionFault}
 use Rattle.pn_arguments.specs.declared.faults.OptionFault.TheVariants as fault
 use Rattle.pn_arguments.specs.declared.faults.Why.TheVariants as why
 use Rattle.pn_arguments.specs.declared.streams.TheConstants.{MAX_SOCKET_BYTES}
-use Rattle.pn_arguments.specs.PlanValues.{AddressValue, PlanValue, ServiceValue, path, port, replay, serve}
+use Rattle.pn_arguments.specs.PlanValues.{AddressValue, PlanValue, ServiceValue, check, path, port, replay, serve}
 
 -- the number that decimal digits write, in 32 bits
 abbrev pub number_in : Text → Option ℕ
@@ -129,6 +129,14 @@ replay_in options = do
 abbrev pub is_serve : Text × List Row → Bool
 is_serve command = bytes_eq command.0 (codes "serve")
 
+-- the command is `check`
+abbrev pub is_check : Text × List Row → Bool
+is_check command = bytes_eq command.0 (codes "check")
+
+-- what `check` and `replay` say
+abbrev pub script_in : Text × List Row → Result PlanValue OptionFault
+script_in command = if is_check command then Ok check else replay_in command.1
+
 -- what a command says with its options, where the text of the host writes this
 abbrev pub plan_in : Option IpAddr → Text × List Row → Result PlanValue OptionFault
-plan_in written command = if is_serve command then serve_in written command.1 else replay_in command.1
+plan_in written command = if is_serve command then serve_in written command.1 else script_in command

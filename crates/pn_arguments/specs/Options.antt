@@ -101,6 +101,10 @@ with_start app = with_rule (with_service app) copies_option
 abbrev pub serve : App
 serve = with_rule (with_start (with_rule (with_rule (new_app (codes "serve")) bounds_option) workers_option)) streams_words
 
+-- lines are checked
+abbrev pub check : App
+check = new_app (codes "check")
+
 -- the program, which needs a command, and has a version
 abbrev pub named_program : App
 named_program = record (new_app (codes "pnuts")) {
@@ -109,4 +113,4 @@ named_program = record (new_app (codes "pnuts")) {
 
 -- the program with its commands
 abbrev pub program : App
-program = with_subcommand (with_subcommand named_program replay.top) serve.top
+program = with_subcommand (with_subcommand (with_subcommand named_program check.top) replay.top) serve.top

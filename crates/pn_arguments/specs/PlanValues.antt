@@ -29,8 +29,9 @@ pub record ServiceValue : Type 0 where
   pub is_progress_told : Bool
   pub copies : Option (List ℕ)
 
--- a script; or the settings, the service and the streams to serve; or help, or the version
+-- lines to check; a script; or the settings, the service and the streams to serve; or help, or the version
 pub data PlanValue : Type 0 where
+  check : PlanValue
   replay : SettingsValue → PlanValue
   serve : SettingsValue → ServiceValue → List StreamValue → PlanValue
   help : PlanValue
@@ -61,6 +62,7 @@ service_value service = record {
 
 -- what a plan of the program says
 abbrev pub plan_value : Plan → PlanValue
+plan_value plan.Check = check
 plan_value (plan.Replay settings) = replay settings
 plan_value (plan.Serve settings service streams) = serve settings (service_value service) (map stream_value streams.items)
 plan_value (plan.Help text) = help

@@ -3,6 +3,7 @@
 
 mod bounds;
 mod faults;
+mod help;
 mod options;
 mod permissions;
 mod planning;

@@ -4,10 +4,16 @@ ghost use Rattle.std.specs.Prelude.{◌≡◌, ◌≤◌, ℕ, List, [], None, S
 ghost use Rattle.clap.specs.Words.{Row, Text, app_of, first_of, found_of, new_app, one_of, rows_of, rule_of, with_rule};
 ghost use Rattle.clap.specs.declared.builder.command.Command.TheViews.{out-Command};
 ghost use Rattle.clap.specs.declared.builder.value_parser.ValueParser.TheVariants as values;
-ghost use Rattle.pn_arguments.specs.Options.{bounds_option, flag_option, number_option, option_of, plain_option};
-ghost use Rattle.pn_arguments.specs.Options.{program, serve as serve_app, streams_words, unread_option, workers_option};
+ghost use Rattle.pn_arguments.specs.Options.{bounds_option, check as check_app, flag_option, number_option, option_of};
+ghost use Rattle.pn_arguments.specs.Options.{plain_option, program, serve as serve_app, streams_words, unread_option, workers_option};
 ghost use Rattle.pn_arguments.specs.Commands.{is_set, number_at, number_in};
 
+use crate::help::{
+    BOUNDS_HELP, CHECK_ABOUT, CHECK_EXAMPLES, CONNECTIONS_HELP, CONTROL_HELP, COPIES_HELP,
+    EXAMPLES, IDLE_HELP, LISTEN_HELP, PORT_HELP, PROGRESS_HELP, REPLAY_ABOUT, REPLAY_EXAMPLES,
+    SERVE_ABOUT, SERVE_EXAMPLES, SESSIONS_HELP, SOCKET_HELP, SOCKET_MODE_HELP, STAY_HELP,
+    STREAMS_HELP, UNREAD_HELP, WORKERS_HELP,
+};
 use clap::builder::ValueParser;
 use clap::{Arg, ArgAction, ArgMatches, Command};
 use pn_apply::MAX_WORKERS;
@@ -26,71 +32,6 @@ pub(crate) const MAX_IDLE: u32 = 86_400;
 /// The most bytes of records that unread replies may keep.
 pub(crate) const MAX_UNREAD: u32 = 4_000_000_000;
 
-/// The examples of `pnuts --help`.
-const EXAMPLES: &str = "\
-Examples:
-  pnuts replay < script
-  pnuts serve --stay --socket /run/pnuts/socket east=/run/pnuts/east";
-
-const REPLAY_ABOUT: &str =
-    "Answers the script on standard input, a reply a line, on standard output";
-
-const SERVE_ABOUT: &str =
-    "Reads streams from files or sockets while it serves sessions over TCP or a Unix socket";
-
-/// The examples of `pnuts replay --help`.
-const REPLAY_EXAMPLES: &str = "\
-Examples:
-  echo '{\"do\":\"marks\"}' | pnuts replay
-  pnuts replay --bounds '[\"g\",\"p\"]' --workers 3 < script";
-
-/// The examples of `pnuts serve --help`.
-const SERVE_EXAMPLES: &str = "\
-Examples:
-  pnuts serve --sessions 2 --bounds '[\"g\",\"p\"]' --workers 3 east=east.log west=west.log
-  pnuts serve --stay --connections 64 --listen ::1 --port 7071 east=/run/pnuts/east
-  pnuts serve --stay --socket /run/pnuts/socket --control /run/pnuts/control --idle 60 east=listen:/run/pnuts/east";
-
-const BOUNDS_HELP: &str =
-    "The keys that divide all keys into tablets: a JSON array of up to 63, each less than the next";
-
-const WORKERS_HELP: &str = "How many threads work a round: 1 to 16";
-
-const SESSIONS_HELP: &str =
-    "How many sessions are served, or with --stay how many threads serve them: 1 to 16";
-
-const LISTEN_HELP: &str = "The address that is listened at, of IPv4 or IPv6, which is no host name";
-
-const PORT_HELP: &str = "The port that is listened on";
-
-const SOCKET_HELP: &str = "A Unix socket that is listened on in place of a port";
-
-const SOCKET_MODE_HELP: &str =
-    "The permissions of --socket and of streams' sockets, in octal, up to 0777: with 0660 a group may connect";
-
-const CONTROL_HELP: &str =
-    "With --stay: a Unix socket for those who run the region; only its owner may connect";
-
-const COPIES_HELP: &str =
-    "A text of copies, one of each tablet, that the region starts from; without --bounds in their layout";
-
-const STAY_HELP: &str =
-    "Goes on until a signal or --control ends it, and reads one writer of a FIFO or socket after another";
-
-const CONNECTIONS_HELP: &str = "With --stay: how many connections are served at once: 1 to 65536";
-
-const IDLE_HELP: &str =
-    "Ends a client that sends nothing and takes nothing for so long: 1 to 86400";
-
-const UNREAD_HELP: &str =
-    "With --stay: how many bytes of records unread replies may keep: 1 to 4000000000";
-
-const PROGRESS_HELP: &str =
-    "Says on standard error how far it is, once a second while something changes";
-
-const STREAMS_HELP: &str = "A stream's name and the file of its messages, or, with --stay, \
-     listen:PATH, a Unix socket for their writer; for 1 to 16 streams";
-
 /// The program's commands and options.
 pub(crate) fn command<'w>(alloc: Global) -> Result<Command<'w>, AllocError>
     ensures { IfOk result (λ command. app_of command ≡ program) }
@@ -101,7 +42,19 @@ pub(crate) fn command<'w>(alloc: Global) -> Result<Command<'w>, AllocError>
         .after_help(EXAMPLES)
         .subcommand_required(true);
     let replay = over_region(alloc, "replay", REPLAY_ABOUT, REPLAY_EXAMPLES)?;
-    command.subcommand(replay)?.subcommand(serve(alloc)?)
+    command
+        .subcommand(check(alloc))?
+        .subcommand(replay)?
+        .subcommand(serve(alloc)?)
+}
+
+fn check<'w>(alloc: Global) -> Command<'w>
+    ensures app { app_of result ≡ check_app }
+    ensures local { (out-Command result).has_globals ≡ false }
+{
+    Command::new(alloc, "check")
+        .about(CHECK_ABOUT)
+        .after_help(CHECK_EXAMPLES)
 }
 
 fn serve<'w>(alloc: Global) -> Result<Command<'w>, AllocError>

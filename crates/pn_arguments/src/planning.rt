@@ -6,7 +6,7 @@ ghost use Rattle.clap.specs.Words.{found_of, kind_of, rows_of, subcommand_rows_o
 ghost use Rattle.pn_json.specs.Prelude.{IsUnless, ShowsUnless};
 ghost use Rattle.pn_arguments.specs.Plans.{Answers, Gives, HasSessions, Plans, Tells};
 ghost use Rattle.pn_arguments.specs.Commands.{control_in, copies_in, idle_in, listens_at, address_in};
-ghost use Rattle.pn_arguments.specs.Commands.{replay_in, serve_in, service_in, settings_in, stay_in, Spells};
+ghost use Rattle.pn_arguments.specs.Commands.{replay_in, script_in, serve_in, service_in, settings_in, stay_in, Spells};
 ghost use Rattle.pn_arguments.specs.PlanValues.{address_value, optional_bytes, plan_value, service_value};
 
 use crate::bounds::layout_of;
@@ -72,6 +72,16 @@ fn command_plan(alloc: Global, name: &str, options: &ArgMatches<'_>) -> Result<P
 {
     if name == "serve" {
         serve_of(alloc, options)
+    } else {
+        script_of(alloc, name, options)
+    }
+}
+
+fn script_of(alloc: Global, name: &str, options: &ArgMatches<'_>) -> Result<Plan, OptionFault>
+    ensures { ShowsUnless OptionFault.Memory plan_value result (script_in (name.now, rows_of (found_of options.now))) }
+{
+    if name == "check" {
+        Ok(Plan::Check)
     } else {
         replay_of(alloc, options)
     }

@@ -7,6 +7,8 @@ use std::net::IpAddr;
 /// What the program's arguments ask for.
 #[derive(Debug, Drop)]
 pub enum Plan {
+    /// Check lines.
+    Check,
     /// Answer a script.
     Replay(Settings),
     /// Read streams while sessions are served.

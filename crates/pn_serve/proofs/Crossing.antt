@@ -1,5 +1,6 @@
 -- What threads share of a server may go to another thread, and may be shared: what control sessions and the writer leave for each
 -- other, counters, and faults of streams.
+use denote.RattleType.{RattleType}
 use denote.Param.Send.{IsSend, IsSync, sendable}
 use denote.Param.SendFields.{declared_send, variants_send}
 use denote.Struct.Record.{declared}
@@ -17,16 +18,19 @@ use Rattle.pn_serve.specs.contracts.control.commands.WriterCommand as command
 use Rattle.pn_serve.specs.contracts.control.commands.WriterAnswer as answer
 use Rattle.pn_serve.specs.contracts.control.answers.Question as question
 use Rattle.pn_serve.specs.contracts.control.answers.GivenAnswer as given
-use Rattle.pn_serve.specs.contracts.control.mailboxes.HeldCommand as held_command
+use Rattle.pn_serve.specs.contracts.control.held_command.HeldCommand as held_command
 use Rattle.pn_serve.specs.contracts.control.mailboxes.ControlMailbox as control_mailbox
 use Rattle.pn_serve.specs.contracts.control.mailboxes.ControlMailboxes as controls
 use Rattle.pn_serve.specs.contracts.server.counter.Counter as counter
+use Rattle.pn_serve.specs.contracts.server.shown_mark.ShownMark as shown_mark
 use Rattle.pn_serve.specs.contracts.server.fault_log.StreamFailure as failure
 use Rattle.pn_serve.specs.contracts.server.fault_log.FaultLog as faults
 use Rattle.pn_serve.specs.contracts.server.messages.RoundShare as messages
 use Rattle.pn_serve.specs.contracts.server.reports.Report as report
 use Rattle.pn_serve.specs.contracts.server.held_report.HeldReport as held_report
+use Rattle.pn_serve.specs.contracts.server.kept_report.KeptReport as kept_report
 use Rattle.pn_serve.specs.contracts.server.mailboxes.Mailbox as mailbox
+use Rattle.pn_serve.specs.declared.server.texts.Sending as sending
 use Rattle.pn_serve.specs.contracts.server.reporter.Reporter as reporter
 
 pub name_send : IsSend name.the_row
@@ -125,6 +129,12 @@ counter_send = search (sendable, crosses) depth 40
 pub counter_sync : IsSync counter.the_row
 counter_sync = search (sendable, crosses) depth 40
 
+pub shown_mark_send : IsSend shown_mark.the_row
+shown_mark_send = search (sendable, crosses) depth 40
+
+pub shown_mark_sync : IsSync shown_mark.the_row
+shown_mark_sync = search (sendable, crosses) depth 40
+
 failure_send : IsSend failure.the_row
 failure_send = search (sendable, crosses, name_send) depth 40 fits 20000
 
@@ -143,11 +153,15 @@ report_send = variants_send report.enum ((messages_send, tt), ((name_send, tt), 
 held_report_send : IsSend held_report.the_row
 held_report_send = variants_send held_report.enum (tt, ((report_send, tt), (tt, tt)))
 
-mailbox_send : IsSend mailbox.the_row
-mailbox_send = search (sendable, crosses, held_report_send) depth 60 fits 20000
+module _ (M : RattleType) (g : sending.Ghosts M.Denot) where
+  kept_report_send : IsSend (kept_report.the_row M g)
+  kept_report_send = declared_send (declared (kept_report.struct M g) _) (held_report_send, (search (sendable, crosses) depth 40 fits 20000, tt))
 
-mailbox_sync : IsSync mailbox.the_row
-mailbox_sync = search (sendable, crosses, held_report_send) depth 60 fits 20000
+  mailbox_send : IsSend (mailbox.the_row M g)
+  mailbox_send = search (sendable, crosses, kept_report_send) depth 60 fits 20000
 
-pub reporter_send : IsSend reporter.the_row
-reporter_send = search (sendable, crosses, name_send, mailbox_send, mailbox_sync, counter_send, counter_sync) depth 60 fits 20000
+  mailbox_sync : IsSync (mailbox.the_row M g)
+  mailbox_sync = search (sendable, crosses, kept_report_send) depth 60 fits 20000
+
+  pub reporter_send : IsSend (reporter.the_row M g)
+  reporter_send = search (sendable, crosses, name_send, mailbox_send, mailbox_sync, counter_send, counter_sync) depth 60 fits 20000

@@ -1,12 +1,16 @@
 -- What mailboxes give, one after another.
 use Rattle.std.proofs.Common.{◌≡◌, ℕ, Bool, true, false, if◌then◌else◌, List, [], ◌∷◌, ◌++◌, map, Option, None, Some, IfSome, inl, inr, refl, sym, ap, ◌∙◌, subst, append-nil}
-use Rattle.std.specs.List.{Contains}
-use Rattle.std.proofs.lemmas.List.Elements.{All-nil, All-push, Contains-append_cases, Contains-append_right, Contains-append_left, Contains-push}
+use Rattle.std.specs.List.{All, Contains}
+use Rattle.std.proofs.lemmas.List.Elements.{All-append, All-nil, All-push, Contains-append_cases, Contains-append_right, Contains-append_left, Contains-push}
 use Rattle.pn_join.specs.Marks.{Positions}
+use Rattle.pn_region.specs.Marking.{leaves_gap}
 use Rattle.pn_serve.specs.Server.Gathering.{Note, IsInputOf, IsOwn, first_fault, goes_on, no_input, still_read, with_report, with_notes}
-use Rattle.pn_serve.specs.Server.Reports.{is_fault}
+use Rattle.pn_serve.specs.Server.Reports.{is_fault, messages_of}
+use Rattle.pn_serve.specs.Server.Sent.{IsSent}
+use Rattle.pn_serve.specs.Server.SentReports.{IsSentReport}
 use Rattle.pn_serve.specs.Server.Rounds.{RoundInputValue}
 use Rattle.pn_serve.specs.declared.server.reports.Report.{Report}
+use Rattle.pn_serve.specs.declared.server.reports.Report.TheVariants.{Messages, End, Fault}
 use Rattle.pn_serve.proofs.Passing.{map_push}
 
 -- one more note
@@ -94,3 +98,19 @@ pub fault_named : (names : List (List ℕ)) (marks : Positions) (input : RoundIn
 fault_named names marks input left is =
     subst (λ (v : RoundInputValue). IfSome v.fault (Contains names)) (sym is.together)
     (named_by names marks is.notes no_input (λ name there. subst (λ (ns : List (List ℕ)). Contains ns name) is.of_streams there) tt)
+
+-- the messages of a report that goes on were sent
+sent_of : (known : Type 0) (sends : List ℕ → List ℕ → Type 0) (marks : Positions) (report : Report) → IsSentReport known sends report → All (IsSent known sends) (messages_of marks report)
+sent_of known sends marks (Messages messages) sent = at (leaves_gap marks messages.delivery)
+  where
+    at : (gap : Bool) → All (IsSent known sends) (if gap then [] else messages.delivery ∷ [])
+    at true = All-nil (IsSent known sends)
+    at false = All-push (IsSent known sends) [] messages.delivery (All-nil (IsSent known sends)) sent
+sent_of known sends marks (End name) sent = All-nil (IsSent known sends)
+sent_of known sends marks (Fault name) sent = All-nil (IsSent known sends)
+
+-- so were all, with those of one more report
+pub sent_on : (known : Type 0) (sends : List ℕ → List ℕ → Type 0) (marks : Positions) (input : RoundInputValue) (name : List ℕ) (report : Option Report) → All (IsSent known sends) input.deliveries
+    → IfSome report (IsSentReport known sends) → All (IsSent known sends) (with_report marks input name report).deliveries
+sent_on known sends marks input name None all sent = all
+sent_on known sends marks input name (Some report) all sent = All-append (IsSent known sends) input.deliveries (messages_of marks report) all (sent_of known sends marks report sent)

@@ -52,15 +52,19 @@ run_is broker name position (line ∷ lines) (image ∷ images) published run =
     ap (λ (more : List Image). image ∷ more) (run_is broker name (position + 1) lines images published.1 run.2)
     ∙ sym (ap (take (suc (length images))) (drop_at (broker name) position image here))
 
+-- messages of an honest writer are honest
+pub run_is_honest : (broker : BrokerRecord) (name text rest : List ℕ) (position : ℕ) (images : List Image) → IsHonestWriter broker name text → Run position text images rest
+    → IsHonest broker (record { stream = name; first = position + 1; images = images })
+run_is_honest broker name text rest position images honest run =
+    let at : position ≡ pred (position + 1) = omega arith in (
+      omega arith,
+      subst (λ (n : ℕ). images ≡ take (length images) (drop n (broker name))) at (run_is broker name position run.lines images (honest run.lines rest run.text_is) run.in_step),
+    )
+
 -- what is read of an honest writer is honest
 pub batch_is_honest : (broker : BrokerRecord) (name text part : List ℕ) (least most position : ℕ) (images : List Image) (fault : Option StreamFault) (left : Option (List ℕ)) → IsHonestWriter broker name text
     → Batch least most position text images fault part left → IsHonest broker (record { stream = name; first = position + 1; images = images })
-batch_is_honest broker name text part least most position images fault left honest batch =
-    let at : position ≡ pred (position + 1) = omega arith in (
-      omega arith,
-      subst (λ (n : ℕ). images ≡ take (length images) (drop n (broker name))) at
-          (run_is broker name position batch.run.lines images (honest batch.run.lines batch.rest batch.run.text_is) batch.run.in_step),
-    )
+batch_is_honest broker name text part least most position images fault left honest batch = run_is_honest broker name text batch.rest position images honest batch.run
 
 later_published : (broker : BrokerRecord) (name : List ℕ) (lines more : List (List ℕ)) → ArePublished broker name (lines ++ more) → ArePublished broker name more
 later_published broker name [] more published = published

@@ -147,19 +147,19 @@ stopping_is : (at_fault : AtFault) (fault : Option (List ℕ)) (name : List ℕ)
 stopping_is Stop fault name is = is
 stopping_is GoOn fault name is = absurd (cc)
 
-round_named : (all : List (List ℕ)) (at_fault : AtFault) (names : List (List ℕ)) (waiting : Option RoundInputValue) (old : LiveRegionValue) (input : RoundInputValue) (left : List (List ℕ)) (new : LiveRegionValue) (fault : ServeFault)
-    → AreAmong all names waiting → RunsRound at_fault names waiting old input left new (Err fault) → IsOfRounds all fault
-round_named all at_fault names waiting old input left new (Stream name) among run =
+round_named : (P : DeliveryValue → Type 0) (all : List (List ℕ)) (at_fault : AtFault) (names : List (List ℕ)) (waiting : Option RoundInputValue) (old : LiveRegionValue) (input : RoundInputValue) (left : List (List ℕ)) (new : LiveRegionValue) (fault : ServeFault)
+    → AreAmong all names waiting → RunsRound P at_fault names waiting old input left new (Err fault) → IsOfRounds all fault
+round_named P all at_fault names waiting old input left new (Stream name) among run =
     subst (λ (f : Option (List ℕ)). IfSome f (Contains all)) (stopping_is at_fault input.fault name run.takes.0) (next_named all names waiting old.marks input left among run.next)
-round_named all at_fault names waiting old input left new Round among run = tt
-round_named all at_fault names waiting old input left new Start among run = absurd run.takes
-round_named all at_fault names waiting old input left new Close among run = absurd run.takes
-round_named all at_fault names waiting old input left new Write among run = absurd run.takes
+round_named P all at_fault names waiting old input left new Round among run = tt
+round_named P all at_fault names waiting old input left new Start among run = absurd run.takes
+round_named P all at_fault names waiting old input left new Close among run = absurd run.takes
+round_named P all at_fault names waiting old input left new Write among run = absurd run.takes
 
 -- a fault that stops rounds is of a round, or names a stream
-pub of_rounds : (at_fault : AtFault) (names : List (List ℕ)) (old new : LiveRegionValue) (fault : ServeFault) → ReadUpTo at_fault names old new fault → IsOfRounds names fault
-of_rounds at_fault names old new fault read = elim read.stops [
-  | inl stops ↦ round_named names at_fault read.still read.waiting read.last stops.0 stops.1 new fault
+pub of_rounds : (P : DeliveryValue → Type 0) (at_fault : AtFault) (names : List (List ℕ)) (old new : LiveRegionValue) (fault : ServeFault) → ReadUpTo P at_fault names old new fault → IsOfRounds names fault
+of_rounds P at_fault names old new fault read = elim read.stops [
+  | inl stops ↦ round_named P names at_fault read.still read.waiting read.last stops.0 stops.1 new fault
       (still_among names at_fault names None old read.events read.still read.waiting read.last read.done (record { read = λ name there. there; named = tt })) stops.2
   | inr stops ↦ subst (IsOfRounds names) (sym stops.1) tt
 ]

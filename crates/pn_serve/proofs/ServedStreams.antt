@@ -4,6 +4,7 @@ use Rattle.std.specs.Prelude.{Result, Ok, Err, IfErr, IfOk, IsOk, OnOk, OnErr, I
 use Rattle.std.proofs.lemmas.Result.{err_from_is_err_and}
 use Rattle.pn_join.specs.Marks.{Positions}
 use Rattle.pn_stream.specs.Batches as batches
+use Rattle.pn_stream.specs.Positions.{DeliveryValue}
 use Rattle.pn_tablet.specs.Layouts.{Bounds}
 use Rattle.pn_live.specs.LiveRegions.{LiveRegionValue}
 use Rattle.pn_serve.specs.Server.Faults.{names_of, NamesOne, IsOfRounds}
@@ -16,9 +17,9 @@ use Rattle.pn_serve.specs.Server.Whole.{IsTakenWhole}
 use Rattle.pn_serve.specs.declared.server.fault.ServeFault.{ServeFault}
 use Rattle.pn_serve.specs.declared.server.fault.ServeFault.TheVariants.{Start, Stream, Round, Close, Write}
 
-module _ {S : Type 0} (left : S → Option (List ℕ)) (streams : List (batches.Stream S)) where
+module _ (P : DeliveryValue → Type 0) {S : Type 0} (left : S → Option (List ℕ)) (streams : List (batches.Stream S)) where
   -- rounds stopped
-  rounds_stopped : (old new : LiveRegionValue) (fault : ServeFault) → IsOfRounds (names_of streams) fault → ReadUpTo Stop (names_of streams) old new fault → EndsReading left streams old new (Err fault)
+  rounds_stopped : (old new : LiveRegionValue) (fault : ServeFault) → IsOfRounds (names_of streams) fault → ReadUpTo P Stop (names_of streams) old new fault → EndsReading P left streams old new (Err fault)
   rounds_stopped old new (Stream name) named read = (named, inl read)
   rounds_stopped old new Round named read = read
   rounds_stopped old new Start named read = absurd named
@@ -26,49 +27,49 @@ module _ {S : Type 0} (left : S → Option (List ℕ)) (streams : List (batches.
   rounds_stopped old new Write named read = absurd named
 
   -- a thread's stream is not taken
-  not_taken : (old new : LiveRegionValue) (fault : ServeFault) → ReadToEnds Stop (names_of streams) old new → NamesOne (names_of streams) fault → EndsReading left streams old new (Err fault)
+  not_taken : (old new : LiveRegionValue) (fault : ServeFault) → ReadToEnds P Stop (names_of streams) old new → NamesOne (names_of streams) fault → EndsReading P left streams old new (Err fault)
   not_taken old new (Stream name) read named = (named, inr read)
   not_taken old new Start read named = absurd named
   not_taken old new Round read named = absurd named
   not_taken old new Close read named = absurd named
   not_taken old new Write read named = absurd named
 
-  all_read : (old new : LiveRegionValue) (result : Result (Unit {0}) ServeFault) → ReadToEnds Stop (names_of streams) old new → OnOk result (All (IsTakenWhole left new.marks) streams) → IfErr result (NamesOne (names_of streams))
-      → EndsReading left streams old new result
+  all_read : (old new : LiveRegionValue) (result : Result (Unit {0}) ServeFault) → ReadToEnds P Stop (names_of streams) old new → OnOk result (All (IsTakenWhole left new.marks) streams) → IfErr result (NamesOne (names_of streams))
+      → EndsReading P left streams old new result
   all_read old new (Ok done) read taken named = record { read = read; taken = taken }
   all_read old new (Err fault) read taken named = not_taken old new fault read named
 
   -- nothing was begun
-  pub not_begun : (old : LiveRegionValue) (fault : ServeFault) (result : Result (Unit {0}) ServeFault) → IsErrAnd result (λ other. other ≡ fault) → fault ≡ Start → EndsReading left streams old old result
+  pub not_begun : (old : LiveRegionValue) (fault : ServeFault) (result : Result (Unit {0}) ServeFault) → IsErrAnd result (λ other. other ≡ fault) → fault ≡ Start → EndsReading P left streams old old result
   not_begun old fault result answered start =
       let (other, is, same) = err_from_is_err_and result answered in
-      subst (EndsReading left streams old old) (sym is) (subst (λ (f : ServeFault). EndsReading left streams old old (Err f)) (sym (same ∙ start)) refl)
+      subst (EndsReading P left streams old old) (sym is) (subst (λ (f : ServeFault). EndsReading P left streams old old (Err f)) (sym (same ∙ start)) refl)
 
   -- all threads ended, or sessions were refused
   pub reading_ends : (at_fault : AtFault) (names : List (List ℕ)) (read_by : List (batches.Stream S)) (old new : LiveRegionValue) (is_refused : Bool) (marks : Positions) (read result : Result (Unit {0}) ServeFault)
-      → at_fault ≡ Stop → names ≡ names_of streams → read_by ≡ streams → (is_refused ≡ true → (read ≡ Err Start) × (new ≡ old)) → (is_refused ≡ false → RunsRounds at_fault names old new read)
+      → at_fault ≡ Stop → names ≡ names_of streams → read_by ≡ streams → (is_refused ≡ true → (read ≡ Err Start) × (new ≡ old)) → (is_refused ≡ false → RunsRounds P at_fault names old new read)
       → IfErr read (λ fault. result ≡ Err fault)
-      → marks ≡ new.marks → OnOk read (OnOk result (All (IsTakenWhole left marks) read_by)) → OnOk read (IfErr result (NamesOne (names_of read_by))) → EndsReading left streams old new result
+      → marks ≡ new.marks → OnOk read (OnOk result (All (IsTakenWhole left marks) read_by)) → OnOk read (IfErr result (NamesOne (names_of read_by))) → EndsReading P left streams old new result
   reading_ends at_fault names read_by old new true marks read result stop same_names are refused reads first same taken rest =
       let start = subst (λ (r : Result (Unit {0}) ServeFault). IfErr r (λ fault. result ≡ Err fault)) (refused refl).0 first in
-      subst (EndsReading left streams old new) (sym start) (refused refl).1
+      subst (EndsReading P left streams old new) (sym start) (refused refl).1
   reading_ends at_fault names read_by old new false marks (Err fault) result stop same_names are refused reads first same taken rest =
-      let read_up : ReadUpTo Stop (names_of streams) old new fault =
-      subst (λ (a : AtFault). ReadUpTo a (names_of streams) old new fault) stop (subst (λ (ns : List (List ℕ)). ReadUpTo at_fault ns old new fault) same_names (reads refl)) in
-      subst (EndsReading left streams old new) (sym first) (rounds_stopped old new fault (of_rounds Stop (names_of streams) old new fault read_up) read_up)
+      let read_up : ReadUpTo P Stop (names_of streams) old new fault =
+      subst (λ (a : AtFault). ReadUpTo P a (names_of streams) old new fault) stop (subst (λ (ns : List (List ℕ)). ReadUpTo P at_fault ns old new fault) same_names (reads refl)) in
+      subst (EndsReading P left streams old new) (sym first) (rounds_stopped old new fault (of_rounds P Stop (names_of streams) old new fault read_up) read_up)
   reading_ends at_fault names read_by old new false marks (Ok done) result stop same_names are refused reads first same taken rest =
       all_read old new result
-      (subst (λ (a : AtFault). ReadToEnds a (names_of streams) old new) stop (subst (λ (ns : List (List ℕ)). ReadToEnds at_fault ns old new) same_names (reads refl)))
+      (subst (λ (a : AtFault). ReadToEnds P a (names_of streams) old new) stop (subst (λ (ns : List (List ℕ)). ReadToEnds P at_fault ns old new) same_names (reads refl)))
       (subst (λ (ss : List (batches.Stream S)). OnOk result (All (IsTakenWhole left new.marks) ss)) are (subst (λ (m : Positions). OnOk result (All (IsTakenWhole left m) read_by)) same taken))
       (subst (λ (ss : List (batches.Stream S)). IfErr result (NamesOne (names_of ss))) are rest)
 
   -- no live region was opened
-  pub not_opened : (layout : Bounds) (fault : ServeFault) (result : Result ℕ ServeFault) → IsErrAnd result (λ other. other ≡ fault) → fault ≡ Start → EndsRegion left layout streams result
+  pub not_opened : (layout : Bounds) (fault : ServeFault) (result : Result ℕ ServeFault) → IsErrAnd result (λ other. other ≡ fault) → fault ≡ Start → EndsRegion P left layout streams result
   not_opened layout fault result answered start =
       let (other, is, same) = err_from_is_err_and result answered in
-      subst (EndsRegion left layout streams) (sym is) (subst (λ (f : ServeFault). EndsRegion left layout streams (Err f)) (sym (same ∙ start)) tt)
+      subst (EndsRegion P left layout streams) (sym is) (subst (λ (f : ServeFault). EndsRegion P left layout streams (Err f)) (sym (same ∙ start)) tt)
 
-  pub no_write : (layout : Bounds) (result : Result ℕ ServeFault) → EndsRegion left layout streams result → IfErr result (λ fault. fault ≢ Write)
+  pub no_write : (layout : Bounds) (result : Result ℕ ServeFault) → EndsRegion P left layout streams result → IfErr result (λ fault. fault ≢ Write)
   no_write layout (Ok count) ends = tt
   no_write layout (Err (Stream name)) ends = λ is. cc
   no_write layout (Err Start) ends = λ is. cc
@@ -76,7 +77,7 @@ module _ {S : Type 0} (left : S → Option (List ℕ)) (streams : List (batches.
   no_write layout (Err Close) ends = λ is. cc
   no_write layout (Err Write) ends = absurd ends
 
-  at_fault : (layout : Bounds) (fault : ServeFault) → EndsRegion left layout streams (Err fault) → EndsServing left layout streams (Err fault)
+  at_fault : (layout : Bounds) (fault : ServeFault) → EndsRegion P left layout streams (Err fault) → EndsServing P left layout streams (Err fault)
   at_fault layout (Stream name) ends = ends
   at_fault layout Round ends = ends
   at_fault layout Start ends = tt
@@ -84,11 +85,11 @@ module _ {S : Type 0} (left : S → Option (List ℕ)) (streams : List (batches.
   at_fault layout Write ends = absurd ends
 
   -- the number of sessions was written, or not
-  pub serving_ends : (layout : Bounds) (served : Result ℕ ServeFault) (result : Result (Unit {0}) ServeFault) → EndsRegion left layout streams served → IfErr served (λ fault. result ≡ Err fault)
-      → OnOk served (IfErr result (λ fault. fault ≡ Write)) → EndsServing left layout streams result
-  serving_ends layout (Err fault) result ends first write = subst (EndsServing left layout streams) (sym first) (at_fault layout fault ends)
+  pub serving_ends : (layout : Bounds) (served : Result ℕ ServeFault) (result : Result (Unit {0}) ServeFault) → EndsRegion P left layout streams served → IfErr served (λ fault. result ≡ Err fault)
+      → OnOk served (IfErr result (λ fault. fault ≡ Write)) → EndsServing P left layout streams result
+  serving_ends layout (Err fault) result ends first write = subst (EndsServing P left layout streams) (sym first) (at_fault layout fault ends)
   serving_ends layout (Ok count) (Ok done) ends first write = ends
-  serving_ends layout (Ok count) (Err fault) ends first write = subst (λ (f : ServeFault). EndsServing left layout streams (Err f)) (sym write) ends
+  serving_ends layout (Ok count) (Err fault) ends first write = subst (λ (f : ServeFault). EndsServing P left layout streams (Err f)) (sym write) ends
 
 -- as many readers came back as there were
 pub all_back : {A B : Type 0} (count now was sessions : ℕ) (reading : Result (Unit {0}) ServeFault) (closing : Result A B) (result : Result ℕ ServeFault) → IfErr reading (λ fault. result ≡ Err fault)

@@ -5,6 +5,7 @@ pub mod Faulty
 pub mod Lines
 pub mod Reading
 pub mod Recutting
+pub mod Words
 use Rattle.std.specs.Prelude.{◌≡◌, List, map, Err}
 use Rattle.std.specs.List.Sorted.{IsPermutation, IsSortedByKey}
 use Rattle.std.specs.Option.{option_cmp}

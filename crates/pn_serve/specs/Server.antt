@@ -10,8 +10,11 @@ pub mod Opened
 pub mod Reading
 pub mod Reports
 pub mod Rounds
+pub mod Sent
+pub mod SentReports
 pub mod Served
 pub mod Sessions
+pub mod Shown
 pub mod Tries
 pub mod Whole
 pub mod Writers

@@ -3,6 +3,7 @@
 pub(crate) mod answers;
 pub(crate) mod commands;
 pub(crate) mod handler;
+mod held_command;
 pub(crate) mod laws;
 pub(crate) mod log_watch;
 pub(crate) mod mailboxes;

@@ -35,10 +35,10 @@ pub use repeat_laws::{
 pub use reply_laws::later_replies_show_no_older_record;
 pub use script::{Counts, MAX_LINES, RunFault, run, run_to_exit};
 pub use server::{
-    Acceptor, ComesBack, Counter, FaultLog, MAX_SESSIONS, NextWriter, OpenedRegion, Origin,
-    ReadingEnd, ServeFault, SessionThread, Stream, StreamFailure, StreamPath, TimeCounters,
-    Watchers, WriterEnd, close_region, join_sessions, open_region, read_streams, serve, serve_from,
-    take_commands, take_commands_for,
+    Acceptor, AnyWriters, ComesBack, Counter, FaultLog, MAX_SESSIONS, NextWriter, OpenedRegion,
+    Origin, ReadingEnd, Sending, ServeFault, SessionThread, ShownMark, Stream, StreamFailure,
+    StreamPath, TimeCounters, Watchers, WriterEnd, close_region, join_sessions, open_region,
+    read_streams, serve, serve_from, take_commands, take_commands_for,
 };
 pub use sessions::counting_reader::CountingReader;
 pub use sessions::going::Going;

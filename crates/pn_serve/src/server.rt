@@ -1,7 +1,7 @@
 //! Reads streams into a live region while sessions are answered from it.
 
 ghost use Rattle.std.specs.Prelude.{◌≡◌, ◌≢◌, ◌≤◌, map, vec_len, All, Ok, Err};
-ghost use Rattle.std.specs.Prelude.{IfOk, IfErr, IsOk, OnOk, OnErr, IsErrOf, IsTrue, IsFalse, MatchResult};
+ghost use Rattle.std.specs.Prelude.{IfOk, IfErr, OnOk, IsErrOf, IsTrue, IsFalse, MatchResult};
 ghost use Rattle.std.specs.List.{AllByRecursion};
 ghost use Rattle.std.specs.Io.KnownBytes.{Appends, Keeps};
 ghost use Rattle.pn_apply.specs.declared.reducing.TheConstants.{MAX_WORKERS};
@@ -12,17 +12,23 @@ ghost use Rattle.pn_live.specs.Prelude.{IsNewLive, tablets_in};
 ghost use Rattle.pn_live.specs.declared.region.opening.TheConstants.{MAX_READERS};
 ghost use Rattle.pn_serve.specs.declared.server.limits.TheConstants.{MAX_SESSIONS};
 ghost use Rattle.pn_serve.specs.Server.Faults.{NamesOne, names_of};
+ghost use Rattle.pn_serve.specs.Server.Honest.{AreHonestWriters};
 ghost use Rattle.pn_serve.specs.Server.Reading.{RunsRounds};
+ghost use Rattle.pn_serve.specs.Server.Sent.{IsOfWriter, IsSent};
 ghost use Rattle.pn_serve.specs.Server.Served.{EndsReading, EndsRegion, EndsServing};
 ghost use Rattle.pn_serve.specs.Server.Sessions.{AllRead};
 ghost use Rattle.pn_serve.specs.Server.Whole.{IsTakenWhole};
+ghost use Rattle.pn_stream.specs.Brokers.{IsHonest};
+ghost use Rattle.pn_stream.specs.Prelude.{BrokerRecord};
 ghost use Rattle.pn_protocol.specs.Prelude.{served_line};
 
 mod counter;
+mod ending_line;
 mod events;
 mod fault;
 mod fault_log;
 mod held_report;
+mod kept_report;
 mod limits;
 pub(crate) mod mailboxes;
 mod messages;
@@ -32,9 +38,11 @@ mod reporting;
 mod reports;
 mod rounds;
 mod session_threads;
+mod shown_mark;
 mod stream_path;
 mod stream_threads;
 mod streams;
+pub(crate) mod texts;
 mod times;
 mod tries;
 pub(crate) mod wakeup;
@@ -42,6 +50,7 @@ mod writer_input;
 mod writers;
 
 use crate::Settings;
+use crate::server::ending_line::tell_served;
 use crate::server::events::run_rounds;
 use crate::server::mailboxes::StreamMailboxes;
 use crate::server::session_threads::{StartedSessions, start_sessions};
@@ -55,19 +64,20 @@ pub use limits::MAX_SESSIONS;
 pub use opened::serve_from;
 use opened::serve_opened;
 use pn_join::{Marks, NoMemory};
-use pn_line::{Sink, Source, WriteFault, write_all_of};
+use pn_line::{Sink, Source};
 use pn_live::{LiveReader, LiveRegion};
-use pn_protocol::served_reply;
 use pn_region::Region;
 use pn_stream::StreamReader;
 use pn_tablet::Layout;
 pub use session_threads::{Acceptor, ComesBack, SessionThread, join_sessions};
+pub use shown_mark::ShownMark;
 use std::alloc::Global;
 use std::sync::Wait;
 use std::thread::Threads;
 use std::time::Clock;
 pub use stream_path::StreamPath;
 pub use streams::{Watchers, read_streams};
+pub use texts::{AnyWriters, Sending};
 pub use times::TimeCounters;
 pub use writers::{NextWriter, Origin, Stream, WriterEnd};
 
@@ -82,7 +92,7 @@ pub struct OpenedRegion {
 ///
 /// After a fault of a stream or a round, the sessions are still served. A session's fault ends that session alone.
 /// Faults come in the order of `ServeFault`.
-pub fn serve<R, L, S, W>(
+pub fn serve<R, L, S, W, M>(
     rt: &R,
     alloc: Global,
     listener: &L,
@@ -96,35 +106,24 @@ where
     L: Acceptor + Drop + Send + 'static,
     S: Source + Drop + Send + 'static,
     W: Sink,
-    requires { (1 ≤ sessions) × (sessions ≤ MAX_SESSIONS) }
-    ensures ends { EndsServing S.left settings.layout streams.items result }
+    M: Sending + Send + 'static,
+    requires sessions { (1 ≤ sessions) × (sessions ≤ MAX_SESSIONS) }
+    requires sent { M.known → All (IsOfWriter M.sends S.left) streams.items }
+    ensures ends { EndsServing (IsSent M.known M.sends) S.left settings.layout streams.items result }
+    ensures honest { (broker : BrokerRecord) → M.known → AreHonestWriters broker M.sends
+        → EndsServing (IsHonest broker) S.left settings.layout streams.items result }
     ensures served { OnOk result (Appends (W.contents out.old) (W.contents out.new) (served_line sessions)) }
     ensures silent { IfErr result (λ fault. fault ≢ ServeFault.Write → Keeps (W.contents out.old) (W.contents out.new)) }
     ensures part { IsErrOf result ServeFault.Write → AppendsPrefix (W.contents out.old) (W.contents out.new) (served_line sessions) }
     ensures write { IsErrOf result ServeFault.Write → W.may_fail }
     ensures handed_on { OnOk result (W.is_handed_on out.new) }
 {
-    let served = serve_region(rt, alloc, settings, listener, sessions, streams);
+    let served = serve_region::<R, L, S, M>(rt, alloc, settings, listener, sessions, streams);
     tell_served(served, out)
 }
 
-// Writes `served N`, unless an earlier fault is answered.
-fn tell_served<W: Sink>(served: Result<usize, ServeFault>, out: &mut W) -> Result<(), ServeFault>
-    ensures fault { IfErr served (λ fault. (result ≡ Err fault) × (out.new ≡ out.old)) }
-    ensures all { OnOk result (IsOk served) }
-    ensures ok { IfOk served (λ count. OnOk result (Appends (W.contents out.old) (W.contents out.new) (served_line count))) }
-    ensures err { IfOk served (λ count. OnErr result (AppendsPrefix (W.contents out.old) (W.contents out.new) (served_line count))) }
-    ensures write { OnOk served (IfErr result (λ fault. (fault ≡ ServeFault.Write) × W.may_fail)) }
-    ensures handed_on { OnOk result (W.is_handed_on out.new) }
-{
-    match served {
-        Ok(count) => write_served(out, count),
-        Err(fault) => Err(fault),
-    }
-}
-
 // Serves over a new live region, and closes it. Answers how many readers came back.
-fn serve_region<R, L, S>(
+fn serve_region<R, L, S, M>(
     rt: &R,
     alloc: Global,
     settings: Settings,
@@ -136,15 +135,17 @@ where
     R: Threads + Wait + Clock + Sync + Copy + Send + 'static,
     L: Acceptor + Drop + Send + 'static,
     S: Source + Drop + Send + 'static,
-    requires { (1 ≤ sessions) × (sessions ≤ MAX_SESSIONS) }
-    ensures ends { EndsRegion S.left settings.layout streams.items result }
+    M: Sending + Send + 'static,
+    requires sessions { (1 ≤ sessions) × (sessions ≤ MAX_SESSIONS) }
+    requires sent { M.known → All (IsOfWriter M.sends S.left) streams.items }
+    ensures ends { EndsRegion (IsSent M.known M.sends) S.left settings.layout streams.items result }
     ensures fault { IfErr result (λ fault. fault ≢ ServeFault.Write) }
     ensures count { IfOk result (λ count. count ≡ sessions) }
 {
     let Settings { layout, workers } = settings;
     let (live, readers) = open_region(rt, alloc, layout, sessions)?;
     let opened = OpenedRegion { live, readers };
-    serve_opened(rt, alloc, listener, opened, workers, streams)
+    serve_opened::<R, L, S, M>(rt, alloc, listener, opened, workers, streams)
 }
 
 /// Opens a live region with this many readers.
@@ -198,7 +199,7 @@ fn conclude(
 }
 
 // Reads the streams while the sessions are served, and takes the readers back from the sessions.
-fn serve_streams<R, L, S>(
+fn serve_streams<R, L, S, M>(
     rt: &R,
     alloc: Global,
     listener: &L,
@@ -210,15 +211,17 @@ where
     R: Threads + Wait + Clock + Sync + Copy + Send + 'static,
     L: Acceptor + Drop + Send + 'static,
     S: Source + Drop + Send + 'static,
+    M: Sending + Send + 'static,
     requires workers { (1 ≤ workers) × (workers ≤ MAX_WORKERS) }
     requires own { AllRead (tablets_in region.old.live) region.old.readers.items }
+    requires sent { M.known → All (IsOfWriter M.sends S.left) streams.items }
     ensures own { AllRead (tablets_in region.new.live) region.new.readers.items }
     ensures all { OnOk result (vec_len region.new.readers ≡ vec_len region.old.readers) }
-    ensures ends { EndsReading S.left streams.items region.old.live region.new.live result }
+    ensures ends { EndsReading (IsSent M.known M.sends) S.left streams.items region.old.live region.new.live result }
 {
     let (rounds, faults) = (listener.round_counter(), listener.fault_log());
     let own = workers_of_each(workers, streams.len());
-    let started = start_streams(rt, alloc, streams, own, rounds, faults)?;
+    let started = start_streams::<R, S, M>(rt, alloc, streams, own, rounds, faults)?;
     let StartedStreams { mailboxes, threads } = started;
     let mut mailboxes = mailboxes;
     let StartedSessions {
@@ -239,17 +242,18 @@ where
 }
 
 // Runs the rounds, unless a session was refused.
-fn run_unless_refused<R: Threads + Wait + Clock + Sync>(
+fn run_unless_refused<R: Threads + Wait + Clock + Sync, M: Sending>(
     rt: &R,
     alloc: Global,
     live: &mut LiveRegion,
     workers: usize,
-    mailboxes: &mut StreamMailboxes,
+    mailboxes: &mut StreamMailboxes<M>,
     is_refused: bool,
 ) -> Result<(), ServeFault>
     requires workers { (1 ≤ workers) × (workers ≤ MAX_WORKERS) }
     ensures refused { IsTrue is_refused → (result ≡ Err ServeFault.Start) × (live.new ≡ live.old) }
-    ensures reads { IsFalse is_refused → RunsRounds mailboxes.old.at_fault (map (λ stream. stream.name) mailboxes.old.streams.items) live.old live.new result }
+    ensures reads { IsFalse is_refused → RunsRounds (IsSent M.known M.sends) mailboxes.old.at_fault
+        (map (λ stream. stream.name) mailboxes.old.streams.items) live.old live.new result }
     ensures same { tablets_in live.new ≡ tablets_in live.old }
 {
     if is_refused {
@@ -274,29 +278,4 @@ fn join_after_rounds<R: Threads, S: Source + Drop>(
         Ok(()) => join_streams(rt, threads, marks),
         Err(fault) => Err(fault),
     }
-}
-
-// Writes `served N`.
-fn write_served<W: Sink>(out: &mut W, sessions: usize) -> Result<(), ServeFault>
-    ensures ok { OnOk result (Appends (W.contents out.old) (W.contents out.new) (served_line sessions)) }
-    ensures err { OnErr result (AppendsPrefix (W.contents out.old) (W.contents out.new) (served_line sessions)) }
-    ensures fault { IfErr result (λ fault. (fault ≡ ServeFault.Write) × W.may_fail) }
-    ensures handed_on { OnOk result (W.is_handed_on out.new) }
-{
-    let line = served_reply(sessions);
-    match send_line(out, line.as_bytes()) {
-        Ok(()) => Ok(()),
-        Err(_) => Err(ServeFault::Write),
-    }
-}
-
-// Writes a line and flushes it.
-fn send_line<W: Sink>(out: &mut W, line: &[u8]) -> Result<(), WriteFault>
-    ensures ok { OnOk result (Appends (W.contents out.old) (W.contents out.new) line.now) }
-    ensures err { OnErr result (AppendsPrefix (W.contents out.old) (W.contents out.new) line.now) }
-    ensures fault { OnErr result W.may_fail }
-    ensures handed_on { OnOk result (W.is_handed_on out.new) }
-{
-    write_all_of(out, line)?;
-    out.hand_on()
 }

@@ -13,18 +13,21 @@ ghost use Rattle.pn_region.specs.Serving.{AllServe, ServesAt};
 ghost use Rattle.pn_region.specs.Taken.{all_taken};
 ghost use Rattle.pn_live.specs.Closing.{AllKnowPublished, AreOfTablets};
 ghost use Rattle.pn_live.specs.Honest.{AreHonestTablets, IsHonestList};
-ghost use Rattle.pn_live.specs.LiveRegions.{LiveRegionValue, core};
+ghost use Rattle.pn_live.specs.LiveRegions.{IsNewLive, LiveRegionValue, core};
 ghost use Rattle.pn_live.specs.TabletReaders.{TabletReaderValue};
-ghost use Rattle.pn_serve.specs.Server.Events.{AllDone, WriterEvent};
+ghost use Rattle.pn_serve.specs.Server.Events.{AllDone, BringAll, RunsOn, WriterEvent};
 ghost use Rattle.pn_serve.specs.Server.Honest.{IsHonestWriter};
-ghost use Rattle.pn_serve.specs.Server.HonestEvents.{DidHonestly, TookHonestly, region_events};
+ghost use Rattle.pn_serve.specs.Server.HonestEvents.{AdoptsHonestly, DidHonestly, TookHonestly, region_events};
+ghost use Rattle.pn_serve.specs.Server.Reading.{ReadToEnds};
 ghost use Rattle.pn_serve.specs.Server.Rounds.{RoundInputValue};
+ghost use Rattle.pn_serve.specs.declared.server.events.ReadingEnd.{ReadingEnd};
 ghost use Rattle.pn_serve.specs.declared.server.mailboxes.AtFault.{AtFault};
 ghost use Rattle.pn_stream.specs.Batches.{Batch};
 ghost use Rattle.pn_stream.specs.Brokers.{IsHonest};
 ghost use Rattle.pn_stream.specs.Prelude.{BrokerRecord, up_to};
 ghost use Rattle.pn_stream.specs.Streams.{Run};
 ghost use Rattle.pn_stream.specs.declared.fault.StreamFault.{StreamFault};
+ghost use Rattle.pn_tablet.specs.Layouts.{Bounds, IsLayout};
 
 /// A live region whose streams came from any number of writers, one after another, each honest about what was published,
 /// holds exactly what was published up to its marks: as if each stream had been sent once. What writers send again changes
@@ -38,6 +41,8 @@ pub fn streams_that_resume_leave_what_was_published()
         → IsHonest broker (record { stream = name; first = position + 1; images = images }) }
     ensures further { (broker : BrokerRecord) (name text rest : List ℕ) (position : ℕ) (images : List Image)
         → IsHonestWriter broker name text → Run position text images rest → IsHonestWriter broker name rest }
+    ensures took { (broker : BrokerRecord) (bounds : Bounds) (at_fault : AtFault) (names : List (List ℕ)) (opened live : LiveRegionValue)
+        → IsLayout bounds → IsNewLive bounds opened → ReadToEnds (IsHonest broker) at_fault names opened live → TookHonestly broker live }
     ensures holds { (broker : BrokerRecord) (live : LiveRegionValue) → TookHonestly broker live → HasImages (core live) (up_to broker live.marks) }
     ensures records { (broker : BrokerRecord) (live : LiveRegionValue) → TookHonestly broker live → all_cells (core live) ≡ table_of (up_to broker live.marks) }
     ensures alike { (broker : BrokerRecord) (one other : LiveRegionValue) → TookHonestly broker one → TookHonestly broker other → one.marks ≡ other.marks
@@ -51,6 +56,11 @@ pub fn streams_beside_commands_leave_what_was_taken()
     ensures events { (at_fault : AtFault) (names : List (List ℕ)) (waiting : Option RoundInputValue) (old : LiveRegionValue)
         (events : List WriterEvent) (left : List (List ℕ)) (waits : Option RoundInputValue) (new : LiveRegionValue)
         → AllDone at_fault names waiting old events left waits new → AllLeadTo (region_events events) (core old) (core new) }
+    ensures did { (broker : BrokerRecord) (bounds : Bounds) (at_fault : AtFault) (names : List (List ℕ)) (opened live : LiveRegionValue)
+        (end : ReadingEnd) (ran : RunsOn (IsHonest broker) at_fault names opened live end)
+        → IsLayout bounds → IsNewLive bounds opened → AllByRecursion (AdoptsHonestly broker) ran.events → DidHonestly broker live }
+    ensures honest { (broker : BrokerRecord) (events : List WriterEvent)
+        → BringAll (IsHonest broker) events → AllByRecursion (AdoptsHonestly broker) events → AreHonestEvents broker (region_events events) }
     ensures records { (broker : BrokerRecord) (live : LiveRegionValue) (did : DidHonestly broker live) → AllServe (core live)
         → all_cells (core live) ≡ table_of (all_taken broker (region_events did.events)) }
     ensures served { (broker : BrokerRecord) (at_fault : AtFault) (names : List (List ℕ)) (waiting : Option RoundInputValue)

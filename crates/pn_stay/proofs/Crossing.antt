@@ -1,8 +1,10 @@
 -- What a session thread begins with may go to it, and what it shares with others may be shared.
 use denote.Param.Send.{IsSend, IsSync, sendable}
+use denote.Param.SendFields.{declared_send}
+use denote.Struct.Record.{declared}
 use Rattle.std.proofs.Crossing.{crosses}
 use Rattle.pn_live.proofs.Crossing.Readers.{reader_send}
-use Rattle.pn_serve.proofs.Crossing.{controls_send, controls_sync, counter_send, counter_sync, faults_send, faults_sync, name_send, name_sync}
+use Rattle.pn_serve.proofs.Crossing.{controls_send, controls_sync, counter_send, counter_sync, faults_send, faults_sync, name_send, name_sync, shown_mark_send, shown_mark_sync}
 use Rattle.pn_stay.specs.contracts.acceptor.SocketAcceptor as acceptor
 use Rattle.pn_stay.specs.contracts.socket_mailbox.SocketMailbox as mailbox
 use Rattle.pn_stay.specs.contracts.server.threads.LoopThread as loop
@@ -17,6 +19,9 @@ use Rattle.pn_stay.specs.contracts.server.control_threads.ControlThread as contr
 use Rattle.pn_stay.specs.contracts.streams.status.StreamStatus as status
 use Rattle.pn_stay.specs.contracts.messages.Messages as messages
 use Rattle.pn_stay.specs.contracts.acceptor.AcceptNotes as notes
+use Rattle.pn_stay.specs.contracts.server.accepting.AcceptThread as accept
+use Rattle.pn_stay.specs.contracts.connection_limit.ConnectionLimit as limit
+use Rattle.pn_stay.specs.contracts.listener.Listener as listener
 
 pub input_send : IsSend input.the_row
 input_send = search (sendable, crosses) depth 40 fits 20000
@@ -31,10 +36,10 @@ status_sync : IsSync status.the_row
 status_sync = search (sendable, crosses) depth 40 fits 20000
 
 stream_send : IsSend stream.the_row
-stream_send = search (sendable, crosses, name_send, counter_send, counter_sync, input_send, input_sync, status_send, status_sync) depth 40 fits 20000
+stream_send = search (sendable, crosses, name_send, counter_send, counter_sync, shown_mark_send, shown_mark_sync, input_send, input_sync, status_send, status_sync) depth 40 fits 20000
 
 stream_sync : IsSync stream.the_row
-stream_sync = search (sendable, crosses, name_sync, counter_send, counter_sync, input_send, input_sync, status_send, status_sync) depth 40 fits 20000
+stream_sync = search (sendable, crosses, name_sync, counter_send, counter_sync, shown_mark_send, shown_mark_sync, input_send, input_sync, status_send, status_sync) depth 40 fits 20000
 
 connections_send : IsSend connections.the_row
 connections_send = search (sendable, crosses, counter_send) depth 40 fits 20000
@@ -89,3 +94,21 @@ client_sync = search (sendable, crosses) depth 40 fits 20000
 
 pub control_send : IsSend control.the_row
 control_send = search (sendable, crosses, controls_send, controls_sync, counters_send, counters_sync, client_send, client_sync) depth 40 fits 20000
+
+listener_send : IsSend listener.the_row
+listener_send = search (sendable, crosses) depth 40 fits 20000
+
+limit_send : IsSend limit.the_row
+limit_send = search (sendable, crosses) depth 40 fits 20000
+
+limit_sync : IsSync limit.the_row
+limit_sync = search (sendable, crosses) depth 40 fits 20000
+
+pub accept_send : IsSend accept.the_row
+accept_send = declared_send (declared accept.struct _) (
+  listener_send,
+  (
+    search (sendable, crosses, limit_send, limit_sync) depth 40,
+    (search (sendable, crosses, mailbox_send, mailbox_sync) depth 40, (notes_send, tt)),
+  ),
+)

@@ -1,5 +1,5 @@
 -- Clients that took nothing for longest are ended.
-use Rattle.std.proofs.Common.{◌≡◌, ◌≤◌, ◌⊎◌, ℕ, Option, None, inl, inr, refl, sym, ap, ◌∙◌, subst, arith}
+use Rattle.std.proofs.Common.{◌≡◌, ◌≤◌, ◌⊎◌, ℕ, Option, None, inl, inr, refl, ap, ◌∙◌, arith}
 use Rattle.pn_stay.specs.Unread.{EndsAt, EndsLongest, UnreadValue, quiet_in}
 use Rattle.pn_stay.specs.declared.unread.TheConstants.{QUIET_QUARTERS}
 

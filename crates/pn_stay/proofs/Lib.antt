@@ -4,6 +4,7 @@ pub mod Endings
 pub mod EndsLongest
 pub mod Held
 pub mod Keys
+pub mod Lives
 pub mod Looks
 pub mod Pieces
 pub mod Quarters

@@ -1,5 +1,5 @@
 -- A look that is put off, or not, comes to the reply of its line.
-use Rattle.std.proofs.Common.{◌≡◌, ◌≤◌, ◌<◌, ◌+◌, ◌^◌, ◌⊎◌, ℕ, List, Option, None, Some, IfSome, inl, inr, ap, sym, subst, ◌∙◌, arith}
+use Rattle.std.proofs.Common.{◌≡◌, ◌≤◌, ◌+◌, ◌⊎◌, ℕ, List, Option, None, Some, IfSome, inl, inr, ap, sym, subst, ◌∙◌, arith}
 use Rattle.pn_line.specs.Prelude.{kept_bytes}
 use Rattle.pn_lines.specs.Answers.{AnswersBy, answer_left as engine_left, answer_of}
 use Rattle.pn_lines.specs.declared.handler.Answer.{Answer}
@@ -13,7 +13,7 @@ use Rattle.pn_serve.specs.Session.Knowing.{KnowsNoLess}
 use Rattle.pn_serve.specs.Session.Looking.{going_left, most_left}
 use Rattle.pn_serve.specs.declared.machine.line_answers.ReplyPieces.{ReplyPieces}
 use Rattle.pn_serve.specs.declared.sessions.going.Going.{Going}
-use Rattle.pn_stay.specs.Looks.{AsksAgain, IsLookedUp, KeepsLine, LooksFor, LooksOn, LooksOrWaits, Settles, bounded_reads, look_left, session_reads, under}
+use Rattle.pn_stay.specs.Looks.{AsksAgain, KeepsLine, LooksFor, LooksOn, LooksOrWaits, Settles, bounded_reads, look_left, session_reads, under}
 use Rattle.pn_stay.specs.declared.bounded_reader.AskedLine.{AskedLine}
 use Rattle.pn_stay.specs.declared.bounded_reader.Look.{Look}
 use Rattle.pn_stay.specs.declared.bounded_reader.Look.TheVariants.{PutOff, Under}

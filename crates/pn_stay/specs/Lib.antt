@@ -1,10 +1,12 @@
 -- Connections that are answered in turns.
 pub mod Failures
 pub mod IdleTimeouts
+pub mod Lives
 pub mod Looks
 pub mod Loops
 pub mod MessageSteps
 pub mod Messages
+pub mod Positions
 pub mod Proofs
 pub mod Reasons
 pub mod Remarks

@@ -100,8 +100,7 @@ impl Connection {
         self.note_turn(turned, wanted, has_taken)
     }
 
-    // Notes what a turn came to, for how many bytes its line waits, if it does, and whether the client took a byte. A line that waits asks
-    // for no turn.
+    // Notes what a turn came to, whether the client took a byte, and for how many bytes its line waits, if it does: then it asks for no turn.
     fn note_turn(
         &mut self,
         turned: TurnOutcome,
@@ -214,8 +213,7 @@ impl Connection {
         }
     }
 
-    // What the reply weighs of which text is still to be made, or the room that was given for it. It is looked over once: its line is the
-    // last that was taken.
+    // What the reply weighs whose text is still to be made, or the room given for it. It is looked over once: its line is the last taken.
     fn weigh(&mut self) -> u64 {
         let line = self.lines.counts().lines;
         match self.lines.unmade() {

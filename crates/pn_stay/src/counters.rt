@@ -8,7 +8,7 @@ use crate::room::{has_room, is_past, room_beside};
 use crate::streams::status::StreamStatus;
 use pn_join::Name;
 use pn_line::{LineBuffer, Piece, Source};
-use pn_serve::{Counter, TimeCounters};
+use pn_serve::{Counter, ShownMark, TimeCounters};
 use std::alloc::{AllocError, Global};
 use std::io;
 use std::sync::Arc;
@@ -48,7 +48,7 @@ pub struct StreamCounters {
     pub name: Name,
     pub input: Arc<InputCounters>,
     /// The position up to which rounds have taken the stream, where they note that.
-    pub taken: Option<Arc<Counter>>,
+    pub taken: Option<Arc<ShownMark>>,
     /// The position that its writer was sent last, if its writers are sent positions.
     pub told: Option<Arc<Counter>>,
     /// The status of the stream, where it is noted.

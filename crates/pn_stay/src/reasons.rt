@@ -1,6 +1,7 @@
 //! Why a writer's input is no longer read, and why the system refuses something: in words, and in a line for the writer.
 
-ghost use Rattle.std.specs.Prelude.{◌≡◌, ◌++◌, codes, decimal, string_bytes, IfOk};
+ghost use Rattle.std.specs.Prelude.{◌≡◌, ◌++◌, codes, decimal, max, string_bytes, IfOk};
+ghost use Rattle.pn_serve.specs.Server.Shown.{IsShown};
 ghost use Rattle.pn_stay.specs.Reasons.{image_word, stream_word, member_detail, stream_detail, refusal_line};
 ghost use Rattle.pn_stay.specs.Reasons.{image_words, stream_words, reason_words, failure_words};
 
@@ -10,18 +11,21 @@ use pn_stream::{ResumeFault, StreamFault};
 use std::alloc::{AllocError, Global};
 use std::io;
 
-/// The line that tells a writer where the stream goes on: one past this position at the latest.
-pub fn format_after(alloc: Global, last: u64) -> Result<String, AllocError>
-    ensures { IfOk result (λ line. string_bytes line ≡ codes "{\"after\":" ++ (decimal last ++ codes "}\n")) }
+/// The line that tells a writer where the stream goes on: one past what was handed to rounds or the region's mark at the latest.
+pub fn format_after(alloc: Global, handed: u64, taken: u64) -> Result<String, AllocError>
+    requires { IsShown taken }
+    ensures { IfOk result (λ line. string_bytes line ≡ codes "{\"after\":" ++ (decimal (max handed taken) ++ codes "}\n")) }
 {
-    format!(in alloc; "{{\"after\":{last}}}\n")
+    let after = handed.max(taken);
+    format!(in alloc; "{{\"after\":{after}}}\n")
 }
 
-/// The line that tells a writer up to which position the stream was taken.
-pub fn format_taken(alloc: Global, last: u64) -> Result<String, AllocError>
-    ensures { IfOk result (λ line. string_bytes line ≡ codes "{\"taken\":" ++ (decimal last ++ codes "}\n")) }
+/// The line that tells a writer up to which position the stream was taken: a mark of the region.
+pub fn format_taken(alloc: Global, taken: u64) -> Result<String, AllocError>
+    requires { IsShown taken }
+    ensures { IfOk result (λ line. string_bytes line ≡ codes "{\"taken\":" ++ (decimal taken ++ codes "}\n")) }
 {
-    format!(in alloc; "{{\"taken\":{last}}}\n")
+    format!(in alloc; "{{\"taken\":{taken}}}\n")
 }
 
 /// The line that tells a writer why its input is no longer read; the message at this position was due.

@@ -2,10 +2,14 @@
 
 ghost use Rattle.std.specs.Prelude.{◌≡◌, ◌+◌, ◌≤◌, false, map, is_some, vec_len, vec_capacity, All, IfOk, OnOk};
 ghost use Rattle.pn_live.specs.Prelude.{tablets_in, tablets_of, IsNewLive};
+ghost use Rattle.pn_stream.specs.Brokers.{IsHonest};
+ghost use Rattle.pn_stream.specs.Prelude.{BrokerRecord};
 ghost use Rattle.pn_serve.specs.declared.server.limits.TheConstants.{MAX_SESSIONS};
 ghost use Rattle.pn_live.specs.declared.region.opening.TheConstants.{MAX_READERS};
 ghost use Rattle.pn_serve.specs.Server.Events.{ReadsBesides};
+ghost use Rattle.pn_serve.specs.Server.Honest.{AreHonestWriters};
 ghost use Rattle.pn_serve.specs.Server.Reading.{ReadsStreams};
+ghost use Rattle.pn_serve.specs.Server.Sent.{IsSent};
 ghost use Rattle.pn_serve.specs.Server.Sessions.{AllRead};
 
 mod accepting;
@@ -27,8 +31,8 @@ use crate::server::threads::start_answering;
 use pn_line::Source;
 use pn_live::{LiveReader, LiveRegion};
 use pn_serve::{
-    Acceptor, Counter, MAX_CONTROLS, OpenedRegion, Origin, ReadingEnd, ServeFault, SessionThread,
-    Settings, Stream, TimeCounters, Watchers, open_region, read_streams,
+    Acceptor, Counter, MAX_CONTROLS, OpenedRegion, Origin, ReadingEnd, Sending, ServeFault,
+    SessionThread, Settings, Stream, TimeCounters, Watchers, open_region, read_streams,
 };
 use pn_tablet::Layout;
 use std::alloc::{AllocError, Global};
@@ -106,7 +110,7 @@ impl StayingServer {
 
     /// Reads streams until all have ended, or the server is asked to stop. Connections are answered meanwhile, and after a
     /// fault too.
-    pub fn read_streams<R, S, O>(
+    pub fn read_streams<R, S, O, M>(
         &mut self,
         rt: &R,
         alloc: Global,
@@ -115,9 +119,15 @@ impl StayingServer {
     where
         R: Threads + Wait + Clock + Sync + Copy + Send + 'static,
         S: Source + Drop + Send + 'static,
-        O: Origin<S> + Drop + Send + 'static,
-        ensures alone { self.old.controlled ≡ false → ReadsStreams (map (λ stream. stream.name) streams.items) self.old.live self.new.live result }
-        ensures reads { ReadsBesides (map (λ stream. stream.name) streams.items) self.old.live self.new.live result }
+        O: Origin<S, M> + Drop + Send + 'static,
+        M: Sending + Send + 'static,
+        ensures alone { self.old.controlled ≡ false → ReadsStreams (IsSent M.known M.sends) (map (λ stream. stream.name) streams.items)
+            self.old.live self.new.live result }
+        ensures reads { ReadsBesides (IsSent M.known M.sends) (map (λ stream. stream.name) streams.items) self.old.live self.new.live result }
+        ensures honest { (broker : BrokerRecord) → M.known → AreHonestWriters broker M.sends
+            → ReadsBesides (IsHonest broker) (map (λ stream. stream.name) streams.items) self.old.live self.new.live result }
+        ensures honest_alone { self.old.controlled ≡ false → (broker : BrokerRecord) → M.known → AreHonestWriters broker M.sends
+            → ReadsStreams (IsHonest broker) (map (λ stream. stream.name) streams.items) self.old.live self.new.live result }
         ensures threads { self.new.threads ≡ self.old.threads }
         ensures controlled { self.new.controlled ≡ self.old.controlled }
     {

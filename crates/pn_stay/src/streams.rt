@@ -15,4 +15,5 @@ pub(crate) mod origin;
 pub(crate) mod remarks;
 pub(crate) mod sockets;
 pub(crate) mod status;
+pub(crate) mod turns;
 pub(crate) mod writer;

@@ -1,4 +1,4 @@
-//! `pnuts`: answers a script, or serves streams.
+//! `pnuts`: answers a script, checks lines, or serves streams.
 #![tactic(auto)]
 
 ghost use Rattle.std.specs.Prelude.{◌≤◌, vec_len, IfOk, IfSome};
@@ -11,6 +11,7 @@ mod copies;
 mod descriptors;
 mod failures;
 mod inputs;
+mod scripts;
 mod sessions;
 mod staying;
 
@@ -18,11 +19,12 @@ use crate::copies::{close_copies, start_from_copies};
 use crate::descriptors::check_descriptors;
 use crate::failures::fail;
 use crate::inputs::{Notes, Streams, open_acceptor, open_streams, refuse_start};
+use crate::scripts::{check_input, replay};
 use crate::sessions::serve_streams;
 use crate::staying::{answer_on, fail_to_stay, start_server};
 use pn_arguments::{Plan, PlanFault, Service, plan};
 use pn_join::Name;
-use pn_serve::{OpenedRegion, RunFault, Settings, StreamPath, run_to_exit};
+use pn_serve::{OpenedRegion, Settings, StreamPath};
 use pn_stay::{
     Counters, MessagePrinter, Messages, Shortages, SocketAcceptor, SocketFile, message_prefix,
     remove_sockets, tell_progress,
@@ -30,7 +32,6 @@ use pn_stay::{
 use std::alloc::AllocError;
 use std::env::Env;
 use std::fs::File;
-use std::io::BufReader;
 use std::net::{Net, TcpListener, TcpStream};
 use std::process::ExitCode;
 use std::rt::Files;
@@ -38,9 +39,6 @@ use std::sync::{Arc, Wait};
 use std::thread::Threads;
 use std::time::Clock;
 use std::{env, io, thread};
-
-/// How many bytes of the script are read at a time.
-const SCRIPT_READ_SIZE: usize = 65_536;
 
 /// The exit status of refused arguments.
 const REFUSED: u8 = 2;
@@ -119,6 +117,7 @@ where
             service,
             streams,
         }),
+        Ok(Plan::Check) => Err(check_input(rt)),
         Ok(Plan::Replay(settings)) => Err(replay(rt, settings)),
         Ok(Plan::Help(text) | Plan::Version(text)) => Err(show(rt, text.as_str())),
         Err(fault) => Err(refuse_plan(rt, fault)),
@@ -255,34 +254,4 @@ fn refuse_plan(rt: &impl Eprint, fault: PlanFault<'_>) -> ExitCode {
         _ => eprintln!(rt; "pnuts: {fault}"),
     };
     ExitCode::from(REFUSED)
-}
-
-fn replay(
-    rt: &(impl AllocGlobal + Input + Print + Eprint + Threads + Sync),
-    settings: Settings,
-) -> ExitCode {
-    match answer_input(rt, settings) {
-        Ok(()) => ExitCode::SUCCESS,
-        Err(fault) => fail(rt, fault_word(fault)),
-    }
-}
-
-fn answer_input(
-    rt: &(impl AllocGlobal + Input + Print + Threads + Sync),
-    settings: Settings,
-) -> Result<(), RunFault> {
-    let Ok(mut input) = BufReader::with_capacity(rt.alloc(), SCRIPT_READ_SIZE, rt.reader()) else {
-        return Err(RunFault::Memory);
-    };
-    run_to_exit(rt, rt.alloc(), &mut input, &mut io::writer(rt), settings)?;
-    Ok(())
-}
-
-fn fault_word(fault: RunFault) -> &'static str {
-    match fault {
-        RunFault::Read => "read",
-        RunFault::Write => "write",
-        RunFault::TooManyTurns => "too-many-turns",
-        RunFault::Memory => "memory",
-    }
 }

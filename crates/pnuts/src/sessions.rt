@@ -7,7 +7,7 @@ ghost use Rattle.pn_serve.specs.Server.Sessions.{AllRead};
 
 use crate::failures::fail_noted;
 use pn_arguments::Service;
-use pn_serve::{OpenedRegion, Settings, serve, serve_from};
+use pn_serve::{AnyWriters, OpenedRegion, Settings, serve, serve_from};
 use pn_stay::{FileSource, SocketAcceptor, message_prefix};
 use pn_stream::StreamReader;
 use std::fs::File;
@@ -44,7 +44,7 @@ where
 {
     let mut out = io::writer(rt);
     let served = match opened {
-        None => serve(
+        None => serve::<_, _, _, _, AnyWriters>(
             rt,
             rt.alloc(),
             acceptor,
@@ -53,7 +53,7 @@ where
             readers,
             &mut out,
         ),
-        Some(opened) => serve_from(
+        Some(opened) => serve_from::<_, _, _, _, AnyWriters>(
             rt,
             rt.alloc(),
             acceptor,

@@ -4,13 +4,13 @@ ghost use Rattle.std.specs.Prelude.{◌≡◌};
 ghost use Rattle.pn_live.specs.LiveRegions.{tablets_in};
 ghost use Rattle.pn_serve.specs.Server.Sessions.{AllRead};
 
-use pn_join::Name;
+use pn_join::{Name, StreamName};
 use pn_line::InMemory;
 use pn_live::LiveRegion;
 use pn_region::Region;
 use pn_serve::{
-    Counter, NextWriter, OpenedRegion, Origin, Settings, Stream, Watchers, WriterEnd, close_region,
-    open_region, read_streams,
+    AnyWriters, Counter, NextWriter, OpenedRegion, Origin, Settings, Stream, Watchers, WriterEnd,
+    close_region, open_region, read_streams,
 };
 use pn_stream::StreamReader;
 use std::alloc::{AllocError, Global};
@@ -70,12 +70,16 @@ impl<R: Wait + Clock + Copy> Script<R> {
     }
 }
 
-impl<R: Wait + Clock + Copy> Origin<InMemory<'static>> for Script<R> {
+impl<R: Wait + Clock + Copy> Origin<InMemory<'static>, AnyWriters> for Script<R> {
     ghost may_go_on = { Unit {0} };
 
     ghost begins_after = { λ _ _. Unit {0} };
 
-    fn next_writer(&mut self, last: u64) -> Option<NextWriter<InMemory<'static>>> {
+    fn next_writer(
+        &mut self,
+        _name: &StreamName,
+        last: u64,
+    ) -> Option<NextWriter<InMemory<'static>>> {
         self.note(format!(in self.alloc; "from {last}"));
         if self.writers.is_empty() {
             thread::sleep(&self.rt, Duration::from_millis(self.delay));

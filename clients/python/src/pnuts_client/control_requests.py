@@ -116,7 +116,7 @@ class Unread:
 
 @dataclass(frozen=True, slots=True)
 class TimeBucket:
-    """How many took at most so many microseconds, but more than those of the bucket before."""
+    """How many took at most `most` microseconds, but more than those of the bucket before."""
 
     count: int
     most: int

@@ -15,7 +15,7 @@ OF_ANOTHER = (ConnectionFailed, TimedOut, Recovering, RecordBehind, CopyBehind, 
 
 
 def backoff(failures: int) -> float:
-    """Seconds for which a region is left alone after so many failures in a row: 0.1, then twice as many each time, at most 10."""
+    """Seconds for which a region is left alone after failures in a row: 0.1, then twice as many each time, at most 10."""
     return min(0.05 * 2.0 ** min(failures, 16), 10.0)
 
 

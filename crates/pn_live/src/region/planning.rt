@@ -38,7 +38,8 @@ pub(super) fn plan_round<R: Threads + Wait + Sync, G: Gate + Sync>(
     requires positions { HavePositions operations.now }
     requires workers { (1 ≤ workers) × (workers ≤ MAX_WORKERS) }
     ensures nexts { IfOk result (λ plan. plan.nexts.items ≡ all_stepped (map state_at tablets.old) operations.now) }
-    ensures changes { IfOk result (λ plan. flat_map (λ list. list.items) plan.lists.items ≡ flat_map (λ list. list) (all_changes (map state_at tablets.old) operations.now)) }
+    ensures changes { IfOk result (λ plan.
+        flat_map (λ list. list.items) plan.lists.items ≡ flat_map (λ list. list) (all_changes (map state_at tablets.old) operations.now)) }
     ensures changed { IfOk result (λ plan. plan.changed ≡ length (flat_map (λ list. list.items) plan.lists.items)) }
     ensures same { tablets.new ≡ tablets.old }
     ensures notes { IfOk result (λ plan. (plan.notes.items ≡ []) × (vec_capacity plan.notes ≡ length tablets.old)) }

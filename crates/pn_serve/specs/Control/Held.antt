@@ -1,7 +1,7 @@
 -- What the mailbox of a control session holds.
 use Rattle.std.specs.Prelude.{Bool, true, false}
-use Rattle.pn_serve.specs.declared.control.mailboxes.HeldCommand.{HeldCommand}
-use Rattle.pn_serve.specs.declared.control.mailboxes.HeldCommand.TheVariants.{Nothing, Asked, Taken, Answered, Closed}
+use Rattle.pn_serve.specs.declared.control.held_command.HeldCommand.{HeldCommand}
+use Rattle.pn_serve.specs.declared.control.held_command.HeldCommand.TheVariants.{Nothing, Asked, Taken, Answered, Closed}
 
 -- whether the session waits: the writer has not taken its command yet, or does it
 abbrev pub is_unanswered : HeldCommand → Bool

@@ -18,3 +18,7 @@ ArePublished broker name (line ∷ lines) = IsPublished broker name line × AreP
 -- a writer of the stream is honest: each message of its text has an image that was published at its position
 abbrev pub IsHonestWriter : BrokerRecord → List ℕ → List ℕ → Type 0
 IsHonestWriter broker name text = (lines : List (List ℕ)) (rest : List ℕ) → text ≡ text_of lines ++ rest → ArePublished broker name lines
+
+-- all that the writers of streams may send is honest
+abbrev pub AreHonestWriters : BrokerRecord → (List ℕ → List ℕ → Type 0) → Type 0
+AreHonestWriters broker sends = (name text : List ℕ) → sends name text → IsHonestWriter broker name text

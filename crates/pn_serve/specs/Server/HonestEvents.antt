@@ -18,6 +18,13 @@ region_events (tried input ∷ later) = region_events later
 region_events (taken input ∷ later) = round input.deliveries ∷ region_events later
 region_events (told asked said ∷ later) = with_event (event_by asked said) (region_events later)
 
+-- each copy that the command adopts is honest
+abbrev pub AdoptsHonestly : BrokerRecord → WriterEvent → Type 0
+AdoptsHonestly broker (gathered input) = Unit {0}
+AdoptsHonestly broker (tried input) = Unit {0}
+AdoptsHonestly broker (taken input) = Unit {0}
+AdoptsHonestly broker (told asked said) = AreHonestEvents broker (with_event (event_by asked said) [])
+
 -- a live region that took rounds and did commands since it was new, of which each brought what is honest
 pub record DidHonestly (broker : BrokerRecord) (live : LiveRegionValue) : Type 0 where
   pub bounds : Bounds

@@ -1,16 +1,18 @@
 -- How serving over a live region that is open ends.
 use Rattle.std.specs.Prelude.{ℕ, List, Option, Result, Ok, Err}
 use Rattle.pn_stream.specs.Batches.{Stream}
+use Rattle.pn_stream.specs.Positions.{DeliveryValue}
 use Rattle.pn_live.specs.LiveRegions.{LiveRegionValue}
 use Rattle.pn_serve.specs.Server.Served.{EndsReading}
 use Rattle.pn_serve.specs.declared.server.fault.ServeFault.{ServeFault}
 use Rattle.pn_serve.specs.declared.server.fault.ServeFault.TheVariants.{Close, Write}
 
-module _ {S : Type 0} (left : S → Option (List ℕ)) where
+-- where all deliveries are such
+module _ (P : DeliveryValue → Type 0) {S : Type 0} (left : S → Option (List ℕ)) where
   -- the open region came to another by reading
   pub record ServesFrom (opened : LiveRegionValue) (streams : List (Stream S)) (reading : Result (Unit {0}) ServeFault) : Type 0 where
     pub closed : LiveRegionValue
-    pub ends : EndsReading left streams opened closed reading
+    pub ends : EndsReading P left streams opened closed reading
 
   -- what serving comes to: out of memory while closing comes only after all streams are taken
   abbrev pub EndsOpenedRegion : LiveRegionValue → List (Stream S) → Result ℕ ServeFault → Type 0

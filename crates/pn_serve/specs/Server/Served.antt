@@ -1,6 +1,7 @@
 -- How serving ends.
 use Rattle.std.specs.Prelude.{◌≡◌, ◌⊎◌, ℕ, List, All, Contains, Option, Result, Ok, Err}
 use Rattle.pn_stream.specs.Batches.{Stream}
+use Rattle.pn_stream.specs.Positions.{DeliveryValue}
 use Rattle.pn_tablet.specs.Layouts.{Bounds}
 use Rattle.pn_live.specs.LiveRegions.{LiveRegionValue, IsNewLive}
 use Rattle.pn_serve.specs.Server.Faults.{names_of}
@@ -10,10 +11,11 @@ use Rattle.pn_serve.specs.declared.server.fault.ServeFault.{ServeFault}
 use Rattle.pn_serve.specs.declared.server.mailboxes.AtFault.TheVariants.{Stop}
 use Rattle.pn_serve.specs.declared.server.fault.ServeFault.TheVariants.{Start, Stream as of_stream, Round, Close, Write}
 
-module _ {S : Type 0} (left : S → Option (List ℕ)) where
+-- where all deliveries are such
+module _ (P : DeliveryValue → Type 0) {S : Type 0} (left : S → Option (List ℕ)) where
   -- a live region read all streams to their ends, and took each up to its last message
   pub record ReadsAll (streams : List (Stream S)) (old new : LiveRegionValue) : Type 0 where
-    pub read : ReadToEnds Stop (names_of streams) old new
+    pub read : ReadToEnds P Stop (names_of streams) old new
     pub taken : All (IsTakenWhole left new.marks) streams
 
   -- what reading comes to: all streams are taken; or one of them is named, whose fault stopped the rounds, or which was not taken
@@ -21,8 +23,8 @@ module _ {S : Type 0} (left : S → Option (List ℕ)) where
   abbrev pub EndsReading : List (Stream S) → LiveRegionValue → LiveRegionValue → Result (Unit {0}) ServeFault → Type 0
   EndsReading streams old new (Ok done) = ReadsAll streams old new
   EndsReading streams old new (Err (of_stream name)) = Contains (names_of streams) name
-      × (ReadUpTo Stop (names_of streams) old new (of_stream name) ⊎ ReadToEnds Stop (names_of streams) old new)
-  EndsReading streams old new (Err Round) = ReadUpTo Stop (names_of streams) old new Round
+      × (ReadUpTo P Stop (names_of streams) old new (of_stream name) ⊎ ReadToEnds P Stop (names_of streams) old new)
+  EndsReading streams old new (Err Round) = ReadUpTo P Stop (names_of streams) old new Round
   EndsReading streams old new (Err Start) = new ≡ old
   EndsReading streams old new (Err Close) = ⊥
   EndsReading streams old new (Err Write) = ⊥

@@ -1,24 +1,23 @@
 //! The mailboxes in which control sessions leave commands, and in which the writer leaves its answers.
 
-ghost use Rattle.std.specs.Prelude.{◌≡◌, ◌≢◌, ℕ, List, Option, None, IfSome, MatchBool, MatchOption};
+ghost use Rattle.std.specs.Prelude.{◌≡◌, ℕ, List, Option, length, IfOk, IfSome};
 ghost use Rattle.pn_live.specs.Prelude.{tablets_in};
 ghost use Rattle.pn_serve.specs.Control.Answers.{IsGiven, question_of};
 ghost use Rattle.pn_serve.specs.Control.Commands.{answer_of};
-ghost use Rattle.pn_serve.specs.Control.Held.{is_unanswered};
 ghost use Rattle.pn_serve.specs.Server.Events.{ToldAll};
 ghost use Rattle.pn_serve.specs.Server.Rounds.{RoundInputValue};
-ghost use Rattle.pn_serve.specs.declared.control.mailboxes.HeldCommand.TheVariants.{Nothing, Asked, Taken, Answered, Closed};
 ghost use Rattle.pn_serve.specs.declared.server.mailboxes.AtFault.{AtFault};
 
 use crate::control::answers::{GivenAnswer, Question, give_answer};
 use crate::control::commands::{WriterAnswer, WriterCommand};
+use crate::control::held_command::HeldCommand;
 use crate::control::log_watch::LogWatch;
 use crate::control::stop::{StopRequest, StopSaid, StopTime};
 use crate::server::mailboxes::{StreamMailbox, show_marks};
+use crate::server::texts::Sending;
 use crate::server::wakeup::Wakeup;
 use pn_live::LiveRegion;
 use std::alloc::{AllocError, Global};
-use std::mem;
 use std::sync::{Arc, Condvar, Mutex, Wait};
 use std::time::{Clock, Instant};
 
@@ -47,22 +46,10 @@ pub struct ControlsClosed(StopSaid);
 /// Where a control session leaves its command, and where the writer leaves the answer.
 #[derive(Drop)]
 struct ControlMailbox {
+    // The number of its session.
+    number: usize,
     held: Mutex<HeldCommand>,
     answered: Condvar,
-}
-
-// What the mailbox of a control session holds.
-#[derive(Drop)]
-enum HeldCommand {
-    Nothing,
-    /// A command, until the writer takes it.
-    Asked(WriterCommand),
-    /// Nothing: the writer does the command.
-    Taken,
-    /// The answer, until the session takes it.
-    Answered(GivenAnswer),
-    /// Nothing: from now on no command is taken.
-    Closed,
 }
 
 impl ControlMailboxes {
@@ -72,12 +59,8 @@ impl ControlMailboxes {
         alloc: Global,
         sessions: usize,
     ) -> Result<ControlMailboxes, AllocError> {
-        let mut mailboxes = Vec::with_capacity(alloc, sessions)?;
-        for _ in 0..sessions {
-            mailboxes.push(ControlMailbox::new())?;
-        }
         Ok(ControlMailboxes {
-            mailboxes,
+            mailboxes: new_mailboxes(alloc, sessions)?,
             wakeup: Arc::new(alloc, Wakeup::new())?,
             log: LogWatch::new(),
             stop: StopRequest::new(),
@@ -94,13 +77,25 @@ impl ControlMailboxes {
     ) -> Option<WriterAnswer>
         ensures { IfSome result (λ answer. IsGiven (question_of command) (answer_of answer)) }
     {
-        let mailbox = self.mailboxes.get(session)?;
+        let mailbox = self.mailbox_of(session)?;
         let question = Question::of(&command);
-        if !mailbox.put(rt, command) {
+        if !mailbox.put(rt, session, command) {
             return None;
         }
         self.wakeup.notify(rt);
         mailbox.wait(rt)?.to(question)
+    }
+
+    // The mailbox of the session of this number.
+    fn mailbox_of(&self, session: usize) -> Option<&ControlMailbox>
+        ensures { IfSome result (λ mailbox. mailbox.now.number ≡ session) }
+    {
+        for mailbox in self.mailboxes.iter() {
+            if mailbox.number == session {
+                return Some(mailbox);
+            }
+        }
+        None
     }
 
     /// Waits for `seconds` at most while the last number of the log is `number`. Answers whether it is another one.
@@ -144,12 +139,12 @@ impl ControlMailboxes {
 
     /// Does one command of each session that asks, and notes the log. The marks of these streams are shown before a session is
     /// answered, so that a writer that comes after the reply begins after them.
-    pub(crate) fn obey_all<R: Wait>(
+    pub(crate) fn obey_all<R: Wait, M: Sending>(
         &self,
         rt: &R,
         alloc: Global,
         live: &mut LiveRegion,
-        streams: &[StreamMailbox],
+        streams: &[StreamMailbox<M>],
     )
         ensures told { (at_fault : AtFault) (names : List (List ℕ)) (waiting : Option RoundInputValue) → ToldAll at_fault names waiting live.old live.new }
         ensures same { tablets_in live.new ≡ tablets_in live.old }
@@ -179,16 +174,32 @@ impl ControlMailboxes {
     }
 }
 
+// Empty mailboxes of this many sessions.
+fn new_mailboxes(alloc: Global, sessions: usize) -> Result<Vec<ControlMailbox>, AllocError>
+    ensures { IfOk result (λ mailboxes. length mailboxes.items ≡ sessions) }
+{
+    let mut mailboxes = Vec::with_capacity(alloc, sessions)?;
+    for number in 0..sessions {
+        mailboxes.push(ControlMailbox::new(number))?;
+    }
+    Ok(mailboxes)
+}
+
 impl ControlMailbox {
-    fn new() -> ControlMailbox {
+    fn new(number: usize) -> ControlMailbox
+        ensures { result.number ≡ number }
+    {
         ControlMailbox {
+            number,
             held: Mutex::new(HeldCommand::Nothing),
             answered: Condvar::new(),
         }
     }
 
-    // Puts a command into the empty mailbox. False if it is not empty, or closed.
-    fn put<R: Wait>(&self, rt: &R, command: WriterCommand) -> bool {
+    // Puts a command of its session into the empty mailbox. False if it is not empty, or closed.
+    fn put<R: Wait>(&self, rt: &R, session: usize, command: WriterCommand) -> bool
+        requires { self.now.number ≡ session }
+    {
         self.held.lock(rt).put(command)
     }
 
@@ -215,67 +226,5 @@ impl ControlMailbox {
     fn close<R: Wait>(&self, rt: &R) {
         self.held.lock(rt).close();
         self.answered.notify_one();
-    }
-}
-
-impl HeldCommand {
-    // Whether the session waits for the answer.
-    fn is_unanswered(&self) -> bool
-        ensures { result ≡ is_unanswered self.now }
-    {
-        matches!(self, HeldCommand::Asked(_) | HeldCommand::Taken)
-    }
-
-    // Puts a command into an empty mailbox. False if it is not empty.
-    fn put(&mut self, command: WriterCommand) -> bool
-        ensures { MatchBool result ((self.old ≡ Nothing) × (self.new ≡ Asked command)) ((self.old ≢ Nothing) × (self.new ≡ self.old)) }
-    {
-        if !matches!(self, HeldCommand::Nothing) {
-            return false;
-        }
-        *self = HeldCommand::Asked(command);
-        true
-    }
-
-    // Takes the command, if there is one.
-    fn take(&mut self) -> Option<WriterCommand>
-        ensures { MatchOption result (self.new ≡ self.old) (λ command. (self.old ≡ Asked command) × (self.new ≡ Taken)) }
-    {
-        match mem::replace(self, HeldCommand::Taken) {
-            HeldCommand::Asked(command) => Some(command),
-            other => {
-                *self = other;
-                None
-            }
-        }
-    }
-
-    // Leaves the answer to the command that was taken. Elsewhere it is dropped.
-    fn answer(&mut self, answer: GivenAnswer)
-        ensures answered { self.old ≡ Taken → self.new ≡ Answered answer }
-        ensures dropped { self.old ≢ Taken → self.new ≡ self.old }
-    {
-        if let HeldCommand::Taken = self {
-            *self = HeldCommand::Answered(answer);
-        }
-    }
-
-    // Takes the answer, if there is one.
-    fn take_answer(&mut self) -> Option<GivenAnswer>
-        ensures { MatchOption result (self.new ≡ self.old) (λ answer. (self.old ≡ Answered answer) × (self.new ≡ Nothing)) }
-    {
-        match mem::replace(self, HeldCommand::Nothing) {
-            HeldCommand::Answered(answer) => Some(answer),
-            other => {
-                *self = other;
-                None
-            }
-        }
-    }
-
-    fn close(&mut self)
-        ensures { self.new ≡ Closed }
-    {
-        *self = HeldCommand::Closed;
     }
 }

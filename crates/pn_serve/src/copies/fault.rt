@@ -2,6 +2,7 @@
 
 ghost use Rattle.std.specs.Prelude.{◌≡◌};
 ghost use Rattle.pn_serve.specs.Copies.{NoRefusal, cut_fault, start_fault};
+ghost use Rattle.pn_serve.specs.Copies.Words.{IsErrorOf};
 ghost use Rattle.pn_serve.specs.declared.copies.fault.CopiesFault.TheVariants.{Memory as no_memory};
 
 use pn_join::NoMemory;
@@ -53,7 +54,9 @@ impl fmt::Display for CopiesFault {
 }
 
 // The word of a fault, as replies have it.
-fn line_word(fault: CopyTextFault) -> &'static str {
+fn line_word(fault: CopyTextFault) -> &'static str
+    ensures { IsErrorOf fault result.now }
+{
     match fault {
         CopyTextFault::Truncated => "truncated",
         CopyTextFault::BadLine(_) => "bad-line",

@@ -10,12 +10,14 @@ ghost use Rattle.pn_region.specs.Prelude.{IsRegion};
 ghost use Rattle.pn_serve.specs.Server.Events.{RunsCommands, RunsEvents, ToldAll};
 ghost use Rattle.pn_serve.specs.Server.Reading.{RunsRounds};
 ghost use Rattle.pn_serve.specs.Server.Rounds.{RoundInputValue};
+ghost use Rattle.pn_serve.specs.Server.Sent.{IsSent};
 ghost use Rattle.pn_serve.specs.declared.server.mailboxes.AtFault.{AtFault};
 
 use crate::ServeFault;
 use crate::control::mailboxes::{ControlMailboxes, StopAsked};
 use crate::server::mailboxes::{ReportSeen, StreamMailbox, StreamMailboxes};
 use crate::server::rounds::{RoundInput, take_round};
+use crate::server::texts::{AnyWriters, Sending};
 use crate::server::times::{begin_time, end_time};
 use crate::server::wakeup::Waited;
 use pn_live::LiveRegion;
@@ -35,17 +37,19 @@ pub enum ReadingEnd {
 
 /// Runs rounds, and does commands between them where there are mailboxes for some, until all streams have ended, or a stop
 /// is asked for, or to the first fault. Where memory ran out and that is waited for, a round is tried again after a second.
-pub(crate) fn run_rounds<R: Threads + Wait + Clock + Sync>(
+pub(crate) fn run_rounds<R: Threads + Wait + Clock + Sync, M: Sending>(
     rt: &R,
     alloc: Global,
     live: &mut LiveRegion,
     workers: usize,
-    mailboxes: &mut StreamMailboxes,
+    mailboxes: &mut StreamMailboxes<M>,
     controls: &Option<Arc<ControlMailboxes>>,
 ) -> Result<ReadingEnd, ServeFault>
     requires workers { (1 ≤ workers) × (workers ≤ MAX_WORKERS) }
-    ensures alone { controls.now ≡ None → RunsRounds mailboxes.old.at_fault (map (λ stream. stream.name) mailboxes.old.streams.items) live.old live.new result }
-    ensures runs { RunsEvents mailboxes.old.at_fault (map (λ stream. stream.name) mailboxes.old.streams.items) live.old live.new result }
+    ensures alone { controls.now ≡ None → RunsRounds (IsSent M.known M.sends) mailboxes.old.at_fault (map (λ stream. stream.name) mailboxes.old.streams.items)
+        live.old live.new result }
+    ensures runs { RunsEvents (IsSent M.known M.sends) mailboxes.old.at_fault (map (λ stream. stream.name) mailboxes.old.streams.items)
+        live.old live.new result }
     ensures same { tablets_in live.new ≡ tablets_in live.old }
 {
     let mut waiting = None;
@@ -73,7 +77,7 @@ pub(crate) fn run_rounds<R: Threads + Wait + Clock + Sync>(
 }
 
 // Whether all streams have ended, and no input waits.
-fn has_ended(mailboxes: &StreamMailboxes, waiting: &Option<RoundInput>) -> bool
+fn has_ended<M: Sending>(mailboxes: &StreamMailboxes<M>, waiting: &Option<RoundInput>) -> bool
     ensures ended { IsTrue result → (waiting.now ≡ None) × (mailboxes.now.streams.items ≡ []) }
     ensures more { IsFalse result → waiting.now ≡ None → mailboxes.now.streams.items ≢ [] }
 {
@@ -88,7 +92,11 @@ enum Awaited {
 }
 
 // Waits for a report or a command, unless there is a report; where memory is short, waits for a second at most.
-fn await_work<R: Wait + Clock>(rt: &R, mailboxes: &StreamMailboxes, is_short: bool) -> Awaited {
+fn await_work<R: Wait + Clock, M: Sending>(
+    rt: &R,
+    mailboxes: &StreamMailboxes<M>,
+    is_short: bool,
+) -> Awaited {
     if is_short {
         return Awaited::Wait(mailboxes.wait_for_memory(rt));
     }
@@ -109,12 +117,12 @@ fn find_stop<R: Wait>(rt: &R, controls: &Option<Arc<ControlMailboxes>>) -> Optio
 }
 
 // Does the commands that control sessions have left, and shows these streams' mailboxes how far each takes the marks.
-fn obey_all<R: Wait>(
+fn obey_all<R: Wait, M: Sending>(
     rt: &R,
     alloc: Global,
     live: &mut LiveRegion,
     controls: &Option<Arc<ControlMailboxes>>,
-    streams: &[StreamMailbox],
+    streams: &[StreamMailbox<M>],
 )
     ensures alone { controls.now ≡ None → live.new ≡ live.old }
     ensures rise { Reaches live.new.marks live.old.marks }
@@ -154,7 +162,7 @@ pub fn take_commands<R: Wait>(
 {
     controls.note_log(rt, live);
     for _ in rt.forever() {
-        controls.obey_all(rt, alloc, live, &[]);
+        controls.obey_all::<R, AnyWriters>(rt, alloc, live, &[]);
         if let Some(asked) = controls.show_stop(rt) {
             return asked;
         }
@@ -176,5 +184,5 @@ pub fn take_commands_for<R: Wait + Clock>(
     ensures same { tablets_in live.new ≡ tablets_in live.old }
 {
     let _ = controls.wakeup.wait_at_most(rt, most);
-    controls.obey_all(rt, alloc, live, &[]);
+    controls.obey_all::<R, AnyWriters>(rt, alloc, live, &[]);
 }

@@ -1,5 +1,6 @@
 //! The faults of streams that have one writer each.
 
+use crate::server::texts::Sending;
 use crate::server::writers::{NextWriter, Origin, WriterEnd};
 use pn_join::StreamName;
 use pn_line::Source;
@@ -49,12 +50,12 @@ pub(crate) struct OneWriter<R: Wait + Copy> {
     pub(crate) faults: Option<Arc<FaultLog>>,
 }
 
-impl<R: Wait + Copy, S: Source + Drop> Origin<S> for OneWriter<R> {
+impl<R: Wait + Copy, S: Source + Drop, M: Sending> Origin<S, M> for OneWriter<R> {
     ghost may_go_on = { ⊥ };
 
     ghost begins_after = { λ _ _. ⊥ };
 
-    fn next_writer(&mut self, _last: u64) -> Option<NextWriter<S>> {
+    fn next_writer(&mut self, _name: &StreamName, _last: u64) -> Option<NextWriter<S>> {
         None
     }
 

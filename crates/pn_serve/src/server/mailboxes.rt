@@ -2,11 +2,15 @@
 
 ghost use Rattle.std.specs.Prelude.{◌≡◌, [], ◌∷◌, ◌++◌, map, vec_len, IfOk, IfSome, OnOk};
 ghost use Rattle.pn_serve.specs.Server.Reports.{name_in};
+ghost use Rattle.pn_serve.specs.Server.SentReports.{IsSentReport};
 
 use crate::server::counter::Counter;
-use crate::server::held_report::{ClosedMailbox, HeldReport, LeftReport};
+use crate::server::held_report::{ClosedMailbox, LeftReport};
+use crate::server::kept_report::KeptReport;
 use crate::server::reporter::Reporter;
 use crate::server::reports::Report;
+use crate::server::shown_mark::ShownMark;
+use crate::server::texts::Sending;
 use crate::server::times::TimeCounters;
 use crate::server::wakeup::{Waited, Wakeup};
 use pn_join::{Marks, StreamName};
@@ -17,8 +21,8 @@ use std::time::{Clock, Duration};
 /// The mailboxes of the streams that are read, what wakes the thread that takes their reports, and the count of its rounds
 /// and who waits for memory, where somebody looks at them.
 #[derive(Drop)]
-pub(crate) struct StreamMailboxes {
-    pub(crate) streams: Vec<StreamMailbox>,
+pub(crate) struct StreamMailboxes<M: Sending> {
+    pub(crate) streams: Vec<StreamMailbox<M>>,
     pub(crate) at_fault: AtFault,
     pub(crate) wakeup: Arc<Wakeup>,
     pub(crate) rounds: Option<Arc<Counter>>,
@@ -42,16 +46,17 @@ pub(crate) enum AtFault {
 
 /// The mailbox of the stream of a name, and where its mark is shown.
 #[derive(Drop)]
-pub(crate) struct StreamMailbox {
+pub(crate) struct StreamMailbox<M: Sending> {
     pub(crate) name: StreamName,
-    pub(crate) mailbox: Arc<Mailbox>,
-    pub(crate) taken: Option<Arc<Counter>>,
+    pub(crate) mailbox: Arc<Mailbox<M>>,
+    pub(crate) taken: Option<Arc<ShownMark>>,
 }
 
-impl StreamMailbox {
+impl<M: Sending> StreamMailbox<M> {
     /// Takes the stream's report, if there is one. A report of another stream is dropped.
     pub(crate) fn take<R: Wait>(&self, rt: &R) -> Option<Report>
-        ensures { IfSome result (λ report. name_in report ≡ self.now.name) }
+        ensures own { IfSome result (λ report. name_in report ≡ self.now.name) }
+        ensures sent { IfSome result (IsSentReport M.known M.sends) }
     {
         match self.mailbox.take(rt) {
             Some(report) if report.is_of(&self.name) => Some(report),
@@ -62,12 +67,12 @@ impl StreamMailbox {
     // Shows how far the stream was taken.
     fn show(&self, marks: &Marks) {
         if let Some(taken) = &self.taken {
-            taken.set(marks.position(&self.name));
+            taken.show(marks, &self.name);
         }
     }
 }
 
-impl StreamMailboxes {
+impl<M: Sending> StreamMailboxes<M> {
     /// No mailbox, with capacity for those of this many streams.
     pub(crate) fn new(
         alloc: Global,
@@ -75,7 +80,7 @@ impl StreamMailboxes {
         at_fault: AtFault,
         rounds: Option<Arc<Counter>>,
         wakeup: Arc<Wakeup>,
-    ) -> Result<StreamMailboxes, AllocError>
+    ) -> Result<StreamMailboxes<M>, AllocError>
         ensures at_fault { IfOk result (λ mailboxes. mailboxes.at_fault ≡ at_fault) }
         ensures none { IfOk result (λ mailboxes. mailboxes.streams.items ≡ []) }
         ensures count { IfOk result (λ mailboxes. vec_len mailboxes.streams ≡ 0) }
@@ -96,8 +101,8 @@ impl StreamMailboxes {
         &mut self,
         alloc: Global,
         name: StreamName,
-        taken: Option<Arc<Counter>>,
-    ) -> Result<Reporter, AllocError>
+        taken: Option<Arc<ShownMark>>,
+    ) -> Result<Reporter<M>, AllocError>
         ensures names { OnOk result (map (λ stream. stream.name) self.new.streams.items
             ≡ map (λ stream. stream.name) self.old.streams.items ++ name ∷ []) }
         ensures at_fault { OnOk result (self.new.at_fault ≡ self.old.at_fault) }
@@ -173,7 +178,7 @@ impl StreamMailboxes {
 }
 
 /// Shows how far these streams were taken.
-pub(crate) fn show_marks(streams: &[StreamMailbox], marks: &Marks) {
+pub(crate) fn show_marks<M: Sending>(streams: &[StreamMailbox<M>], marks: &Marks) {
     for stream in streams.iter() {
         stream.show(marks);
     }
@@ -189,36 +194,41 @@ pub(crate) fn share<T: Drop>(counter: &Option<Arc<T>>) -> Result<Option<Arc<T>>,
 
 /// Holds at most one report. A thread that puts another waits until it is taken.
 #[derive(Drop)]
-pub(crate) struct Mailbox {
-    held: Mutex<HeldReport>,
+pub(crate) struct Mailbox<M: Sending> {
+    held: Mutex<KeptReport<M>>,
     emptied: Condvar,
 }
 
-impl Mailbox {
+impl<M: Sending> Mailbox<M> {
     /// A mailbox that holds nothing.
-    pub(crate) fn new() -> Mailbox {
+    pub(crate) fn new() -> Mailbox<M> {
         Mailbox {
-            held: Mutex::new(HeldReport::Nothing),
+            held: Mutex::new(KeptReport::new()),
             emptied: Condvar::new(),
         }
     }
 
     /// Puts a report into the mailbox once it holds none. The error shows that it is closed.
     pub(crate) fn put<R: Wait>(&self, rt: &R, report: Report) -> Result<LeftReport, ClosedMailbox>
+        requires { IsSentReport M.known M.sends report }
         ensures { IfOk result (λ left. left ≡ report) }
     {
         let guard = self.held.lock(rt);
-        let mut held = self.emptied.wait_while(rt, guard, |held| held.is_left());
+        let mut held = self
+            .emptied
+            .wait_while(rt, guard, |held| held.held.is_left());
         held.put(report)
     }
 
     /// Whether there is a report.
     pub(crate) fn has_report<R: Wait>(&self, rt: &R) -> bool {
-        self.held.lock(rt).is_left()
+        self.held.lock(rt).held.is_left()
     }
 
     /// Takes the report, if there is one.
-    pub(crate) fn take<R: Wait>(&self, rt: &R) -> Option<Report> {
+    pub(crate) fn take<R: Wait>(&self, rt: &R) -> Option<Report>
+        ensures { IfSome result (IsSentReport M.known M.sends) }
+    {
         let report = self.held.lock(rt).take();
         if report.is_some() {
             self.emptied.notify_one();
@@ -232,13 +242,13 @@ impl Mailbox {
         let most = Duration::from_secs(1);
         let (held, _) = self
             .emptied
-            .wait_timeout_while(rt, guard, most, |held| !held.is_closed());
-        !held.is_closed()
+            .wait_timeout_while(rt, guard, most, |held| !held.held.is_closed());
+        !held.held.is_closed()
     }
 
     /// That it is closed, if it is.
     pub(crate) fn closed<R: Wait>(&self, rt: &R) -> Option<ClosedMailbox> {
-        self.held.lock(rt).closed()
+        self.held.lock(rt).held.closed()
     }
 
     /// Closes the mailbox, and wakes the thread that waits there.

@@ -1,11 +1,13 @@
 //! Where the thread of a stream leaves its reports, and how it waits for memory.
 
 ghost use Rattle.std.specs.Prelude.{◌≡◌, IfOk};
+ghost use Rattle.pn_serve.specs.Server.SentReports.{IsSentReport};
 
 use crate::server::counter::Counter;
 use crate::server::held_report::{ClosedMailbox, LeftReport};
 use crate::server::mailboxes::{AtFault, Mailbox};
 use crate::server::reports::Report;
+use crate::server::texts::Sending;
 use crate::server::wakeup::Wakeup;
 use crate::server::writers::WriterEnd;
 use pn_join::StreamName;
@@ -16,32 +18,33 @@ use std::time::Clock;
 
 /// Where the thread of a stream leaves its reports, and what is to follow from its fault.
 #[derive(Drop)]
-pub(crate) struct Reporter {
+pub(crate) struct Reporter<M: Sending> {
     pub(crate) name: StreamName,
-    pub(crate) mailbox: Arc<Mailbox>,
+    pub(crate) mailbox: Arc<Mailbox<M>>,
     pub(crate) wakeup: Arc<Wakeup>,
     pub(crate) at_fault: AtFault,
     /// How many streams wait for memory, where somebody looks at that.
     pub(crate) waiting: Option<Arc<Counter>>,
-    /// At 1 while this stream waits for memory, and else at 0.
+    /// 1 while this stream waits for memory, otherwise 0.
     pub(crate) waits: Counter,
 }
 
 /// What a thread is given that leaves reports.
-pub(crate) trait HasReporter {
+pub(crate) trait HasReporter<M: Sending> {
     /// Where it leaves them.
-    fn reporter(&self) -> &Reporter;
+    fn reporter(&self) -> &Reporter<M>;
 }
 
-impl HasReporter for Reporter {
-    fn reporter(&self) -> &Reporter {
+impl<M: Sending> HasReporter<M> for Reporter<M> {
+    fn reporter(&self) -> &Reporter<M> {
         self
     }
 }
 
-impl Reporter {
+impl<M: Sending> Reporter<M> {
     /// Leaves a report once the last one is taken, and wakes the thread that takes it. The error shows that no more are taken.
     pub(crate) fn leave<R: Wait>(&self, rt: &R, report: Report) -> Result<LeftReport, ClosedMailbox>
+        requires { IsSentReport M.known M.sends report }
         ensures { IfOk result (λ left. left ≡ report) }
     {
         let left = self.mailbox.put(rt, report);
@@ -93,13 +96,13 @@ fn lacks_memory(end: &WriterEnd) -> bool {
 
 /// The memory of the thread of a stream.
 #[derive(Drop)]
-pub(crate) struct StreamMemory<'a, R: Wait + Clock> {
+pub(crate) struct StreamMemory<'a, R: Wait + Clock, M: Sending> {
     pub(crate) rt: &'a R,
     pub(crate) alloc: Global,
-    pub(crate) reporter: &'a Reporter,
+    pub(crate) reporter: &'a Reporter<M>,
 }
 
-impl<'a, R: Wait + Clock> ReaderMemory for StreamMemory<'a, R> {
+impl<'a, R: Wait + Clock, M: Sending> ReaderMemory for StreamMemory<'a, R, M> {
     ghost may_give_up = { Unit {0} };
 
     fn alloc(&self) -> Global {

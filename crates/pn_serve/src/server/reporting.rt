@@ -2,6 +2,7 @@
 
 ghost use Rattle.std.specs.Prelude.{◌≡◌, ◌≤◌, max, min, None, IfOk, IfErr, IfSome, IsOk, IsSome, MatchResult};
 ghost use Rattle.pn_join.specs.declared.marks.TheConstants.{LAST_POSITION};
+ghost use Rattle.pn_serve.specs.Server.Sent.{IsOfWriter};
 ghost use Rattle.pn_serve.specs.Server.Whole.{EndsStream};
 ghost use Rattle.pn_serve.specs.Server.Writers.{EndsInput, IsReaderFrom};
 ghost use Rattle.pn_serve.specs.declared.server.writers.WriterEnd.TheVariants.{End};
@@ -9,6 +10,7 @@ ghost use Rattle.pn_serve.specs.declared.server.writers.WriterEnd.TheVariants.{E
 use crate::server::held_report::ClosedMailbox;
 use crate::server::reporter::{Reporter, StreamMemory};
 use crate::server::reports::Report;
+use crate::server::texts::Sending;
 use crate::server::writer_input::{Given, WriterInput};
 use crate::server::writers::{Origin, WriterEnd};
 use pn_join::StreamName;
@@ -27,24 +29,30 @@ pub(crate) struct StreamEnd {
 
 /// Reports a stream from this input on, from one writer after another, until there is none, or until the mailbox is closed.
 /// The error is the stream's name.
-pub(crate) fn report_stream<R: Threads + Wait + Clock, S: Source + Drop, O: Origin<S> + Drop>(
+pub(crate) fn report_stream<R, S, O, M>(
     rt: &R,
     alloc: Global,
     input: WriterInput<S>,
     origin: O,
-    reporter: &Reporter,
+    reporter: &Reporter<M>,
 ) -> Result<StreamEnd, StreamName>
+where
+    R: Threads + Wait + Clock,
+    S: Source + Drop,
+    O: Origin<S, M> + Drop,
+    M: Sending,
+    requires { M.known → IsOfWriter M.sends S.left input.reader }
     ensures { (O.may_go_on → ⊥) → IsSome input.before → EndsStream S.left input.reader result }
 {
     let mut input = input;
     let mut origin = origin;
     for _ in rt.forever() {
-        let end = match read_writer(rt, alloc, &mut input, &mut origin, reporter) {
+        let end = match read_writer::<R, S, O, M>(rt, alloc, &mut input, &mut origin, reporter) {
             Ok(end) => end,
-            Err(closed) => return Err(stop_reading(input, &mut origin, closed)),
+            Err(closed) => return Err(stop_reading::<S, O, M>(input, &mut origin, closed)),
         };
         let ended = end_of(&input, &end);
-        match what_comes_next(alloc, input, &end, &mut origin) {
+        match what_comes_next::<S, O, M>(alloc, input, &end, &mut origin) {
             Some(next) => input = next,
             None => {
                 let _ = reporter.leave(rt, last_report(&ended));
@@ -56,7 +64,7 @@ pub(crate) fn report_stream<R: Threads + Wait + Clock, S: Source + Drop, O: Orig
 }
 
 // Gives back what a writer was read from before its end, since its mailbox is closed. Answers the stream's name.
-fn stop_reading<S: Source + Drop, O: Origin<S>>(
+fn stop_reading<S: Source + Drop, O: Origin<S, M>, M: Sending>(
     input: WriterInput<S>,
     origin: &mut O,
     _closed: ClosedMailbox,
@@ -69,13 +77,19 @@ fn stop_reading<S: Source + Drop, O: Origin<S>>(
 }
 
 // Reports the messages of a writer. Answers how its input ended. The error shows that the mailbox takes nothing more.
-fn read_writer<R: Threads + Wait + Clock, S: Source + Drop, O: Origin<S>>(
+fn read_writer<R, S, O, M>(
     rt: &R,
     alloc: Global,
     input: &mut WriterInput<S>,
     origin: &mut O,
-    reporter: &Reporter,
+    reporter: &Reporter<M>,
 ) -> Result<WriterEnd, ClosedMailbox>
+where
+    R: Threads + Wait + Clock,
+    S: Source + Drop,
+    O: Origin<S, M>,
+    M: Sending,
+    requires { M.known → IsOfWriter M.sends S.left input.old.reader }
     ensures ends { IfOk result (λ end. EndsInput S.left input.old.before input.old.reader end input.new.before input.new.reader) }
     ensures last { input.old.reader.position ≤ input.old.last → IsOk result → input.new.last ≡ max input.old.last input.new.reader.position }
     ensures name { input.new.reader.name ≡ input.old.reader.name }
@@ -104,9 +118,9 @@ fn read_writer<R: Threads + Wait + Clock, S: Source + Drop, O: Origin<S>>(
 }
 
 // How a writer's input ended, unless memory ran out for it and the mailbox takes nothing more.
-fn unless_stopped<R: Wait>(
+fn unless_stopped<R: Wait, M: Sending>(
     rt: &R,
-    reporter: &Reporter,
+    reporter: &Reporter<M>,
     end: WriterEnd,
 ) -> Result<WriterEnd, ClosedMailbox>
     ensures { IfOk result (λ ended. ended ≡ end) }
@@ -136,9 +150,9 @@ fn end_of<S: Source + Drop>(
     }
 }
 
-// What comes after a writer's input: that of the next one, which begins after what was handed on or later, with no part of the
+// What comes after a writer's input: that of the next one, which begins after what was reported or later, with no part of the
 // last one's line. None where the stream has ended.
-fn what_comes_next<S: Source + Drop, O: Origin<S>>(
+fn what_comes_next<S: Source + Drop, O: Origin<S, M>, M: Sending>(
     alloc: Global,
     input: WriterInput<S>,
     end: &WriterEnd,
@@ -147,6 +161,7 @@ fn what_comes_next<S: Source + Drop, O: Origin<S>>(
     ensures goes_on { IsSome result → O.may_go_on }
     ensures anew { IfSome result (λ next. IsReaderFrom input.reader.name (min next.last LAST_POSITION) next.reader) }
     ensures begins { IfSome result (λ next. O.begins_after next.reader.source next.last) }
+    ensures sent { IfSome result (λ next. M.known → IsOfWriter M.sends S.left next.reader) }
     ensures before { IfSome result (λ next. next.before ≡ None) }
     ensures last { IfSome result (λ next. input.last ≤ next.last) }
 {
@@ -158,12 +173,12 @@ fn what_comes_next<S: Source + Drop, O: Origin<S>>(
     } = input;
     let name = *reader.name();
     origin.end_writer(reader.into_source(), end, last);
-    next_input(alloc, name, last, workers, origin)
+    next_input::<S, O, M>(alloc, name, last, workers, origin)
 }
 
-/// The input of the next writer of a stream, all of which was handed on up to `last`. It begins after the position that the
+/// The input of the next writer of a stream, all of which was reported up to `last`. It begins after the position that the
 /// origin says. None where the stream has ended.
-pub(crate) fn next_input<S: Source + Drop, O: Origin<S>>(
+pub(crate) fn next_input<S: Source + Drop, O: Origin<S, M>, M: Sending>(
     alloc: Global,
     name: StreamName,
     last: u64,
@@ -173,10 +188,11 @@ pub(crate) fn next_input<S: Source + Drop, O: Origin<S>>(
     ensures goes_on { IsSome result → O.may_go_on }
     ensures anew { IfSome result (λ next. IsReaderFrom name (min next.last LAST_POSITION) next.reader) }
     ensures begins { IfSome result (λ next. O.begins_after next.reader.source next.last) }
+    ensures sent { IfSome result (λ next. M.known → IsOfWriter M.sends S.left next.reader) }
     ensures before { IfSome result (λ next. next.before ≡ None) }
     ensures last { IfSome result (λ next. last ≤ next.last) }
 {
-    match origin.next_writer(last) {
+    match origin.next_writer(&name, last) {
         Some(next) => Some(WriterInput::begin(alloc, name, next, workers)),
         None => None,
     }

@@ -7,6 +7,7 @@ ghost use Rattle.pn_region.specs.Marking.{leaves_gap};
 ghost use Rattle.pn_serve.specs.Server.Gathering.{IsInputOf, first_fault, goes_on, no_input, value_of, with_report};
 ghost use Rattle.pn_serve.specs.Server.Messages.{FitRound};
 ghost use Rattle.pn_serve.specs.Server.Rounds.{CanBeTaken, Continues};
+ghost use Rattle.pn_serve.specs.Server.Sent.{IsSent};
 ghost use Rattle.pn_serve.specs.Server.Tries.{IsNextInput, TakesRound, waiting_value};
 ghost use Rattle.pn_serve.specs.declared.server.mailboxes.AtFault.TheVariants.{Stop, GoOn};
 
@@ -14,6 +15,7 @@ use crate::ServeFault;
 use crate::server::mailboxes::{AtFault, StreamMailbox, StreamMailboxes};
 use crate::server::messages::RoundShare;
 use crate::server::reports::Report;
+use crate::server::texts::Sending;
 use crate::server::tries::run_input;
 use pn_apply::Share;
 use pn_join::{Marks, StreamName};
@@ -34,18 +36,19 @@ pub(crate) struct RoundInput {
 
 /// Runs one round of the input that waits, or else of what the mailboxes give, and counts it. False where memory ran out, if
 /// that is waited for: then the input waits, if there is one.
-pub(crate) fn take_round<R: Threads + Wait + Sync>(
+pub(crate) fn take_round<R: Threads + Wait + Sync, M: Sending>(
     rt: &R,
     alloc: Global,
     live: &mut LiveRegion,
     workers: usize,
-    mailboxes: &mut StreamMailboxes,
+    mailboxes: &mut StreamMailboxes<M>,
     waiting: &mut Option<RoundInput>,
 ) -> Result<bool, ServeFault>
     requires workers { (1 ≤ workers) × (workers ≤ MAX_WORKERS) }
     requires continues { IfSome waiting.old (λ input. All (Continues live.old.marks) input.deliveries.items) }
-    ensures round { TakesRound mailboxes.old.at_fault (map (λ stream. stream.name) mailboxes.old.streams.items) (waiting_value waiting.old) live.old
-        (map (λ stream. stream.name) mailboxes.new.streams.items) (waiting_value waiting.new) live.new result }
+    requires sent { IfSome waiting.old (λ input. All (IsSent M.known M.sends) input.deliveries.items) }
+    ensures round { TakesRound (IsSent M.known M.sends) mailboxes.old.at_fault (map (λ stream. stream.name) mailboxes.old.streams.items)
+        (waiting_value waiting.old) live.old (map (λ stream. stream.name) mailboxes.new.streams.items) (waiting_value waiting.new) live.new result }
     ensures continues { IfSome waiting.new (λ input. All (Continues live.new.marks) input.deliveries.items) }
     ensures at_fault { mailboxes.new.at_fault ≡ mailboxes.old.at_fault }
     ensures same { tablets_in live.new ≡ tablets_in live.old }
@@ -67,17 +70,19 @@ pub(crate) fn take_round<R: Threads + Wait + Sync>(
 
 // Takes the input that waits, or else what the mailboxes give. None where there is no memory to ask them, if that is waited
 // for; elsewhere that is the fault.
-fn next_input<R: Wait>(
+fn next_input<R: Wait, M: Sending>(
     rt: &R,
     alloc: Global,
     marks: &Marks,
-    mailboxes: &mut StreamMailboxes,
+    mailboxes: &mut StreamMailboxes<M>,
     waiting: &mut Option<RoundInput>,
 ) -> Result<Option<RoundInput>, ServeFault>
     requires continues { IfSome waiting.old (λ input. All (Continues marks.now) input.deliveries.items) }
-    ensures next { IfOk result (λ next. IfSome next (λ input. IsNextInput (map (λ stream. stream.name) mailboxes.old.streams.items) (waiting_value waiting.old) marks.now
-        (value_of input) (map (λ stream. stream.name) mailboxes.new.streams.items))) }
+    requires sent { IfSome waiting.old (λ input. All (IsSent M.known M.sends) input.deliveries.items) }
+    ensures next { IfOk result (λ next. IfSome next (λ input. IsNextInput (map (λ stream. stream.name) mailboxes.old.streams.items)
+        (waiting_value waiting.old) marks.now (value_of input) (map (λ stream. stream.name) mailboxes.new.streams.items))) }
     ensures continues { IfOk result (λ next. IfSome next (λ input. All (Continues marks.now) input.deliveries.items)) }
+    ensures sent { IfOk result (λ next. IfSome next (λ input. All (IsSent M.known M.sends) input.deliveries.items)) }
     ensures none { IfOk result (λ next. next ≡ None → (mailboxes.old.at_fault ≡ GoOn) × (waiting.old ≡ None)
         × (map (λ stream. stream.name) mailboxes.new.streams.items ≡ map (λ stream. stream.name) mailboxes.old.streams.items)) }
     ensures fault { IfErr result (λ fault. (mailboxes.old.at_fault ≡ Stop) × (fault ≡ ServeFault.Round)) }
@@ -96,15 +101,16 @@ fn next_input<R: Wait>(
 
 // Takes one report of each stream that has one. The streams that ended are read no more. The fault is out of memory, before a
 // report is taken.
-fn gather<R: Wait>(
+fn gather<R: Wait, M: Sending>(
     rt: &R,
     alloc: Global,
-    mailboxes: &mut StreamMailboxes,
+    mailboxes: &mut StreamMailboxes<M>,
     marks: &Marks,
 ) -> Result<RoundInput, ServeFault>
     ensures gathered { IfOk result (λ input. IsInputOf (map (λ stream. stream.name) mailboxes.old.streams.items) marks.now (value_of input)
         (map (λ stream. stream.name) mailboxes.new.streams.items)) }
     ensures fits { IfOk result (λ input. CanBeTaken (length mailboxes.old.streams.items) marks.now (value_of input)) }
+    ensures sent { IfOk result (λ input. All (IsSent M.known M.sends) input.deliveries.items) }
     ensures fault { IfErr result (λ fault. fault ≡ ServeFault.Round) }
     ensures at_fault { mailboxes.new.at_fault ≡ mailboxes.old.at_fault }
     ensures none { IfErr result (λ _. mailboxes.new.streams.items ≡ mailboxes.old.streams.items) }
@@ -125,7 +131,10 @@ fn gather<R: Wait>(
 }
 
 // No reports, with capacity for those of this many streams, and no mailbox, with capacity for theirs.
-fn new_input(alloc: Global, streams: usize) -> Result<(RoundInput, Vec<StreamMailbox>), AllocError>
+fn new_input<M: Sending>(
+    alloc: Global,
+    streams: usize,
+) -> Result<(RoundInput, Vec<StreamMailbox<M>>), AllocError>
     ensures none { IfOk result (λ made. value_of made.0 ≡ no_input) }
     ensures capacity { IfOk result (λ made. vec_capacity made.0.deliveries ≡ streams) }
     ensures left { IfOk result (λ made. made.1.items ≡ []) }

@@ -3,6 +3,7 @@
 ghost use Rattle.std.specs.Prelude.{◌≡◌, ◌≤◌, ◌∷◌, [], ◌++◌, map, All, IfOk, IfErr, IsErr, OnOk, OnErr, MatchResult};
 ghost use Rattle.pn_join.specs.Prelude.{position_of};
 ghost use Rattle.pn_serve.specs.Server.Faults.{NamesOne, names_of};
+ghost use Rattle.pn_serve.specs.Server.Sent.{IsOfWriter};
 ghost use Rattle.pn_serve.specs.Server.Whole.{EndsStream, IsTakenWhole};
 ghost use Rattle.pn_serve.specs.declared.server.mailboxes.AtFault.TheVariants.{Stop};
 
@@ -12,6 +13,7 @@ use crate::server::fault_log::{FaultLog, OneWriter};
 use crate::server::mailboxes::{AtFault, StreamMailboxes};
 use crate::server::reporter::{HasReporter, Reporter};
 use crate::server::reporting::{StreamEnd, report_stream};
+use crate::server::texts::Sending;
 use crate::server::wakeup::Wakeup;
 use crate::server::writer_input::WriterInput;
 use pn_join::{Marks, StreamName};
@@ -42,18 +44,18 @@ pub(crate) type StreamThread<S> = PromisedHandle<
 
 /// Streams that are being read: their mailboxes and threads.
 #[derive(Drop)]
-pub(crate) struct StartedStreams<S: Source + Drop> {
-    pub(crate) mailboxes: StreamMailboxes,
+pub(crate) struct StartedStreams<S: Source + Drop, M: Sending> {
+    pub(crate) mailboxes: StreamMailboxes<M>,
     pub(crate) threads: Vec<StreamThread<S>>,
 }
 
-impl<S: Source + Drop> StartedStreams<S> {
+impl<S: Source + Drop, M: Sending> StartedStreams<S, M> {
     // No streams, with capacity for this many.
     fn new(
         alloc: Global,
         streams: usize,
         rounds: Option<Arc<Counter>>,
-    ) -> Result<StartedStreams<S>, AllocError>
+    ) -> Result<StartedStreams<S, M>, AllocError>
         ensures threads { IfOk result (λ started. started.threads.items ≡ []) }
         ensures mailboxes { IfOk result (λ started. started.mailboxes.streams.items ≡ []) }
         ensures at_fault { IfOk result (λ started. started.mailboxes.at_fault ≡ Stop) }
@@ -73,17 +75,19 @@ impl<S: Source + Drop> StartedStreams<S> {
 
 /// Starts to read streams, each in its own thread, which shares the lines that are at hand among these workers. A refused
 /// thread, or out of memory, ends the reading.
-pub(crate) fn start_streams<R, S>(
+pub(crate) fn start_streams<R, S, M>(
     rt: &R,
     alloc: Global,
     streams: Vec<StreamReader<S>>,
     workers: usize,
     rounds: Option<Arc<Counter>>,
     faults: Option<Arc<FaultLog>>,
-) -> Result<StartedStreams<S>, ServeFault>
+) -> Result<StartedStreams<S, M>, ServeFault>
 where
     R: Threads + Wait + Clock + Copy + Send + 'static,
     S: Source + Drop + Send + 'static,
+    M: Sending + Send + 'static,
+    requires sent { M.known → All (IsOfWriter M.sends S.left) streams.items }
     ensures fault { IfErr result (λ fault. fault ≡ ServeFault.Start) }
     ensures threads { IfOk result (λ started. map (λ thread. thread.promise.0.value) started.threads.items ≡ streams.items) }
     ensures names { IfOk result (λ started. map (λ stream. stream.name) started.mailboxes.streams.items ≡ names_of streams.items) }
@@ -93,7 +97,7 @@ where
         return Err(ServeFault::Start);
     };
     for stream in streams {
-        if let Err(_) = start_stream(rt, alloc, &mut started, stream, workers, &faults) {
+        if let Err(_) = start_stream::<R, S, M>(rt, alloc, &mut started, stream, workers, &faults) {
             started.mailboxes.close(rt);
             return Err(ServeFault::Start);
         }
@@ -101,10 +105,10 @@ where
     Ok(started)
 }
 
-fn start_stream<R, S>(
+fn start_stream<R, S, M>(
     rt: &R,
     alloc: Global,
-    started: &mut StartedStreams<S>,
+    started: &mut StartedStreams<S, M>,
     stream: StreamReader<S>,
     workers: usize,
     faults: &Option<Arc<FaultLog>>,
@@ -112,6 +116,8 @@ fn start_stream<R, S>(
 where
     R: Threads + Wait + Clock + Copy + Send + 'static,
     S: Source + Drop + Send + 'static,
+    M: Sending + Send + 'static,
+    requires sent { M.known → IsOfWriter M.sends S.left stream }
     ensures threads { OnOk result (map (λ thread. thread.promise.0.value) started.new.threads.items
         ≡ map (λ thread. thread.promise.0.value) started.old.threads.items ++ stream ∷ []) }
     ensures names { OnOk result (map (λ stream. stream.name) started.new.mailboxes.streams.items
@@ -125,13 +131,15 @@ where
         name,
         faults: share(faults)?,
     };
-    let thread = spawn_reporting(rt, alloc, stream, workers, origin, reporter)?;
+    let thread = spawn_reporting::<R, S, Reporter<M>, M>(
+        rt, alloc, stream, workers, origin, reporter,
+    )?;
     started.threads.push(thread)?;
     Ok(())
 }
 
 // Starts the thread that reports a stream.
-fn spawn_reporting<R, S, P>(
+fn spawn_reporting<R, S, P, M>(
     rt: &R,
     alloc: Global,
     stream: StreamReader<S>,
@@ -142,14 +150,20 @@ fn spawn_reporting<R, S, P>(
 where
     R: Threads + Wait + Clock + Copy + Send + 'static,
     S: Source + Drop + Send + 'static,
-    P: HasReporter + Drop + Send + 'static,
+    P: HasReporter<M> + Drop + Send + 'static,
+    M: Sending + Send + 'static,
+    requires sent { M.known → IsOfWriter M.sends S.left stream }
     ensures { IfOk result (λ thread. thread.promise.0.value ≡ stream) }
 {
     let host = *rt;
     let promise = SaysWhetherWhole(Snapshot::of(&stream));
-    let thread = thread::spawn_with(rt, promise, move || {
-        report_to_end(&host, alloc, stream, workers, origin, reporter.reporter())
-    })?;
+    let thread = thread::spawn_with(
+        rt,
+        promise,
+        move ||
+            requires sent { M.known → IsOfWriter M.sends S.left stream }
+        { report_to_end::<R, S, M>(&host, alloc, stream, workers, origin, reporter.reporter()) },
+    )?;
     Ok(thread)
 }
 
@@ -162,17 +176,18 @@ fn share(faults: &Option<Arc<FaultLog>>) -> Result<Option<Arc<FaultLog>>, AllocE
 }
 
 // Reports a stream to its end, or until the mailbox is closed. The error is the stream's name.
-fn report_to_end<R: Threads + Wait + Clock + Copy, S: Source + Drop>(
+fn report_to_end<R: Threads + Wait + Clock + Copy, S: Source + Drop, M: Sending>(
     rt: &R,
     alloc: Global,
     stream: StreamReader<S>,
     workers: usize,
     origin: OneWriter<R>,
-    reporter: &Reporter,
+    reporter: &Reporter<M>,
 ) -> Result<StreamEnd, StreamName>
+    requires sent { M.known → IsOfWriter M.sends S.left stream }
     ensures { EndsStream S.left stream result }
 {
-    report_stream(
+    report_stream::<R, S, OneWriter<R>, M>(
         rt,
         alloc,
         WriterInput::of(stream, workers),

@@ -1,11 +1,15 @@
 //! Streams that are read from one writer after another into a live region, each in its own thread.
 
-ghost use Rattle.std.specs.Prelude.{◌≡◌, [], ◌∷◌, ◌++◌, ◌≤◌, map, None, IfErr, IfOk, OnOk};
+ghost use Rattle.std.specs.Prelude.{◌≡◌, [], ◌∷◌, ◌++◌, ◌≤◌, map, None, IfErr, IfOk, IfSome, OnOk};
 ghost use Rattle.pn_apply.specs.declared.reducing.TheConstants.{MAX_WORKERS};
 ghost use Rattle.pn_live.specs.Prelude.{tablets_in};
 ghost use Rattle.pn_serve.specs.Server.Events.{ReadsBesides};
+ghost use Rattle.pn_serve.specs.Server.Honest.{AreHonestWriters};
 ghost use Rattle.pn_serve.specs.Server.Reading.{ReadsStreams};
+ghost use Rattle.pn_serve.specs.Server.Sent.{IsOfWriter, IsSent};
 ghost use Rattle.pn_serve.specs.declared.server.mailboxes.AtFault.TheVariants.{GoOn};
+ghost use Rattle.pn_stream.specs.Brokers.{IsHonest};
+ghost use Rattle.pn_stream.specs.Prelude.{BrokerRecord};
 
 use crate::ServeFault;
 use crate::control::mailboxes::ControlMailboxes;
@@ -15,11 +19,13 @@ use crate::server::mailboxes::{AtFault, StreamMailboxes, share};
 use crate::server::reporter::Reporter;
 use crate::server::reporting::{next_input, report_stream};
 use crate::server::reports::Report;
+use crate::server::shown_mark::MarkSeen;
+use crate::server::texts::Sending;
 use crate::server::times::TimeCounters;
 use crate::server::wakeup::Wakeup;
-use crate::server::writer_input::workers_of_each;
+use crate::server::writer_input::{WriterInput, workers_of_each};
 use crate::server::writers::{Origin, Stream};
-use pn_join::Marks;
+use pn_join::{Marks, StreamName};
 use pn_line::Source;
 use pn_live::LiveRegion;
 use std::alloc::{AllocError, Global};
@@ -35,7 +41,7 @@ pub struct Watchers {
     pub rounds: Option<Arc<Counter>>,
     /// Counts how long they take, where somebody looks at that.
     pub times: Option<Arc<TimeCounters>>,
-    /// Stands at 1 while a round waits for memory, and else at 0, where somebody looks at that.
+    /// 1 while a round waits for memory, otherwise 0, where somebody looks at that.
     pub shortage: Option<Arc<Counter>>,
     /// Counts the streams that wait for memory, where somebody looks at that.
     pub waiting: Option<Arc<Counter>>,
@@ -46,8 +52,9 @@ pub struct Watchers {
 /// Reads streams into a live region, each after its mark, until all have ended or a control session asks the server to stop: at
 /// most 1,000 messages of each a round. Between two rounds it does what control sessions ask for. A stream's fault ends that
 /// stream alone. Where memory runs out, a round or a stream's message waits, and is tried again after a second. The fault is
-/// `Start`, or `Round` where there are too many streams, after which no stream is read.
-pub fn read_streams<R, S, O>(
+/// `Start`, or `Round` where there are too many streams, after which no stream is read. All that is taken was read of what
+/// writers may send, where that is known, and is honest if they are.
+pub fn read_streams<R, S, O, M>(
     rt: &R,
     alloc: Global,
     live: &mut LiveRegion,
@@ -58,14 +65,26 @@ pub fn read_streams<R, S, O>(
 where
     R: Threads + Wait + Clock + Sync + Copy + Send + 'static,
     S: Source + Drop + Send + 'static,
-    O: Origin<S> + Drop + Send + 'static,
+    O: Origin<S, M> + Drop + Send + 'static,
+    M: Sending + Send + 'static,
     requires workers { (1 ≤ workers) × (workers ≤ MAX_WORKERS) }
-    ensures alone { watchers.now.controls ≡ None → ReadsStreams (map (λ stream. stream.name) streams.items) live.old live.new result }
-    ensures reads { ReadsBesides (map (λ stream. stream.name) streams.items) live.old live.new result }
+    ensures alone { watchers.now.controls ≡ None → ReadsStreams (IsSent M.known M.sends) (map (λ stream. stream.name) streams.items) live.old live.new result }
+    ensures reads { ReadsBesides (IsSent M.known M.sends) (map (λ stream. stream.name) streams.items) live.old live.new result }
+    ensures honest { (broker : BrokerRecord) → M.known → AreHonestWriters broker M.sends
+        → ReadsBesides (IsHonest broker) (map (λ stream. stream.name) streams.items) live.old live.new result }
+    ensures honest_alone { watchers.now.controls ≡ None → (broker : BrokerRecord) → M.known → AreHonestWriters broker M.sends
+        → ReadsStreams (IsHonest broker) (map (λ stream. stream.name) streams.items) live.old live.new result }
     ensures same { tablets_in live.new ≡ tablets_in live.old }
 {
     let own = workers_of_each(workers, streams.len());
-    let mut mailboxes = start_threads::<R, S, O>(rt, alloc, live.marks(), streams, own, watchers)?;
+    let mut mailboxes = start_threads::<R, S, O, M>(
+        rt,
+        alloc,
+        live.marks(),
+        streams,
+        own,
+        watchers,
+    )?;
     let read = run_rounds(rt, alloc, live, workers, &mut mailboxes, &watchers.controls);
     mailboxes.close(rt);
     read
@@ -73,18 +92,19 @@ where
 
 // Starts to read streams after their marks, each in its own thread, which shares the lines that are at hand among
 // these workers. A refused thread, or out of memory, ends the reading.
-fn start_threads<R, S, O>(
+fn start_threads<R, S, O, M>(
     rt: &R,
     alloc: Global,
     marks: &Marks,
     streams: Vec<Stream<O>>,
     workers: usize,
     watchers: &Watchers,
-) -> Result<StreamMailboxes, ServeFault>
+) -> Result<StreamMailboxes<M>, ServeFault>
 where
     R: Threads + Wait + Clock + Copy + Send + 'static,
     S: Source + Drop + Send + 'static,
-    O: Origin<S> + Drop + Send + 'static,
+    O: Origin<S, M> + Drop + Send + 'static,
+    M: Sending + Send + 'static,
     ensures names { IfOk result (λ mailboxes. map (λ stream. stream.name) mailboxes.streams.items ≡ map (λ stream. stream.name) streams.items) }
     ensures at_fault { IfOk result (λ mailboxes. mailboxes.at_fault ≡ GoOn) }
     ensures fault { IfErr result (λ fault. fault ≡ ServeFault.Start) }
@@ -93,7 +113,14 @@ where
         return Err(ServeFault::Start);
     };
     for stream in streams {
-        if let Err(_) = start_thread::<R, S, O>(rt, alloc, marks, &mut mailboxes, stream, workers) {
+        if let Err(_) = start_thread::<R, S, O, M>(
+            rt,
+            alloc,
+            marks,
+            &mut mailboxes,
+            stream,
+            workers,
+        ) {
             mailboxes.close(rt);
             return Err(ServeFault::Start);
         }
@@ -103,11 +130,11 @@ where
 }
 
 // No mailbox, with capacity for those of this many streams. Reports and commands wake the same thread.
-fn new_mailboxes(
+fn new_mailboxes<M: Sending>(
     alloc: Global,
     streams: usize,
     watchers: &Watchers,
-) -> Result<StreamMailboxes, AllocError>
+) -> Result<StreamMailboxes<M>, AllocError>
     ensures at_fault { IfOk result (λ mailboxes. mailboxes.at_fault ≡ GoOn) }
     ensures none { IfOk result (λ mailboxes. mailboxes.streams.items ≡ []) }
 {
@@ -123,18 +150,19 @@ fn new_mailboxes(
     Ok(mailboxes)
 }
 
-fn start_thread<R, S, O>(
+fn start_thread<R, S, O, M>(
     rt: &R,
     alloc: Global,
     marks: &Marks,
-    mailboxes: &mut StreamMailboxes,
+    mailboxes: &mut StreamMailboxes<M>,
     stream: Stream<O>,
     workers: usize,
 ) -> Result<(), AllocError>
 where
     R: Threads + Wait + Clock + Copy + Send + 'static,
     S: Source + Drop + Send + 'static,
-    O: Origin<S> + Drop + Send + 'static,
+    O: Origin<S, M> + Drop + Send + 'static,
+    M: Sending + Send + 'static,
     ensures names { OnOk result (map (λ stream. stream.name) mailboxes.new.streams.items
         ≡ map (λ stream. stream.name) mailboxes.old.streams.items ++ stream.name ∷ []) }
     ensures at_fault { OnOk result (mailboxes.new.at_fault ≡ mailboxes.old.at_fault) }
@@ -144,31 +172,51 @@ where
         origin,
         taken,
     } = stream;
-    let after = marks.position(&name);
+    let after = MarkSeen::of(marks, &name);
     let reporter = mailboxes.add(alloc, name, taken)?;
     let host = *rt;
     thread::spawn(rt, move || {
-        report_writers::<R, S, O>(&host, alloc, after, workers, origin, &reporter)
+        report_writers::<R, S, O, M>(&host, alloc, after, workers, origin, &reporter)
     })?;
     Ok(())
 }
 
-// Reports a stream from its first writer on. All up to this position was taken before.
-fn report_writers<R: Threads + Wait + Clock, S: Source + Drop, O: Origin<S> + Drop>(
+// Reports a stream from its first writer on. All up to its mark was taken before.
+fn report_writers<R, S, O, M>(
     rt: &R,
     alloc: Global,
-    after: u64,
+    after: MarkSeen,
     workers: usize,
     origin: O,
-    reporter: &Reporter,
-) {
+    reporter: &Reporter<M>,
+)
+where
+    R: Threads + Wait + Clock,
+    S: Source + Drop,
+    O: Origin<S, M> + Drop,
+    M: Sending,
+{
     let mut origin = origin;
-    match next_input::<S, O>(alloc, reporter.name, after, workers, &mut origin) {
+    match first_input::<S, O, M>(alloc, reporter.name, after, workers, &mut origin) {
         Some(input) => {
-            let _ = report_stream(rt, alloc, input, origin, reporter);
+            let _ = report_stream::<R, S, O, M>(rt, alloc, input, origin, reporter);
         }
         None => {
             let _ = reporter.leave(rt, Report::End(reporter.name));
         }
     }
+}
+
+// The input of a stream's first writer, which begins after its mark or later. None where the stream has ended.
+fn first_input<S: Source + Drop, O: Origin<S, M>, M: Sending>(
+    alloc: Global,
+    name: StreamName,
+    after: MarkSeen,
+    workers: usize,
+    origin: &mut O,
+) -> Option<WriterInput<S>>
+    ensures last { IfSome result (λ first. after.position ≤ first.last) }
+    ensures sent { IfSome result (λ first. M.known → IsOfWriter M.sends S.left first.reader) }
+{
+    next_input::<S, O, M>(alloc, name, after.position, workers, origin)
 }

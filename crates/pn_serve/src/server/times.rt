@@ -36,7 +36,7 @@ impl TimeCounters {
         })
     }
 
-    /// Counts so many that took the time since then. Where the clock fails they are not counted.
+    /// Counts `many` that took the time since `began`. Where the clock fails they are not counted.
     pub fn add_since<R: Clock>(&self, rt: &R, began: &Option<Instant>, many: u64) {
         let Some(began) = began else {
             return;
@@ -47,7 +47,7 @@ impl TimeCounters {
         }
     }
 
-    // Counts so many that took so many microseconds.
+    // Counts `many` that took `micros` microseconds.
     fn add(&self, micros: u64, many: u64) {
         if let Some(bucket) = self.buckets.get(bucket_of(&LIMITS, micros)) {
             bucket.add(many);

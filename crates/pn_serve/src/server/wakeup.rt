@@ -1,5 +1,7 @@
 //! The wakeup of the thread that takes the reports and commands which others leave.
 
+ghost use Rattle.std.specs.Prelude.{◌≡◌, true, false};
+
 use std::sync::{Condvar, CondvarTimeouts, Mutex, Wait};
 use std::time::{Clock, Duration};
 
@@ -35,8 +37,7 @@ impl Wakeup {
         let mut is_notified = self
             .notified
             .wait_while(rt, guard, |is_notified| !*is_notified);
-        *is_notified = false;
-        Waited(())
+        take_notice(&mut *is_notified)
     }
 
     /// Waits as `wait` does, but for `most` at most.
@@ -48,4 +49,13 @@ impl Wakeup {
         *is_notified = false;
         Waited(())
     }
+}
+
+// Takes the notice that has come.
+fn take_notice(is_notified: &mut bool) -> Waited
+    requires { is_notified.old ≡ true }
+    ensures { is_notified.new ≡ false }
+{
+    *is_notified = false;
+    Waited(())
 }

@@ -14,7 +14,7 @@ use std::alloc::Global;
 use std::thread::Threads;
 
 /// A writer's input, the position before its first message once that is known, the last position of the stream that the region
-/// had when the writer began or that was handed on, and how many threads read its lines where there are many.
+/// had when the writer began or that was reported, and how many threads read its lines where there are many.
 #[derive(Drop)]
 pub(crate) struct WriterInput<S: Source + Drop> {
     pub(crate) reader: StreamReader<S>,
@@ -143,7 +143,7 @@ impl<S: Source + Drop> WriterInput<S> {
         }
     }
 
-    /// Notes that its messages so far were handed on, the last of them in this report.
+    /// Notes that its messages so far were reported, the last of them in this report.
     pub(crate) fn hand_on(&mut self, left: LeftReport)
         requires { HasUpTo self.old.reader left }
         ensures last { self.new.last ≡ max self.old.last self.old.reader.position }

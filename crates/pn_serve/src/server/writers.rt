@@ -1,6 +1,7 @@
 //! Writers of streams: where they come from, one after another, and how their inputs end.
 
-use crate::server::counter::Counter;
+use crate::server::shown_mark::ShownMark;
+use crate::server::texts::Sending;
 use pn_join::StreamName;
 use pn_line::Source;
 use pn_stream::ResumeFault;
@@ -28,9 +29,10 @@ pub struct NextWriter<S: Drop> {
     pub after: u64,
 }
 
-/// Where the writers of a stream come from.
-pub trait Origin<S: Source + Drop> {
+/// Where the writers of a stream come from, of whose texts this is known.
+pub trait Origin<S: Source + Drop, M: Sending> {
     ghost use Rattle.std.specs.Prelude.{ℕ, ◌≤◌, IfSome, IsSome};
+    ghost use Rattle.pn_serve.specs.Server.Sent.{MaySend};
 
     // False for a stream that has no further writer.
     ghost may_go_on: { Type 0 };
@@ -38,11 +40,12 @@ pub trait Origin<S: Source + Drop> {
     // The writer that is read from this begins after this position.
     ghost begins_after: { S → ℕ → Type 0 };
 
-    /// Waits for the next writer of the stream, of which all messages up to `last` were handed to rounds. None where
-    /// the stream has ended. It is called for the first writer, too.
-    fn next_writer(&mut self, last: u64) -> Option<NextWriter<S>>
+    /// Waits for the next writer of the stream of this name, of which all messages up to `last` were handed to rounds. None
+    /// where the stream has ended. It is called for the first writer, too.
+    fn next_writer(&mut self, name: &StreamName, last: u64) -> Option<NextWriter<S>>
         ensures goes_on { IsSome result → may_go_on }
         ensures begins { IfSome result (λ next. begins_after next.source next.after) }
+        ensures sent { IfSome result (λ next. M.known → MaySend M.sends name.now (S.left next.source)) }
         ensures later { IfSome result (λ next. last ≤ next.after) };
 
     /// Notes that all messages up to `last` were handed to rounds.
@@ -61,5 +64,5 @@ pub struct Stream<O: Drop> {
     pub name: StreamName,
     pub origin: O,
     /// Set to the region's mark of the stream, at first and after each round.
-    pub taken: Option<Arc<Counter>>,
+    pub taken: Option<Arc<ShownMark>>,
 }

@@ -1,5 +1,5 @@
 -- What may become of the reader of an event loop twice may become of it once.
-use Rattle.std.specs.Prelude.{ℕ, List, IfSome}
+use Rattle.std.specs.Prelude.{ℕ, List}
 use Rattle.pn_lines.specs.Handling.{Answers, GivesUp}
 use Rattle.pn_lines.specs.Moves.{IsPreorder}
 use Rattle.pn_lines.specs.Replies.{Replied}
@@ -8,8 +8,7 @@ use Rattle.pn_live.specs.Readers.{LiveReaderValue}
 use Rattle.pn_serve.specs.Proofs.Steady.{knows_on, knows_steadily}
 use Rattle.pn_serve.specs.Session.Knowing.{KnowsNoLess}
 use Rattle.pn_serve.specs.declared.sessions.going.Going.{Going}
-use Rattle.pn_stay.specs.Looks.{IsLookedUp, LooksOrWaits, bounded_reads, session_reads}
-use Rattle.pn_stay.specs.declared.bounded_reader.Look.{Look}
+use Rattle.pn_stay.specs.Looks.{IsLookedUp, bounded_reads}
 use Rattle.pn_stay.specs.declared.bounded_reader.Look.TheVariants.{PutOff, Under}
 
 -- a line that is looked up so far has a reply where that is given up

@@ -101,12 +101,34 @@ where
     R: Threads + Wait + Clock + Copy + Send + 'static,
 {
     start_quarters(rt, &shared, &mailboxes)?;
-    let limit = shared.limit;
+    let thread = AcceptThread {
+        listener,
+        limit: shared.limit,
+        mailboxes,
+        notes,
+    };
     let host = *rt;
-    thread::spawn(rt, move || {
-        accept_all(&host, &listener, &limit, &mailboxes, notes)
-    })?;
+    thread::spawn(rt, move || accept_by(&host, thread))?;
     Ok(())
+}
+
+// What the thread that accepts connections begins with.
+#[derive(Drop)]
+struct AcceptThread {
+    listener: Listener,
+    limit: Arc<ConnectionLimit>,
+    mailboxes: Arc<Vec<Arc<SocketMailbox>>>,
+    notes: AcceptNotes,
+}
+
+fn accept_by<R: Wait + Clock>(rt: &R, thread: AcceptThread) {
+    let AcceptThread {
+        listener,
+        limit,
+        mailboxes,
+        notes,
+    } = thread;
+    accept_all(rt, &listener, &limit, &mailboxes, notes);
 }
 
 // Starts the thread that notes each quarter of a second, where clients may not be idle for long.

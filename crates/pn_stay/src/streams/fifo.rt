@@ -1,6 +1,6 @@
 //! Streams from a FIFO: its descriptor is kept, and read on once another writer writes.
 
-ghost use Rattle.std.specs.Prelude.{◌≡◌, ◌↔◌, Some, true, IsFalse};
+ghost use Rattle.std.specs.Prelude.{◌≡◌, ◌↔◌, Some, IsFalse};
 ghost use Rattle.pn_serve.specs.declared.server.writers.WriterEnd.TheVariants.{End};
 
 use crate::seldom::Seldom;
@@ -10,6 +10,7 @@ use crate::streams::input::{
     FILE_READ_SIZE, StreamInput, StreamSource, drop_read, drop_some, open_source,
 };
 use crate::streams::notes::{OpenStream, StreamNotes};
+use crate::streams::turns::Turns;
 use pn_line::Source;
 use pn_serve::WriterEnd;
 use std::fs::{File, Files};
@@ -32,7 +33,7 @@ pub(crate) struct FifoWriters<R: Drop> {
     is_faulty: bool,
     // The descriptor of the FIFO that is open, and which file it is.
     opened: Option<(RawFd, FileIdentity)>,
-    has_begun: bool,
+    pub(crate) turns: Turns,
     refusals: Seldom,
 }
 
@@ -48,7 +49,7 @@ where
             last: None,
             is_faulty: false,
             opened: None,
-            has_begun: false,
+            turns: Turns::new(),
             refusals: Seldom::new(),
         }
     }
@@ -62,7 +63,7 @@ where
                 None => self.open(notes),
             };
             if let Some(source) = self.wait_for_next(notes, source) {
-                self.note_begin(notes);
+                self.turns.begin(notes);
                 return (source, notes.open());
             }
         }
@@ -76,16 +77,6 @@ where
     {
         self.is_faulty = matches!(end, WriterEnd::Fault { .. });
         self.last = Some(source);
-    }
-
-    // Every writer but the first begins again.
-    fn note_begin(&mut self, notes: &StreamNotes<R>)
-        ensures { self.new.has_begun ≡ true }
-    {
-        if self.has_begun {
-            notes.begin_again();
-        }
-        self.has_begun = true;
     }
 
     // Opens the FIFO. It is tried again where the system refuses it.
@@ -165,7 +156,7 @@ where
         }
     }
 
-    // Whether the path leads to another FIFO than the one that is open. Where it leads to none, that is told.
+    // Whether the path leads to another FIFO than the one that is open. Where it leads to none, that is printed.
     fn is_replaced(&mut self, notes: &StreamNotes<R>) -> bool {
         let Some((_, identity)) = self.opened else {
             return true;
@@ -181,6 +172,7 @@ where
 
     // Waits until something happened at the FIFO, but not for long.
     fn wait(&mut self, notes: &StreamNotes<R>) {
+        self.turns.look(notes);
         if let Err(error) = self.poll.wait() {
             self.tell_refusal(notes, "wait for", &error);
             thread::sleep(&notes.rt, Duration::from_millis(RETRY));

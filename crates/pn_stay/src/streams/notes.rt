@@ -35,10 +35,9 @@ impl StreamTeller {
         })
     }
 
-    // Leaves a message of how the stream is, as `stream east ended`.
-    fn tell<R: Wait>(&self, rt: &R, how: &str) {
-        let text = format!(in self.alloc; "stream {} {how}", self.name.as_str());
-        self.messages.leave(rt, text);
+    // The message of how the stream is, as `stream east ended`.
+    fn format(&self, how: &str) -> Result<String, AllocError> {
+        format!(in self.alloc; "stream {} {how}", self.name.as_str())
     }
 
     /// Leaves a message of a writer that is not taken, as `stream east refused a writer: {"error":..}`.
@@ -119,18 +118,18 @@ impl<R: Wait + Drop> StreamNotes<R> {
         OpenStream(())
     }
 
-    /// Notes that a writer has gone of which nothing is told.
+    /// Notes that a writer has gone, about which nothing is printed.
     pub(crate) fn end(&self, open: OpenStream) {
         let OpenStream(_) = open;
         self.set_state(StreamState::Ended);
     }
 
-    /// Notes how a writer's input ended, and leaves a message.
-    pub(crate) fn tell_end(&self, open: OpenStream, end: &WriterEnd) {
+    /// Notes how a writer's input ended. Answers the message that tells it.
+    pub(crate) fn note_end(&self, open: OpenStream, end: &WriterEnd) -> Result<String, AllocError> {
         match end {
             WriterEnd::End => {
                 self.end(open);
-                self.teller.tell(&self.rt, "ended");
+                self.teller.format("ended")
             }
             WriterEnd::Fault {
                 fault,
@@ -139,13 +138,8 @@ impl<R: Wait + Drop> StreamNotes<R> {
             } => {
                 let OpenStream(_) = open;
                 self.note_fault(fault, *line);
-                let StreamTeller {
-                    alloc,
-                    name,
-                    messages,
-                } = &self.teller;
-                let text = format_failure(*alloc, name, fault, *position, *line);
-                messages.leave(&self.rt, text);
+                let StreamTeller { alloc, name, .. } = &self.teller;
+                format_failure(*alloc, name, fault, *position, *line)
             }
         }
     }
@@ -175,7 +169,12 @@ impl<R: Wait + Drop> StreamNotes<R> {
 
     /// Leaves a message that another writer has begun.
     pub(crate) fn begin_again(&self) {
-        self.teller.tell(&self.rt, "begins again");
+        self.leave(self.teller.format("begins again"));
+    }
+
+    /// Leaves a message.
+    pub(crate) fn leave(&self, message: Result<String, AllocError>) {
+        self.teller.messages.leave(&self.rt, message);
     }
 
     /// Leaves a message of what became of a path.

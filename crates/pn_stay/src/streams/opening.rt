@@ -17,7 +17,7 @@ use crate::streams::sockets::SocketWriters;
 use crate::streams::status::StreamStatus;
 use crate::streams::writer::StreamPositions;
 use pn_join::Name;
-use pn_serve::{Counter, Stream, StreamPath};
+use pn_serve::{Counter, ShownMark, Stream, StreamPath};
 use std::alloc::{AllocError, Global};
 use std::fs::{File, Files};
 use std::net::Net;
@@ -112,7 +112,7 @@ fn add_counters<R: Drop>(
     counters: &mut Vec<StreamCounters>,
     origin: &StreamOrigin<R>,
     size: Option<u64>,
-) -> Result<Arc<Counter>, AllocError> {
+) -> Result<Arc<ShownMark>, AllocError> {
     let notes = &origin.notes;
     if let Some(input) = share(&notes.counters)? {
         let told = share_told(notes, &origin.writers)?;

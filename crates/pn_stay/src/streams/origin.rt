@@ -5,9 +5,10 @@ ghost use Rattle.std.specs.Prelude.{◌≡◌, ◌≤◌};
 use crate::streams::fifo::FifoWriters;
 use crate::streams::input::StreamSource;
 use crate::streams::notes::StreamNotes;
-use crate::streams::sockets::{SocketWriters, end_socket, position_after};
-use crate::streams::writer::StreamPositions;
-use pn_serve::{NextWriter, Origin, WriterEnd};
+use crate::streams::sockets::{SocketWriters, end_socket, stop_socket};
+use crate::streams::writer::{StreamPositions, position_after};
+use pn_join::StreamName;
+use pn_serve::{AnyWriters, NextWriter, Origin, WriterEnd};
 use std::fs::{File, Files};
 use std::net::Net;
 use std::sync::Wait;
@@ -29,7 +30,7 @@ pub(crate) enum Writers<R: Drop> {
     Socket(SocketWriters),
 }
 
-impl<R> Origin<StreamSource<R>> for StreamOrigin<R>
+impl<R> Origin<StreamSource<R>, AnyWriters> for StreamOrigin<R>
 where
     R: Files<File = File> + Net + Wait + Clock + Copy + Drop,
 {
@@ -37,7 +38,11 @@ where
 
     ghost begins_after = { λ _ _. Unit {0} };
 
-    fn next_writer(&mut self, last: u64) -> Option<NextWriter<StreamSource<R>>> {
+    fn next_writer(
+        &mut self,
+        _name: &StreamName,
+        last: u64,
+    ) -> Option<NextWriter<StreamSource<R>>> {
         let (next, open) = match &mut self.writers {
             Writers::File(source) => {
                 let source = source.take()?;
@@ -61,16 +66,22 @@ where
     }
 
     fn end_writer(&mut self, source: StreamSource<R>, end: &WriterEnd, _last: u64) {
-        self.notes.tell_end(self.notes.reopen(), end);
+        let how = self.notes.note_end(self.notes.reopen(), end);
         match &mut self.writers {
-            Writers::File(_) => {}
-            Writers::Fifo(writers) => writers.end_writer(source, end),
-            Writers::Socket(_) => end_socket(source, end),
+            Writers::File(_) => self.notes.leave(how),
+            Writers::Fifo(writers) => {
+                writers.turns.end(&self.notes, how);
+                writers.end_writer(source, end);
+            }
+            Writers::Socket(writers) => {
+                writers.turns.end(&self.notes, how);
+                end_socket(source, end);
+            }
         }
     }
 
     fn stop_writer(&mut self, source: StreamSource<R>) {
-        end_socket(source, &WriterEnd::End);
+        stop_socket(source);
         self.notes.end(self.notes.reopen());
     }
 }

@@ -1,6 +1,7 @@
 //! Streams from a socket: one writer after another.
 
-ghost use Rattle.std.specs.Prelude.{◌≡◌, ◌≤◌, max, true, IfOk, IfSome};
+ghost use Rattle.std.specs.Prelude.{◌≡◌, ◌≤◌, true, IfOk, IfSome};
+ghost use Rattle.pn_stay.specs.Positions.{GoesOn};
 
 use crate::seldom::Seldom;
 use crate::shared::share;
@@ -13,6 +14,7 @@ use crate::streams::listener::StreamListener;
 use crate::streams::message_input::MessageInput;
 use crate::streams::notes::{OpenStream, StreamNotes};
 use crate::streams::remarks::format_other_stream;
+use crate::streams::turns::Turns;
 use crate::streams::writer::WriterSocket;
 use pn_line::Source;
 use pn_serve::{NextWriter, WriterEnd};
@@ -38,7 +40,7 @@ struct Accepted<R: Drop> {
 pub(crate) struct SocketWriters {
     listener: Arc<StreamListener>,
     path: String,
-    has_begun: bool,
+    pub(crate) turns: Turns,
     identity: StreamIdentity,
     // When the system refused a socket, and when a writer of another stream came.
     refusals: Seldom,
@@ -51,7 +53,7 @@ impl SocketWriters {
         SocketWriters {
             listener,
             path,
-            has_begun: false,
+            turns: Turns::new(),
             identity: StreamIdentity::new(),
             refusals: Seldom::new(),
             others: Seldom::new(),
@@ -79,7 +81,7 @@ impl SocketWriters {
                     }
                     notes.end(open);
                 }
-                Ok(None) => {}
+                Ok(None) => self.turns.look(notes),
                 Err(error) => self.note_refusal(notes, &error),
             }
         }
@@ -129,7 +131,7 @@ impl SocketWriters {
                 if !source.has_more().unwrap_or(false) {
                     return None;
                 }
-                self.note_begin(notes);
+                self.turns.begin(notes);
                 Some(source)
             }
             Err(error) => {
@@ -167,7 +169,8 @@ impl SocketWriters {
     fn accept<R>(&self, notes: &StreamNotes<R>, last: u64) -> io::Result<Option<Accepted<R>>>
     where
         R: Files<File = File> + Net + Wait + Clock + Copy + Drop,
-        ensures { IfOk result (λ accepted. IfSome accepted (λ accepted. last ≤ accepted.after)) }
+        ensures goes_on { IfOk result (λ accepted. IfSome accepted (λ accepted. GoesOn last accepted.after)) }
+        ensures later { IfOk result (λ accepted. IfSome accepted (λ accepted. last ≤ accepted.after)) }
     {
         match self.listener.accept(&notes.rt)? {
             Some(stream) => Ok(Some(self.begin(notes, stream, last)?)),
@@ -183,26 +186,17 @@ impl SocketWriters {
     ) -> io::Result<Accepted<R>>
     where
         R: Files<File = File> + Net + Wait + Clock + Copy + Drop,
-        ensures { IfOk result (λ accepted. last ≤ accepted.after) }
+        ensures goes_on { IfOk result (λ accepted. GoesOn last accepted.after) }
+        ensures later { IfOk result (λ accepted. last ≤ accepted.after) }
     {
         let positions = notes.positions.try_clone()?;
-        let after = position_after(last, positions.taken.get());
         let listener = Arc::try_clone(&self.listener)?;
         let alloc = notes.teller.alloc;
-        let socket = WriterSocket::begin(notes.rt, alloc, stream, positions, after, listener)?;
+        let begun = WriterSocket::begin(notes.rt, alloc, stream, positions, last, listener)?;
+        let (socket, after) = begun;
         let broker = BrokerListener::new(notes.rt, share(&notes.status)?);
         let input = MessageInput::new(alloc, socket, broker)?;
         Ok(Accepted { input, after })
-    }
-
-    // Every writer but the first begins again.
-    fn note_begin<R: Wait + Drop>(&mut self, notes: &StreamNotes<R>)
-        ensures { self.new.has_begun ≡ true }
-    {
-        if self.has_begun {
-            notes.begin_again();
-        }
-        self.has_begun = true;
     }
 
     fn note_refusal<R>(&mut self, notes: &StreamNotes<R>, error: &io::Error)
@@ -216,21 +210,14 @@ impl SocketWriters {
     }
 }
 
-/// The position after which a writer begins, where messages up to `last` were handed to rounds and up to `taken` were taken.
-pub(crate) fn position_after(last: u64, taken: u64) -> u64
-    ensures { result ≡ max last taken }
-{
-    last.max(taken)
-}
-
-/// Sends a writer how its input ended, and closes its socket.
+/// Sends a writer how its input ended, and closes its socket. What was handed to rounds is waited for, but not for long.
 pub(crate) fn end_socket<R>(source: StreamSource<R>, end: &WriterEnd)
 where
     R: Files<File = File> + Net + Wait + Clock + Drop,
 {
-    let (reader, _) = source.into_parts();
-    if let StreamInput::Socket(input) = reader.into_inner() {
-        let mut socket = input.into_input();
+    if let Some(socket) = socket_of(source) {
+        let mut socket = socket;
+        socket.await_taken();
         socket.tell_taken();
         if let WriterEnd::Fault {
             fault,
@@ -240,5 +227,28 @@ where
         {
             socket.tell_fault(fault, *position);
         }
+    }
+}
+
+/// Sends a writer what was taken of its input, which is read no more, and closes its socket.
+pub(crate) fn stop_socket<R>(source: StreamSource<R>)
+where
+    R: Files<File = File> + Net + Wait + Clock + Drop,
+{
+    if let Some(socket) = socket_of(source) {
+        let mut socket = socket;
+        socket.tell_taken();
+    }
+}
+
+// The socket of a writer that is read from one.
+fn socket_of<R>(source: StreamSource<R>) -> Option<WriterSocket<R>>
+where
+    R: Files<File = File> + Net + Wait + Clock + Drop,
+{
+    let (reader, _) = source.into_parts();
+    match reader.into_inner() {
+        StreamInput::Socket(input) => Some(input.into_input()),
+        StreamInput::File(_) => None,
     }
 }

@@ -1,22 +1,23 @@
 //! The socket of a stream's writer. While it is read, the writer is sent the positions that rounds have taken.
 
-ghost use Rattle.std.specs.Prelude.{◌≡◌, ◌≢◌, ◌*◌, ◌≤◌, ◌↔◌, ◌⊎◌, true, Ok, Err, IfOk, IsTrue, OnErr};
+ghost use Rattle.std.specs.Prelude.{◌≡◌, ◌≢◌, ◌*◌, ◌≤◌, ◌↔◌, ◌⊎◌, max, true, Ok, Err, IfOk, IsTrue, OnErr};
+ghost use Rattle.pn_stay.specs.Positions.{GoesOn};
 ghost use Rattle.std.specs.Duration.{as_nanos};
 ghost use Rattle.std.specs.IoError.{error_kind};
 
 use crate::interrupts::is_interrupted;
 use crate::reasons::{format_after, format_refusal, format_taken};
 use crate::streams::listener::{LOOK, StreamListener};
-use pn_serve::Counter;
+use pn_serve::{Counter, ShownMark};
 use pn_stream::ResumeFault;
 use std::alloc::{AllocError, Global};
 use std::fs::{File, Files};
-use std::io;
 use std::io::{ErrorKind, Read, Write};
 use std::net::Net;
 use std::os::unix::net::UnixStream;
 use std::sync::{Arc, Wait};
 use std::time::{Clock, Duration, Instant};
+use std::{io, thread};
 
 /// How many milliseconds lie at least between two lines that send a writer a position.
 const PAUSE: u64 = 100;
@@ -24,11 +25,16 @@ const PAUSE: u64 = 100;
 /// For how many milliseconds a write waits for a writer that takes nothing.
 const PATIENCE: u64 = 1;
 
+/// How often it is looked at the end of a writer whether rounds have taken what it wrote, and how many milliseconds apart.
+const LAST_LOOKS: u32 = 100;
+
+const LAST_PAUSE: u64 = 10;
+
 /// The positions up to which a stream was handed to rounds and was taken by them, and the last one that its writer was sent.
 #[derive(Drop)]
 pub(crate) struct StreamPositions {
     pub(crate) handed: Arc<Counter>,
-    pub(crate) taken: Arc<Counter>,
+    pub(crate) taken: Arc<ShownMark>,
     pub(crate) told: Arc<Counter>,
 }
 
@@ -36,7 +42,7 @@ impl StreamPositions {
     /// The positions of a stream of which nothing was handed to rounds.
     pub(crate) fn new(alloc: Global) -> Result<StreamPositions, AllocError> {
         let handed = Arc::new(alloc, Counter::new())?;
-        let taken = Arc::new(alloc, Counter::new())?;
+        let taken = Arc::new(alloc, ShownMark::new())?;
         let told = Arc::new(alloc, Counter::new())?;
         Ok(StreamPositions {
             handed,
@@ -77,18 +83,24 @@ pub struct WriterSocket<R> {
 }
 
 impl<R: Clock + Drop> WriterSocket<R> {
-    /// Sends a writer the position after which the stream goes on. Further writers come to the listener.
+    /// Sends a writer the position after which the stream goes on: the greater of what was handed to rounds and the region's
+    /// mark. Answers it too. Further writers come to the listener.
     pub(crate) fn begin(
         rt: R,
         alloc: Global,
         stream: UnixStream,
         positions: StreamPositions,
-        last: u64,
+        handed: u64,
         listener: Arc<StreamListener>,
-    ) -> io::Result<WriterSocket<R>> {
+    ) -> io::Result<(WriterSocket<R>, u64)>
+        ensures goes_on { IfOk result (λ begun. GoesOn handed begun.1) }
+        ensures later { IfOk result (λ begun. handed ≤ begun.1) }
+    {
         stream.set_write_timeout(Some(Duration::from_millis(PATIENCE)))?;
         stream.set_read_timeout(Some(Duration::from_millis(LOOK)))?;
-        positions.told.set(last);
+        let taken = positions.taken.get();
+        let after = position_after(handed, taken);
+        positions.told.set(after);
         let mut socket = WriterSocket {
             rt,
             alloc,
@@ -100,8 +112,8 @@ impl<R: Clock + Drop> WriterSocket<R> {
             is_timed: false,
             is_told: true,
         };
-        let _ = socket.tell(format_after(alloc, last));
-        Ok(socket)
+        let _ = socket.tell(format_after(alloc, handed, taken));
+        Ok((socket, after))
     }
 
     /// Sends the writer the position that was taken, unless it was sent.
@@ -188,6 +200,18 @@ impl<R: Clock + Drop> WriterSocket<R> {
     }
 }
 
+impl<R: Wait + Clock + Drop> WriterSocket<R> {
+    /// Waits until rounds have taken what was handed to them, for a second at most.
+    pub(crate) fn await_taken(&self) {
+        for _ in 0..LAST_LOOKS {
+            if self.positions.handed.get() <= self.positions.taken.get() {
+                return;
+            }
+            thread::sleep(&self.rt, Duration::from_millis(LAST_PAUSE));
+        }
+    }
+}
+
 impl<R: Files<File = File> + Net + Wait + Clock + Drop> WriterSocket<R> {
     // Looks whether further writers find the socket.
     fn look_in_time(&mut self) {
@@ -198,7 +222,14 @@ impl<R: Files<File = File> + Net + Wait + Clock + Drop> WriterSocket<R> {
     }
 }
 
-// Whether a pause of so many milliseconds since then is over.
+/// The position after which a writer begins, where messages up to `handed` were handed to rounds and up to `taken` were taken.
+pub(crate) fn position_after(handed: u64, taken: u64) -> u64
+    ensures { result ≡ max handed taken }
+{
+    handed.max(taken)
+}
+
+// Whether `pause` milliseconds are over since then.
 fn is_over<R: Clock>(rt: &R, then: &Option<Instant>, pause: u64) -> bool {
     match then {
         Some(then) => has_passed(then.elapsed(rt), pause),
@@ -206,7 +237,7 @@ fn is_over<R: Clock>(rt: &R, then: &Option<Instant>, pause: u64) -> bool {
     }
 }
 
-// Whether a pause of so many milliseconds has passed. Where the clock fails, it has.
+// Whether `pause` milliseconds have passed. Where the clock fails, they have.
 fn has_passed(elapsed: io::Result<Duration>, pause: u64) -> bool
     ensures told { IfOk elapsed (λ elapsed. IsTrue result ↔ (pause * 1_000_000 ≤ as_nanos elapsed)) }
     ensures unknown { OnErr elapsed (result ≡ true) }

@@ -4,7 +4,7 @@ use crate::reading::{first_message, readers_of, settings};
 use crate::serve::copies::open_text;
 use pn_join::NoMemory;
 use pn_live::LiveReader;
-use pn_serve::{Acceptor, Counter, FaultLog, ServeFault, WriterEnd, serve, serve_from};
+use pn_serve::{Acceptor, AnyWriters, Counter, FaultLog, ServeFault, WriterEnd, serve, serve_from};
 use std::alloc::{AllocError, Global};
 use std::io::BufReader;
 use std::net::{Net, SocketAddr, TcpListener, TcpStream};
@@ -206,7 +206,7 @@ where
 {
     let settings = settings(alloc)?;
     let streams = readers_of(alloc, messages)?;
-    Some(serve(rt, alloc, listener, settings, 1, streams, written))
+    Some(serve::<_, _, _, _, AnyWriters>(rt, alloc, listener, settings, 1, streams, written))
 }
 
 fn second_message() -> &'static str {
@@ -229,7 +229,7 @@ where
 {
     let streams = readers_of(alloc, first_message())?;
     let opened = open_text(rt, alloc, 1, first_copy(), 1).ok()?;
-    Some(serve_from(rt, alloc, listener, opened, 1, streams, written))
+    Some(serve_from::<_, _, _, _, AnyWriters>(rt, alloc, listener, opened, 1, streams, written))
 }
 
 fn add_faults<R: Wait>(rt: &R, text: &mut String, faults: &FaultLog) -> Result<(), AllocError> {

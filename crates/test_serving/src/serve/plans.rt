@@ -32,6 +32,7 @@ fn settings_text(alloc: Global, settings: &Settings) -> Result<String, AllocErro
 fn plan_text(alloc: Global, planned: &Plan) -> Result<String, AllocError> {
     match planned {
         Plan::Replay(settings) => settings_text(alloc, settings),
+        Plan::Check => String::from_str(alloc, "check"),
         Plan::Help(_) => String::from_str(alloc, "help"),
         Plan::Version(_) => String::from_str(alloc, "version"),
         Plan::Serve {

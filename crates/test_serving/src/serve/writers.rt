@@ -13,7 +13,7 @@ use pn_join::{Name, NoMemory};
 use pn_line::InMemory;
 use pn_record::Key;
 use pn_region::Region;
-use pn_serve::{Counter, OpenedRegion, Stream};
+use pn_serve::{OpenedRegion, ShownMark, Stream};
 use std::alloc::{AllocError, Global};
 use std::sync::{Arc, Mutex, Wait};
 use std::test::Fail;
@@ -25,7 +25,7 @@ use std::time::Clock;
 struct Noted<R: Wait + Clock + Copy> {
     streams: Vec<Stream<Script<R>>>,
     told: Arc<Mutex<String>>,
-    taken: Arc<Counter>,
+    taken: Arc<ShownMark>,
 }
 
 /// How the stream of a line was read, how far it was taken, and the version of its record.
@@ -96,7 +96,7 @@ fn new_noted<R: Wait + Clock + Copy>(
     alloc: Global,
     writers: Vec<InMemory<'static>>,
 ) -> Option<Noted<R>> {
-    let taken = Arc::new(alloc, Counter::new()).ok()?;
+    let taken = Arc::new(alloc, ShownMark::new()).ok()?;
     let stream = new_stream(rt, alloc, writers, &taken)?;
     let told = stream.origin.notes().ok()?;
     let streams = alone(alloc, stream)?;
@@ -120,7 +120,7 @@ fn new_stream<R: Wait + Clock + Copy>(
     rt: &R,
     alloc: Global,
     writers: Vec<InMemory<'static>>,
-    taken: &Arc<Counter>,
+    taken: &Arc<ShownMark>,
 ) -> Option<Stream<Script<R>>> {
     let name = Name::read(b"east").ok()?;
     let taken = Arc::try_clone(taken).ok()?;

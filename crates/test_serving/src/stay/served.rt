@@ -3,7 +3,7 @@
 use crate::reading::{Script, first_message, readers_of, settings, stream_of};
 use crate::serve::loopback::{Served, outcome};
 use crate::stay::talks::{At, Told, flood, talk};
-use pn_serve::{Counter, Stream, serve};
+use pn_serve::{AnyWriters, Counter, Stream, serve};
 use pn_stay::{Counters, Listener, OWNER_ALONE, SocketAcceptor, StayingServer};
 use std::alloc::{AllocError, Global};
 use std::fs::{File, Files};
@@ -138,7 +138,15 @@ where
     let settings = settings(alloc)?;
     let readers = readers_of(alloc, first_message())?;
     let mut written = Vec::new(alloc);
-    let ended = serve(rt, alloc, acceptor, settings, 1, readers, &mut written);
+    let ended = serve::<_, _, _, _, AnyWriters>(
+        rt,
+        alloc,
+        acceptor,
+        settings,
+        1,
+        readers,
+        &mut written,
+    );
     Some((ended, written))
 }
 

@@ -1,6 +1,6 @@
 //! Writers of a stream, read to their ends one after another.
 
-use pn_join::LAST_POSITION;
+use pn_join::{LAST_POSITION, Marks, raise_at};
 use pn_line::Source;
 use pn_serve::{NextWriter, Origin, Stream, WriterEnd};
 use pn_stay::{StreamOrigin, StreamSource};
@@ -26,17 +26,21 @@ where
     R: Files<File = File> + Net + Wait + Clock + Copy + Drop,
 {
     let last = read_writer(alloc, stream, 0)?;
-    raise_mark(stream);
+    show_mark(alloc, stream, RAISED_MARK)?;
     read_writer(alloc, stream, last)
 }
 
-fn raise_mark<R>(stream: &Stream<StreamOrigin<R>>)
+// Shows that the stream's mark has come to a position.
+fn show_mark<R>(alloc: Global, stream: &Stream<StreamOrigin<R>>, position: u64) -> Option<()>
 where
     R: Files<File = File> + Net + Wait + Clock + Copy + Drop,
 {
+    let mut marks = Marks::new(alloc);
+    raise_at(&mut marks, stream.name, position).ok()?;
     if let Some(taken) = &stream.taken {
-        taken.set(RAISED_MARK);
+        taken.show(&marks, &stream.name);
     }
+    Some(())
 }
 
 /// Reads the next writer of a stream to its end, and answers up to which position the stream was read.
@@ -48,10 +52,10 @@ pub(super) fn read_writer<R>(
 where
     R: Files<File = File> + Net + Wait + Clock + Copy + Drop,
 {
-    let NextWriter { source, after } = stream.origin.next_writer(last)?;
+    let NextWriter { source, after } = stream.origin.next_writer(&stream.name, last)?;
     let after = after.min(LAST_POSITION);
     let mut reader = StreamReader::new(alloc, stream.name, after, source);
-    let end = read_to_end(alloc, stream, &mut reader);
+    let end = read_to_end(alloc, stream, &mut reader)?;
     let last = after.max(reader.position());
     stream.origin.end_writer(reader.into_source(), &end, last);
     Some(last)
@@ -61,35 +65,37 @@ fn read_to_end<R>(
     alloc: Global,
     stream: &mut Stream<StreamOrigin<R>>,
     reader: &mut StreamReader<StreamSource<R>>,
-) -> WriterEnd
+) -> Option<WriterEnd>
 where
     R: Files<File = File> + Net + Wait + Clock + Copy + Drop,
 {
     match reader.resume(&NoWait::new(alloc)) {
-        Ok(Some(_)) => note(stream, reader.position()),
-        Ok(None) => return WriterEnd::End,
-        Err(fault) => return end_of(fault, reader.position(), 1),
+        Ok(Some(_)) => note(alloc, stream, reader.position())?,
+        Ok(None) => return Some(WriterEnd::End),
+        Err(fault) => return Some(end_of(fault, reader.position(), 1)),
     }
-    read_rest(stream, reader)
+    read_rest(alloc, stream, reader)
 }
 
 fn read_rest<R>(
+    alloc: Global,
     stream: &mut Stream<StreamOrigin<R>>,
     reader: &mut StreamReader<StreamSource<R>>,
-) -> WriterEnd
+) -> Option<WriterEnd>
 where
     R: Files<File = File> + Net + Wait + Clock + Copy + Drop,
 {
     for line in 2..CALLS {
         match has_read(reader) {
-            Ok(true) => note(stream, reader.position()),
+            Ok(true) => note(alloc, stream, reader.position())?,
             Ok(false) => break,
             Err(fault) => {
-                return end_of(ResumeFault::Stream(fault), reader.position(), line as u64);
+                let fault = ResumeFault::Stream(fault);
+                return Some(end_of(fault, reader.position(), line as u64));
             }
         }
     }
-    WriterEnd::End
+    Some(WriterEnd::End)
 }
 
 // Reads what is there. Whether there was a message.
@@ -107,12 +113,10 @@ fn end_of(fault: ResumeFault, last: u64, line: u64) -> WriterEnd {
 }
 
 // Notes that all up to a position was handed on and taken.
-fn note<R>(stream: &mut Stream<StreamOrigin<R>>, position: u64)
+fn note<R>(alloc: Global, stream: &mut Stream<StreamOrigin<R>>, position: u64) -> Option<()>
 where
     R: Files<File = File> + Net + Wait + Clock + Copy + Drop,
 {
     stream.origin.hand_on(position);
-    if let Some(taken) = &stream.taken {
-        taken.set(position);
-    }
+    show_mark(alloc, stream, position)
 }

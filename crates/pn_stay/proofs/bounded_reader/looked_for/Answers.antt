@@ -1,5 +1,5 @@
 -- The line is kept if there is memory for it.
-use Rattle.std.proofs.Common.{ap, refl, sym, None}
+use Rattle.std.proofs.Common.{ap, sym, None}
 use Rattle.pn_stay.specs.Looks.{under}
 use Rattle.pn_stay.proofs.bounded_reader.looked_for.Goals as goal
 

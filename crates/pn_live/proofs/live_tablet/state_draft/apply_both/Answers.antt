@@ -1,6 +1,6 @@
 -- After a join a state takes and refuses what it did before it.
 use Rattle.std.proofs.Common.{◌≡◌, sym, ap, subst, Err}
-use Rattle.std.specs.Prelude.{Option, None, Some, IfSome, IsOk, MatchOption}
+use Rattle.std.specs.Prelude.{Option, IfSome, IsOk, MatchOption}
 use Rattle.pn_tablet.specs.Refusals.{Refuses}
 use Rattle.pn_tablet.specs.Steps.{step, tablet_after, is_memory}
 use Rattle.pn_tablet.specs.Tablets.{TabletStateValue}

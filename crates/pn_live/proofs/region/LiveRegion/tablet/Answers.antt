@@ -1,5 +1,5 @@
 -- There is a tablet of each number, with the state of what is published.
-use Rattle.std.proofs.Common.{◌≡◌, length, get_or, slice_get, Some, sym, ap, ◌∙◌, arith}
+use Rattle.std.proofs.Common.{length, slice_get, Some, sym, ap, ◌∙◌, arith}
 use Rattle.std.proofs.lemmas.List.{length-map}
 use Rattle.pn_region.proofs.NewRegion.{tablet_count}
 use Rattle.pn_live.specs.LiveRegions.{LiveRegionValue, core}

@@ -2,14 +2,30 @@
 use Rattle.std.proofs.Common.{ℕ, Option, refl, sym, ap, ◌∙◌, subst, arith}
 use Rattle.pn_stream.specs.Batches.{Stream}
 use Rattle.pn_stream.specs.Positions.{DeliveryValue}
+use Rattle.pn_serve.specs.Server.Sent.{IsSent}
 use Rattle.pn_serve.specs.Server.Writers.{EndsInput, HasUpTo, IsUpTo}
 use Rattle.pn_serve.specs.declared.server.reports.Report.{Report}
 use Rattle.pn_serve.specs.declared.server.writers.WriterEnd.{WriterEnd}
+use Rattle.pn_serve.proofs.SentRead.{was_read}
 use Rattle.pn_serve.proofs.WritersRead.{WasReadBy, read_none, read_on, last_more, up_to, ends_input, on_end}
 use Rattle.pn_serve.proofs.server.reporting.read_writer.Goals as goal
 
 pub loop-init : goal.loop-init
 loop-init g c = record { read = read_none g.S.Source.left c.args.input.now.before c.args.input.now.reader; last = λ within. omega (arith, within); name = refl }
+
+pub leave-requires : goal.leave-requires
+leave-requires g c =
+    let left = g.S.Source.left in
+    let sends = g.M.Sending.sends in
+    let first = c.args.input.now in
+    let old = c.loop.input in
+    let new = c.next-in-loop.new.self in
+    let gives = c.in-Messages.ensures.gives in
+    let messages = c.in-Messages.messages in
+    let last = up_to left old.reader new.reader messages old.before new.before gives c.next-in-loop.ensures.name in
+    let same = c.next-in-loop.ensures.name ∙ c.loop.invariant.name in
+    subst (λ (delivery : DeliveryValue). IsSent g.M.Sending.known sends delivery) (sym c.into_share-share.ensures)
+    ∣ (λ known. was_read left sends first.before first.reader old.reader new.reader messages old.before new.before c.loop.invariant.read gives last same (c.requires known)) ∣₁
 
 pub hand_on-requires : goal.hand_on-requires
 hand_on-requires g c =

@@ -1,13 +1,15 @@
 -- Each mailbox was asked once.
 use Rattle.std.proofs.Common.{◌≡◌, List, map, ℕ, ◌∷◌, [], ◌++◌, length, refl, sym, ap, ◌∙◌, subst, arith, length-append, append_assoc}
 use Rattle.std.specs.Prelude.{vec_capacity}
+use Rattle.std.specs.List.{All}
 use Rattle.std.specs.Vec.Iter.{into_iter_items}
 use Rattle.std.proofs.lemmas.List.Elements.{All-nil, All-same}
 use Rattle.pn_serve.specs.Server.Gathering.{IsInputOf, Note, value_of}
 use Rattle.pn_serve.specs.Server.Messages.{FitRound}
 use Rattle.pn_serve.specs.Server.Rounds.{Continues, RoundInputValue}
+use Rattle.pn_serve.specs.Server.Sent.{IsSent}
 use Rattle.pn_serve.specs.declared.server.mailboxes.StreamMailbox.{StreamMailbox}
-use Rattle.pn_serve.proofs.Gatherings.{asked_none, asked_on, asked_off}
+use Rattle.pn_serve.proofs.Gatherings.{asked_none, asked_on, asked_off, sent_on}
 use Rattle.pn_serve.proofs.Passing.{map_push}
 use Rattle.pn_serve.proofs.server.rounds.gather.Goals as goal
 
@@ -22,10 +24,11 @@ loop-stream-init g c =
     let count = c.args.mailboxes.now.streams.ok.0 in
     let capacity_left : vec_capacity c.replace-streams.new.dest ≡ vec_capacity c.in-Ok.left = cc (c.replace-streams.ensures.after) in
     record {
-      gathered = asked_none c.args.marks.now (value_of c.in-Ok.input) (map (λ (s : StreamMailbox). s.name) c.replace-streams.new.dest.items) none (ap (map (λ (s : StreamMailbox). s.name)) left_none);
+      gathered = asked_none c.args.marks.now (value_of c.in-Ok.input) (map (λ (s : StreamMailbox g.row.M.Denot g.M.Sending). s.name) c.replace-streams.new.dest.items) none (ap (map (λ (s : StreamMailbox g.row.M.Denot g.M.Sending). s.name)) left_none);
       all = cc (given, c.replace-streams.ensures.value);
       fit = All-same FitRound _ [] deliveries (All-nil FitRound);
       continues = All-same (Continues c.args.marks.now) _ [] deliveries (All-nil (Continues c.args.marks.now));
+      sent = All-same (IsSent g.M.Sending.known g.M.Sending.sends) _ [] deliveries (All-nil (IsSent g.M.Sending.known g.M.Sending.sends));
       few = omega (arith, few);
       few_left = omega (arith, left_few);
       capacity = omega (arith, c.in-Ok.ensures.capacity, c.len.ensures, count);
@@ -35,7 +38,7 @@ loop-stream-init g c =
 
 pub loop-stream-preserved-then-add_note : goal.loop-stream-preserved-then-add_note
 loop-stream-preserved-then-add_note g c =
-    let name = λ (s : StreamMailbox). s.name in
+    let name = λ (s : StreamMailbox g.row.M.Denot g.M.Sending). s.name in
     let marks = c.args.marks.now in
     let so_far = c.loop-stream.invariant in
     let yielded = c.loop-stream.yielded in
@@ -44,7 +47,7 @@ loop-stream-preserved-then-add_note g c =
     let left = c.loop-stream.mailboxes.streams.items in
     let length_is = length-append yielded (stream ∷ []) in
     let one = c.add_note.ensures.one in
-    let on = asked_on (map name yielded) marks (value_of c.loop-stream.input) (map name left) note so_far.gathered c.take-report.ensures (sym c.add_note.ensures.goes_on ∙ c.if-add_note.true) in
+    let on = asked_on (map name yielded) marks (value_of c.loop-stream.input) (map name left) note so_far.gathered c.take-report.ensures.own (sym c.add_note.ensures.goes_on ∙ c.if-add_note.true) in
     let pushed : map name c.push_reserved.new.self.items ≡ map name left ++ stream.name ∷ [] = ap (map name) c.push_reserved.ensures.items ∙ map_push name left stream in
     let len = c.push_reserved.ensures.len in
     record {
@@ -57,6 +60,9 @@ loop-stream-preserved-then-add_note g c =
           ∙ ap (λ more. yielded ++ more) (sym c.in-Some.ensures.steps.0) ∙ so_far.all;
       fit = c.add_note.ensures.fit so_far.fit;
       continues = c.add_note.ensures.continues so_far.continues;
+      sent =
+          subst (λ (input : RoundInputValue). All (IsSent g.M.Sending.known g.M.Sending.sends) input.deliveries) (sym c.add_note.ensures.added)
+          (sent_on g.M.Sending.known g.M.Sending.sends marks (value_of c.loop-stream.input) stream.name c.take-report.result so_far.sent c.take-report.ensures.sent);
       few = omega (arith, one, so_far.few, length_is);
       few_left = omega (arith, so_far.few_left, len, length_is);
       capacity = c.add_note.ensures.capacity ∙ so_far.capacity;
@@ -66,7 +72,7 @@ loop-stream-preserved-then-add_note g c =
 
 pub loop-stream-preserved-else-add_note : goal.loop-stream-preserved-else-add_note
 loop-stream-preserved-else-add_note g c =
-    let name = λ (s : StreamMailbox). s.name in
+    let name = λ (s : StreamMailbox g.row.M.Denot g.M.Sending). s.name in
     let marks = c.args.marks.now in
     let so_far = c.loop-stream.invariant in
     let yielded = c.loop-stream.yielded in
@@ -75,7 +81,7 @@ loop-stream-preserved-else-add_note g c =
     let left = c.loop-stream.mailboxes.streams.items in
     let length_is = length-append yielded (stream ∷ []) in
     let one = c.add_note.ensures.one in
-    let off = asked_off (map name yielded) marks (value_of c.loop-stream.input) (map name left) note so_far.gathered c.take-report.ensures (sym c.add_note.ensures.goes_on ∙ c.if-add_note.false) in
+    let off = asked_off (map name yielded) marks (value_of c.loop-stream.input) (map name left) note so_far.gathered c.take-report.ensures.own (sym c.add_note.ensures.goes_on ∙ c.if-add_note.false) in
     record {
       gathered =
           subst (λ (names : List (List ℕ)). IsInputOf names marks (value_of c.add_note.new.input) (map name left)) (sym (map_push name yielded stream))
@@ -85,6 +91,9 @@ loop-stream-preserved-else-add_note g c =
           ∙ ap (λ more. yielded ++ more) (sym c.in-Some.ensures.steps.0) ∙ so_far.all;
       fit = c.add_note.ensures.fit so_far.fit;
       continues = c.add_note.ensures.continues so_far.continues;
+      sent =
+          subst (λ (input : RoundInputValue). All (IsSent g.M.Sending.known g.M.Sending.sends) input.deliveries) (sym c.add_note.ensures.added)
+          (sent_on g.M.Sending.known g.M.Sending.sends marks (value_of c.loop-stream.input) stream.name c.take-report.result so_far.sent c.take-report.ensures.sent);
       few = omega (arith, one, so_far.few, length_is);
       few_left = omega (arith, so_far.few_left, length_is);
       capacity = c.add_note.ensures.capacity ∙ so_far.capacity;
@@ -94,7 +103,7 @@ loop-stream-preserved-else-add_note g c =
 
 pub loop-stream-preserved : goal.loop-stream-preserved
 loop-stream-preserved g c =
-    let name = λ (s : StreamMailbox). s.name in
+    let name = λ (s : StreamMailbox g.row.M.Denot g.M.Sending). s.name in
     let marks = c.args.marks.now in
     let so_far = c.loop-stream.invariant in
     let yielded = c.loop-stream.yielded in
@@ -103,7 +112,7 @@ loop-stream-preserved g c =
     let left = c.loop-stream.mailboxes.streams.items in
     let length_is = length-append yielded (stream ∷ []) in
     let one = c.add_note.ensures.one in
-    let off = asked_off (map name yielded) marks (value_of c.loop-stream.input) (map name left) note so_far.gathered c.take-report.ensures (sym c.add_note.ensures.goes_on ∙ c.if-add_note.false) in
+    let off = asked_off (map name yielded) marks (value_of c.loop-stream.input) (map name left) note so_far.gathered c.take-report.ensures.own (sym c.add_note.ensures.goes_on ∙ c.if-add_note.false) in
     record {
       gathered =
           subst (λ (names : List (List ℕ)). IsInputOf names marks (value_of c.add_note.new.input) (map name left)) (sym (map_push name yielded stream))
@@ -113,6 +122,9 @@ loop-stream-preserved g c =
           ∙ ap (λ more. yielded ++ more) (sym c.in-Some.ensures.steps.0) ∙ so_far.all;
       fit = c.add_note.ensures.fit so_far.fit;
       continues = c.add_note.ensures.continues so_far.continues;
+      sent =
+          subst (λ (input : RoundInputValue). All (IsSent g.M.Sending.known g.M.Sending.sends) input.deliveries) (sym c.add_note.ensures.added)
+          (sent_on g.M.Sending.known g.M.Sending.sends marks (value_of c.loop-stream.input) stream.name c.take-report.result so_far.sent c.take-report.ensures.sent);
       few = omega (arith, one, so_far.few, length_is);
       few_left = omega (arith, so_far.few_left, length_is);
       capacity = c.add_note.ensures.capacity ∙ so_far.capacity;

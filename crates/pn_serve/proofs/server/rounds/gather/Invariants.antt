@@ -5,6 +5,7 @@ use Rattle.std.specs.Vec.Iter.{into_iter_items}
 use Rattle.pn_serve.specs.Server.Gathering.{IsInputOf, value_of}
 use Rattle.pn_serve.specs.Server.Messages.{FitRound}
 use Rattle.pn_serve.specs.Server.Rounds.{Continues}
+use Rattle.pn_serve.specs.Server.Sent.{IsSent}
 use Rattle.pn_serve.proofs.server.rounds.gather.Given as goal
 
 abbrev pub invariant-loop-stream : goal.invariant-loop-stream
@@ -13,6 +14,7 @@ invariant-loop-stream g l = record {
   all : l.yielded ++ into_iter_items l.stream-iterator ≡ l.fn.mailboxes.streams.items;
   fit : All FitRound l.input.deliveries.items;
   continues : All (Continues l.marks) l.input.deliveries.items;
+  sent : All (IsSent g.M.Sending.known g.M.Sending.sends) l.input.deliveries.items;
   few : vec_len l.input.deliveries ≤ length l.yielded;
   few_left : vec_len l.mailboxes.streams ≤ length l.yielded;
   capacity : vec_capacity l.input.deliveries ≡ length l.fn.mailboxes.streams.items;

@@ -1,0 +1,5 @@
+pub mod CheckedLines
+pub mod CheckedOnce
+pub mod KeptLines
+pub mod Pieces
+pub mod ToldLines

@@ -1,0 +1,2 @@
+-- What handlers owe for their contracts.
+pub mod Steady

@@ -1,0 +1,14 @@
+//! Checks lines before anybody publishes them: tells those that no region takes, and why.
+//!
+//! A line is to be an image, of which feeds make a message, or a message.
+#![tactic(auto)]
+
+mod checker;
+mod faults;
+mod input;
+mod names;
+#[cfg(test)]
+mod tests;
+mod told;
+
+pub use input::{CheckFault, check};
