@@ -1,4 +1,4 @@
--- What a session thread begins with may go to it, and what it shares with others may be shared.
+-- What a thread begins with may go to it, and what it shares with others may be shared: sessions, and the origins and sources of streams.
 use denote.Param.Send.{IsSend, IsSync, sendable}
 use denote.Param.SendFields.{declared_send}
 use denote.Struct.Record.{declared}
@@ -16,7 +16,14 @@ use Rattle.pn_stay.specs.contracts.line_counters.LineCounters as line_counters
 use Rattle.pn_stay.specs.contracts.line_counters.KindCounters as kinds
 use Rattle.pn_stay.specs.contracts.server.control_client.ControlClient as client
 use Rattle.pn_stay.specs.contracts.server.control_threads.ControlThread as control
+use Rattle.pn_stay.specs.contracts.seldom.Seldom as seldom
+use Rattle.pn_stay.specs.contracts.streams.fifo_poll.FifoPoll as fifo_poll
+use Rattle.pn_stay.specs.contracts.streams.listener.StreamListener as stream_listener
+use Rattle.pn_stay.specs.contracts.streams.notes.StreamTeller as teller
+use Rattle.pn_stay.specs.contracts.streams.sockets.SocketWriters as socket_writers
 use Rattle.pn_stay.specs.contracts.streams.status.StreamStatus as status
+use Rattle.pn_stay.specs.contracts.streams.turns.Turns as turns
+use Rattle.pn_stay.specs.contracts.streams.writer.StreamPositions as positions
 use Rattle.pn_stay.specs.contracts.messages.Messages as messages
 use Rattle.pn_stay.specs.contracts.acceptor.AcceptNotes as notes
 use Rattle.pn_stay.specs.contracts.server.accepting.AcceptThread as accept
@@ -29,10 +36,10 @@ input_send = search (sendable, crosses) depth 40 fits 20000
 pub input_sync : IsSync input.the_row
 input_sync = search (sendable, crosses) depth 40 fits 20000
 
-status_send : IsSend status.the_row
+pub status_send : IsSend status.the_row
 status_send = search (sendable, crosses) depth 40 fits 20000
 
-status_sync : IsSync status.the_row
+pub status_sync : IsSync status.the_row
 status_sync = search (sendable, crosses) depth 40 fits 20000
 
 stream_send : IsSend stream.the_row
@@ -70,6 +77,33 @@ messages_send = search (sendable, crosses) depth 40 fits 20000
 
 pub messages_sync : IsSync messages.the_row
 messages_sync = search (sendable, crosses) depth 40 fits 20000
+
+pub seldom_send : IsSend seldom.the_row
+seldom_send = search (sendable, crosses) depth 40 fits 20000
+
+pub turns_send : IsSend turns.the_row
+turns_send = search (sendable, crosses, seldom_send) depth 40 fits 20000
+
+pub fifo_poll_send : IsSend fifo_poll.the_row
+fifo_poll_send = search (sendable, crosses) depth 40 fits 20000
+
+pub positions_send : IsSend positions.the_row
+positions_send = search (sendable, crosses, counter_send, counter_sync, shown_mark_send, shown_mark_sync) depth 40 fits 20000
+
+pub teller_send : IsSend teller.the_row
+teller_send = search (sendable, crosses, name_send, messages_send, messages_sync) depth 40 fits 20000
+
+teller_sync : IsSync teller.the_row
+teller_sync = search (sendable, crosses, name_sync, messages_send, messages_sync) depth 40 fits 20000
+
+pub stream_listener_send : IsSend stream_listener.the_row
+stream_listener_send = search (sendable, crosses, teller_send, seldom_send) depth 40 fits 20000
+
+pub stream_listener_sync : IsSync stream_listener.the_row
+stream_listener_sync = search (sendable, crosses, teller_sync, seldom_send) depth 40 fits 20000
+
+pub socket_writers_send : IsSend socket_writers.the_row
+socket_writers_send = search (sendable, crosses, stream_listener_send, stream_listener_sync, turns_send, seldom_send) depth 40 fits 20000
 
 pub notes_send : IsSend notes.the_row
 notes_send = search (sendable, crosses, counters_send, counters_sync, messages_send, messages_sync) depth 40 fits 20000
