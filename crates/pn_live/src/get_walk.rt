@@ -1,9 +1,10 @@
 //! Gets that are resumed.
 
-ghost use Rattle.std.specs.Prelude.{◌≡◌, ◌+◌, ◌-◌, ◌≤◌, List, length, IfOk};
+ghost use Rattle.std.specs.Prelude.{◌≡◌, ◌+◌, ◌-◌, ◌≤◌, List, length, IfErr, IfOk};
 ghost use Rattle.pn_tablet.specs.Prelude.{Bounds};
 ghost use Rattle.pn_scan.specs.Paging.{OnlyLooks};
 ghost use Rattle.pn_scan.specs.Prelude.{LookMade};
+ghost use Rattle.pn_scan.specs.Views.{is_memory};
 ghost use Rattle.pn_live.specs.Getting.{cells_shown, EndsGet, GetsOn, IsNewGet, IsOnGet};
 ghost use Rattle.pn_live.specs.Readers.{LiveReaderValue, LooksLive, tablets_of};
 
@@ -66,13 +67,14 @@ impl GetWalk {
     }
 
     /// Reads at most `most` more keys, each by an entry of its own. Where memory runs out, the other keys are still read, since the
-    /// fault of a tablet is answered first.
+    /// fault of a tablet is answered first; the fault here is never `Memory`.
     pub fn go_on(self, reader: &mut LiveReader, most: usize) -> Result<GetWalk, ScanFault>
         ensures goes { (trace : List (LookMade LiveReaderValue)) → IsOnGet reader.old.layout self trace
             → GetsOn reader.old.layout reader.old reader.new self.keys result trace }
         ensures few { IfOk result (λ walk. walk.read ≤ self.read + most) }
         ensures left { IfOk result (λ walk. length walk.keys - walk.read ≡ length self.keys - self.read - most) }
         ensures all { IfOk result (λ walk. length self.keys ≤ self.read + most → walk.read ≡ length self.keys) }
+        ensures fault { IfErr result (λ fault. is_memory fault ≡ false) }
         ensures looked { OnlyLooks LooksLive reader.old reader.new }
         ensures same { tablets_of reader.new ≡ tablets_of reader.old }
     {

@@ -1,8 +1,10 @@
 -- Each look finds the cell of one key more, until one is refused or enough are read.
-use Rattle.std.proofs.Common.{◌≡◌, ◌+◌, ◌<◌, ◌∷◌, ◌++◌, [], ℕ, List, length, Err, Result, refl, sym, ap, ◌∙◌, subst, arith, append-nil, append_assoc}
+use Rattle.std.proofs.Common.{◌≡◌, ◌+◌, ◌<◌, ◌∷◌, ◌++◌, [], ℕ, List, length, false, Err, Result, refl, sym, ap, ◌∙◌, subst, arith, append-nil, append_assoc}
 use Rattle.std.proofs.lemmas.Result.{err_from_is_err_and}
+use Rattle.std.specs.Prelude.{IfErr}
 use Rattle.pn_scan.proofs.Paging.{made_more}
 use Rattle.pn_scan.specs.Paging.{LookMade}
+use Rattle.pn_scan.specs.Views.{is_memory}
 use Rattle.pn_scan.specs.declared.fault.ScanFault.{ScanFault}
 use Rattle.pn_live.specs.Getting.{GetWalkValue, EndsGet, GetsOn, IsOnGet}
 use Rattle.pn_live.specs.Readers.{LiveReaderValue, LooksLive, Tablets}
@@ -61,6 +63,11 @@ returns-in_err-cells-clause-goes c = λ trace is_on.
       follows_more c.args.reader.now c.loop-index.reader so_far.0 made so_far.1 refl,
       subst (λ (l : List (LookMade LiveReaderValue)). EndsGet bounds keys (Err fault) l) (append_assoc trace so_far.0 (made ∷ [])) ends,
     ))
+
+pub returns-in_err-cells-clause-fault : goal.returns-in_err-cells-clause-fault
+returns-in_err-cells-clause-fault c =
+    let gave = err_from_is_err_and c.from_residual.result c.from_residual.ensures.1 in
+    subst (λ (r : Result GetWalkValue ScanFault). IfErr r (λ fault. is_memory fault ≡ false)) (sym (gave.1 ∙ ap Err gave.2)) c.in_err-cells.ensures.fault.1
 
 pub returns-in_err-cells-clause-same : goal.returns-in_err-cells-clause-same
 returns-in_err-cells-clause-same c = looks_same _ _ _ c.cell.ensures.look.1.looked ∙ c.loop-index.invariant.same
