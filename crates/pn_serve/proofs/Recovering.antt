@@ -11,7 +11,6 @@ use Rattle.pn_tablet.specs.CopyReading.{copy_at}
 use Rattle.pn_tablet.specs.Refusals.{Refuses, Answers}
 use Rattle.pn_tablet.specs.Steps as steps
 use Rattle.pn_tablet.specs.Tablets.{TabletStateValue}
-use Rattle.pn_tablet.specs.declared.fault.CopyTextFault.{CopyTextFault}
 use Rattle.pn_tablet.specs.declared.fault.CopyTextFault.TheVariants as text
 use Rattle.pn_tablet.specs.declared.fault.CopyFault.{CopyFault}
 use Rattle.pn_tablet.specs.declared.fault.CopyFault.TheVariants as copying

@@ -18,7 +18,6 @@ use Rattle.pn_protocol.specs.declared.reply.Reply.TheVariants.{Relaid, Refused}
 use Rattle.pn_protocol.specs.declared.refusal.Part.TheVariants as part
 use Rattle.pn_protocol.specs.declared.refusal.Refusal.TheVariants.{OutOfRange}
 use Rattle.pn_protocol.specs.Command.Meaning.{relayout}
-use Rattle.pn_protocol.specs.Reply.Refusals.{Refuses as RefusesBy}
 use Rattle.pn_serve.specs.Machine.Answers.{Obeys}
 use Rattle.pn_serve.specs.Machine.Outcomes.{done, awaits_command, Turn, machine_over}
 use Rattle.pn_serve.specs.Machine.Relaying.{relaid_turn, relayout_turn}

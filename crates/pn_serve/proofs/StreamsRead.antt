@@ -10,7 +10,6 @@ use Rattle.pn_serve.specs.Server.Whole.{EndsStream, IsTakenWhole}
 use Rattle.pn_serve.specs.declared.server.fault.ServeFault.{ServeFault}
 use Rattle.pn_serve.specs.declared.server.fault.ServeFault.TheVariants.{Stream as of_stream}
 use Rattle.pn_serve.specs.declared.server.reporting.StreamEnd.{StreamEnd}
-use Rattle.pn_serve.specs.declared.server.writers.WriterEnd.{WriterEnd}
 
 -- the stream of a thread was taken to its end
 pub taken_by : {S : Type 0} (left : S → Option (List ℕ)) (marks : Positions) (stream : Stream S) (ended : Result StreamEnd (List ℕ)) (result : Result (Unit {0}) ServeFault) → EndsStream left stream ended
