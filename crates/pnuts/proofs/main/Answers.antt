@@ -1,9 +1,28 @@
 -- What goes to threads may go to them.
+use denote.RattleType.{RattleType}
 use denote.Param.Send.{IsSend, IsSync, sendable}
+use denote.Param.SendFields.{declared_send}
+use denote.Struct.Record.{declared}
 use Rattle.std.proofs.Crossing.{crosses}
+use Rattle.std.specs.contracts.alloc.Global as global
+use Rattle.std.specs.contracts.impls.GlobalAllocator as global_allocator
+use Rattle.std.specs.contracts.io.buffered.BufReader as buf_reader
 use Rattle.pn_serve.proofs.Crossing.{name_send}
-use Rattle.pn_stay.proofs.Crossing.{counters_send, counters_sync, fifo_poll_send, input_send, input_sync, messages_send, messages_sync, positions_send, socket_writers_send, status_send, status_sync, stream_listener_send, stream_listener_sync, teller_send, turns_send}
+use Rattle.pn_stay.specs.contracts.counters.CountingSource as counting
+use Rattle.pn_stay.specs.contracts.streams.input.StreamInput as stream_input
+use Rattle.pn_stay.specs.contracts.streams.origin.StreamOrigin as origin
+use Rattle.pn_stay.proofs.Crossing.{counters_send, counters_sync, fifo_poll_send, input_send, input_sync, messages_send, messages_sync, positions_send, seldom_send, socket_writers_send, status_send, status_sync, stream_listener_send, stream_listener_sync, teller_send, turns_send}
 use Rattle.pnuts.proofs.main.Goals as goal
+
+module _ (R : RattleType) (send : IsSend R) where
+  source_send : IsSend (counting.the_row (buf_reader.the_row (stream_input.the_row R) global.the_row global_allocator.TheImpl.ghosts))
+  source_send = search (send, sendable, crosses, input_send, input_sync, positions_send, status_send, status_sync, stream_listener_send, stream_listener_sync) depth 40 fits 20000
+
+  origin_send : IsSend (origin.the_row R)
+  origin_send = declared_send (declared (origin.struct R) _) (
+    search (send, positions_send, teller_send, input_send, input_sync, status_send, status_sync, sendable, crosses) depth 40 fits 20000,
+    (search (source_send, fifo_poll_send, turns_send, seldom_send, socket_writers_send, sendable, crosses) depth 40 fits 20000, tt),
+  )
 
 pub spawn-requires-send-F : goal.spawn-requires-send-F
 spawn-requires-send-F g c κs = search (sendable, crosses, counters_send, counters_sync, messages_send, messages_sync) depth 40 fits 20000
@@ -13,5 +32,4 @@ read_streams-read-requires-send-S g c κs =
     search (sendable, crosses, input_send, input_sync, positions_send, status_send, status_sync, stream_listener_send, stream_listener_sync) depth 40 fits 20000
 
 pub read_streams-read-requires-send-O : goal.read_streams-read-requires-send-O
-read_streams-read-requires-send-O g c κs =
-    search (sendable, crosses, name_send, input_send, input_sync, positions_send, status_send, status_sync, stream_listener_send, stream_listener_sync, teller_send, turns_send, fifo_poll_send, socket_writers_send) depth 40 fits 20000
+read_streams-read-requires-send-O g c κs = search (origin_send, sendable, crosses) depth 40 fits 20000
