@@ -1,5 +1,6 @@
 """What streams do where words, memory and time are short: checks of `checks/run streams`."""
 import contextlib
+import fcntl
 import os
 import re
 import resource
@@ -12,8 +13,9 @@ from common.served import SECONDS, Client, row_of, same
 from serving.staying import Staying, key_of, messages, until
 from serving.writers import Writer, made, said_of_faults, socket_in
 
-# How many writers are at fault. Each but the first gives two lines: more than the mailbox and a pipe hold.
-AT_FAULT = 3_000
+# Of how many streams how many writers are at fault: as many as are told in a minute. Each but the first of a stream gives two lines:
+# more than the mailbox and a pipe of so many bytes hold.
+STREAMS, AT_FAULT, PIPE = 16, 60, 4_096
 DROPPED = re.compile(rb"pnuts: (\d+) lines were dropped")
 MEGABYTE = 1_000_000
 # How much memory a region is left with, and a message that takes some of it.
@@ -42,15 +44,16 @@ def read_all(handle: int, wanted: int) -> list[bytes]:
 
 def check_many_words(program: str, folder: str) -> None:
     """Where standard error takes no more for long, a bounded number of lines waits, and what is dropped is counted, to the line."""
-    path, east = socket_in(folder)
+    paths, streams = zip(*(socket_in(folder, f"s{at}") for at in range(STREAMS)))
     ours, theirs = os.pipe()
-    with open(ours, "rb"), Staying(program, folder, [east], errors=theirs) as region:
+    fcntl.fcntl(ours, fcntl.F_SETPIPE_SZ, PIPE)
+    with open(ours, "rb"), Staying(program, folder, streams, errors=theirs) as region:
         os.close(theirs)
-        for _ in range(AT_FAULT):
+        for path in paths * AT_FAULT:
             with Writer(path) as writer:
                 writer.send(b"x\n")
                 same("what a writer is told", writer.last_lines(), [b'{"after":0}\n', b'{"at":1,"error":"not-json"}\n'])
-        wanted = 2 * AT_FAULT - 1
+        wanted = STREAMS * (2 * AT_FAULT - 1)
         lines = read_all(ours, wanted)
         dropped = sum(int(found[1]) for line in lines if (found := DROPPED.fullmatch(line)))
         said = sum(not DROPPED.fullmatch(line) for line in lines)

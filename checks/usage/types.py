@@ -19,7 +19,7 @@ pytestmark = needs("mypy")
 FOLDERS = ("", "bench", "bin", "checks", "clients", "clients/python", "docs/pictures", "examples", "examples/postgres", "examples/regions",
            "feeds", "fuzz", "packaging")
 # Where programs look for modules of other folders.
-MODULES = ("checks", "bench", "clients/python/src", "clients/python", "examples", "examples/regions", "packaging")
+MODULES = ("checks", "bench", "clients/python/src", "clients/python", "examples", "examples/regions", "feeds", "packaging")
 # Modules of packages and of the toolchain whose types are told nowhere, or that may be missing.
 UNTYPED = ("confluent_kafka", "kubernetes", "pika", "prometheus_client", "psycopg2", "redis", "rtlib", "selenium", "yaml")
 SETTINGS = "[mypy]\n" + "".join(f"[mypy-{name}.*]\nignore_missing_imports = True\nfollow_imports = skip\n" for name in UNTYPED)

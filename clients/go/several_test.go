@@ -160,7 +160,7 @@ func (y *tally) run(t *testing.T, region reads, read func(key string) (*Record, 
 
 func TestNoReadFails(t *testing.T) {
 	controls, proxies, addresses := three(t)
-	client, err := OpenAny(addresses, Options{Connections: 2, Timeout: time.Minute})
+	client, err := OpenAny(addresses, Options{Connections: 2, Timeout: time.Minute, Retries: 10})
 	must(t, err)
 	t.Cleanup(client.Close)
 	read := func(key string) (*Record, error) { return client.Read(background, key) }

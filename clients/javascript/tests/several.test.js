@@ -60,7 +60,7 @@ class Tally {
 
 test("no read fails", ofTheProgram, async (t) => {
   const regions = await three(t);
-  const client = open(t, regions.map(({ address }) => address), { connections: 2, timeout: 60_000 });
+  const client = open(t, regions.map(({ address }) => address), { connections: 2, timeout: 60_000, retries: 10 });
   const tally = new Tally();
   await tally.run(client);
   // All was seen: from now on the second region is of no use to it.

@@ -112,7 +112,7 @@ class SeveralRegions(unittest.TestCase):
     def test_no_read_of_threads_fails(self) -> None:
         over = threading.Event()
         readers = [Reader() for _ in range(4)]
-        with Client(self.addresses, connections=2, timeout=60) as client:
+        with Client(self.addresses, connections=2, timeout=60, retries=10) as client:
 
             def read_on(reader: Reader) -> None:
                 while not over.is_set():
@@ -136,7 +136,7 @@ class SeveralRegions(unittest.TestCase):
                 await reader.run_async(client)
 
         async def read_all() -> None:
-            async with AsyncClient(self.addresses, connections=2, timeout=60) as client:
+            async with AsyncClient(self.addresses, connections=2, timeout=60, retries=10) as client:
                 await readers[0].run_async(client)
                 over = asyncio.get_running_loop().run_in_executor(None, self._trouble, readers)
                 await asyncio.gather(*(read_on(client, reader, over) for reader in readers))
