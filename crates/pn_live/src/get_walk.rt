@@ -1,6 +1,6 @@
 //! Gets that are resumed.
 
-ghost use Rattle.std.specs.Prelude.{◌≡◌, ◌+◌, ◌-◌, ◌≤◌, List, length, IfErr, IfOk};
+ghost use Rattle.std.specs.Prelude.{◌≡◌, ◌+◌, ◌-◌, ◌≤◌, List, false, length, IfErr, IfOk};
 ghost use Rattle.pn_tablet.specs.Prelude.{Bounds};
 ghost use Rattle.pn_scan.specs.Paging.{OnlyLooks};
 ghost use Rattle.pn_scan.specs.Prelude.{LookMade};

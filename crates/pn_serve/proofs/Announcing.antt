@@ -197,14 +197,6 @@ last_err may old bytes (BadShape part) is short out = last_fault may old bytes (
 last_err may old bytes ReadOnly is short out = last_fault may old bytes ReadOnly (is (λ same. cc))
 last_err may old bytes (OutOfRange part) is short out = last_fault may old bytes (OutOfRange part) (is (λ same. cc))
 
--- if the input ends after a newline, nothing is left to do
-pub concluded_nothing : (may : Type 0) (old : LoggedRegion) → ConcludesBy may (machine_over old) [] (machine_over old) Silent
-concluded_nothing may old = record { outcome = done; read = tt; machine_is = refl; replied = refl; refused = refl }
-
--- what the last line comes to is what the end of the input does
-pub concluded_last : (may : Type 0) (old new : LoggedRegion) (b : ℕ) (bytes : List ℕ) (reply : Reply) → LastsBy may old (b ∷ bytes) new reply → ConcludesBy may (machine_over old) (b ∷ bytes) (machine_over new) reply
-concluded_last may old new b bytes reply lasts = lasts
-
 -- ---- a command and the lines that it announces
 
 pub begun_said : (may : Type 0) (old new : LoggedRegion) (bytes : List ℕ) (command : CommandValue) (begun : CommandStep) (reply : Reply) (lines : Option AnnouncedText) → command_at bytes ≡ Ok command

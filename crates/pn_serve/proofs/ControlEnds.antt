@@ -27,7 +27,6 @@ use Rattle.pn_serve.specs.Lines.Replies.{texts_of}
 use Rattle.pn_serve.specs.Lines.Running.{counts_of}
 use Rattle.pn_serve.specs.Lines.Served.{AllAnswer}
 use Rattle.pn_serve.specs.Lines.Stopped.{Broken, Cut}
-use Rattle.pn_serve.specs.Lines.Waiting.{HandsOn}
 use Rattle.pn_serve.specs.Script.Parts.{parts_of}
 use Rattle.pn_serve.specs.Session.Knowing.{KnowsNoLess}
 use Rattle.pn_serve.specs.declared.script.Counts as runs
@@ -217,30 +216,6 @@ module _ (read write end closed : Type 0) where
   session_shut (Err fault.TooManyLines) can is = absurd (cc)
   session_shut (Err fault.EndlessLine) can is = absurd (cc)
   session_shut (Err fault.Closed) can is = can
-
-  pub session_read : (ended : Result Counts LinesFault) → CanEnd read write end closed ended → IsErrOf (uncounted ended) Read → read
-  session_read (Ok counts) can is = absurd (cc)
-  session_read (Err fault.Read) can is = can
-  session_read (Err fault.Write) can is = absurd (cc)
-  session_read (Err fault.TooManyLines) can is = absurd (cc)
-  session_read (Err fault.EndlessLine) can is = absurd (cc)
-  session_read (Err fault.Closed) can is = absurd (cc)
-
-  pub session_write : (ended : Result Counts LinesFault) → CanEnd read write end closed ended → IsErrOf (uncounted ended) Write → write
-  session_write (Ok counts) can is = absurd (cc)
-  session_write (Err fault.Read) can is = absurd (cc)
-  session_write (Err fault.Write) can is = can
-  session_write (Err fault.TooManyLines) can is = absurd (cc)
-  session_write (Err fault.EndlessLine) can is = absurd (cc)
-  session_write (Err fault.Closed) can is = absurd (cc)
-
-pub session_out : (handed_on : Type 0) (ended : Result Counts LinesFault) → engine.HandsOn ended handed_on → HandsOn (uncounted ended) handed_on
-session_out handed_on (Ok counts) out = out
-session_out handed_on (Err fault.Read) out = out
-session_out handed_on (Err fault.Write) out = out
-session_out handed_on (Err fault.TooManyLines) out = out
-session_out handed_on (Err fault.EndlessLine) out = out
-session_out handed_on (Err fault.Closed) out = out
 
 -- out of memory is no end of a session
 pub no_memory : (ended : Result Counts LinesFault) → IsErrOf (uncounted ended) Memory → ⊥

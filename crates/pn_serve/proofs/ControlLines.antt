@@ -28,14 +28,6 @@ pub rests : (state : ControlState) → is_closed state ≡ false → state.mode 
 rests state goes waits =
     let (none, on) = not_closed state.stop state.over goes in λ i. record { reader = state.reader; mode = waits i; stop = none i; over = on i }
 
--- so its fields
-pub resting : (state : ControlState) (reader : LiveReaderValue) (mode : Mode) (stop : Option ℕ) (over : Bool) → is_closed state ≡ false → stop ≡ state.stop → over ≡ state.over → mode ≡ awaits_command
-    → record { reader = reader; mode = mode; stop = stop; over = over } ≡ at_rest reader
-resting state reader mode stop over goes stops overs waits =
-    let (none, on) = not_closed state.stop state.over goes in
-    let stopped = stops ∙ none in
-    let ended = overs ∙ on in λ i. record { reader = reader; mode = waits i; stop = stopped i; over = ended i }
-
 -- where another announced line is waited for
 pub more_state : (was old : ControlState) (n left : ℕ) (joined : Option (List ℕ)) → was ≡ old → n ≡ left → record was { mode = announced n joined } ≡ record old { mode = announced left joined }
 more_state was old n left joined is lefts = λ i. record { reader = (is i).reader; mode = announced (lefts i) joined; stop = (is i).stop; over = (is i).over }
@@ -60,13 +52,6 @@ joined_kept came bytes text newline joined is (outcome, joins) =
     (outcome, joins ∙ ap (λ (line : List ℕ). unless_call outcome (option_map (λ whole. whole ++ (line ++ newline)) came)) (ap kept_bytes is ∙ kept_bytes-kept_bytes text))
 
 module _ (old new : ControlState) (text : List ℕ) (shown : Reply) where
-  -- no further line is answered
-  pub answers_closed : is_closed old ≡ true → new ≡ old → shown ≡ Silent → AnswersControl old text new shown
-  answers_closed closed stays none = subst (λ (b : Bool). AnswersUnless b old text new shown) (sym closed) (stays, none)
-
-  pub ends_closed : is_closed old ≡ true → new ≡ old → shown ≡ Silent → EndsControl old text new shown
-  ends_closed closed stays none = subst (λ (b : Bool). EndsUnless b old text new shown) (sym closed) (stays, none)
-
   answers_open : (mode : Mode) → is_closed old ≡ false → old.mode ≡ mode → AnswersIn mode old text new shown → AnswersControl old text new shown
   answers_open mode goes is answers =
       subst (λ (b : Bool). AnswersUnless b old text new shown) (sym goes) (subst (λ (m : Mode). AnswersIn m old text new shown) (sym is) answers)

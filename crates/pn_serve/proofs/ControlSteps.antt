@@ -28,7 +28,7 @@ use Rattle.pn_protocol.specs.declared.reply.Reply.TheVariants.{Adopted, Changed,
 use Rattle.pn_protocol.specs.declared.reply.refusals.CommandFault.TheVariants.{CopyText}
 use Rattle.pn_scan.specs.Paging.{Stays}
 use Rattle.pn_serve.specs.Control.Commands.{said_by}
-use Rattle.pn_serve.specs.Control.Steps.{AdoptsRead, DoesTask, ObeysControl, ObeysScript, RepliesWith, Says, ShowsCounts, StepsAs, StepsBy, StepsLast, Lasts, task_of}
+use Rattle.pn_serve.specs.Control.Steps.{AdoptsRead, DoesTask, ObeysControl, ObeysScript, RepliesWith, Says, ShowsCounts, StepsAs, StepsBy, StepsLast, task_of}
 use Rattle.pn_serve.specs.Session.Knowing.{KnowsNoLess}
 use Rattle.pn_serve.specs.Session.Lines.{LooksUp}
 use Rattle.pn_serve.specs.declared.control.steps.ControlStep.{ControlStep}
@@ -90,13 +90,6 @@ steps_fault old line NotJson is short = steps_refused old line NotJson (is (λ s
 steps_fault old line (BadShape part) is short = steps_refused old line (BadShape part) (is (λ same. cc))
 steps_fault old line ReadOnly is short = steps_refused old line ReadOnly (is (λ same. cc))
 steps_fault old line (OutOfRange part) is short = steps_refused old line (OutOfRange part) (is (λ same. cc))
-
--- a step that announces nothing is the last one
-pub lasts_itself : (first : ControlStep) → ((lines : ℕ) → first ≢ Announces lines) → Lasts first first
-lasts_itself (Replies shown) other = refl
-lasts_itself (Announces lines) other = absurd (other lines refl)
-lasts_itself (Stops seconds) other = refl
-lasts_itself Ends other = refl
 
 -- a line says what its kept bytes say
 said_kept : (line : List ℕ) → (control_at (kept_bytes line) ≡ control_at line) × (is_too_long (kept_bytes line) ≡ is_too_long line)

@@ -1,5 +1,5 @@
 -- The copies of texts that were read, as they are added.
-use Rattle.std.proofs.Common.{◌≡◌, ◌≢◌, ℕ, suc, ◌+◌, true, false, Bool, if◌then◌else◌, Option, Some, inl, inr, ap₂, ◌≤◌, ◌<◌, List, [], ◌∷◌, ◌++◌, ◌⊎◌, length, map, Result, Ok, Err, refl, sym, ap, ◌∙◌, subst, append_assoc, append-nil, arith}
+use Rattle.std.proofs.Common.{◌≡◌, ◌≢◌, ℕ, suc, ◌+◌, true, false, Bool, if◌then◌else◌, Option, Some, inl, inr, ap₂, ◌≤◌, ◌<◌, List, [], ◌∷◌, ◌++◌, ◌⊎◌, length, map, Result, Ok, Err, refl, sym, ap, ◌∙◌, subst, append_assoc, arith}
 use Rattle.std.proofs.lemmas.List.{map-append, length-append, length-map}
 use Rattle.std.specs.Fork.{GivesJobs}
 use Rattle.std.specs.Fn.{FnReturns}
@@ -26,9 +26,6 @@ pub record AddedSoFar (reads : List (Result TabletCopyValue CopiesFault)) (old n
   pub reads_are : reads ≡ map Ok added ++ rest
   pub copies_are : new ≡ old ++ added
 
-pub none_added : (reads : List (Result TabletCopyValue CopiesFault)) (old : List TabletCopyValue) → AddedSoFar reads old old reads
-none_added reads old = record { added = []; reads_are = refl; copies_are = sym (append-nil old) }
-
 pub one_added : (reads : List (Result TabletCopyValue CopiesFault)) (old copies new : List TabletCopyValue) (read : Result TabletCopyValue CopiesFault) (copy : TabletCopyValue) (rest : List (Result TabletCopyValue CopiesFault))
     → AddedSoFar reads old copies (read ∷ rest) → read ≡ Ok copy → new ≡ copies ++ copy ∷ [] → AddedSoFar reads old new rest
 one_added reads old copies new read copy rest so_far is grown = record {
@@ -37,9 +34,6 @@ one_added reads old copies new read copy rest so_far is grown = record {
       ∙ ap (λ (l : List (Result TabletCopyValue CopiesFault)). l ++ rest) (sym (map-append Ok so_far.added (copy ∷ [])));
   copies_are = grown ∙ ap (λ (l : List TabletCopyValue). l ++ copy ∷ []) so_far.copies_are ∙ append_assoc old so_far.added (copy ∷ []);
 }
-
-pub all_added : (reads : List (Result TabletCopyValue CopiesFault)) (old new : List TabletCopyValue) → AddedSoFar reads old new [] → AreAdded reads old new
-all_added reads old new so_far = record { added = so_far.added; reads_are = so_far.reads_are ∙ append-nil (map Ok so_far.added); copies_are = so_far.copies_are }
 
 pub stops : (reads : List (Result TabletCopyValue CopiesFault)) (old copies : List TabletCopyValue) (read : Result TabletCopyValue CopiesFault) (rest : List (Result TabletCopyValue CopiesFault)) (fault : CopiesFault)
     → AddedSoFar reads old copies (read ∷ rest)

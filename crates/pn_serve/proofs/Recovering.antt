@@ -4,7 +4,6 @@ use Rattle.std.specs.Prelude.{Result, Ok, Err, IsSomeAnd}
 use Rattle.std.proofs.lemmas.Option.{slice_get_past, slice_get_cases}
 use Rattle.serde_json.specs.Data.{Data}
 use Rattle.pn_json.specs.Lines.{line_of}
-use Rattle.pn_json.specs.Answers.{IsUnless}
 use Rattle.pn_join.specs.Marks.{Positions}
 use Rattle.pn_tablet.specs.Copies.{TabletCopyValue}
 use Rattle.pn_tablet.specs.Copying.{copy_of, is_memory}
@@ -12,7 +11,6 @@ use Rattle.pn_tablet.specs.CopyReading.{copy_at}
 use Rattle.pn_tablet.specs.Refusals.{Refuses, Answers}
 use Rattle.pn_tablet.specs.Steps as steps
 use Rattle.pn_tablet.specs.Tablets.{TabletStateValue}
-use Rattle.pn_tablet.specs.declared.fault.CopyTextFault.{CopyTextFault}
 use Rattle.pn_tablet.specs.declared.fault.CopyTextFault.TheVariants as text
 use Rattle.pn_tablet.specs.declared.fault.CopyFault.{CopyFault}
 use Rattle.pn_tablet.specs.declared.fault.CopyFault.TheVariants as copying
@@ -35,9 +33,9 @@ use Rattle.pn_serve.specs.Machine.Turns.{command_turn}
 use Rattle.pn_serve.specs.Machine.Answers.{Obeys}
 use Rattle.pn_protocol.specs.Reply.Answers.{ShowsCopy, ShowsCopyOf}
 use Rattle.pn_protocol.specs.Reply.Refusals.{Tells, Refuses as RefusesBy}
-use Rattle.pn_protocol.specs.declared.reply.refusals.CommandFault.TheVariants.{Copy, CopyText, Adoption}
+use Rattle.pn_protocol.specs.declared.reply.refusals.CommandFault.TheVariants.{Copy}
 use Rattle.pn_serve.specs.Machine.Ways.{ComesTo}
-use Rattle.pn_protocol.specs.Reply.Faults.{copy_fault_data, copy_text_fault_data, adopt_fault_data}
+use Rattle.pn_protocol.specs.Reply.Faults.{copy_fault_data}
 use Rattle.pn_protocol.specs.Reply.Short.{lost_data}
 use Rattle.pn_serve.proofs.Turns.{told_or_out, turned_call}
 
@@ -66,22 +64,9 @@ not_memory adoption.WrongRange right is other = is
 not_memory (adoption.TooOld stream has needs) right is other = is
 not_memory adoption.Memory right is other = absurd (other refl)
 
-pub adopts_not : (old new : LoggedRegion) (given : TabletCopyValue) (fault : AdoptFault) (reply : Reply) → new ≡ old → Refuses steps.is_memory fault (after_adoption old.state given) → RefusesBy (Adoption fault) reply
-    → ComesTo (adoption_turn old (after_adoption old.state given)) old new reply
-adopts_not old new given fault reply same right tells =
-    told (adoption_turn old (after_adoption old.state given)) old new (fault ≢ adoption.Memory) (adopt_fault_data fault) reply same (λ other. ap (adoption_turn old) (not_memory fault (after_adoption old.state given) right other)) tells
-
 pub adopts_text : (old new : LoggedRegion) (bytes : List ℕ) (given : TabletCopyValue) (reply : Reply) → copy_at bytes ≡ Ok given → ComesTo (adoption_turn old (after_adoption old.state given)) old new reply
     → ComesTo (text_adoption_turn old (Some bytes)) old new reply
 adopts_text old new bytes given reply is comes = came_as _ _ old new reply (ap (read_adoption_turn old) is) comes
-
-no_text : (fault : CopyTextFault) (right : Result TabletCopyValue CopyTextFault) → IsUnless text.Memory (Err fault) right → fault ≢ text.Memory → right ≡ Err fault
-no_text fault right is other = is other
-
-pub adopts_no_text : (old : LoggedRegion) (bytes : List ℕ) (fault : CopyTextFault) (reply : Reply) → IsUnless {A = TabletCopyValue} text.Memory (Err fault) (copy_at bytes) → RefusesBy (CopyText fault) reply
-    → ComesTo (text_adoption_turn old (Some bytes)) old old reply
-adopts_no_text old bytes fault reply right tells =
-    told (text_adoption_turn old (Some bytes)) old old (fault ≢ text.Memory) (copy_text_fault_data fault) reply refl (λ other. ap (read_adoption_turn old) (no_text fault (copy_at bytes) right other)) tells
 
 -- ---- losses and copies
 

@@ -38,9 +38,9 @@ use Rattle.pn_region.specs.declared.fault.RelayoutFault.TheVariants.{StillRecove
 use Rattle.pn_region.proofs.FaithfulCopies.{given_is_honest}
 use Rattle.pn_region.proofs.Relaying.{relays, same_records}
 use Rattle.pn_region.proofs.Starting.{later_faithful, started_is}
-use Rattle.pn_live.specs.Starting.{StopsAt, StopsStart}
+use Rattle.pn_live.specs.Starting.{StopsAt}
 use Rattle.pn_live.specs.declared.fault.StartFault.{StartFault}
-use Rattle.pn_live.specs.declared.fault.StartFault.TheVariants.{Adopt as NotAdopted, Advance, Open}
+use Rattle.pn_live.specs.declared.fault.StartFault.TheVariants.{Adopt as NotAdopted}
 use Rattle.pn_serve.specs.Copies.Recutting.{AreRecut, IsShortAt, StopsGiving, copies_from}
 use Rattle.pn_serve.specs.declared.copies.fault.CopiesFault.{CopiesFault}
 
@@ -81,12 +81,6 @@ not_adopted copy left region fault is = by_fault fault (after_adoption region co
   by_fault op.Memory (Err refusal) is = cc
   by_fault op.WrongRange right is = refused op.WrongRange right is
   by_fault (op.TooOld stream has needs) right is = refused (op.TooOld stream has needs) right is
-
--- what stops the copies stops the start
-pub stops_start : (copies : List TabletCopyValue) (region : RegionValue) (fault : StartFault) → StopsAt copies region fault → StopsStart copies region fault
-stops_start copies region (Open fault) stops = tt
-stops_start copies region (NotAdopted fault) stops = stops
-stops_start copies region (Advance fault) stops = stops
 
 -- ---- a region that serves changes its layout
 

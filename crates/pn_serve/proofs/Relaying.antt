@@ -18,15 +18,12 @@ use Rattle.pn_protocol.specs.declared.reply.Reply.TheVariants.{Relaid, Refused}
 use Rattle.pn_protocol.specs.declared.refusal.Part.TheVariants as part
 use Rattle.pn_protocol.specs.declared.refusal.Refusal.TheVariants.{OutOfRange}
 use Rattle.pn_protocol.specs.Command.Meaning.{relayout}
-use Rattle.pn_protocol.specs.Reply.Faults.{relayout_fault_data}
-use Rattle.pn_protocol.specs.Reply.Refusals.{Refuses as RefusesBy}
-use Rattle.pn_protocol.specs.declared.reply.refusals.CommandFault.TheVariants.{Relayout}
 use Rattle.pn_serve.specs.Machine.Answers.{Obeys}
 use Rattle.pn_serve.specs.Machine.Outcomes.{done, awaits_command, Turn, machine_over}
 use Rattle.pn_serve.specs.Machine.Relaying.{relaid_turn, relayout_turn}
 use Rattle.pn_serve.specs.Machine.Turns.{command_turn}
 use Rattle.pn_serve.specs.Machine.Ways.{ComesTo}
-use Rattle.pn_serve.proofs.Recovering.{told, came_as}
+use Rattle.pn_serve.proofs.Recovering.{came_as}
 use Rattle.pn_serve.proofs.Turns.{turned_call}
 
 -- ---- bounds that are those of a layout
@@ -53,11 +50,6 @@ relays old new count right is kept =
 not_memory : (fault : RelayoutFault) (right : Result RegionValue RelayoutFault) → Refuses is_memory fault right → fault ≢ fault_of.Memory → right ≡ Err fault
 not_memory (fault_of.StillRecovering tablet) right is other = is
 not_memory fault_of.Memory right is other = absurd (other refl)
-
-pub relays_not : (old new : LoggedRegion) (count : ℕ) (right : Result RegionValue RelayoutFault) (fault : RelayoutFault) (reply : Reply) → new ≡ old → Refuses is_memory fault right → RefusesBy (Relayout fault) reply
-    → ComesTo (relaid_turn (machine_over old) count right) old new reply
-relays_not old new count right fault reply same refuses tells =
-    told (relaid_turn (machine_over old) count right) old new (fault ≢ fault_of.Memory) (relayout_fault_data fault) reply same (λ other. ap (relaid_turn (machine_over old) count) (not_memory fault right refuses other)) tells
 
 -- what a change of the layout comes to, the command does
 pub relaid_obeys : (old new : LoggedRegion) (bounds layout : Bounds) (reply : Reply) → layout_of bounds ≡ Ok layout → ComesTo (relaid_turn (machine_over old) (length layout + 1) (after_relayout old.state layout)) old new reply

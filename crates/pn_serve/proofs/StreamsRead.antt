@@ -1,28 +1,15 @@
 -- Streams of threads, and what is answered of them.
-use Rattle.std.proofs.Common.{◌≡◌, true, false, map, ◌≤◌, List, [], ◌∷◌, ◌++◌, Option, None, Some, ℕ, sym, ap, ◌∙◌, subst}
-use Rattle.std.specs.Prelude.{Result, Ok, Err, IsErr, IsSome, IfOk, IfErr, OnOk, OnErr, MatchResult}
+use Rattle.std.proofs.Common.{◌≡◌, true, false, map, ◌≤◌, List, [], ◌∷◌, ◌++◌, Option, ℕ, ap, ◌∙◌, subst}
+use Rattle.std.specs.Prelude.{Result, Ok, Err, IsErr, IfOk, OnOk, OnErr, MatchResult}
 use Rattle.std.specs.List.{Contains}
 use Rattle.std.proofs.lemmas.List.Elements.{Contains-append_right, Contains-append_left, Contains-push}
 use Rattle.pn_join.specs.Marks.{Positions, position_of}
 use Rattle.pn_stream.specs.Batches.{Stream}
 use Rattle.pn_serve.specs.Server.Faults.{names_of}
-use Rattle.pn_serve.specs.Server.Whole.{EndsStream, IsTakenWhole, IsWholeTo}
-use Rattle.pn_serve.specs.Server.Writers.{EndsInput}
+use Rattle.pn_serve.specs.Server.Whole.{EndsStream, IsTakenWhole}
 use Rattle.pn_serve.specs.declared.server.fault.ServeFault.{ServeFault}
 use Rattle.pn_serve.specs.declared.server.fault.ServeFault.TheVariants.{Stream as of_stream}
 use Rattle.pn_serve.specs.declared.server.reporting.StreamEnd.{StreamEnd}
-use Rattle.pn_serve.specs.declared.server.writers.WriterEnd.{WriterEnd}
-use Rattle.pn_serve.specs.declared.server.writers.WriterEnd.TheVariants.{End}
-
--- the stream whose one writer's input ended so
-pub ends_stream : {S : Type 0} (left : S → Option (List ℕ)) (before now : Option ℕ) (old new : Stream S) (end : WriterEnd) (ended : Result StreamEnd (List ℕ)) → IsSome before
-    → EndsInput left before old end now new → new.name ≡ old.name → IfOk ended (λ e. (end ≡ End) × (e.name ≡ new.name) × (e.last ≡ new.position)) → IfErr ended (λ name. name ≡ new.name)
-    → EndsStream left old ended
-ends_stream left before now old new end (Err name) begun ends same ok err = err ∙ same
-ends_stream left None now old new end (Ok e) begun ends same ok err = absurd (cc)
-ends_stream {S} left (Some before) now old new end (Ok e) begun ends same ok err =
-    let all : EndsInput left (Some before) old End now new = subst (λ (w : WriterEnd). EndsInput left (Some before) old w now new) ok.0 ends in
-    (ok.1 ∙ same, subst (λ (n : ℕ). IsWholeTo left old n) (sym ok.2) (all.0, all.2))
 
 -- the stream of a thread was taken to its end
 pub taken_by : {S : Type 0} (left : S → Option (List ℕ)) (marks : Positions) (stream : Stream S) (ended : Result StreamEnd (List ℕ)) (result : Result (Unit {0}) ServeFault) → EndsStream left stream ended

@@ -14,9 +14,9 @@ use Rattle.pn_tablet.specs.Tablets.{TabletStateValue}
 use Rattle.pn_tablet.specs.declared.state.TabletOp.{TabletOp}
 use Rattle.pn_apply.specs.Applying.{AreOldOrStepped}
 use Rattle.pn_region.specs.Marking.{is_memory, new_marks}
-use Rattle.pn_region.specs.Logged.{LoggedRegion, refused_log, with_notices, with_break}
+use Rattle.pn_region.specs.Logged.{LoggedRegion, refused_log, with_break}
 use Rattle.pn_region.specs.Regions.{RegionValue}
-use Rattle.pn_region.specs.Rounds.{joins, changed_count, IsHalfTaken, Leaves, round as taken_round}
+use Rattle.pn_region.specs.Rounds.{joins, IsHalfTaken, Leaves, round as taken_round}
 use Rattle.pn_region.specs.declared.fault.RoundFault.{RoundFault}
 use Rattle.pn_region.specs.declared.fault.RoundFault.TheVariants as round_fault
 use Rattle.pn_tablet.specs.Refusals.{Refuses}
@@ -36,7 +36,6 @@ use Rattle.pn_protocol.specs.Reply.Answers.{ShowsFound}
 use Rattle.pn_protocol.specs.Reply.Refusals.{Tells, Refuses as RefusesBy}
 use Rattle.pn_protocol.specs.Reply.Faults.{lookup_fault_data, round_fault_data}
 use Rattle.pn_protocol.specs.declared.reply.refusals.CommandFault.TheVariants as command_fault
-use Rattle.pn_protocol.specs.Reply.Short.{changed_data}
 use Rattle.pn_json.specs.Answers.{ShowsUnless}
 use Rattle.pn_json.specs.Lines.{line_of}
 
@@ -164,16 +163,6 @@ turned_err may text region (BadShape part) is short out = turned_fault may text 
 turned_err may text region ReadOnly is short out = turned_fault may text region ReadOnly (is (λ same. cc))
 turned_err may text region (OutOfRange part) is short out = turned_fault may text region (OutOfRange part) (is (λ same. cc))
 
--- a text was shown, and nothing changed
-pub turned_text : (old new : LoggedRegion) (command : CommandValue) (reply : List ℕ) (text : Vec ℕ Global) → command_turn (machine_over old) done command ≡ reply_turn (machine_over old) reply → new ≡ old → text.items ≡ reply
-    → Obeys (machine_over old) command (machine_over new) (Text text)
-turned_text old new command reply text shows same is = record {
-  outcome = done;
-  machine_is = ap (λ (t : Turn). t.machine) shows ∙ ap machine_over (sym same);
-  replied = ap (λ (t : Turn). t.reply) shows ∙ sym is;
-  refused = ap (λ (t : Turn). t.refused) shows;
-}
-
 -- a lookup of the region, and what is right for it
 module _ {A : Type 0} (region : LoggedRegion) (command : CommandValue) (show : A → Data) (right : Result A ScanFault) (does : command_turn (machine_over region) done command ≡ lookup_turn (machine_over region) show right) (out : RunsOut region command) where
   no_memory : (reply : Reply) → reply ≡ Refused Memory → Obeys (machine_over region) command (machine_over region) reply
@@ -215,15 +204,6 @@ read_shows before right (Err (scan.Behind has)) is = λ other. is
 read_shows before right (Err scan.NoEntry) is = λ other. is
 
 module _ (old new : LoggedRegion) (deliveries : List DeliveryValue) where
-  -- the round ended
-  pub turned_ok : (count : ℕ) → taken_round old.state deliveries ≡ Ok new.state → new.log ≡ with_notices old.log old.state new.state → count ≡ changed_count old.state new.state → Obeys (machine_over old) (deliver deliveries) (machine_over new) (Changed count)
-  turned_ok count ended noted counted = record {
-    outcome = done;
-    machine_is = ap (λ (r : Result RegionValue RoundFault). (delivery_turn (machine_over old) r).machine) ended ∙ (λ i. record { mode = awaits_command; region = new.state; log = sym noted i });
-    replied = ap (λ (r : Result RegionValue RoundFault). (delivery_turn (machine_over old) r).reply) ended ∙ ap (λ (n : ℕ). line_of (changed_data n)) (sym counted);
-    refused = ap (λ (r : Result RegionValue RoundFault). (delivery_turn (machine_over old) r).refused) ended;
-  }
-
   -- the round was refused
   pub turned_refused : (fault : RoundFault) (text : Vec ℕ Global) → taken_round old.state deliveries ≡ Err fault → new.state ≡ old.state → new.log ≡ old.log → text.items ≡ line_of (round_fault_data fault) → Obeys (machine_over old) (deliver deliveries) (machine_over new) (NotTaken text)
   turned_refused fault text refused same kept is = record {

@@ -121,8 +121,7 @@ pub(crate) fn answer_lines<M: LineHandler, S: Source, W: Sink>(
     requires unclosed { (state : M) → M.handling.closed state → ⊥ }
     ensures ends { HasRun M.handling (start_at machine.old (S.left input.old) (W.contents output.old))
         (S.left input.new) (W.contents output.new) machine.new result }
-    ensures read { IsErrOf result RunFault.Read → S.may_fail }
-    ensures write { IsErrOf result RunFault.Write → W.may_fail }
+    ensures faults { (IsErrOf result RunFault.Read → S.may_fail) × (IsErrOf result RunFault.Write → W.may_fail) }
     ensures kept { M.keeps machine.old machine.new }
     ensures few { IfOk result (λ counts. counts.lines ≤ MAX_LINES) }
     ensures out { HandsOn result (W.is_handed_on output.new) }

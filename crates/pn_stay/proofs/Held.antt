@@ -1,9 +1,7 @@
 -- An input of which something is held.
-use Rattle.std.proofs.Common.{◌≡◌, ◌≢◌, ◌<◌, ℕ, Bool, true, Option, None, Some, List, [], ◌∷◌, ◌++◌, IfOk, IfSome, refl, ap, ◌∙◌, subst, arith}
+use Rattle.std.proofs.Common.{◌≡◌, ◌≢◌, ◌<◌, ℕ, Bool, true, Option, None, Some, List, [], ◌∷◌, ◌++◌, IfOk, IfSome, refl, ◌∙◌, subst}
 use Rattle.std.specs.Prelude.{Result, Ok}
 use Rattle.std.specs.Io.KnownBytes.{Keeps, prepend_known}
-use Rattle.pn_line.specs.Line.{LineBufferValue, with_bytes}
-use Rattle.pn_line.specs.Reads.{Takes}
 
 cons_nil : (b : ℕ) (bs : List ℕ) → b ∷ bs ≡ [] → ⊥
 cons_nil b bs is = cc
@@ -23,11 +21,3 @@ more_left {E} result first held was now more kept is =
     left None now kept some = tt
     left (Some xs) None kept some = absurd kept
     left (Some xs) (Some ys) kept some = λ none. some_first held ys some (kept ∙ none)
-
--- where all that is held was taken, the line has grown
-pub line_grows : (old new : LineBufferValue) (held left after : List ℕ) → held ≢ [] → Takes old new (Some held) (Some left) after → after ≡ [] → left ≡ [] → old.count < new.count
-line_grows old new held left after some takes nothing none = grows takes.taken takes.line (takes.source ∙ ap (λ (a : List ℕ). (takes.taken ++ a) ++ left) nothing ∙ ap (λ (l : List ℕ). (takes.taken ++ []) ++ l) none)
-  where
-    grows : (taken : List ℕ) → new ≡ with_bytes old taken → held ≡ (taken ++ []) ++ [] → old.count < new.count
-    grows [] line source = absurd (some source)
-    grows (b ∷ taken) line source = omega (arith, ap (λ (l : LineBufferValue). l.count) line)

@@ -12,11 +12,11 @@ use Rattle.pn_serve.proofs.script.answer_lines.Goals as goal
 pub returns-clause-ends : goal.returns-clause-ends
 returns-clause-ends g c = record { ended = c.answer_lines.result; has_ended = c.answer_lines.ensures.ends; unclosed = never_closed _ _ _ _ c.answer_lines.result c.answer_lines.ensures.can (c.requires.unclosed _); is = c.end_run.ensures }
 
-pub returns-clause-read : goal.returns-clause-read
-returns-clause-read g c = λ is. run_read _ _ _ _ c.answer_lines.result c.answer_lines.ensures.can (sym c.end_run.ensures ∙ is)
-
-pub returns-clause-write : goal.returns-clause-write
-returns-clause-write g c = λ is. run_write _ _ _ _ c.answer_lines.result c.answer_lines.ensures.can (sym c.end_run.ensures ∙ is)
+pub returns-clause-faults : goal.returns-clause-faults
+returns-clause-faults g c = (
+  λ is. run_read _ _ _ _ c.answer_lines.result c.answer_lines.ensures.can (sym c.end_run.ensures ∙ is),
+  λ is. run_write _ _ _ _ c.answer_lines.result c.answer_lines.ensures.can (sym c.end_run.ensures ∙ is),
+)
 
 pub returns-clause-few : goal.returns-clause-few
 returns-clause-few g c = subst (λ (r : Result Counts RunFault). IfOk r (λ counts. counts.lines ≤ MAX_LINES)) (sym c.end_run.ensures) (run_few c.answer_lines.result c.answer_lines.ensures.few)
