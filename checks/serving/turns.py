@@ -12,7 +12,8 @@ take nothing; `unread` what 200 such clients keep of 1,000 rows that are rewritt
 whether an honest client loses a reply where memory is limited, and whether a stream goes on.
 
 Exit status 0 where each row is as wanted: 999 of 1,000 reads within 10 ms beside 8, and within 50 ms beside 64; the stream at least half as
-fast; at most 256 MB, and of rows that are rewritten the limit of unread replies and 20 MB more.
+fast; at most 256 MB, and of rows that are rewritten the limit of unread replies and 20 MB more; clients that have gone cost at most a fourth of
+the processor time that their first replies take where they are taken.
 """
 import contextlib
 import json
@@ -27,6 +28,7 @@ import time
 from collections.abc import Callable, Iterator
 from typing import NamedTuple
 
+from common.resting import AT_REST, processor_seconds, share
 from common.served import SECONDS, Client
 from common.tried import program_parser
 from serving.staying import CHUNK, Beside, Staying, raise_descriptors, until
@@ -38,7 +40,7 @@ LOADING = 600
 GREEDY = (1, 8, 64)
 WANTED_MS = {1: 10.0, 8: 10.0, 64: 50.0}
 STREAMED, SCANNERS, SLOWEST = 60_000, 4, 0.5
-DEAF, DEAF_BUFFER, DEAF_MB = 1_024, 1 << 12, 256
+DEAF, DEAF_BUFFER, DEAF_MB, DEAF_SHARE = 1_024, 1 << 12, 256, 0.25
 LIMIT_MB, SCARCE_CLIENTS, SCARCE_READS = 700, 300, 200
 # Clients that each leave rows unread which are then rewritten, and what they may cost: the limit, and more.
 UNREAD, UNREAD_ROWS, UNREAD_MB, BEFORE = 200, 1_000, 64 + 20, 3
@@ -236,15 +238,32 @@ def memory_at_rest(region: Staying, seconds: float = 3) -> int:
     return most >> 10
 
 
+def taken_seconds(region: Staying, line: bytes) -> float:
+    """How long a processor takes for a reply that its client takes."""
+    before = processor_seconds(region.process.pid)
+    with socket.create_connection(("127.0.0.1", region.port), timeout=SECONDS) as client:
+        client.sendall(line)
+        client.shutdown(socket.SHUT_WR)
+        while client.recv(CHUNK):
+            pass
+    return processor_seconds(region.process.pid) - before
+
+
 def deaf_row(program: str, folder: str, east: str, count: int) -> Row:
-    """What clients cost that take nothing."""
-    with Staying(program, folder, [("east", east)], "--connections", "4096", threads=1) as region, contextlib.ExitStack() as stay:
+    """What clients cost that take nothing, and once they have gone: who has ended its input may still take the reply that waits for room."""
+    with Staying(program, folder, [("east", east)], "--connections", "4096", threads=1, is_looked_at=False) as region:
         wait_until_loaded(region)
+        taken = count / 2 * (taken_seconds(region, COPY) + taken_seconds(region, PAGE))
         before = memory_at_rest(region)
-        for number in range(count):
-            stay.enter_context(deaf_client(region.port, COPY if number % 2 else PAGE))
-        grown = memory_at_rest(region) - before
-    return Row("deaf", f"{count:,} clients that take nothing cost {grown:,} MB above {before:,}", grown <= DEAF_MB)
+        with contextlib.ExitStack() as stay:
+            for number in range(count):
+                stay.enter_context(deaf_client(region.port, COPY if number % 2 else PAGE))
+            grown = memory_at_rest(region) - before
+            spent = processor_seconds(region.process.pid)
+        until("it rests", lambda: share(region.process.pid) <= AT_REST, LOADING)
+        spent = processor_seconds(region.process.pid) - spent
+    told = f"{count:,} clients that take nothing cost {grown:,} MB above {before:,}, and {spent:.1f} seconds of {taken:.1f} once gone"
+    return Row("deaf", told, grown <= DEAF_MB and spent <= DEAF_SHARE * taken)
 
 
 def limited_region(program: str, folder: str, streams: list[tuple[str, str]]) -> Staying:

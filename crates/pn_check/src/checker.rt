@@ -17,7 +17,7 @@ pub(crate) struct Checker {
     is_spent: bool,
 }
 
-/// What is told of a line, of which some is made.
+/// What is printed of a line, of which a part is made.
 #[derive(Drop)]
 pub(crate) struct ToldText {
     text: Vec<u8>,
@@ -62,7 +62,7 @@ impl Checker {
         self.is_spent
     }
 
-    // What is told of a line, by its first bytes, if no region takes it.
+    // What is printed of a line, by its first bytes, if no region takes it.
     fn check(&mut self, alloc: Global, line: &[u8], ended: EndedBy) -> Option<Vec<u8>>
         ensures { (text : List ℕ) → line.now ≡ kept_bytes text
             → Checks self.old ended text self.new (replied_of (option_map (λ told. told.items) result)) }
@@ -85,7 +85,7 @@ impl Checker {
         self.tell_next(alloc, line)
     }
 
-    // What is told of the next line, if no region takes it.
+    // What is printed of the next line, if no region takes it.
     fn tell_next(&mut self, alloc: Global, line: &[u8]) -> Option<Vec<u8>>
         ensures { TellsNext self.old line.now self.new (option_map (λ told. told.items) result) }
     {
@@ -133,7 +133,7 @@ impl LineHandler for Checker {
     ghost steady = { checks_steadily };
 }
 
-// What is told of a line as its reply, if something is.
+// What is printed of a line as its reply, if something is.
 fn answered(alloc: Global, told: Option<Vec<u8>>) -> Answered<(), ToldText>
     ensures answer { answer_of (λ told. drop told.made told.text.items) result.answer ≡ done (replied_of (option_map (λ text. text.items) told)) }
     ensures units { result.units ≡ 1 }

@@ -1,4 +1,4 @@
-//! What is told of a line that no region takes.
+//! What is printed of a line that no region takes.
 
 ghost use Rattle.std.specs.Prelude.{◌≡◌, IfOk, OnOk, codes, option_map};
 ghost use Rattle.pn_json.specs.Prelude.{line_of, Appends, member_tokens, seen_text, value_tokens};
@@ -12,7 +12,7 @@ use pn_json::{begin_line, finish_line, write_null_member, write_number_member, w
 use pn_record::{ImageFault, read_value};
 use std::alloc::Global;
 
-/// What is told of the line of a number, if no region takes it.
+/// What is printed of the line of a number, if no region takes it.
 pub(crate) fn tell_line(
     alloc: Global,
     line: &[u8],

@@ -60,7 +60,7 @@ pub enum Next {
 /// What a step came to.
 #[derive(Clone, Copy, Debug, PartialEq, Eq)]
 enum Step {
-    /// So many bytes of the input were taken, by so many units of work.
+    /// `taken` bytes of the input were taken, by `units` units of work.
     Went { taken: usize, units: u32 },
     /// Nothing was done.
     Waits(Next),

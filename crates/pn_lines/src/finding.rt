@@ -11,7 +11,7 @@ use pn_line::MAX_KEPT_BYTES;
 /// The first line at hand.
 #[derive(Clone, Copy, Debug, PartialEq, Eq)]
 pub(crate) enum Found {
-    /// It has so many bytes, and a newline.
+    /// It has this number of bytes, and a newline.
     Line(usize),
     /// It is too long.
     Long,

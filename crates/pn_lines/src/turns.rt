@@ -182,7 +182,7 @@ impl<G: Drop, T: PieceText> LineTurns<G, T> {
     }
 }
 
-// What a turn comes to that worked so, and of whose replies so much was taken.
+// What a turn comes to, by its work and by how far the sink took its replies.
 fn outcome_of(worked: Work, sent: Sent) -> TurnOutcome
     ensures { result ≡ comes_to worked sent }
 {

@@ -33,7 +33,7 @@ let_in line Unasked = Unasked
 let_in line (Wanted number bytes) = Given line bytes
 let_in line (Given own bytes) = Given own bytes
 
--- a line was put off for so much, now; or before
+-- a line was put off for `bytes`, now or before
 abbrev pub put_off_for : ℕ → Room → Room
 put_off_for bytes Unasked = Wanted 0 bytes
 put_off_for bytes (Wanted number waits) = Wanted number waits

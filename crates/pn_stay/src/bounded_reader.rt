@@ -30,7 +30,7 @@ pub(crate) struct AskedLine {
 pub(crate) enum Look {
     /// It goes on. With its line it may be put off.
     Under(Going, Option<AskedLine>),
-    /// Its reply kept `weight` bytes, for which there was no room. The line is asked again once there is, or after so many waits.
+    /// Its reply kept `weight` bytes, for which there was no room. The line is asked again once there is, or after `waits` waits.
     PutOff {
         line: AskedLine,
         weight: u64,

@@ -131,13 +131,13 @@ impl UnreadCounters {
         is_past(self.bytes.get(), self.wanted.get(), self.limit)
     }
 
-    /// How much room there is for a reply of a connection that keeps so many bytes.
+    /// How much room there is for a reply of a connection that keeps `own` bytes.
     pub(crate) fn room_beside(&self, own: u64) -> u64 {
         let others = self.bytes.get().saturating_sub(own);
         room_beside(others, self.wanted.get(), self.limit)
     }
 
-    /// Whether there is room for a line that waits for so many bytes.
+    /// Whether there is room for a line that waits for `bytes`.
     pub(crate) fn has_room(&self, bytes: u64) -> bool {
         has_room(bytes, self.bytes.get(), self.limit)
     }
@@ -155,7 +155,7 @@ fn replace_in(counter: &Counter, before: u64, after: u64) {
 #[derive(Drop)]
 pub struct Counters {
     pub rounds: Arc<Counter>,
-    /// At 1 while a round waits for memory, and else at 0.
+    /// 1 while a round waits for memory, otherwise 0.
     pub shortage: Arc<Counter>,
     /// How many streams wait for memory.
     pub waiting: Arc<Counter>,

@@ -19,7 +19,7 @@ impl LineClock {
         }
     }
 
-    /// A turn is over, after which so many lines were taken, of which the last may go on: the others have their replies. What was
+    /// A turn is over, up to which `lines` lines were taken. The last may go on; the others have their replies. What was
     /// taken in the turn was at hand then.
     pub(crate) fn end_turn<R: Clock>(
         &mut self,

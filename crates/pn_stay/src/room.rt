@@ -16,9 +16,9 @@ pub(crate) const ANY_ROOM: u64 = u64::MAX;
 pub(crate) enum Room {
     /// None does.
     Unasked,
-    /// It waits for so many bytes, and was put off as this one of all; 0 before it has its number.
+    /// It waits for room for `bytes`. `number` is its turn among the lines that wait, 0 before it has one.
     Wanted { number: u64, bytes: u64 },
-    /// The line of this number was let in, for so many bytes.
+    /// The line of this number was let in, with room for `bytes`.
     Given { line: u64, bytes: u64 },
 }
 
@@ -78,7 +78,7 @@ impl Room {
         }
     }
 
-    /// After a turn in which a line was put off for so many bytes, or none was. Room that was given is kept while the look for the reply to
+    /// After a turn in which a line was put off for `wanted` bytes, or none was. Room that was given is kept while the look for the reply to
     /// its line goes on, which is that to `going`, if one does.
     pub(crate) fn after_turn(self, wanted: Option<u64>, going: Option<u64>) -> Room
         ensures { result ≡ becomes wanted going self }
@@ -147,7 +147,7 @@ pub(crate) fn is_past(kept: u64, wanted: u64, limit: u64) -> bool
     limit.saturating_sub(kept) < wanted || limit < kept
 }
 
-/// How much room there is for a reply, where others keep and wait for so much: any, where that is nothing.
+/// How much room there is for a reply where others keep `kept` bytes and wait for `wanted`: any, where both are 0.
 pub(crate) fn room_beside(kept: u64, wanted: u64, limit: u64) -> u64
     ensures any { kept + wanted ≡ 0 → result ≡ 2 ^ 64 - 1 }
     ensures left { 0 < kept + wanted → result ≡ limit - (kept + wanted) }

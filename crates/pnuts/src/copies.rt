@@ -117,7 +117,7 @@ where
     open_copies(rt, rt.alloc(), copies, service.sessions + controls)
 }
 
-// The copies, or where bounds are told those of the tablets between them.
+// The copies, or where bounds are given those of the tablets between them.
 fn in_bounds(
     alloc: Global,
     layout: &Layout,

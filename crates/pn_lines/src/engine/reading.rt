@@ -50,7 +50,7 @@ impl<G: Drop, T: PieceText> LineEngine<G, T> {
         }
     }
 
-    // Has a line answered that has so many bytes.
+    // Has the line of the first `at` bytes answered.
     fn ask_line<M: LineHandler<Going = G, Text = T>>(
         &mut self,
         machine: &mut M,

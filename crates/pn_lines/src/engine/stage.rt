@@ -5,7 +5,7 @@ use crate::handler::EndedBy;
 /// What is done next, once no text is left to be made.
 #[derive(Drop)]
 pub(crate) enum Stage<G> {
-    /// Lines are taken. Of a line that is too long, so many bytes were dropped.
+    /// Lines are taken. Of a line that is too long, this number of bytes was dropped.
     Reading(usize),
     /// An answer is gone on with, to a line that ended so.
     Going(G, EndedBy),

@@ -73,7 +73,7 @@ impl<C: StatsSource + Drop> ControlSession<C> {
         (reader, ended)
     }
 
-    // Asks the server to stop, once the reply to that was handed on.
+    // Asks the server to stop, once the reply to that was flushed.
     fn stop_server<R: Wait + Clock, W: Sink>(
         &self,
         rt: &R,

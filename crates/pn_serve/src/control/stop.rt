@@ -32,7 +32,7 @@ pub(crate) struct StopTime {
 }
 
 impl StopTime {
-    /// The time so many seconds after `now` as a line said.
+    /// The time `said.seconds` after `now`.
     pub(crate) fn after(now: u64, said: StopSaid) -> StopTime
         ensures time { result.time ≡ min (now + said.seconds * 1000) (2 ^ 64 - 1) }
         ensures said { result.said ≡ said }

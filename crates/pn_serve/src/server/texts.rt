@@ -11,7 +11,7 @@ pub trait Sending {
     ghost sends: { List ℕ → List ℕ → Type 0 };
 }
 
-/// Writers of which nothing is known, as those behind sockets.
+/// Writers of which nothing is known, such as those that come by a socket.
 #[derive(Drop)]
 pub struct AnyWriters;
 

@@ -107,7 +107,7 @@ impl EventLoop {
         true
     }
 
-    // Ends clients that took no byte for longest, which is for so many quarters, until the limit is not passed.
+    // Ends clients that took no byte for `longest` quarters, until the limit is not passed.
     fn end_longest<R: Wait>(&mut self, rt: &R, mailbox: &SocketMailbox, longest: u32)
         ensures { (key : ℕ) → EndsAt longest (unread_at self.old.connections key) (unread_at self.new.connections key) }
     {

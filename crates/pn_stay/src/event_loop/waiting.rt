@@ -6,7 +6,7 @@ use crate::event_loop::{EventLoop, make_ready};
 use slab::Slab;
 
 impl EventLoop {
-    /// Counts what the connection of a key keeps after a turn, before which it kept so much, and what its line waits for.
+    /// Counts what the connection of a key keeps after a turn, and what its line waits for, in place of `before`.
     pub(super) fn note_kept(&mut self, key: usize, before: Kept) {
         let Some(connection) = self.connections.get_mut(key) else {
             return;

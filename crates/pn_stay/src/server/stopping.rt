@@ -181,7 +181,7 @@ fn is_behind<R: Wait>(rt: &R, stream: &StreamCounters) -> bool {
     }
 }
 
-// Whether so many milliseconds have passed since `then`. Where the clock fails they have.
+// Whether `millis` milliseconds have passed since `then`. Where the clock fails they have.
 fn has_passed<R: Clock>(rt: &R, then: &Option<Instant>, millis: u64) -> bool {
     let Some(then) = then else { return true };
     match then.elapsed(rt) {

@@ -101,7 +101,7 @@ impl<I: Read + Drop, L: NewestListener + Drop> MessageInput<I, L> {
         Ok(None)
     }
 
-    // Reads what is at hand behind what is held, by way of a buffer. False at the end.
+    // Reads what is there after what is held, by way of a buffer. False at the end.
     fn read_more(&mut self, buf: &mut [u8]) -> io::Result<bool>
         ensures inside { self.new.is_inside ≡ self.old.is_inside }
         ensures size { length buf.new ≡ length buf.old }
@@ -140,7 +140,7 @@ impl<I: Read + Drop, L: NewestListener + Drop> MessageInput<I, L> {
         self.passed(used, given, false)
     }
 
-    // So many bytes of what was held were used, and so many were given on.
+    // `used` bytes of what was held were used, and `given` were given on.
     fn passed(&mut self, used: usize, given: usize, lacks_memory: bool) -> Passed
         requires { used ≤ vec_len self.old.held }
         ensures passed { result ≡ record { given = given; lacks_memory = lacks_memory } }

@@ -14,7 +14,7 @@ use std::alloc::Global;
 /// What comes next of a writer's bytes.
 #[derive(Clone, Copy, Debug, PartialEq, Eq)]
 pub enum Step {
-    /// So many bytes go on as they are. Whether the next ones belong to a line whose beginning went on.
+    /// `count` bytes go on as they are. Whether the next ones belong to a line whose beginning went on.
     Give { count: usize, is_inside: bool },
     /// A line of this length says how far the broker is, and its newline follows.
     Hear { line: usize, newest: u64 },
@@ -31,7 +31,7 @@ pub enum LineKind {
     Unknown,
 }
 
-/// What comes next of these bytes, where there is room for so many. None where there are none, no room, or a part of a line that
+/// What comes next of these bytes, where there is room for `room`. None where there are none, no room, or a part of a line that
 /// may say how far the broker is.
 pub fn next_step(
     alloc: Global,

@@ -1,4 +1,4 @@
-//! How often it is told that a stream's writers end and begin again.
+//! How often it is printed that a stream's writers end and begin again.
 
 ghost use Rattle.std.specs.Prelude.{◌≡◌, true};
 
@@ -8,17 +8,17 @@ use std::alloc::AllocError;
 use std::sync::Wait;
 use std::time::Clock;
 
-/// How many ends are told in a minute at most.
+/// How many ends are printed in a minute at most.
 const MAX_TOLD: u32 = 60;
 
-/// The turns of a stream's writers. Where many end in a minute, further ones end and begin untold.
+/// The turns of a stream's writers. Where many end in a minute, nothing is printed of further ones.
 #[derive(Drop)]
 pub(crate) struct Turns {
     has_begun: bool,
     minute: Seldom,
-    // How many ends were told in this minute.
+    // How many ends were printed in this minute.
     told: u32,
-    // Whether the last end was not told, and what there is to tell of it while no other writer has come.
+    // Whether the last end was not printed, and what there is to print of it while no other writer has come.
     is_untold: bool,
     untold: Option<String>,
 }
@@ -35,7 +35,7 @@ impl Turns {
         }
     }
 
-    /// Every writer but the first begins again, which is told where the end before it was.
+    /// Every writer but the first begins again, which is printed where the end before it was.
     pub(crate) fn begin<R: Wait + Drop>(&mut self, notes: &StreamNotes<R>)
         ensures { self.new.has_begun ≡ true }
     {
