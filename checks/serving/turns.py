@@ -253,8 +253,8 @@ def deaf_row(program: str, folder: str, east: str, count: int) -> Row:
     """What clients cost that take nothing, and once they have gone: who has ended its input may still take the reply that waits for room."""
     with Staying(program, folder, [("east", east)], "--connections", "4096", threads=1, is_looked_at=False) as region:
         wait_until_loaded(region)
-        taken = count / 2 * (taken_seconds(region, COPY) + taken_seconds(region, PAGE))
         before = memory_at_rest(region)
+        taken = count / 2 * (taken_seconds(region, COPY) + taken_seconds(region, PAGE))
         with contextlib.ExitStack() as stay:
             for number in range(count):
                 stay.enter_context(deaf_client(region.port, COPY if number % 2 else PAGE))

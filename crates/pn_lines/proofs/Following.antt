@@ -164,6 +164,13 @@ module _ {V G : Type 0} (handling : Handling V G) (left : G → ℕ) (steady : I
       if_known known (λ (bytes : List ℕ). Follows handling start bytes old) (λ (bytes : List ℕ). Follows handling start bytes new)
       (λ bytes follows. subst (λ (k : TurnValue G). Follows handling start bytes (record new { kept = k })) (sym turned.kept) (Follows-turn handling steady start bytes turned.moved old (at new.left new.written new.machine turned.reached) turned.moves follows)) is
 
+  -- others have the handler in between
+  pub Follows-between : (known : Option (List ℕ)) (old : Moment V G) (now : V) → handling.moves old.machine now → IfSome known (λ (bytes : List ℕ). Follows handling start bytes old)
+      → IfSome known (λ (bytes : List ℕ). Follows handling start bytes (record old { machine = now }))
+  Follows-between known old now moves is =
+      if_known known (λ (bytes : List ℕ). Follows handling start bytes old) (λ (bytes : List ℕ). Follows handling start bytes (record old { machine = now }))
+      (λ bytes follows. Follows-moved handling steady start bytes now old moves follows) is
+
   -- a turn after which it does not
   pub Follows-finished : (old new : Moment V G) (outcome : TurnOutcome) → Turned handling left old new outcome → IfSome start.left (λ (bytes : List ℕ). Follows handling start bytes old)
       → Finishes handling start new.left new.written new.machine new.kept.engine outcome

@@ -21,6 +21,6 @@ pub use handler::{
 };
 pub use piece_text::{MAX_PIECE_BYTES, PieceText};
 pub use turns::{
-    Input, LineTurns, MAX_UNREAD, Pause, READ_SIZE, SourceState, TURN_UNITS, TurnBuffers,
+    Input, LineTurns, MAX_UNREAD, Others, Pause, READ_SIZE, SourceState, TURN_UNITS, TurnBuffers,
     TurnFault, TurnOutcome, answer_in_turns, is_wait,
 };

@@ -20,7 +20,7 @@ use crate::turns::sending::{Sent, send};
 use crate::turns::working::{Work, take_lines};
 pub use buffers::{MAX_UNREAD, TurnBuffers};
 pub use input::{Input, READ_SIZE, is_wait};
-pub use laws::answer_in_turns;
+pub use laws::{Others, answer_in_turns};
 use pn_line::Sink;
 use std::alloc::Global;
 use std::marker::Model;

@@ -13,7 +13,7 @@ mod writers;
 
 use clients::{count_input, keep_input, read_input, take_turns};
 use echo::Echo;
-use pn_lines::{LinesEnd, TurnOutcome};
+use pn_lines::{LinesEnd, Others, TurnOutcome};
 use pn_stay::every_way_of_coming_and_going;
 use served::{answer_flood, listen_twice, serve_session, stay_until_idle};
 use std::alloc::Global;
@@ -65,10 +65,28 @@ where
     }
 }
 
+// Others that let a connection have this number of turns.
+#[derive(Drop)]
+struct TurnsLeft(u32);
+
+impl Others<Echo> for TurnsLeft {
+    ghost use Rattle.std.specs.Prelude.{⊤};
+
+    ghost may_give_up = { ⊤ };
+
+    fn have_turns(&mut self, _machine: &mut Echo) -> bool {
+        self.0 = self.0.saturating_sub(1);
+        self.0 > 0
+    }
+
+    fn give_up(&mut self) {}
+}
+
 fn come_and_go(alloc: Global, takes: &str, text: &str) -> Result<String, Fail> {
     let pieces = read_pieces(alloc, text)?;
     let takes = read_takes(alloc, takes)?;
-    let answered = every_way_of_coming_and_going(alloc, &mut Echo, &pieces, &takes, TURNS)?;
+    let mut others = TurnsLeft(TURNS);
+    let answered = every_way_of_coming_and_going(alloc, &mut Echo, &pieces, &takes, &mut others)?;
     let mut text = show(alloc, &answered.taken)?;
     match answered.ended {
         Some(TurnOutcome::Ended(LinesEnd::Input)) => write!(text, " of {} lines", answered.lines),

@@ -1,9 +1,9 @@
--- One turn after another.
+-- One turn after another, and those of others in between.
 use Rattle.pn_lines.specs.Ends.{start_at}
 use Rattle.pn_lines.specs.Turns.{at}
 use Rattle.pn_lines.specs.declared.engine.stage.LinesEnd.TheVariants.{Input}
 use Rattle.pn_lines.specs.declared.turns.TurnOutcome.TheVariants.{Ended}
-use Rattle.pn_lines.proofs.Following.{Follows-begun, Follows-finished, Follows-going, Follows-over, some_is}
+use Rattle.pn_lines.proofs.Following.{Follows-begun, Follows-between, Follows-finished, Follows-going, Follows-over, some_is}
 use Rattle.pn_lines.proofs.turns.laws.answer_in_turns.Goals as goal
 
 pub turns-init : goal.turns-init
@@ -11,10 +11,14 @@ turns-init g c = Follows-begun g.M.LineHandler.handling g.met.M.LineHandler.stea
 
 pub turns-preserved : goal.turns-preserved
 turns-preserved g c =
+    let M = g.M.LineHandler in
     let before = g.R.Input.remaining c.args.input.now in
-    Follows-going g.M.LineHandler.handling g.M.LineHandler.left g.met.M.LineHandler.steady.0 (start_at c.args.machine.now before (g.W.Sink.contents c.args.output.now)) before
-    (at (g.R.Input.remaining c.turns.input) (g.W.Sink.contents c.turns.output) c.turns.machine c.turns.lines) (at (g.R.Input.remaining c.turn.new.input) (g.W.Sink.contents c.turn.new.output) c.turn.new.machine c.turn.new.self)
-    c.in-Goes.field-0 c.in-Goes.ensures.turns c.turns.invariant
+    let start = start_at c.args.machine.now before (g.W.Sink.contents c.args.output.now) in
+    let turned = at (g.R.Input.remaining c.turn.new.input) (g.W.Sink.contents c.turn.new.output) c.turn.new.machine c.turn.new.self in
+    Follows-between M.handling M.left g.met.M.LineHandler.steady.0 start before turned c.have_turns.new.machine c.have_turns.ensures.moves
+    (Follows-going M.handling M.left g.met.M.LineHandler.steady.0 start before
+    (at (g.R.Input.remaining c.turns.input) (g.W.Sink.contents c.turns.output) c.turns.machine c.turns.lines) turned
+    c.in-Goes.field-0 c.in-Goes.ensures.turns c.turns.invariant)
 
 pub returns-in_default : goal.returns-in_default
 returns-in_default g c =
@@ -26,4 +30,5 @@ returns-in_default g c =
     record {
       finishes = finishes;
       ends = λ is. Follows-over M.handling M.left g.met.M.LineHandler.steady.0 start new c.turn.result (some_is c.turn.result (Ended Input) is) finishes;
+      gives_up = λ none. cc;
     }
