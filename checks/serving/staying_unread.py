@@ -114,8 +114,9 @@ def check_limit(program: str, folder: str) -> None:
 
 def some_of(client: socket.socket) -> int:
     """How many bytes a client takes that are there, and it stays connected."""
+    client.setblocking(False)
     with contextlib.suppress(BlockingIOError):
-        taken = len(client.recv(PART, socket.MSG_DONTWAIT))
+        taken = len(client.recv(PART))
         same("a taker stays", taken > 0, True)
         return taken
     return 0
