@@ -9,6 +9,7 @@ ghost use Rattle.pn_join.specs.PutInLeaves.{IsPutOf, ChangesOneLeaf};
 ghost use Rattle.pn_join.specs.LeafListChanges.{with_back};
 ghost use Rattle.pn_join.specs.Tables.{IsTable};
 
+mod building;
 mod bulk_join;
 mod halves;
 mod iteration;

@@ -38,7 +38,25 @@ pub fn join_one<K: Ord + Dup, C: Join>(
         entries.old.items entries.new.items) }
     ensures err { OnErr result (entries.new.items ≡ entries.old.items) }
 {
-    match binary_search(entries, &key) {
+    let place = binary_search(entries, &key);
+    join_at(entries, place, key, content)
+}
+
+/// The same, where the index of the key is known.
+pub fn join_at<K: Ord + Dup, C: Join>(
+    entries: &mut Vec<(K, C)>,
+    place: Result<usize, usize>,
+    key: K,
+    content: C,
+) -> Result<(), NoMemory>
+    requires place { place ≡ index_of K.cmp key entries.old.items }
+    requires valid { C.valid content }
+    requires table { IsTable K.cmp C.valid entries.old.items }
+    ensures ok { OnOk result (IsPutOf K.cmp C.meaning C.joined C.valid key content
+        entries.old.items entries.new.items) }
+    ensures err { OnErr result (entries.new.items ≡ entries.old.items) }
+{
+    match place {
         Ok(index) => entries[index].1.join_from(&content),
         Err(index) => Ok(entries.insert(index, (key, content))?),
     }
@@ -87,7 +105,7 @@ fn split_if_too_long<T>(items: &mut Vec<T>, back: &mut Vec<T>)
 }
 
 /// Moves the items from an index on to the end of the others, last first.
-fn move_from<T>(items: &mut Vec<T>, index: usize, others: &mut Vec<T>)
+pub fn move_from<T>(items: &mut Vec<T>, index: usize, others: &mut Vec<T>)
     requires within { index ≤ vec_len items.old }
     requires fits { vec_len others.old + (vec_len items.old - index) ≤ vec_capacity others.old }
     ensures prefix { items.new.items ≡ take index items.old.items }
