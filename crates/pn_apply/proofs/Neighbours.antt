@@ -33,9 +33,14 @@ ascends_from_sorted [] sorted = tt
 ascends_from_sorted (e ∷ []) sorted = (tt, tt)
 ascends_from_sorted (e ∷ f ∷ es) sorted =
     let first : is_lt (bytes_cmp f.0 e.0) ≡ false = sorted 0 e (omega arith) (omega arith) in
-    let rest : Ascends (f ∷ es) = ascends_from_sorted (f ∷ es) (λ k d ge lt. sorted (suc k) d (omega arith) (omega (arith, lt))) in
-    ((first, each_weaker (λ (g : Entry). is_lt (bytes_cmp g.0 f.0) ≡ false) (λ (g : Entry). is_lt (bytes_cmp g.0 e.0) ≡ false)
-      (λ g above. (ranks_by nat_list_cmp_total (λ (x : Entry). x.0)).chain g f e above first) es rest.0), rest)
+    let rest : Ascends (f ∷ es) = ascends_from_sorted (f ∷ es) (λ k d ge lt. sorted (suc k) d (omega arith) (omega (arith, lt))) in (
+      (
+        first,
+        each_weaker (λ (g : Entry). is_lt (bytes_cmp g.0 f.0) ≡ false) (λ (g : Entry). is_lt (bytes_cmp g.0 e.0) ≡ false)
+            (λ g above. (ranks_by nat_list_cmp_total (λ (x : Entry). x.0)).chain g f e above first) es rest.0,
+      ),
+      rest,
+    )
 
 -- no key is above one that is put, if none was
 up_to_put : (bound key : List ℕ) (v : CellValue) (es : Entries) → is_lt (bytes_cmp bound key) ≡ false → AreUpTo bytes_cmp bound es → AreUpTo bytes_cmp bound (put bytes_cmp key v es)

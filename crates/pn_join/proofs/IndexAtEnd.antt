@@ -1,16 +1,12 @@
 -- The index of a key that no entry is above: that of the last entry, or the end.
-use Rattle.std.proofs.Common.{◌≡◌, ℕ, suc, ◌-◌, ◌<◌, Bool, true, false, List, [], ◌∷◌, length, Result, Ok, Err, Ordering, Less, Equal, Greater, is_lt, refl, sym, ap, ◌∙◌, arith}
+use Rattle.std.proofs.Common.{◌≡◌, ℕ, suc, ◌-◌, ◌<◌, true, false, List, [], ◌∷◌, length, Ok, Err, Ordering, Less, Equal, Greater, is_lt, refl, sym, ap, ◌∙◌, arith, append-nil}
 use Rattle.std.specs.Ordering.{ordering_reverse}
 use Rattle.std.specs.Cmp.{IsTotalOrder, alike_right}
 use Rattle.std.specs.FinMap.Entries.{by_order}
 use Rattle.pn_join.specs.Indices.{later, index_of, AreUpTo}
 use Rattle.pn_join.specs.Leaves.{ends_below}
+use Rattle.pn_join.proofs.LeafListSearch.{above_all, index_past, shifted-first}
 use Rattle.pn_join.proofs.Rising.{Below, Rising, flipped}
-
-less : (r : Ordering) → is_lt r ≡ true → r ≡ Less
-less Less p = refl
-less Equal p = cc
-less Greater p = cc
 
 tied : (r : Ordering) → is_lt r ≡ false → is_lt (ordering_reverse r) ≡ false → r ≡ Equal
 tied Less p q = cc
@@ -18,24 +14,15 @@ tied Equal p q = refl
 tied Greater p q = cc
 
 module _ {K X : Type 0} (cmp : K → K → Ordering) (key : K) (o : IsTotalOrder cmp) where
-  index_by : (e : K × X) (es : List (K × X)) (r : Ordering) → cmp key e.0 ≡ r → index_of cmp key (e ∷ es) ≡ by_order r (Err 0) (Ok 0) (later (index_of cmp key es))
-  index_by e es r p = ap (λ r. by_order r (Err 0) (Ok 0) (later (index_of cmp key es))) p
-
   pub in_none : (es : List (K × X)) → length es ≡ 0 → Err 0 ≡ index_of cmp key es
   in_none [] none = refl
   in_none (e ∷ es) none = absurd (omega (arith, none))
 
-  -- a key below entries that end below this one is below it
-  below_end : (k : K) (es : List (K × X)) → Below cmp k es → ends_below cmp key es ≡ true → cmp k key ≡ Less
-  below_end k [] h below = cc
-  below_end k (e ∷ []) h below = o.trans k e.0 key h.0 (less _ below)
-  below_end k (e ∷ f ∷ es) h below = below_end k (f ∷ es) h.1 below
-
   pub past_end : (es : List (K × X)) → Rising cmp es → ends_below cmp key es ≡ true → Err (length es) ≡ index_of cmp key es
-  past_end [] h below = cc
-  past_end (e ∷ []) h below = sym (index_by e [] Greater (flipped o e.0 key (less _ below)))
-  past_end (e ∷ f ∷ es) h below =
-      ap later (past_end (f ∷ es) h.1 below) ∙ sym (index_by e (f ∷ es) Greater (flipped o e.0 key (below_end e.0 (f ∷ es) h.0 below)))
+  past_end es h below = shifted-first (length es) ∙ sym (index_past cmp key es [] (above_all cmp key o es h below)) ∙ ap (index_of cmp key) (append-nil es)
+
+  index_by : (e : K × X) (es : List (K × X)) (r : Ordering) → cmp key e.0 ≡ r → index_of cmp key (e ∷ es) ≡ by_order r (Err 0) (Ok 0) (later (index_of cmp key es))
+  index_by e es r p = ap (λ r. by_order r (Err 0) (Ok 0) (later (index_of cmp key es))) p
 
   -- the last entry has the key, where it is neither below nor above it
   tied_end : (e : K × X) → is_lt (cmp e.0 key) ≡ false → is_lt (cmp key e.0) ≡ false → cmp key e.0 ≡ Equal

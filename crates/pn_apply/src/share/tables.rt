@@ -25,10 +25,7 @@ pub fn table_of_entries(alloc: Global, entries: &[(Key, Cell)]) -> Result<Record
 }
 
 // The entries, where those of one key, which stand side by side, have become one.
-fn join_neighbours(
-    alloc: Global,
-    sorted: Vec<(Key, Cell)>,
-) -> Result<Vec<(Key, Cell)>, NoMemory>
+fn join_neighbours(alloc: Global, sorted: Vec<(Key, Cell)>) -> Result<Vec<(Key, Cell)>, NoMemory>
     requires { IsSortedByKey (λ entry. entry.0) bytes_cmp sorted.items }
     ensures cells { IfOk result (λ joined. (key : List ℕ) → find bytes_cmp key joined.items ≡ joined_at sorted.items key) }
     ensures table { IfOk result (λ joined. IsTable bytes_cmp HasContents joined.items) }

@@ -8,4 +8,3 @@ use Rattle.pn_join.proofs.PutFacts.{IsTable-new}
 use Rattle.pn_apply.specs.Shares.{joined_at}
 use Rattle.pn_apply.proofs.Neighbours.{Follow, ascends_from_sorted, all_follow, next_follow, next_joined}
 use Rattle.pn_apply.proofs.share.tables.join_neighbours.Goals as goal
-

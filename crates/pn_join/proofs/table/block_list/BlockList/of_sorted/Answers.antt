@@ -1,11 +1,11 @@
 -- The next block and what is there are a table, since the whole is.
-use Rattle.std.proofs.Common.{◌≡◌, ◌++◌, ◌<◌, length, reverse, sym, ap, ◌∙◌, subst, arith}
+use Rattle.std.proofs.Common.{◌≡◌, ◌<◌, length, reverse, sym, ap, subst, arith}
 use Rattle.std.proofs.lemmas.Bool.Decides.{nat_tests}
 use Rattle.pn_join.specs.Blocks.{entries_in}
 use Rattle.pn_join.specs.Leaves.{all_entries}
 use Rattle.pn_join.specs.Tables.{IsTable}
-use Rattle.pn_join.proofs.BlockGrowth.{IsTable-back, entries_push}
-use Rattle.pn_join.proofs.Building.{all_are, fewer_left, part_table, still_parted}
+use Rattle.pn_join.proofs.BlockGrowth.{IsTable-back}
+use Rattle.pn_join.proofs.Building.{all_are, fewer_left, next_block, part_table}
 use Rattle.pn_join.proofs.table.block_list.BlockList.of_sorted.Goals as goal
 
 pub of_next-requires : goal.of_next-requires
@@ -16,9 +16,8 @@ of_next-requires g c =
 pub push-requires-clause-table : goal.push-requires-clause-table
 push-requires-clause-table g c =
     let now = c.loop-alloc in
-    let rest = reverse c.of_next.new.left.items in
-    part_table g.K.Ord.cmp g.C.Join.valid (entries_in now.list) (all_entries c.seal.result) rest (reverse now.left.items) c.args.entries.items
-    (ap (λ block. all_entries block ++ rest) c.seal.ensures ∙ c.in_ok-block.ensures.parted) now.invariant c.requires
+    part_table g.K.Ord.cmp g.C.Join.valid (entries_in now.list) (all_entries c.seal.result) (all_entries c.in_ok-block.block) (reverse c.of_next.new.left.items) (reverse now.left.items) c.args.entries.items
+    (ap all_entries c.seal.ensures) c.in_ok-block.ensures.parted now.invariant c.requires
 
 pub loop-alloc-smaller : goal.loop-alloc-smaller
 loop-alloc-smaller g c =
@@ -28,11 +27,8 @@ loop-alloc-smaller g c =
 pub loop-alloc-preserved : goal.loop-alloc-preserved
 loop-alloc-preserved g c =
     let now = c.loop-alloc in
-    let rest = reverse c.of_next.new.left.items in
-    ap (λ blocks. entries_in blocks ++ rest) c.in_ok-push.ensures.ok
-    ∙ ap (λ es. es ++ rest) (entries_push now.list c.seal.result)
-    ∙ still_parted (entries_in now.list) (all_entries c.seal.result) rest (reverse now.left.items) c.args.entries.items
-    (ap (λ block. all_entries block ++ rest) c.seal.ensures ∙ c.in_ok-block.ensures.parted) now.invariant
+    next_block now.list c.push.new.self c.seal.result c.in_ok-block.block (reverse c.of_next.new.left.items) (reverse now.left.items) c.args.entries.items
+    c.in_ok-push.ensures.ok c.seal.ensures c.in_ok-block.ensures.parted now.invariant
 
 pub returns : goal.returns
 returns g c =
