@@ -20,7 +20,7 @@ use Rattle.pn_record.proofs.CellLists.{both, both-assoc, cells-append, cells-sam
 use Rattle.pn_record.proofs.HeldRecords.{Holds-one, find-joined}
 use Rattle.pn_apply.specs.Shares.{entry_of, joined_at}
 
-abbrev Entry : Type 0
+abbrev pub Entry : Type 0
 Entry = List ℕ × CellValue
 
 -- no key is less than one before it
@@ -33,14 +33,13 @@ ascends_from_sorted [] sorted = tt
 ascends_from_sorted (e ∷ []) sorted = (tt, tt)
 ascends_from_sorted (e ∷ f ∷ es) sorted =
     let first : is_lt (bytes_cmp f.0 e.0) ≡ false = sorted 0 e (omega arith) (omega arith) in
-    let rest : Ascends (f ∷ es) = ascends_from_sorted (f ∷ es) (λ k d ge lt. sorted (suc k) d (omega arith) (omega (arith, lt))) in (
-      (
-        first,
-        each_weaker (λ (g : Entry). is_lt (bytes_cmp g.0 f.0) ≡ false) (λ (g : Entry). is_lt (bytes_cmp g.0 e.0) ≡ false)
-            (λ g above. (ranks_by nat_list_cmp_total (λ (x : Entry). x.0)).chain g f e above first) es rest.0,
-      ),
-      rest,
-    )
+    let rest : Ascends (f ∷ es) = ascends_from_sorted (f ∷ es) (λ k d ge lt. later_sorted k d (omega (arith, lt))) in
+    ((first, each_weaker (λ (g : Entry). is_lt (bytes_cmp g.0 f.0) ≡ false) (λ (g : Entry). is_lt (bytes_cmp g.0 e.0) ≡ false) (λ g above. (ranks_by nat_list_cmp_total (λ (x : Entry). x.0)).chain g f e above first) es rest.0), rest)
+  where
+    later_sorted : (k : ℕ) (d : Entry) → suc k + 1 < length (e ∷ f ∷ es) → is_lt (bytes_cmp (get_or (f ∷ es) (k + 1) d).0 (get_or (f ∷ es) k d).0) ≡ false
+    later_sorted k d lt =
+        let next : suc k + 1 ≡ suc (k + 1) = omega arith in
+        subst (λ (n : ℕ). is_lt (bytes_cmp (get_or (e ∷ f ∷ es) n d).0 (get_or (e ∷ f ∷ es) (suc k) d).0) ≡ false) next (sorted (suc k) d (omega arith) lt)
 
 -- no key is above one that is put, if none was
 up_to_put : (bound key : List ℕ) (v : CellValue) (es : Entries) → is_lt (bytes_cmp bound key) ≡ false → AreUpTo bytes_cmp bound es → AreUpTo bytes_cmp bound (put bytes_cmp key v es)
@@ -58,7 +57,7 @@ pub record Follow (joined left : Entries) : Type 0 where
   pub order : Ascends left
 
 pub all_follow : (left : Entries) → Ascends left → Follow [] left
-all_follow left order = record { up_to = each_of (λ (e : Entry). AreUpTo bytes_cmp e.0 []) (λ e. tt) left; order = order }
+all_follow left order = record { up_to = each_of (λ (e : Entry). AreUpTo {X = CellValue} bytes_cmp e.0 []) (λ e. tt) left; order = order }
 
 module _ {key : List ℕ} {cell : CellValue} {old new : Entries} (is : IsPutOf bytes_cmp (λ (c : CellValue). c) cell_joined HasContents key cell old new) where
   pub next_follow : (rest : Entries) → Follow old ((key, cell) ∷ rest) → Follow new rest
