@@ -23,6 +23,7 @@ pub mod Partitions
 pub mod IndexAtEnd
 pub mod IndexSearch
 pub mod Indices
+pub mod Places
 pub mod PutFacts
 pub mod PutTogether
 pub mod Puts
