@@ -15,11 +15,6 @@ abbrev pub index_of : {K X : Type 0} → (K → K → Ordering) → K → List (
 index_of cmp key [] = Err 0
 index_of cmp key (e ∷ es) = by_order (cmp key e.0) (Err 0) (Ok 0) (later (index_of cmp key es))
 
--- where a key is, or would be put
-abbrev pub place_in : Result ℕ ℕ → ℕ
-place_in (Ok i) = i
-place_in (Err i) = i
-
 -- no entry has a greater key than this one
 abbrev pub AreUpTo : {K X : Type 0} → (K → K → Ordering) → K → List (K × X) → Type 0
 AreUpTo cmp key entries = AllByRecursion (λ e. is_lt (cmp key e.0) ≡ false) entries

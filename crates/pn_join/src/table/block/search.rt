@@ -1,9 +1,9 @@
 //! Searches for a key: for its leaf, and within it.
 
-ghost use Rattle.std.specs.Prelude.{◌≡◌, ◌+◌, ◌-◌, ◌<◌, true, [], length, get_or, option_map, slice_get, IsTrue, IfSome};
+ghost use Rattle.std.specs.Prelude.{◌≡◌, ◌+◌, ◌-◌, ◌<◌, true, [], Err, length, get_or, option_map, slice_get, IsTrue, IfSome};
 ghost use Rattle.std.specs.FinMap.{find};
 ghost use Rattle.std.specs.Option.{option_copied};
-ghost use Rattle.pn_join.specs.Indices.{index_of, place_in};
+ghost use Rattle.pn_join.specs.Indices.{index_of};
 ghost use Rattle.pn_join.specs.Leaves.{all_entries, ends_below, leaf_for, IsLeafList};
 
 use super::Block;
@@ -102,8 +102,8 @@ impl<K: Ord + Dup, C: Join> Block<K, C> {
         }
     }
 
-    /// Whether a key surely belongs into this leaf, where it has this index. Between two entries, or at one, it does:
-    /// other leaves are looked at only where it lies at an end.
+    /// Whether a key surely belongs into this leaf, where it has this index. It does if it is there, or between two
+    /// entries: other leaves are looked at only where it would be put at an end.
     fn belongs(&self, leaf: usize, key: &K, index: &Result<usize, usize>) -> bool
         requires index { index.now ≡ index_of K.cmp key.now (get_or self.now leaf []) }
         ensures leaf { IsTrue result → leaf ≡ leaf_for K.cmp key.now self.now }
@@ -113,16 +113,29 @@ impl<K: Ord + Dup, C: Join> Block<K, C> {
         if leaf >= count {
             return false;
         }
-        let place = place_in(index);
+        match index {
+            Ok(_) => true,
+            Err(place) => self.is_gap_for(leaf, key, *place),
+        }
+    }
+
+    /// Whether a key that would be put at a place in this leaf surely belongs there.
+    fn is_gap_for(&self, leaf: usize, key: &K, place: usize) -> bool
+        requires leaf { leaf < length self.now }
+        requires place { Err place ≡ index_of K.cmp key.now (get_or self.now leaf []) }
+        ensures { IsTrue result → leaf ≡ leaf_for K.cmp key.now self.now }
+    {
+        self.recall_leaf_list();
         if self.is_before_end(leaf, place) {
             return self.previous_ends_below(leaf, key, place);
         }
         false
     }
 
-    /// Whether the leaf before this one ends below the key, or this is the first. It does if this one has a lesser key.
+    /// Whether the leaf before this one ends below the key, or this is the first. It does if the key would be put after
+    /// another of this one.
     fn previous_ends_below(&self, leaf: usize, key: &K, place: usize) -> bool
-        requires { place ≡ place_in (index_of K.cmp key.now (get_or self.now leaf [])) }
+        requires { Err place ≡ index_of K.cmp key.now (get_or self.now leaf []) }
         ensures { IsTrue result → 0 < leaf → ends_below K.cmp key.now (get_or self.now (leaf - 1) []) ≡ true }
     {
         self.recall_leaf_list();
@@ -154,16 +167,6 @@ fn content_of<K, C>(entries: &[(K, C)], index: usize) -> Option<&C>
 {
     let (_, content) = entries.get(index)?;
     Some(content)
-}
-
-/// Where a key is, or would be put.
-fn place_in(index: &Result<usize, usize>) -> usize
-    ensures { result ≡ place_in index.now }
-{
-    match index {
-        Ok(index) => *index,
-        Err(index) => *index,
-    }
 }
 
 /// Adds the last key of a leaf that was split to the last keys, if there is memory for it.

@@ -1,30 +1,13 @@
--- Where the key lies in the leaf, and the last key before it, decide.
-use Rattle.std.proofs.Common.{◌≡◌, ◌-◌, ◌<◌, [], get_or, length, ap, ◌∙◌, sym, arith}
-use Rattle.pn_join.specs.Indices.{index_of, place_in}
-use Rattle.pn_join.specs.Leaves.{ends_below}
+-- A key belongs into the leaf that has it.
+use Rattle.std.proofs.Common.{◌<◌, length, ◌∙◌, sym, arith}
 use Rattle.pn_join.proofs.LeafListFacts.{list_rising, list_some}
-use Rattle.pn_join.proofs.LeafListSearch.{Rising-leaf, leaf_for-at}
-use Rattle.pn_join.proofs.Places.{ends_after}
+use Rattle.pn_join.proofs.Places.{leaf_that_has}
 use Rattle.pn_join.proofs.table.block.Block.belongs.Goals as goal
 
-pub previous_ends_below-requires : goal.previous_ends_below-requires
-previous_ends_below-requires g c = c.place_in-place.ensures ∙ ap place_in c.requires.index
-
-pub returns-then-is_before_end-clause-leaf : goal.returns-then-is_before_end-clause-leaf
-returns-then-is_before_end-clause-leaf g c = λ yes.
+pub returns-in-Ok-clause-leaf : goal.returns-in-Ok-clause-leaf
+returns-in-Ok-clause-leaf g c = λ yes.
     let cmp = g.K.Ord.cmp in
-    let key = c.args.key.now in
-    let o = g.met.K.Ord.total in
     let list = c.args.self.now in
-    let leaf = c.args.leaf in
     let leaf_list = c.count-count.ensures.leaf_list in
-    let rising = list_rising cmp g.C.Join.valid list leaf_list in
-    let is : c.place_in-place.result ≡ place_in (index_of cmp key (get_or list leaf [])) = c.place_in-place.ensures ∙ ap place_in c.requires.index in
-    leaf_for-at cmp key o list (list_some cmp g.C.Join.valid list leaf_list) rising leaf
-    (omega (arith, c.if-leaf-count.false, c.count-count.ensures.count))
-    (λ i e.
-    let at : leaf - 1 ≡ i = omega (arith, e) in
-    ap (λ k. ends_below cmp key (get_or list k [])) (sym at) ∙ c.previous_ends_below.ensures yes (omega (arith, e)))
-    (λ more.
-    let before : c.place_in-place.result < length (get_or list leaf []) = c.is_before_end.ensures c.if-is_before_end.true more in
-    ends_after cmp key o (get_or list leaf []) (Rising-leaf cmp key o list rising leaf) (rw is at before))
+    let within : c.args.leaf < length list = omega (arith, c.if-leaf-count.false, c.count-count.ensures.count) in
+    leaf_that_has cmp c.args.key.now g.met.K.Ord.total list (list_some cmp g.C.Join.valid list leaf_list) (list_rising cmp g.C.Join.valid list leaf_list) c.args.leaf c.in-Ok.field-0 within (sym c.in-Ok.is ∙ c.requires.index)

@@ -1,6 +1,5 @@
--- If this leaf has a lesser key, the one before it ends below the key.
-use Rattle.std.proofs.Common.{◌≡◌, ◌<◌, suc, ◌-◌, [], get_or, ap, sym, ◌∙◌, arith}
-use Rattle.pn_join.specs.Indices.{index_of, place_in}
+-- If the key comes after another of this leaf, the leaf before it ends below the key.
+use Rattle.std.proofs.Common.{◌≡◌, suc, ◌-◌, [], get_or, ap, ◌∙◌, arith}
 use Rattle.pn_join.specs.Leaves.{begins_below}
 use Rattle.pn_join.proofs.LeafListFacts.{list_rising, list_some}
 use Rattle.pn_join.proofs.LeafListSearch.{ends_below-before}
@@ -16,6 +15,5 @@ returns-then-place-gt0 g c = λ yes some.
     let leaf = c.args.leaf in
     let leaf_list = c.recall_leaf_list.ensures in
     let next : suc (leaf - 1) ≡ leaf = omega (arith, some) in
-    let inside : 0 < place_in (index_of cmp key (get_or list leaf [])) = omega (arith, c.requires, c.if-place-gt0.true) in
-    let begins = ap (begins_below cmp key) (ap (λ j. get_or list j []) next) ∙ begins_before cmp key o (get_or list leaf []) inside in
+    let begins = ap (begins_below cmp key) (ap (λ j. get_or list j []) next) ∙ begins_before cmp key o (get_or list leaf []) c.args.place c.requires c.if-place-gt0.true in
     ends_below-before cmp key o list (list_some cmp g.C.Join.valid list leaf_list) (list_rising cmp g.C.Join.valid list leaf_list) (leaf - 1) begins
