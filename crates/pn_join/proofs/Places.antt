@@ -1,5 +1,5 @@
 -- What the index of a key in one leaf tells of the leaves.
-use Rattle.std.proofs.Common.{◌≡◌, ℕ, suc, ◌<◌, Bool, true, false, cond, List, [], ◌∷◌, length, option_map, option_copied, slice_get, Option, None, Some, Result, Ok, Err, Ordering, Less, Equal, Greater, is_eq, is_lt, get_or, zero, Bor, inl, inr, refl, sym, ap, ◌∙◌, subst, arith}
+use Rattle.std.proofs.Common.{◌≡◌, ℕ, zero, suc, ◌<◌, true, false, cond, List, [], ◌∷◌, length, get_or, slice_get, option_map, option_copied, Option, None, Some, Result, Ok, Err, Ordering, Less, Equal, Greater, is_eq, is_lt, Bor, inl, inr, refl, sym, ap, ◌∙◌, subst, arith}
 use Rattle.std.specs.Prelude.{IfSome, ◌⊎◌}
 use Rattle.std.specs.List.{AllByRecursion}
 use Rattle.std.specs.Cmp.{IsTotalOrder, alike_right}
@@ -7,8 +7,8 @@ use Rattle.std.specs.FinMap.{find}
 use Rattle.std.specs.FinMap.Entries.{by_order}
 use Rattle.pn_join.specs.Indices.{later, index_of}
 use Rattle.pn_join.specs.Leaves.{all_entries, begins_below, ends_below, leaf_for}
-use Rattle.pn_join.proofs.IndexAtEnd.{past_end}
 use Rattle.pn_join.proofs.Each.{each_back, each_prefix}
+use Rattle.pn_join.proofs.IndexAtEnd.{past_end}
 use Rattle.pn_join.proofs.Indices.{by_index}
 use Rattle.pn_join.proofs.LeafListSearch.{IsAbove, Below-leaf, Rising-leaf, ends_below-above, ends_below-before, leaf_for-at}
 use Rattle.pn_join.proofs.Rising.{Below, Rising, AllBelow, AllBelow-from_Rising, Rising-back, flipped}

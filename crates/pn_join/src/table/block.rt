@@ -21,7 +21,7 @@ mod splits;
 use crate::table::block::search::insert_last_key;
 use crate::table::entry_counts::{add_to_counts, copy_counts};
 use crate::table::leaf::{Leaf, share_leaves};
-use crate::table::leaf_join::{binary_search, join_in_leaf};
+use crate::table::leaf_join::join_in_leaf;
 use crate::{Dup, Join, NoMemory};
 pub use iteration::from_on;
 pub use opening::{OpenBlock, Opening};
@@ -145,9 +145,9 @@ impl<K: Ord + Dup, C: Join> Block<K, C> {
         ensures index { result ≡ index_of K.cmp key.now (all_entries self.now) }
         ensures leaf_list { IsLeafList K.cmp C.valid self.now }
     {
-        let leaf = self.leaf_for(key);
+        let (leaf, index) = self.place_of(key);
         let start = self.start(leaf);
-        match binary_search(self.entries_of(leaf), key) {
+        match index {
             Ok(index) => Ok(start + index),
             Err(index) => Err(start + index),
         }
