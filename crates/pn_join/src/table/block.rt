@@ -233,7 +233,7 @@ impl<K: Ord + Dup, C: Join> Block<K, C> {
         ensures leaf_list { IsLeafList K.cmp C.valid self.new }
     {
         let alloc = self.alloc();
-        let index = self.leaf_for(&key);
+        let (index, place) = self.place_of(&key);
         let start = self.start(index);
         let before = self.entries_of(index).len();
         if self.len() == usize::MAX {
@@ -242,7 +242,7 @@ impl<K: Ord + Dup, C: Join> Block<K, C> {
         self.leaves.reserve(1)?;
         self.entry_counts.reserve(1)?;
         let leaf = &mut self.leaves[index];
-        let back = join_in_leaf(alloc, leaf, key, content)?;
+        let back = join_in_leaf(alloc, leaf, place, key, content)?;
         let front = leaf.entries().len();
         let more = front + back.len() - before;
         add_to_counts(&mut self.entry_counts, index, more, start + front, &back);

@@ -7,7 +7,7 @@ ghost use Rattle.pn_join.specs.PutInLeaves.{IsPutOf};
 ghost use Rattle.pn_join.specs.Tables.{IsTable};
 
 use crate::table::leaf::is_last_below;
-use crate::table::leaf_join::join_at;
+use crate::table::leaf_join::join_one;
 use crate::{Dup, Join, NoMemory};
 
 /// Joins a content into that at a key, where no entry has a greater one. An error leaves the entries as they were.
@@ -23,12 +23,12 @@ pub fn join_last<K: Ord + Dup, C: Join>(
         entries.old.items entries.new.items) }
     ensures err { OnErr result (entries.new.items ≡ entries.old.items) }
 {
-    let place = place_at_end(entries, &key);
-    join_at(entries, place, key, content)
+    let index = index_at_end(entries, &key);
+    join_one(entries, index, key, content)
 }
 
 /// The index of a key among entries of which none has a greater one.
-fn place_at_end<K: Ord, C>(entries: &[(K, C)], key: &K) -> Result<usize, usize>
+fn index_at_end<K: Ord, C>(entries: &[(K, C)], key: &K) -> Result<usize, usize>
     requires rising { IsTrue (is_sorted K.cmp entries.now) }
     requires up_to { AreUpTo K.cmp key.now entries.now }
     ensures { result ≡ index_of K.cmp key.now entries.now }

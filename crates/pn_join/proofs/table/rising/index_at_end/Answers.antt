@@ -3,7 +3,7 @@ use Rattle.std.proofs.Common.{◌≡◌, ◌<◌, length, sym, ◌∙◌, arith}
 use Rattle.std.proofs.lemmas.Bool.Decides.{nat_tests}
 use Rattle.pn_join.proofs.IndexAtEnd.{in_none, past_end, at_end}
 use Rattle.pn_join.proofs.Rising.{Rising-from_sorted}
-use Rattle.pn_join.proofs.table.rising.place_at_end.Goals as goal
+use Rattle.pn_join.proofs.table.rising.index_at_end.Goals as goal
 
 pub returns-then-is_empty : goal.returns-then-is_empty
 returns-then-is_empty g c =
