@@ -1,5 +1,5 @@
 -- What attempts keep of the first, and what the last one makes.
-use Rattle.std.proofs.Common.{◌≡◌, List, [], ◌∷◌, ◌++◌, Result, Ok, Err, IfOk, OnErr, refl, ◌∙◌, subst}
+use Rattle.std.proofs.Common.{◌≡◌, [], ◌∷◌, ◌++◌, Result, Ok, Err, IfOk, OnErr, refl, ◌∙◌, subst}
 use Rattle.std.proofs.lemmas.Fn.{FoldsTo-push, chained_keeps}
 use Rattle.pn_join.specs.declared.memory.NoMemory.{NoMemory}
 use Rattle.pn_stream.specs.Attempts.{FailedSoFar, MadeAtLast}

@@ -4,7 +4,4 @@ use Rattle.pn_stream.specs.Attempts.{FailedSoFar}
 use Rattle.pn_stream.proofs.memory.make_in_memory.Given as goal
 
 abbrev pub invariant-loop : goal.invariant-loop
-invariant-loop g l = record {
-  callable : always_mut g.F.FnMut l.attempt;
-  failed : FailedSoFar (goal.F-step g) l.fn.attempt l.attempt;
-}
+invariant-loop g l = always_mut g.F.FnMut l.attempt × FailedSoFar (goal.F-step g) l.fn.attempt l.attempt
