@@ -10,8 +10,9 @@ are commands, each with a refusal.
 
 Some scripts are also sent in one input, each command twice; in one a refused round comes again only after the layout was
 changed; and in others all allocations are refused from one on, so that commands do not come again. Rounds as wide as a line
-allows, where threads are started, have each allocation refused from the start of a thread on. A case of live regions, and one of a
-connection that keeps input, end well whichever allocation is refused, unless the line that asks for it cannot be read or answered.
+allows, where threads are started, have each allocation refused from the start of a thread on. A case of live regions ends well whichever
+allocation is refused, and a connection that keeps input ends well or after the lines before the input that there was no memory to keep,
+unless the line that asks for it cannot be read or answered.
 """
 import functools
 import subprocess
@@ -25,9 +26,11 @@ from faults.refusing import FOR_GOOD, IN_THREADS, ONE, FindFault, Refusals
 from replies.stored import Stored, stored, stored_scripts
 from replies.wide_rounds import wide_rounds
 
-# Cases that end so whichever allocation is refused: one of live regions in which a refused call comes again, and one of a connection
-# whose input is kept between turns. There is no answer where the line is not read or answered.
-ENDS_WELL = {"live region": (b"live memory\n", b"well\n"), "kept input": (b"stay keeps on++e|tw++o|\n", b"ii of 2 lines\n")}
+# Cases that end in one of these ways whichever allocation is refused: one of live regions in which a refused call comes again, and one of a
+# connection whose input is kept between turns, with its pauses and lines: all of them, or those before a turn that had no memory to keep it.
+# There is no answer where the line is not read or answered.
+KEPT = tuple(f"{pauses} of {lines} lines\n".encode() for pauses, lines in (("titit", 2), ("tit", 1), ("ti", 1), ("t", 0), ("", 0)))
+ENDS_WELL = {"live region": (b"live memory\n", (b"well\n",)), "kept input": (b"stay keeps on++e|tw++o|\n", KEPT)}
 WORKERS = [1, 2, 16]
 SENT_TWICE = ["first-run", "equal-versions-conflict", "overlap-taken", "get-and-behind", "pages-of-one-tablet",
               "two-tablets-with-2-workers", "four-tablets-with-4-workers"]
@@ -41,10 +44,10 @@ NO_TALKS = ["fewer-lines-than-announced", "no-lines-behind-an-adoption", "no-new
             "lines-of-an-adoption-are-its-own", "one-to-64-tablets-and-back"]
 
 
-def case_fault(program: str, line: bytes, answer: bytes, given: dict[str, str]) -> str | None:
+def case_fault(program: str, line: bytes, answers: tuple[bytes, ...], given: dict[str, str]) -> str | None:
     """What is wrong with a case that is to end so, whichever allocation is refused."""
     ended = subprocess.run([program], input=line, capture_output=True, env=given, timeout=SECONDS)
-    is_well = ended.stdout == {0: answer, 1: b""}.get(ended.returncode)
+    is_well = ended.stdout in {0: answers, 1: (b"",)}.get(ended.returncode, ())
     return None if is_well else f"status {ended.returncode}, {ended.stderr!r}\n{ended.stdout.decode()}"
 
 
@@ -60,8 +63,8 @@ def talks() -> Iterator[Stored]:
 Case = tuple[str, Callable[[], FindFault], dict[str, str]]
 
 
-def fault_of_case(live: str, line: bytes, answer: bytes) -> FindFault:
-    return functools.partial(case_fault, live, line, answer)
+def fault_of_case(live: str, line: bytes, answers: tuple[bytes, ...]) -> FindFault:
+    return functools.partial(case_fault, live, line, answers)
 
 
 def fault_of_talk(program: str, script: Stored, is_repeated: bool) -> FindFault:
@@ -80,8 +83,8 @@ def cases(program: str, live: str) -> Iterator[Case]:
         yield f"{name}, each command once", functools.partial(fault_of_talk, program, stored(name), False), ONE
     for name in SENT_FOR_GOOD:
         yield f"{name}, for good", functools.partial(fault_of_talk, program, stored(name), False), FOR_GOOD
-    for name, (line, answer) in ENDS_WELL.items():
-        yield name, functools.partial(fault_of_case, live, line, answer), ONE
+    for name, (line, answers) in ENDS_WELL.items():
+        yield name, functools.partial(fault_of_case, live, line, answers), ONE
 
 
 @pytest.fixture(scope="module")
