@@ -15,7 +15,7 @@ use crate::front::{Front, TabletNote};
 use crate::tablet_reader::TabletReader;
 use pn_join::Marks;
 use pn_record::{Cell, Key, Version};
-use pn_scan::{Budget, Page, PartResult, Query, ScanFault, View, page, read_at_least};
+use pn_scan::{Budget, Page, PartResult, Query, ScanFault, View, count, page, read_at_least};
 use pn_tablet::{CopyFault, Layout, RecordCounts, TabletCopy};
 use std::alloc::Global;
 use std::marker::Model;
@@ -121,6 +121,14 @@ impl LiveReader {
     {
         let alloc = self.alloc;
         page(alloc, self, query)
+    }
+
+    /// How many records a query shows, whatever its limit is. Tablets that may have some are entered in order, once each.
+    pub fn count(&mut self, query: &Query) -> Result<u64, ScanFault>
+        ensures same { tablets_of self.new ≡ tablets_of self.old }
+    {
+        let alloc = self.alloc;
+        count(alloc, self, query)
     }
 
     /// A copy of a tablet, whose number is below the layout's count, in the state that one entry finds: its range, its

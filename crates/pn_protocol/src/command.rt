@@ -24,6 +24,8 @@ pub enum Command {
     Adopt { lines: u64 },
     /// Show a copy of the tablet of this number that reaches these marks.
     Copy { need: Marks, tablet: u64 },
+    /// Show how many records a query shows.
+    Count(Query),
     /// Take these deliveries, in one round.
     Deliver(Vec<Delivery>),
     /// Show the records of these keys, in this order.

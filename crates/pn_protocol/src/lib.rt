@@ -10,7 +10,7 @@ pub use command::control::{ControlCommand, a_control_line_is_one_command, contro
 pub use command::kind::{LineKind, kind_and_lookup_of};
 pub use command::parse::{a_line_is_one_command, command_of, lookup_of};
 pub use refusal::{Part, Refusal};
-pub use reply::answers::{answer_copy, answer_get, answer_read, answer_scan, answer_text};
+pub use reply::answers::{answer_copy, answer_count, answer_get, answer_read, answer_scan, answer_text};
 pub use reply::line_stats::{LineCounts, LineKinds, LineStats};
 pub use reply::notices::notices_reply;
 pub use reply::refusals::{CommandFault, refuse};

@@ -34,6 +34,8 @@ pub enum Reply {
     Changed(u64),
     /// A copy, after the number of its lines.
     Copy(CopyText),
+    /// How many records a query shows.
+    Counted(u64),
     /// The number of the tablet that was lost.
     Lost(u64),
     /// The number of tablets in a new layout.

@@ -7,7 +7,7 @@ use Rattle.pn_tablet.specs.Layouts.{Bounds, tablet_of}
 use Rattle.pn_tablet.specs.Tablets.{TabletStateValue}
 use Rattle.pn_scan.specs.Queries.{QueryValue}
 use Rattle.pn_scan.specs.Candidates.{Look, cells_in, candidates_of}
-use Rattle.pn_scan.specs.Pages.{PageValue, refusal, first_refusal, unless, page_of}
+use Rattle.pn_scan.specs.Pages.{PageValue, refusal, first_refusal, unless, count_of, page_of}
 use Rattle.pn_scan.specs.Reads.{read_of}
 use Rattle.pn_scan.specs.Walks.{looks_of}
 use Rattle.pn_scan.specs.declared.fault.ScanFault.{ScanFault}
@@ -40,6 +40,10 @@ get_in region keys = unless (first_refusal (map (look_for region) keys)) (map (�
 -- the page of a query
 abbrev pub page_in : RegionValue → QueryValue → Result PageValue ScanFault
 page_in region query = page_of region.layout query (all_looks region)
+
+-- how many records a query shows
+abbrev pub count_in : RegionValue → QueryValue → Result ℕ ScanFault
+count_in region query = count_of region.layout query (all_looks region)
 
 -- there is a tablet that may have rows of the page, and the first of these can be read
 abbrev pub BeginsToRead : RegionValue → QueryValue → Type 0

@@ -5,12 +5,12 @@ ghost use Rattle.pn_json.specs.Prelude.{ShowsUnless};
 ghost use Rattle.pn_scan.specs.Pages.{refusal, first_refusal};
 ghost use Rattle.pn_scan.specs.Prelude.{AnswersAfter, cell_at};
 ghost use Rattle.pn_scan.specs.declared.fault.ScanFault.TheVariants.{Memory, NoEntry, Recovering};
-ghost use Rattle.pn_region.specs.Reads.{IsThere, BeginsToRead, look_in, look_for, read_in, get_in, page_in};
+ghost use Rattle.pn_region.specs.Reads.{IsThere, BeginsToRead, look_in, look_for, read_in, get_in, count_in, page_in};
 
 use crate::Region;
 use pn_record::{Cell, Key, Version};
 use pn_scan::{
-    Budget, Page, PartResult, Query, ScanFault, View, cell_of, get, page, part_of, read_at_least,
+    Budget, Page, PartResult, Query, ScanFault, View, cell_of, count, get, page, part_of, read_at_least,
 };
 use pn_tablet::{Layout, Status, TabletState};
 
@@ -86,6 +86,17 @@ impl Region {
     {
         let mut view = self;
         page(self.alloc, &mut view, query)
+    }
+
+    /// How many records a query shows, whatever its limit is.
+    ///
+    /// `Recovering` names the first recovering tablet that may have some. `NoEntry` never comes.
+    pub fn count(&self, query: &Query) -> Result<u64, ScanFault>
+        ensures count { ShowsUnless Memory (λ count. count) result (count_in self.now.state query.now) }
+        ensures entered { result ≡ Err NoEntry → ⊥ }
+    {
+        let mut view = self;
+        count(self.alloc, &mut view, query)
     }
 }
 

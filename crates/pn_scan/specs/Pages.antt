@@ -9,7 +9,7 @@ use Rattle.pn_tablet.specs.declared.state.Status.TheVariants.{Serving, Recoverin
 use Rattle.pn_scan.specs.Queries.{QueryValue, query_after}
 use Rattle.pn_scan.specs.declared.fault.ScanFault.{ScanFault}
 use Rattle.pn_scan.specs.declared.fault.ScanFault.TheVariants as fault
-use Rattle.pn_scan.specs.Candidates.{Look, rows_in, visited}
+use Rattle.pn_scan.specs.Candidates.{Look, candidates_of, rows_in, visited}
 
 -- why nothing can be read of a tablet of this status: it is recovering
 abbrev pub refusal_by : ℕ → Status → Option ScanFault
@@ -46,3 +46,7 @@ first_page query rows = (take query.limit rows, if nat_lt query.limit (length ro
 -- the page of a query: the first rows of all tablets together, unless one that is visited cannot be read
 abbrev pub page_of : Bounds → QueryValue → List Look → Result PageValue ScanFault
 page_of bounds query looks = unless (first_refusal (visited bounds query looks)) (first_page query (rows_in query looks))
+
+-- how many rows a query shows, unless a tablet that may have some cannot be read
+abbrev pub count_of : Bounds → QueryValue → List Look → Result ℕ ScanFault
+count_of bounds query looks = unless (first_refusal (candidates_of bounds query looks)) (length (rows_in query looks))

@@ -2,6 +2,7 @@
 #![tactic(auto)]
 
 mod condition;
+mod count_walk;
 mod fault;
 mod filter;
 pub mod laws;
@@ -20,6 +21,7 @@ mod walk;
 mod work;
 
 pub use condition::Condition;
+pub use count_walk::{CountStep, CountWalk, count};
 pub use fault::ScanFault;
 pub use page_walk::{LOOK_UNITS, PageStep, PageWalk};
 pub use pages::page;

@@ -17,7 +17,7 @@ pub(crate) mod tablets;
 
 use crate::machine::adoption::{AnnouncedText, adopt, take_last_part, take_line};
 use crate::machine::command_reader::CommandReader;
-use crate::machine::lookups::{get, look_up_notices, read, scan};
+use crate::machine::lookups::{count, get, look_up_notices, read, scan};
 use crate::machine::tablets::{copy_tablet, lose_tablet, relayout};
 use pn_apply::Open;
 use pn_protocol::{Command, CommandFault, Reply, answer_text, marks_reply, refuse, tablets_reply};
@@ -139,6 +139,7 @@ fn obey<R: Threads + Sync>(
         Command::Copy { need, tablet } => CommandStep::Obeyed(copy_tablet(
             alloc, region, &need, tablet,
         )),
+        Command::Count(query) => CommandStep::Obeyed(count(alloc, region, &query)),
         Command::Deliver(deliveries) => CommandStep::Obeyed(deliver(
             rt, alloc, region, workers, deliveries,
         )),

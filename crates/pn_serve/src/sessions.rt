@@ -22,7 +22,7 @@ use pn_live::LiveReader;
 use std::alloc::Global;
 
 /// Answers each line of a session with one reply, before it waits for more input. Commands other than `read`, `get`,
-/// `scan` and `copy` are refused as read-only.
+/// `scan`, `count` and `copy` are refused as read-only.
 ///
 /// `Memory` comes only before the first line. Out of memory later is a reply.
 pub fn session<S: Source, W: Sink>(

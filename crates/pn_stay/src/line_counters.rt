@@ -40,6 +40,7 @@ impl LineCounters {
 #[derive(Drop)]
 pub struct KindCounters {
     copy: LineCounters,
+    count: LineCounters,
     get: LineCounters,
     other: LineCounters,
     read: LineCounters,
@@ -51,6 +52,7 @@ impl KindCounters {
     pub(crate) fn new() -> KindCounters {
         KindCounters {
             copy: LineCounters::new(),
+            count: LineCounters::new(),
             get: LineCounters::new(),
             other: LineCounters::new(),
             read: LineCounters::new(),
@@ -61,6 +63,7 @@ impl KindCounters {
     /// Adds lines that were answered.
     pub(crate) fn add(&self, lines: LineKinds) {
         self.copy.add(lines.copy);
+        self.count.add(lines.count);
         self.get.add(lines.get);
         self.other.add(lines.other);
         self.read.add(lines.read);
@@ -71,6 +74,7 @@ impl KindCounters {
     pub(crate) fn lines(&self) -> LineKinds {
         LineKinds {
             copy: self.copy.get(),
+            count: self.count.get(),
             get: self.get.get(),
             other: self.other.get(),
             read: self.read.get(),

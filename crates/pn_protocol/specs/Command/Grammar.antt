@@ -8,8 +8,8 @@ use Rattle.pn_record.specs.Sets.{Stamp}
 use Rattle.pn_record.specs.Writing.{version_data}
 use Rattle.pn_scan.specs.QueryReading.{shape_in}
 use Rattle.pn_protocol.specs.Command.Limits.{is_command}
-use Rattle.pn_protocol.specs.Command.Meaning.{CommandValue, adopt, copy, deliver, get, lose, marks, notices, read, relayout, scan, tablets}
-use Rattle.pn_protocol.specs.Command.Json.{command_data, adopt_command, copy_command, deliver_command, get_command, lose_command, notices_command, read_command, relayout_command, scan_command}
+use Rattle.pn_protocol.specs.Command.Meaning.{CommandValue, adopt, copy, count, deliver, get, lose, marks, notices, read, relayout, scan, tablets}
+use Rattle.pn_protocol.specs.Command.Json.{command_data, adopt_command, copy_command, count_command, deliver_command, get_command, lose_command, notices_command, read_command, relayout_command, scan_command}
 
 -- what a copy has to reach; nothing may also be missing or null
 abbrev pub IsNeed : Option Data → Positions → Type 0
@@ -25,6 +25,7 @@ IsRequired others (Some version) = others ≡ member (codes "version") (version_
 abbrev pub Says : Data → CommandValue → Type 0
 Says d (adopt lines) = d ≡ adopt_command lines
 Says d (copy need tablet) = (said : Option Data) × IsNeed said need × (d ≡ copy_command said tablet)
+Says d (count query) = (asked : Data) × (shape_in asked ≡ Ok query) × (d ≡ count_command asked)
 Says d (deliver deliveries) = d ≡ deliver_command deliveries
 Says d (get keys) = d ≡ get_command keys
 Says d (lose tablet) = d ≡ lose_command tablet

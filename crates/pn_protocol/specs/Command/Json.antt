@@ -61,3 +61,7 @@ relayout_command bounds =
 -- a `scan` command, with the value of its query
 abbrev pub scan_command : Data → Data
 scan_command query = command_data (codes "scan") (member (codes "query") query no_members)
+
+-- a `count` command, with the value of its query
+abbrev pub count_command : Data → Data
+count_command query = command_data (codes "count") (member (codes "query") query no_members)

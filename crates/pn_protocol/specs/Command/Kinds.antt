@@ -11,7 +11,7 @@ use Rattle.pn_protocol.specs.Command.Words.{word_in}
 use Rattle.pn_protocol.specs.declared.command.kind.LineKind.{LineKind}
 use Rattle.pn_protocol.specs.declared.command.kind.LineKind.TheVariants as kind
 use Rattle.pn_protocol.specs.declared.command.word.CommandWord.{CommandWord}
-use Rattle.pn_protocol.specs.declared.command.word.CommandWord.TheVariants.{Adopt, Copy, Deliver, Get, Lose, Marks, Notices, Read, Relayout, Scan, Tablets}
+use Rattle.pn_protocol.specs.declared.command.word.CommandWord.TheVariants.{Adopt, Copy, Count, Deliver, Get, Lose, Marks, Notices, Read, Relayout, Scan, Tablets}
 use Rattle.pn_protocol.specs.declared.refusal.Part.TheVariants.{Do, Whole}
 use Rattle.pn_protocol.specs.declared.refusal.Refusal.{Refusal}
 use Rattle.pn_protocol.specs.declared.refusal.Refusal.TheVariants.{BadShape}
@@ -24,6 +24,7 @@ word_at d = ok_or (as_object d) (BadShape Whole) >>= (λ members. member_as word
 abbrev pub kind_of : CommandWord → LineKind
 kind_of Adopt = kind.Other
 kind_of Copy = kind.Copy
+kind_of Count = kind.Count
 kind_of Deliver = kind.Other
 kind_of Get = kind.Get
 kind_of Lose = kind.Other

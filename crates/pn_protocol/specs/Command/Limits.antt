@@ -11,7 +11,7 @@ use Rattle.pn_scan.specs.Queries.{is_query}
 use Rattle.pn_stream.specs.Positions.{DeliveryValue, are_positions}
 use Rattle.pn_tablet.specs.declared.layout.TheConstants.{MAX_BOUNDS}
 use Rattle.pn_protocol.specs.declared.command.ranges.TheConstants.{MAX_ANNOUNCED, MAX_BATCHES, MAX_KEYS}
-use Rattle.pn_protocol.specs.Command.Meaning.{CommandValue, adopt, copy, deliver, get, notices, read, relayout, scan}
+use Rattle.pn_protocol.specs.Command.Meaning.{CommandValue, adopt, copy, count, deliver, get, notices, read, relayout, scan}
 
 -- the stream has a name, and the positions and the images keep their limits
 abbrev pub is_delivery : DeliveryValue → Bool
@@ -39,6 +39,7 @@ may_be_required (Some version) = is_version version
 abbrev pub is_command : CommandValue → Bool
 is_command (adopt lines) = may_announce lines
 is_command (copy need tablet) = list_all is_mark need
+is_command (count query) = is_query query
 is_command (deliver deliveries) = are_few MAX_BATCHES deliveries && list_all is_delivery deliveries
 is_command (get keys) = are_few MAX_KEYS keys && list_all is_key keys
 is_command (notices since) = may_be_asked since

@@ -12,13 +12,14 @@ use Rattle.pn_protocol.specs.Command.Queries.{query_at, query_shape, fitting_que
 use Rattle.pn_protocol.specs.Command.RangeChecks.{fits, keys_fit, fitting_version}
 use Rattle.pn_protocol.specs.Command.ShapeChecks.{keys_alone, named_alone, number_alone, version_shape}
 use Rattle.pn_protocol.specs.Command.Words.{members_of}
-use Rattle.pn_protocol.specs.declared.command.word.CommandWord.TheVariants.{Get, Notices, Read, Scan}
+use Rattle.pn_protocol.specs.declared.command.word.CommandWord.TheVariants.{Count, Get, Notices, Read, Scan}
 use Rattle.pn_protocol.specs.declared.refusal.Part.TheVariants.{Key, Keys, Since}
 use Rattle.pn_protocol.specs.declared.refusal.Refusal.{Refusal}
 use Rattle.pn_protocol.specs.declared.refusal.Refusal.TheVariants.{BadShape}
 
 -- the line says the read of a key, a get of keys, or a scan
 abbrev pub AsksForRecords : Result CommandValue Refusal → Type 0
+AsksForRecords (Ok (command.count query)) = Unit {0}
 AsksForRecords (Ok (command.get keys)) = Unit {0}
 AsksForRecords (Ok (read key version)) = Unit {0}
 AsksForRecords (Ok (scan query)) = Unit {0}
@@ -55,3 +56,11 @@ scan_in members = do
   named ← named_alone (members_of Scan) members
   query ← fitting_query (query_at (get_member (codes "query") members))
   Ok (scan query)
+
+-- the query of a `count` command
+unfoldable pub count_in : Members → Result CommandValue Refusal
+count_in members = do
+  shape ← query_shape (query_at (get_member (codes "query") members))
+  named ← named_alone (members_of Count) members
+  query ← fitting_query (query_at (get_member (codes "query") members))
+  Ok (command.count query)

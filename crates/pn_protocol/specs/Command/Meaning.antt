@@ -6,13 +6,14 @@ use Rattle.pn_scan.specs.Queries.{QueryValue}
 use Rattle.pn_stream.specs.Positions.{DeliveryValue}
 use Rattle.pn_tablet.specs.Layouts.{Bounds}
 use Rattle.pn_protocol.specs.declared.command.Command.{Command}
-use Rattle.pn_protocol.specs.declared.command.Command.TheVariants.{Adopt, Copy, Deliver, Get, Lose, Marks, Notices, Read, Relayout, Scan, Tablets}
+use Rattle.pn_protocol.specs.declared.command.Command.TheVariants.{Adopt, Copy, Count, Deliver, Get, Lose, Marks, Notices, Read, Relayout, Scan, Tablets}
 
 -- a command, with its parts: lines to adopt; need and tablet; deliveries; keys; tablet; the number after which
 -- notices are wanted; key and required version; bounds; query
 pub data CommandValue : Type 0 where
   adopt : ℕ → CommandValue
   copy : Positions → ℕ → CommandValue
+  count : QueryValue → CommandValue
   deliver : List DeliveryValue → CommandValue
   get : List (List ℕ) → CommandValue
   lose : ℕ → CommandValue
@@ -27,6 +28,7 @@ pub data CommandValue : Type 0 where
 abbrev pub command_value : Command → CommandValue
 command_value (Adopt lines) = adopt lines
 command_value (Copy need tablet) = copy need tablet
+command_value (Count query) = count query
 command_value (Deliver deliveries) = deliver deliveries.items
 command_value (Get keys) = get keys.items
 command_value (Lose tablet) = lose tablet

@@ -14,12 +14,12 @@ use Rattle.pn_protocol.specs.declared.command.parse.AllowedCommands.TheVariants.
 use Rattle.pn_protocol.specs.declared.command.word.CommandUsers.{CommandUsers}
 use Rattle.pn_protocol.specs.declared.command.word.CommandUsers.TheVariants as users
 use Rattle.pn_protocol.specs.declared.command.word.CommandWord.{CommandWord}
-use Rattle.pn_protocol.specs.declared.command.word.CommandWord.TheVariants.{Adopt, Copy, Deliver, Get, Lose, Marks, Notices, Read, Relayout, Scan, Tablets}
+use Rattle.pn_protocol.specs.declared.command.word.CommandWord.TheVariants.{Adopt, Copy, Count, Deliver, Get, Lose, Marks, Notices, Read, Relayout, Scan, Tablets}
 use Rattle.pn_protocol.specs.declared.refusal.Part.TheVariants.{Whole, Do}
 use Rattle.pn_protocol.specs.declared.refusal.Refusal.{Refusal}
 use Rattle.pn_protocol.specs.declared.refusal.Refusal.TheVariants.{BadShape, ReadOnly}
 use Rattle.pn_protocol.specs.Command.Deliveries.{deliver_in}
-use Rattle.pn_protocol.specs.Command.Lookups.{get_in, notices_in, read_in, scan_in}
+use Rattle.pn_protocol.specs.Command.Lookups.{count_in, get_in, notices_in, read_in, scan_in}
 
 -- a command whose one member is its word
 unfoldable pub alone_in : CommandWord → CommandValue → Members → Result CommandValue Refusal
@@ -31,6 +31,7 @@ alone_in word command members = do
 abbrev pub command_as : CommandWord → Members → Result CommandValue Refusal
 command_as Adopt members = adopt_in members
 command_as Copy members = copy_in members
+command_as Count members = count_in members
 command_as Deliver members = deliver_in members
 command_as Get members = get_in members
 command_as Lose members = lose_in members

@@ -17,10 +17,11 @@ line_counts_data counts = object (count (codes "answered") counts.answered (coun
 unfoldable pub line_kinds_data : LineKinds → Data
 line_kinds_data kinds =
     object (member (codes "copy") (line_counts_data kinds.copy)
+    (member (codes "count") (line_counts_data kinds.count)
     (member (codes "get") (line_counts_data kinds.get)
     (member (codes "other") (line_counts_data kinds.other)
     (member (codes "read") (line_counts_data kinds.read)
-    (member (codes "scan") (line_counts_data kinds.scan) no_members)))))
+    (member (codes "scan") (line_counts_data kinds.scan) no_members))))))
 
 -- all lines, and those of each kind
 unfoldable pub lines_data : LineStats → Data

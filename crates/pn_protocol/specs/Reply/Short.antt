@@ -53,6 +53,10 @@ number_data name count = object (member name (number (unsigned count)) no_member
 unfoldable pub changed_data : ℕ → Data
 changed_data count = number_data (codes "changed") count
 
+-- the reply to a count: how many records the query shows
+unfoldable pub counted_data : ℕ → Data
+counted_data count = number_data (codes "count") count
+
 -- the reply to an adoption: the tablet that took the copy
 unfoldable pub adopted_data : ℕ → Data
 adopted_data tablet = number_data (codes "adopted") tablet
@@ -77,6 +81,7 @@ stopping_data seconds = number_data (codes "stopping") seconds
 abbrev pub number_reply_data : NumberName → ℕ → Data
 number_reply_data name.Adopted tablet = adopted_data tablet
 number_reply_data name.Changed count = changed_data count
+number_reply_data name.Counted count = counted_data count
 number_reply_data name.Lines count = lines_data count
 number_reply_data name.Lost tablet = lost_data tablet
 number_reply_data name.Stopping seconds = stopping_data seconds

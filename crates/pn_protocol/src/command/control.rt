@@ -28,7 +28,7 @@ const STOP_SECONDS: u64 = 10;
 /// What a line of a control session asks for.
 #[derive(Drop)]
 pub enum ControlCommand {
-    /// A command of scripts: `adopt`, `copy`, `get`, `lose`, `marks`, `read`, `scan` or `tablets`.
+    /// A command of scripts: `adopt`, `copy`, `count`, `get`, `lose`, `marks`, `read`, `scan` or `tablets`.
     Script(Command),
     /// Show what changed after the number `since`, and wait for it at most `wait` seconds.
     Notices { since: u64, wait: u64 },

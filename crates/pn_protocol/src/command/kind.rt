@@ -20,6 +20,7 @@ use std::alloc::Global;
 #[derive(Clone, Copy, Debug, PartialEq, Eq)]
 pub enum LineKind {
     Copy,
+    Count,
     Get,
     /// Another command, or none.
     Other,

@@ -3,7 +3,7 @@
 ghost use Rattle.std.specs.Prelude.{◌≡◌, IsOk, IsErrOf};
 ghost use Rattle.serde_json.specs.View.{members_view};
 ghost use Rattle.pn_json.specs.Prelude.{IsUnless, Shows, ShowsUnless, seen};
-ghost use Rattle.pn_protocol.specs.Command.Lookups.{get_in, notices_in, read_in, scan_in};
+ghost use Rattle.pn_protocol.specs.Command.Lookups.{count_in, get_in, notices_in, read_in, scan_in};
 ghost use Rattle.pn_protocol.specs.Command.Meaning.{command_value};
 ghost use Rattle.pn_protocol.specs.Command.Queries.{query_at, query_refusal, query_shape};
 
@@ -29,6 +29,18 @@ impl From<QueryFault> for Refusal {
             QueryFault::Memory => Refusal::Memory,
         }
     }
+}
+
+/// Reads the members of a `count`.
+#[tactic(auto, unfolding(crate::specs::Command::Lookups::count_in))]
+pub(crate) fn parse_count(alloc: Global, members: &Map<String, Value>) -> Result<Command, Refusal>
+    ensures exact { ShowsUnless Refusal.Memory command_value result (count_in (members_view members.now.entries)) }
+    ensures memory { IsErrOf result Refusal.Memory → IsOk (count_in (members_view members.now.entries)) }
+{
+    let query = query_of(alloc, find_member(members, "query"));
+    check_shape(&query)?;
+    check_members_of(members, CommandWord::Count)?;
+    Ok(Command::Count(query?))
 }
 
 /// Reads the members of a `get`.

@@ -11,7 +11,7 @@ ghost use Rattle.pn_protocol.specs.Command.Lines.{refusal_of, allowed_at, comman
 ghost use Rattle.pn_protocol.specs.Command.Objects.{alone_in, allowed_in, allowed_word, may_say as may_be_said, TakesMemory};
 
 use crate::command::build::{build_deliveries, items_at};
-use crate::command::lookups::{parse_get, parse_notices, parse_read, parse_scan};
+use crate::command::lookups::{parse_count, parse_get, parse_notices, parse_read, parse_scan};
 use crate::command::members::{check_members_of, find_member};
 use crate::command::ranges::check_batches;
 use crate::command::shapes::{BatchShape, batches_of};
@@ -69,7 +69,7 @@ pub fn lookup_of(alloc: Global, line: &[u8]) -> Result<Command, Refusal>
 #[derive(Clone, Copy)]
 pub(crate) enum AllowedCommands {
     All,
-    /// `copy`, `get`, `read` and `scan`.
+    /// `copy`, `count`, `get`, `read` and `scan`.
     Lookups,
     /// All but `deliver` and `relayout`.
     Controls,
@@ -100,6 +100,7 @@ pub(crate) fn parse_value(
     match word {
         CommandWord::Adopt => parse_adopt(members),
         CommandWord::Copy => parse_copy(alloc, members),
+        CommandWord::Count => parse_count(alloc, members),
         CommandWord::Deliver => parse_deliver(alloc, value),
         CommandWord::Get => parse_get(alloc, members),
         CommandWord::Lose => parse_lose(members),

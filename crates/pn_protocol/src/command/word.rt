@@ -14,6 +14,7 @@ use serde_json::Value;
 pub(crate) enum CommandWord {
     Adopt,
     Copy,
+    Count,
     Deliver,
     Get,
     Lose,
@@ -32,6 +33,7 @@ impl CommandWord {
         match text {
             "adopt" => Some(CommandWord::Adopt),
             "copy" => Some(CommandWord::Copy),
+            "count" => Some(CommandWord::Count),
             "deliver" => Some(CommandWord::Deliver),
             "get" => Some(CommandWord::Get),
             "lose" => Some(CommandWord::Lose),
@@ -81,6 +83,7 @@ impl CommandWord {
                 LineKind::Copy,
                 &["do", "need", "tablet"],
             ),
+            CommandWord::Count => row(CommandUsers::Sessions, LineKind::Count, &["do", "query"]),
             CommandWord::Deliver => row(CommandUsers::Scripts, LineKind::Other, &["batches", "do"]),
             CommandWord::Get => row(CommandUsers::Sessions, LineKind::Get, &["do", "keys"]),
             CommandWord::Lose => row(CommandUsers::Controls, LineKind::Other, &["do", "tablet"]),

@@ -59,6 +59,14 @@ fn page_reply(alloc: Global, page: Page) -> Reply
     }
 }
 
+/// Answers a count with the number that was found.
+pub fn answer_count(alloc: Global, found: Result<u64, ScanFault>) -> Reply {
+    match found {
+        Ok(count) => Reply::Counted(count),
+        Err(fault) => refuse(alloc, CommandFault::Lookup(fault)),
+    }
+}
+
 /// Answers a `copy` of the tablet of this number, of which all lines are counted at once.
 pub fn answer_copy(alloc: Global, tablet: usize, copied: Result<TabletCopy, CopyFault>) -> Reply
     ensures { ShowsCopyOf tablet copied result }

@@ -27,6 +27,7 @@ pub struct LineCounts {
 #[derive(Clone, Copy, Debug, PartialEq, Eq)]
 pub struct LineKinds {
     pub copy: LineCounts,
+    pub count: LineCounts,
     pub get: LineCounts,
     pub other: LineCounts,
     pub read: LineCounts,
@@ -57,6 +58,8 @@ impl LineKinds {
         writer.begin_object()?;
         writer.key("copy")?;
         self.copy.write(writer)?;
+        writer.key("count")?;
+        self.count.write(writer)?;
         writer.key("get")?;
         self.get.write(writer)?;
         writer.key("other")?;

@@ -98,6 +98,8 @@ pub enum NumberName {
     Adopted,
     /// How many records a delivery changed.
     Changed,
+    /// How many records a query shows.
+    Counted,
     /// How many lines of a copy follow.
     Lines,
     /// The tablet that was lost.
@@ -116,6 +118,7 @@ pub fn number_reply(name: NumberName, number: u64) -> ShortReply
     match name {
         NumberName::Adopted => number_line("{\"adopted\":", number),
         NumberName::Changed => number_line("{\"changed\":", number),
+        NumberName::Counted => number_line("{\"count\":", number),
         NumberName::Lines => number_line("{\"lines\":", number),
         NumberName::Lost => number_line("{\"lost\":", number),
         NumberName::Stopping => number_line("{\"stopping\":", number),

@@ -68,6 +68,7 @@ impl ReplyText {
                 let lines = number_reply(NumberName::Lines, copy.lines());
                 ReplyText::of(Head::Short(lines), Rest::Lines(copy))
             }
+            Reply::Counted(count) => ReplyText::number(NumberName::Counted, count),
             Reply::Lost(tablet) => ReplyText::number(NumberName::Lost, tablet),
             Reply::NotTaken(text) => ReplyText::of(Head::Long(text), Rest::Nothing),
             Reply::Page(page) => ReplyText::page(page),

@@ -66,6 +66,7 @@ AdoptsText (Some came) step = AdoptsRead (copy_at came) step ⊎ (step ≡ Repli
 abbrev pub task_of : command.CommandValue → ScriptTask
 task_of (command.adopt lines) = task.Announces lines
 task_of (command.copy need tablet) = task.LooksUp
+task_of (command.count query) = task.LooksUp
 task_of (command.deliver deliveries) = task.LooksUp
 task_of (command.get keys) = task.LooksUp
 task_of (command.lose tablet) = task.Asks (commands.Lose tablet)

@@ -3,14 +3,14 @@ use Rattle.std.specs.Prelude.{true, false, Some, [], Result, Ok, Err, is_err}
 use Rattle.serde_json.specs.Data.{Data}
 use Rattle.pn_json.specs.Lines.{line_of}
 use Rattle.pn_region.specs.Logged.{with_notices}
-use Rattle.pn_region.specs.Reads.{read_in, get_in, page_in}
+use Rattle.pn_region.specs.Reads.{count_in, read_in, get_in, page_in}
 use Rattle.pn_region.specs.Regions.{RegionValue}
 use Rattle.pn_region.specs.Rounds.{changed_count}
 use Rattle.pn_region.specs.Rounds.{round as taken_round}
 use Rattle.pn_region.specs.declared.fault.RoundFault.{RoundFault}
 use Rattle.pn_scan.specs.declared.fault.ScanFault.{ScanFault}
 use Rattle.pn_tablet.specs.Layouts.{layout_of}
-use Rattle.pn_protocol.specs.Command.Meaning.{CommandValue, adopt, copy, deliver, get, lose, marks, notices, read, relayout, scan, tablets}
+use Rattle.pn_protocol.specs.Command.Meaning.{CommandValue, adopt, copy, count, deliver, get, lose, marks, notices, read, relayout, scan, tablets}
 use Rattle.pn_serve.specs.Machine.Outcomes.{announced, Machine, Turn, silent_turn, reply_turn}
 use Rattle.pn_serve.specs.Machine.Recovering.{loss_turn, copy_turn}
 use Rattle.pn_serve.specs.Machine.Relaying.{relayout_turn}
@@ -18,7 +18,7 @@ use Rattle.pn_protocol.specs.Reply.Faults.{lookup_fault_data, round_fault_data}
 use Rattle.pn_protocol.specs.Reply.Notices.{since_data}
 use Rattle.pn_protocol.specs.Reply.Record.{read_data, get_data}
 use Rattle.pn_protocol.specs.Reply.Scan.{scan_data}
-use Rattle.pn_protocol.specs.Reply.Short.{changed_data}
+use Rattle.pn_protocol.specs.Reply.Short.{changed_data, counted_data}
 use Rattle.pn_protocol.specs.Reply.Tablets.{marks_reply_data, tablets_data}
 
 -- what a delivery does if its round ends so
@@ -39,6 +39,7 @@ lookup_turn machine show right = record { machine = machine; reply = line_of (fo
 abbrev pub plain_turn : Machine → CommandValue → Turn
 plain_turn machine (adopt lines) = silent_turn (record machine { mode = announced lines (Some []) })
 plain_turn machine (copy need tablet) = copy_turn machine need tablet
+plain_turn machine (count query) = lookup_turn machine counted_data (count_in machine.region query)
 plain_turn machine (deliver deliveries) = delivery_turn machine (taken_round machine.region deliveries)
 plain_turn machine (get keys) = lookup_turn machine (get_data keys) (get_in machine.region keys)
 plain_turn machine (lose tablet) = loss_turn machine tablet

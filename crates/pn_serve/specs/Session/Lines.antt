@@ -6,10 +6,10 @@ use Rattle.pn_protocol.specs.declared.refusal.Refusal.TheVariants.{ReadOnly, Mem
 use Rattle.pn_protocol.specs.declared.reply.Reply.{Reply}
 use Rattle.pn_protocol.specs.declared.reply.Reply.TheVariants.{Refused, Silent}
 use Rattle.pn_protocol.specs.Command.Lines.{is_too_long, lookup_at}
-use Rattle.pn_protocol.specs.Command.Meaning.{CommandValue, copy, get, read, scan}
+use Rattle.pn_protocol.specs.Command.Meaning.{CommandValue, copy, count, get, read, scan}
 use Rattle.pn_scan.specs.Paging.{Moving}
 use Rattle.pn_lines.specs.Ends.{Start}
-use Rattle.pn_serve.specs.Session.Lookups.{LooksUpKey, LooksUpKeys, LooksUpPage, LooksUpCopy}
+use Rattle.pn_serve.specs.Session.Lookups.{LooksUpCount, LooksUpKey, LooksUpKeys, LooksUpPage, LooksUpCopy}
 
 -- nothing was looked up, and the line was refused
 abbrev pub RefusesLine : LiveReaderValue → Refusal → LiveReaderValue → Reply → Type 0
@@ -18,6 +18,7 @@ RefusesLine old refusal new reply = (new ≡ old) × (reply ≡ Refused refusal)
 -- a command was answered: a lookup, or a command that a session refuses
 abbrev pub LooksUp : Moving LiveReaderValue → LiveReaderValue → CommandValue → LiveReaderValue → Reply → Type 0
 LooksUp moves old (copy need tablet) new reply = LooksUpCopy moves old need tablet new reply
+LooksUp moves old (count query) new reply = LooksUpCount moves old query new reply
 LooksUp moves old (get keys) new reply = LooksUpKeys moves old keys new reply
 LooksUp moves old (read key wanted) new reply = LooksUpKey old key wanted new reply
 LooksUp moves old (scan query) new reply = LooksUpPage moves old query new reply

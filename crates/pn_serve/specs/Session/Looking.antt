@@ -29,7 +29,7 @@ use Rattle.pn_tablet.specs.declared.copy_count.CopyStep.TheVariants as copies
 use Rattle.pn_serve.specs.declared.machine.line_answers.Answer.{Answer}
 use Rattle.pn_serve.specs.declared.machine.line_answers.Answer.TheVariants.{Done, Going as Begun}
 use Rattle.pn_serve.specs.declared.sessions.going.Going.{Going}
-use Rattle.pn_serve.specs.declared.sessions.going.Going.TheVariants.{Page, Keys, Copy}
+use Rattle.pn_serve.specs.declared.sessions.going.Going.TheVariants.{Page, Count, Keys, Copy}
 use Rattle.pn_scan.specs.declared.work.TheConstants.{UNIT_WORK}
 use Rattle.pn_serve.specs.declared.sessions.going.TheConstants.{UNIT_LINES}
 use Rattle.pn_serve.specs.Session.Lines.{LooksUp}
@@ -103,6 +103,7 @@ CountsLooks answer going used = Unit {0}
 -- how much of a lookup is left: its tablets, then the steps of the look into one; its keys; or its cells
 abbrev pub going_left : Going → ℕ
 going_left (Page query walk) = (walk.end - walk.next) * 2 ^ 129 + steps_left walk.part
+going_left (Count query walk) = (walk.end - walk.tablet) * 2 ^ 129 + steps_left walk.part
 going_left (Keys walk) = length walk.keys - walk.read
 going_left (Copy count) = length count.copy.cells - count.index
 
@@ -113,6 +114,7 @@ most_left = 2 ^ 194
 -- the kind of a line that is looked up so far
 abbrev pub kind_of : Going → LineKind
 kind_of (Page query walk) = kinds.Scan
+kind_of (Count query walk) = kinds.Count
 kind_of (Keys walk) = kinds.Get
 kind_of (Copy count) = kinds.Copy
 
@@ -125,11 +127,13 @@ HasFew (Err fault) = Unit {0}
 -- a page of which nothing was looked for
 abbrev pub IsNewPage : Bounds → QueryValue → Going → Type 0
 IsNewPage bounds query (Page asked walk) = (asked ≡ query) × IsNewWalk bounds query walk
+IsNewPage bounds query (Count asked walk) = ⊥
 IsNewPage bounds query (Keys walk) = ⊥
 IsNewPage bounds query (Copy count) = ⊥
 
 -- keys of which none was read
 abbrev pub AreNewKeys : List (List ℕ) → Going → Type 0
 AreNewKeys keys (Page asked walk) = ⊥
+AreNewKeys keys (Count asked walk) = ⊥
 AreNewKeys keys (Keys walk) = IsNewGet keys walk
 AreNewKeys keys (Copy count) = ⊥

@@ -22,6 +22,7 @@ use Rattle.pn_protocol.specs.declared.reply.Reply.TheVariants.{Refused}
 use Rattle.pn_protocol.specs.Reply.Answers.{ShowsFound, ShowsCopyOf}
 use Rattle.pn_protocol.specs.Reply.Record.{read_data, get_data}
 use Rattle.pn_protocol.specs.Reply.Scan.{scan_data}
+use Rattle.pn_protocol.specs.Reply.Short.{counted_data}
 
 -- the record of a key was looked up, by one look into the key's tablet
 pub record LooksUpKey (old : LiveReaderValue) (key : List ℕ) (wanted : Option Stamp) (new : LiveReaderValue) (reply : Reply) : Type 0 where
@@ -47,6 +48,15 @@ pub record LooksUpPage (moves : Moving LiveReaderValue) (old : LiveReaderValue) 
   pub scanned : IsScan (LooksAfter moves LooksLive) old.layout query old reached (λ page. page) answer (first_page query) seen
   pub moved : moves reached new
   pub shows : ShowsFound scan_data answer reply
+
+-- the records that a query shows were counted, tablet by tablet; in between the reader may move
+pub record LooksUpCount (moves : Moving LiveReaderValue) (old : LiveReaderValue) (query : QueryValue) (new : LiveReaderValue) (reply : Reply) : Type 0 where
+  pub seen : List Look
+  pub answer : Result ℕ ScanFault
+  pub reached : LiveReaderValue
+  pub counted : IsScan (LooksAfter moves LooksLive) old.layout query old reached (λ count. count) answer length seen
+  pub moved : moves reached new
+  pub shows : ShowsFound counted_data answer reply
 
 -- a tablet was copied, by one look; after it the reader may move
 pub record CopiesTablet (moves : Moving LiveReaderValue) (old : LiveReaderValue) (need : Positions) (tablet : ℕ) (new : LiveReaderValue) (reply : Reply) : Type 0 where

@@ -56,6 +56,7 @@ fn task_of(command: &Command) -> ScriptTask
         Command::Marks => ScriptTask::Asks(WriterCommand::Marks),
         Command::Tablets => ScriptTask::Asks(WriterCommand::Tablets),
         Command::Copy { .. }
+        | Command::Count(_)
         | Command::Deliver(_)
         | Command::Get(_)
         | Command::Notices { .. }

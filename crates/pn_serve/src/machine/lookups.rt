@@ -2,13 +2,13 @@
 
 ghost use Rattle.std.specs.Prelude.{◌≡◌, IfOk};
 ghost use Rattle.pn_json.specs.Prelude.{line_of};
-ghost use Rattle.pn_protocol.specs.Prelude.{get as get_asked, notices as notices_asked, read as read_asked, scan as scan_asked, found_since};
+ghost use Rattle.pn_protocol.specs.Prelude.{count as count_asked, get as get_asked, notices as notices_asked, read as read_asked, scan as scan_asked, found_since};
 ghost use Rattle.pn_serve.specs.Machine.Outcomes.{machine_over};
 ghost use Rattle.pn_serve.specs.Machine.Answers.{Obeys};
 
 use pn_join::NoMemory;
 use pn_protocol::{
-    Refusal, Reply, answer_get, answer_read, answer_scan, answer_text, notices_reply,
+    Refusal, Reply, answer_count, answer_get, answer_read, answer_scan, answer_text, notices_reply,
 };
 use pn_record::{Key, Version};
 use pn_region::{Region, Since};
@@ -36,6 +36,13 @@ pub(crate) fn scan(alloc: Global, region: &Region, query: &Query) -> Reply
     ensures { Obeys (machine_over region.now) (scan_asked query.now) (machine_over region.now) result }
 {
     answer_scan(alloc, region.scan(query))
+}
+
+/// Answers a `count`.
+pub(crate) fn count(alloc: Global, region: &Region, query: &Query) -> Reply
+    ensures { Obeys (machine_over region.now) (count_asked query.now) (machine_over region.now) result }
+{
+    answer_count(alloc, region.count(query))
 }
 
 /// Answers a `notices`.

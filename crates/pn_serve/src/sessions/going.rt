@@ -1,4 +1,4 @@
-//! Lookups of a session that are resumed: a page, the records of keys, or a copy.
+//! Lookups of a session that are resumed: a page, a count, the records of keys, or a copy.
 
 ghost use Rattle.std.specs.Prelude.{◌≡◌, ◌<◌, ◌≤◌, ◌*◌, ◌^◌, ℕ, max, min, List, length, IfErr, IfOk};
 ghost use Rattle.pn_live.specs.Getting.{IsOnGet};
@@ -19,9 +19,11 @@ ghost use Rattle.pn_tablet.specs.Layouts.{Bounds};
 use crate::machine::line_answers::Answer;
 use pn_join::NoMemory;
 use pn_live::{GetWalk, LiveReader};
-use pn_protocol::{CommandFault, LineKind, Refusal, Reply, answer_get, answer_scan, refuse};
+use pn_protocol::{
+    CommandFault, LineKind, Refusal, Reply, answer_count, answer_get, answer_scan, refuse,
+};
 use pn_record::{Key, Records};
-use pn_scan::{PageStep, PageWalk, Query, ScanFault, View};
+use pn_scan::{CountStep, CountWalk, PageStep, PageWalk, Query, ScanFault, View};
 use pn_tablet::{CopyCount, CopyStep, Layout, TabletCopy};
 use std::alloc::Global;
 
@@ -35,6 +37,8 @@ pub enum Going {
     Page(Query, PageWalk),
     /// The records of keys.
     Keys(GetWalk),
+    /// A count of the records that a query shows.
+    Count(Query, CountWalk),
     /// A copy, whose lines are counted.
     Copy(CopyCount),
 }
@@ -48,6 +52,15 @@ impl Going {
         recall_tablets(reader.layout());
         let walk = PageWalk::new(alloc, reader.layout(), &query);
         Going::Page(query, walk)
+    }
+
+    /// A count of which nothing was looked for.
+    pub(super) fn count(reader: &LiveReader, query: Query) -> Going
+        ensures bounded { going_left result < most_left }
+    {
+        recall_tablets(reader.layout());
+        let walk = CountWalk::new(reader.layout(), &query);
+        Going::Count(query, walk)
     }
 
     /// The records of keys of which none was read.
@@ -74,6 +87,7 @@ impl Going {
     {
         match self {
             Going::Page(_, _) => LineKind::Scan,
+            Going::Count(_, _) => LineKind::Count,
             Going::Keys(_) => LineKind::Get,
             Going::Copy(_) => LineKind::Copy,
         }
@@ -96,6 +110,11 @@ impl Going {
                 recall_few(&step);
                 let used = units_by(&step, units);
                 (page_answer(alloc, query, step), used)
+            }
+            Going::Count(query, walk) => {
+                let step = walk.go_on(alloc, reader, &query, units);
+                let used = units_of_count(&step, units);
+                (count_answer(alloc, query, step), used)
             }
             Going::Keys(walk) => {
                 let most = units.max(1);
@@ -131,6 +150,24 @@ fn units_by(step: &Result<PageStep, ScanFault>, units: u32) -> u32
         Ok(PageStep::Next(walk)) => walk.units(),
         Err(ScanFault::Memory) => units,
         Err(_) => 0,
+    }
+}
+
+fn units_of_count(step: &Result<CountStep, ScanFault>, units: u32) -> u32 {
+    match step {
+        Ok(CountStep::Done(_)) => 0,
+        Ok(CountStep::Next(walk)) => walk.units(),
+        Err(ScanFault::Memory) => units,
+        Err(_) => 0,
+    }
+}
+
+// The answer of a count, once it is whole.
+fn count_answer(alloc: Global, query: Query, step: Result<CountStep, ScanFault>) -> Answer {
+    match step {
+        Ok(CountStep::Done(count)) => Answer::Done(answer_count(alloc, Ok(count))),
+        Ok(CountStep::Next(walk)) => Answer::Going(Going::Count(query, walk)),
+        Err(fault) => Answer::Done(answer_count(alloc, Err(fault))),
     }
 }
 

@@ -14,6 +14,7 @@ const NO_LINE: LineCounts = LineCounts {
 /// No line of any kind was answered.
 pub(crate) const NO_LINES: LineKinds = LineKinds {
     copy: NO_LINE,
+    count: NO_LINE,
     get: NO_LINE,
     other: NO_LINE,
     read: NO_LINE,
@@ -26,6 +27,7 @@ pub(super) fn count_line(kinds: &mut LineKinds, kind: LineKind, is_refused: bool
 {
     match kind {
         LineKind::Copy => count_one(&mut kinds.copy, is_refused),
+        LineKind::Count => count_one(&mut kinds.count, is_refused),
         LineKind::Get => count_one(&mut kinds.get, is_refused),
         LineKind::Other => count_one(&mut kinds.other, is_refused),
         LineKind::Read => count_one(&mut kinds.read, is_refused),
@@ -39,6 +41,7 @@ pub(super) fn take_line_back(kinds: &mut LineKinds, kind: LineKind)
 {
     match kind {
         LineKind::Copy => take_one_back(&mut kinds.copy),
+        LineKind::Count => take_one_back(&mut kinds.count),
         LineKind::Get => take_one_back(&mut kinds.get),
         LineKind::Other => take_one_back(&mut kinds.other),
         LineKind::Read => take_one_back(&mut kinds.read),

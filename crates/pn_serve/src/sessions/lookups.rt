@@ -10,14 +10,15 @@ ghost use Rattle.pn_serve.specs.Lines.Going.{AnswersWith, answer_left};
 ghost use Rattle.pn_serve.specs.declared.machine.line_answers.Answer.TheVariants.{Done};
 ghost use Rattle.pn_serve.specs.Session.Lines.{AnswersLine, LooksUp};
 ghost use Rattle.pn_serve.specs.Session.Looking.{LooksFor, LooksTo, most_left};
-ghost use Rattle.pn_serve.specs.Session.Lookups.{LooksUpKey, LooksUpKeys, LooksUpPage, LooksUpCopy};
+ghost use Rattle.pn_serve.specs.Session.Lookups.{LooksUpCount, LooksUpKey, LooksUpKeys, LooksUpPage, LooksUpCopy};
 
 use crate::machine::line_answers::Answer;
 use crate::sessions::going::Going;
 use pn_join::Marks;
 use pn_live::LiveReader;
 use pn_protocol::{
-    Command, LineKind, Part, Refusal, Reply, answer_copy, answer_get, answer_read, answer_scan,
+    Command, LineKind, Part, Refusal, Reply, answer_copy, answer_count, answer_get, answer_read,
+    answer_scan,
     kind_and_lookup_of, lookup_of,
 };
 use pn_record::{Key, Version};
@@ -61,6 +62,7 @@ fn begin(alloc: Global, reader: &mut LiveReader, command: Command) -> Answer
 {
     match command {
         Command::Copy { need, tablet } => begin_copy(alloc, reader, &need, tablet),
+        Command::Count(query) => Answer::Going(Going::count(reader, query)),
         Command::Get(keys) => Answer::Going(Going::keys(alloc, keys)),
         Command::Scan(query) => Answer::Going(Going::page(alloc, reader, query)),
         Command::Adopt { .. }
@@ -96,6 +98,7 @@ pub(crate) fn look_up(alloc: Global, reader: &mut LiveReader, command: Command) 
 {
     match command {
         Command::Copy { need, tablet } => copy_tablet(alloc, reader, &need, tablet),
+        Command::Count(query) => count(alloc, reader, &query),
         Command::Get(keys) => get(alloc, reader, keys),
         Command::Read { key, version } => read(alloc, reader, key, version),
         Command::Scan(query) => scan(alloc, reader, &query),
@@ -130,6 +133,13 @@ fn scan(alloc: Global, reader: &mut LiveReader, query: &Query) -> Reply
     ensures same { tablets_of reader.new ≡ tablets_of reader.old }
 {
     answer_scan(alloc, reader.scan(query))
+}
+
+fn count(alloc: Global, reader: &mut LiveReader, query: &Query) -> Reply
+    ensures looks_up { LooksUpCount Stays reader.old query.now reader.new result }
+    ensures same { tablets_of reader.new ≡ tablets_of reader.old }
+{
+    answer_count(alloc, reader.count(query))
 }
 
 fn copy_tablet(alloc: Global, reader: &mut LiveReader, need: &Marks, tablet: u64) -> Reply

@@ -99,6 +99,7 @@ fn unread() -> UnreadStats {
 fn kinds() -> LineKinds {
     LineKinds {
         copy: lines(10, 11),
+        count: lines(31, 32),
         get: lines(12, 13),
         other: lines(14, 15),
         read: lines(16, 17),

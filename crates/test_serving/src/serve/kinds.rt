@@ -32,6 +32,7 @@ fn kinds_text(alloc: Global, kinds: &LineKinds, then: LineCounts) -> Result<Stri
 
 fn push_kinds(text: &mut String, kinds: &LineKinds, then: LineCounts) -> Result<(), AllocError> {
     push_counts(text, "copy", kinds.copy)?;
+    push_counts(text, "count", kinds.count)?;
     push_counts(text, "get", kinds.get)?;
     push_counts(text, "other", kinds.other)?;
     push_counts(text, "read", kinds.read)?;
