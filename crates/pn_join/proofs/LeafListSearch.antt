@@ -172,7 +172,7 @@ module _ {K X : Type 0} (cmp : K → K → Ordering) (key : K) where
           | false ↦ λ p. put_here v l (all_entries (m ∷ ls)) some.0 p
         ] refl
 
-    Below-leaf : (k : K) (list : List (List (K × X))) → Below cmp k (all_entries list) → (j : ℕ) → Below cmp k (get_or list j [])
+    pub Below-leaf : (k : K) (list : List (List (K × X))) → Below cmp k (all_entries list) → (j : ℕ) → Below cmp k (get_or list j [])
     Below-leaf k [] h j = tt
     Below-leaf k (l ∷ ls) h zero = Below-prefix cmp k l (all_entries ls) h
     Below-leaf k (l ∷ ls) h (suc j) = Below-leaf k ls (Below-back cmp k l (all_entries ls) h) j

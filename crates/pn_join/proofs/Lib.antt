@@ -8,6 +8,7 @@ pub mod BlockHalves
 pub mod BlockJoin
 pub mod BlockJoinSteps
 pub mod BlockPuts
+pub mod Building
 pub mod Changing
 pub mod Each
 pub mod EditJoins
@@ -19,8 +20,10 @@ pub mod LeastFacts
 pub mod MarksFacts
 pub mod NameText
 pub mod Partitions
+pub mod IndexAtEnd
 pub mod IndexSearch
 pub mod Indices
+pub mod Places
 pub mod PutFacts
 pub mod PutTogether
 pub mod Puts

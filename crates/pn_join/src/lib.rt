@@ -14,4 +14,4 @@ pub use marks::{
     BadName, Highest, LAST_POSITION, MAX_NAME_BYTES, Marks, Name, StreamName, raise, raise_at,
 };
 pub use memory::NoMemory;
-pub use table::{Entries, LeafList, Table, TableChange, dup_optional};
+pub use table::{Entries, LeafList, Table, TableChange, copy_entries, dup_optional, join_last};

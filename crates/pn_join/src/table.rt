@@ -21,11 +21,14 @@ mod entry_counts;
 mod leaf;
 mod leaf_join;
 mod leaf_list;
+mod rising;
 
 use crate::{Dup, Join, NoMemory};
 pub use change::{TableChange, dup_optional};
 pub use entries::Entries;
+pub use leaf::copy_entries;
 pub use leaf_list::LeafList;
+pub use rising::join_last;
 use std::alloc::Global;
 use std::marker::Model;
 
@@ -54,6 +57,16 @@ impl<K: Ord + Dup, C: Join> Table<K, C> {
         Table {
             leaf_list: LeafList::new(alloc),
         }
+    }
+
+    /// The table of these entries. It is built whole, so it costs less than joining one by one.
+    pub fn of_sorted(alloc: Global, entries: Vec<(K, C)>) -> Result<Self, NoMemory>
+        requires { IsTable K.cmp C.valid entries.items }
+        ensures { IfOk result (λ table. table ≡ entries.items) }
+    {
+        Ok(Table {
+            leaf_list: LeafList::of_sorted(alloc, entries)?,
+        })
     }
 
     /// How many keys there are.

@@ -9,6 +9,7 @@ ghost use Rattle.pn_join.specs.PutInLeaves.{IsPutOf, ChangesOneLeaf};
 ghost use Rattle.pn_join.specs.LeafListChanges.{with_back};
 ghost use Rattle.pn_join.specs.Tables.{IsTable};
 
+mod building;
 mod bulk_join;
 mod halves;
 mod iteration;
@@ -20,7 +21,7 @@ mod splits;
 use crate::table::block::search::insert_last_key;
 use crate::table::entry_counts::{add_to_counts, copy_counts};
 use crate::table::leaf::{Leaf, share_leaves};
-use crate::table::leaf_join::{binary_search, join_in_leaf};
+use crate::table::leaf_join::join_in_leaf;
 use crate::{Dup, Join, NoMemory};
 pub use iteration::from_on;
 pub use opening::{OpenBlock, Opening};
@@ -144,9 +145,9 @@ impl<K: Ord + Dup, C: Join> Block<K, C> {
         ensures index { result ≡ index_of K.cmp key.now (all_entries self.now) }
         ensures leaf_list { IsLeafList K.cmp C.valid self.now }
     {
-        let leaf = self.leaf_for(key);
+        let (leaf, index) = self.place_of(key);
         let start = self.start(leaf);
-        match binary_search(self.entries_of(leaf), key) {
+        match index {
             Ok(index) => Ok(start + index),
             Err(index) => Err(start + index),
         }
@@ -232,7 +233,7 @@ impl<K: Ord + Dup, C: Join> Block<K, C> {
         ensures leaf_list { IsLeafList K.cmp C.valid self.new }
     {
         let alloc = self.alloc();
-        let index = self.leaf_for(&key);
+        let (index, place) = self.place_of(&key);
         let start = self.start(index);
         let before = self.entries_of(index).len();
         if self.len() == usize::MAX {
@@ -241,7 +242,7 @@ impl<K: Ord + Dup, C: Join> Block<K, C> {
         self.leaves.reserve(1)?;
         self.entry_counts.reserve(1)?;
         let leaf = &mut self.leaves[index];
-        let back = join_in_leaf(alloc, leaf, key, content)?;
+        let back = join_in_leaf(alloc, leaf, place, key, content)?;
         let front = leaf.entries().len();
         let more = front + back.len() - before;
         add_to_counts(&mut self.entry_counts, index, more, start + front, &back);

@@ -14,6 +14,7 @@ ghost use Rattle.pn_join.specs.Blocks.{in_blocks, entries_in, AreBlocks};
 ghost use Rattle.pn_join.specs.Indices.{index_of};
 ghost use Rattle.pn_join.specs.Leaves.{all_entries, counts_after};
 
+mod building;
 mod bulk_join;
 mod counts;
 mod growth;
@@ -32,7 +33,7 @@ use std::alloc::Global;
 use std::marker::Model;
 
 /// A block with as many leaves is halved before it gets more.
-const MAX_BLOCK_LEAVES: usize = 128;
+pub const MAX_BLOCK_LEAVES: usize = 128;
 
 /// The blocks of a table, in key order.
 #[derive(Drop)]

@@ -26,32 +26,36 @@ pub fn binary_search<K: Ord, C>(entries: &[(K, C)], key: &K) -> Result<usize, us
     entries.binary_search_by(|(other, _)| other.cmp(key))
 }
 
-/// Joins a content into that at the key. An error leaves the entries as they were.
+/// Joins a content into that at the key, which has this index. An error leaves the entries as they were.
 pub fn join_one<K: Ord + Dup, C: Join>(
     entries: &mut Vec<(K, C)>,
+    index: Result<usize, usize>,
     key: K,
     content: C,
 ) -> Result<(), NoMemory>
+    requires index { index ≡ index_of K.cmp key entries.old.items }
     requires valid { C.valid content }
     requires table { IsTable K.cmp C.valid entries.old.items }
     ensures ok { OnOk result (IsPutOf K.cmp C.meaning C.joined C.valid key content
         entries.old.items entries.new.items) }
     ensures err { OnErr result (entries.new.items ≡ entries.old.items) }
 {
-    match binary_search(entries, &key) {
+    match index {
         Ok(index) => entries[index].1.join_from(&content),
         Err(index) => Ok(entries.insert(index, (key, content))?),
     }
 }
 
-/// Joins a content into that at the key. If that makes too many entries for one leaf, it returns the greater
-/// half. An error leaves the entries as they were.
+/// Joins a content into that at the key, which has this index. If that makes too many entries for one leaf, it returns
+/// the greater half. An error leaves the entries as they were.
 fn join_and_split<K: Ord + Dup, C: Join>(
     alloc: Global,
     entries: &mut Vec<(K, C)>,
+    index: Result<usize, usize>,
     key: K,
     content: C,
 ) -> Result<Vec<(K, C)>, NoMemory>
+    requires index { index ≡ index_of K.cmp key entries.old.items }
     requires valid { C.valid content }
     requires table { IsTable K.cmp C.valid entries.old.items }
     requires size { IsLeaf entries.old.items }
@@ -66,7 +70,7 @@ fn join_and_split<K: Ord + Dup, C: Join>(
         MAX_LEAF_ENTRIES + 1 - HALF
     };
     let mut back = Vec::with_capacity(alloc, capacity)?;
-    join_one(entries, key, content)?;
+    join_one(entries, index, key, content)?;
     split_if_too_long(entries, &mut back);
     Ok(back)
 }
@@ -87,7 +91,7 @@ fn split_if_too_long<T>(items: &mut Vec<T>, back: &mut Vec<T>)
 }
 
 /// Moves the items from an index on to the end of the others, last first.
-fn move_from<T>(items: &mut Vec<T>, index: usize, others: &mut Vec<T>)
+pub fn move_from<T>(items: &mut Vec<T>, index: usize, others: &mut Vec<T>)
     requires within { index ≤ vec_len items.old }
     requires fits { vec_len others.old + (vec_len items.old - index) ≤ vec_capacity others.old }
     ensures prefix { items.new.items ≡ take index items.old.items }
@@ -102,14 +106,16 @@ fn move_from<T>(items: &mut Vec<T>, index: usize, others: &mut Vec<T>)
     }
 }
 
-/// Joins a content into that at the key. Returns the entries that no longer fit. An error leaves the leaf as
-/// it was.
+/// Joins a content into that at the key, which has this index. Returns the entries that no longer fit. An error leaves
+/// the leaf as it was.
 pub fn join_in_leaf<K: Ord + Dup, C: Join>(
     alloc: Global,
     leaf: &mut Leaf<K, C>,
+    index: Result<usize, usize>,
     key: K,
     content: C,
 ) -> Result<Vec<(K, C)>, NoMemory>
+    requires index { index ≡ index_of K.cmp key (leaf_entries leaf.old) }
     requires valid { C.valid content }
     requires table { IsTable K.cmp C.valid (leaf_entries leaf.old) }
     requires size { IsLeaf (leaf_entries leaf.old) }
@@ -119,7 +125,7 @@ pub fn join_in_leaf<K: Ord + Dup, C: Join>(
     ensures err { OnErr result (leaf_entries leaf.new ≡ leaf_entries leaf.old) }
 {
     let mut entries = leaf.take(alloc)?;
-    let back = join_and_split(alloc, &mut entries, key, content);
+    let back = join_and_split(alloc, &mut entries, index, key, content);
     *leaf = Leaf::seal(alloc, entries);
     back
 }

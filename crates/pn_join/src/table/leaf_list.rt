@@ -41,6 +41,16 @@ impl<K: Ord + Dup, C: Join> LeafList<K, C> {
         }
     }
 
+    /// The leaves of these entries.
+    pub(crate) fn of_sorted(alloc: Global, entries: Vec<(K, C)>) -> Result<Self, NoMemory>
+        requires { IsTable K.cmp C.valid entries.items }
+        ensures { IfOk result (λ leaves. all_entries leaves ≡ entries.items) }
+    {
+        Ok(LeafList {
+            blocks: BlockList::of_sorted(alloc, entries)?,
+        })
+    }
+
     /// Where the leaves take memory.
     pub(crate) fn alloc(&self) -> Global {
         self.blocks.alloc()

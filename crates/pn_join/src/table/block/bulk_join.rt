@@ -19,8 +19,7 @@ impl<K: Ord + Dup, C: Join> Block<K, C> {
         ensures changes { IfOk result (λ edit. Changes K.cmp C.meaning C.joined C.valid (all_entries self.now) (key.now, content.now) (option_map (λ e. e.change) edit)) }
         ensures aimed { IfOk result (λ edit. IsAimed K.cmp self.now edit) }
     {
-        let leaf = self.leaf_for(key);
-        let before = self.get_in_its_leaf(leaf, key);
+        let (leaf, before) = self.find(key);
         let Some(after) = join_contents(before, content)? else {
             return Ok(None);
         };

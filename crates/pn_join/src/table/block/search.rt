@@ -1,12 +1,13 @@
 //! Searches for a key: for its leaf, and within it.
 
-ghost use Rattle.std.specs.Prelude.{◌≡◌, ◌+◌, ◌-◌, ◌<◌, true, false, [], None, Some, length, get_or, IsTrue, IfSome};
+ghost use Rattle.std.specs.Prelude.{◌≡◌, ◌+◌, ◌-◌, ◌<◌, true, [], Err, length, get_or, option_map, slice_get, IsTrue, IfSome};
 ghost use Rattle.std.specs.FinMap.{find};
 ghost use Rattle.std.specs.Option.{option_copied};
+ghost use Rattle.pn_join.specs.Indices.{index_of};
 ghost use Rattle.pn_join.specs.Leaves.{all_entries, ends_below, leaf_for, IsLeafList};
 
 use super::Block;
-use crate::table::leaf::{Leaf, is_first_below, is_last_below};
+use crate::table::leaf::{Leaf, is_last_below};
 use crate::table::leaf_join::binary_search;
 use crate::{Dup, Join, NoMemory};
 use std::alloc::Global;
@@ -17,23 +18,32 @@ impl<K: Ord + Dup, C: Join> Block<K, C> {
         ensures found { option_copied result ≡ find K.cmp key.now (all_entries self.now) }
         ensures is_valid { IfSome result (λ content. C.valid content.now) }
     {
-        let guess = self.guess(key);
-        match self.get_in_leaf(guess, key) {
-            Some(content) => Some(content),
-            None => self.get_elsewhere(guess, key),
-        }
+        self.find(key).1
     }
 
-    /// The content at a key that is not in the guessed leaf.
-    fn get_elsewhere(&self, guess: usize, key: &K) -> Option<&C>
-        requires absent { find K.cmp key.now (get_or self.now guess []) ≡ None }
-        ensures found { option_copied result ≡ find K.cmp key.now (all_entries self.now) }
-        ensures is_valid { IfSome result (λ content. C.valid content.now) }
+    /// The index of the leaf that a key belongs into, and the content at the key.
+    pub(super) fn find(&self, key: &K) -> (usize, Option<&C>)
+        ensures leaf { result.0 ≡ leaf_for K.cmp key.now self.now }
+        ensures found { option_copied result.1 ≡ find K.cmp key.now (all_entries self.now) }
+        ensures is_valid { IfSome result.1 (λ content. C.valid content.now) }
     {
-        if self.belongs(guess, key) {
-            return None;
+        let (leaf, index) = self.place_of(key);
+        (leaf, self.content_at(leaf, index))
+    }
+
+    /// The index of the leaf that a key belongs into, and the index of the key in it.
+    pub(super) fn place_of(&self, key: &K) -> (usize, Result<usize, usize>)
+        ensures leaf { result.0 ≡ leaf_for K.cmp key.now self.now }
+        ensures index { result.1 ≡ index_of K.cmp key.now (get_or self.now result.0 []) }
+        ensures leaf_list { IsLeafList K.cmp C.valid self.now }
+    {
+        let guess = self.guess(key);
+        let index = self.index_in(guess, key);
+        if self.belongs(guess, key, &index) {
+            return (guess, index);
         }
-        self.get_in_its_leaf(self.search_leaf(key), key)
+        let leaf = self.search_leaf(key);
+        (leaf, self.index_in(leaf, key))
     }
 
     /// The index of the leaf that a key belongs into.
@@ -41,11 +51,7 @@ impl<K: Ord + Dup, C: Join> Block<K, C> {
         ensures leaf { result ≡ leaf_for K.cmp key.now self.now }
         ensures leaf_list { IsLeafList K.cmp C.valid self.now }
     {
-        let guess = self.guess(key);
-        if self.belongs(guess, key) {
-            return guess;
-        }
-        self.search_leaf(key)
+        self.place_of(key).0
     }
 
     /// The index of the leaf that a key belongs into, where it is likely to be `guess`.
@@ -53,7 +59,8 @@ impl<K: Ord + Dup, C: Join> Block<K, C> {
         ensures leaf { result ≡ leaf_for K.cmp key.now self.now }
         ensures leaf_list { IsLeafList K.cmp C.valid self.now }
     {
-        if self.belongs(guess, key) {
+        let index = self.index_in(guess, key);
+        if self.belongs(guess, key, &index) {
             return guess;
         }
         self.leaf_for(key)
@@ -75,66 +82,91 @@ impl<K: Ord + Dup, C: Join> Block<K, C> {
             .min(last)
     }
 
-    /// The content at a key that belongs into this leaf.
-    pub(super) fn get_in_its_leaf(&self, leaf: usize, key: &K) -> Option<&C>
-        requires { leaf ≡ leaf_for K.cmp key.now self.now }
-        ensures found { option_copied result ≡ find K.cmp key.now (all_entries self.now) }
-        ensures is_valid { IfSome result (λ content. C.valid content.now) }
-    {
-        self.get_in_leaf(leaf, key)
-    }
-
-    /// The content at a key if this leaf has it. No other leaf has it then.
-    fn get_in_leaf(&self, leaf: usize, key: &K) -> Option<&C>
-        ensures here { option_copied result ≡ find K.cmp key.now (get_or self.now leaf []) }
-        ensures found { IfSome result (λ content. find K.cmp key.now (all_entries self.now) ≡ Some content.now) }
-        ensures is_valid { IfSome result (λ content. C.valid content.now) }
+    /// The index of a key in a leaf.
+    fn index_in(&self, leaf: usize, key: &K) -> Result<usize, usize>
+        ensures index { result ≡ index_of K.cmp key.now (get_or self.now leaf []) }
         ensures leaf_list { IsLeafList K.cmp C.valid self.now }
     {
-        let entries = self.entries_of(leaf);
-        match binary_search(entries, key) {
-            Ok(index) => Some(&entries[index].1),
+        binary_search(self.entries_of(leaf), key)
+    }
+
+    /// The content in a leaf at an index, if a key was found there.
+    fn content_at(&self, leaf: usize, index: Result<usize, usize>) -> Option<&C>
+        ensures found { (key : K) → index ≡ index_of K.cmp key (get_or self.now leaf []) → option_copied result ≡ find K.cmp key (get_or self.now leaf []) }
+        ensures is_valid { IfSome result (λ content. C.valid content.now) }
+    {
+        self.recall_leaf_list();
+        match index {
+            Ok(index) => content_of(self.entries_of(leaf), index),
             Err(_) => None,
         }
     }
 
-    /// Whether the key surely belongs into this leaf.
-    fn belongs(&self, index: usize, key: &K) -> bool
-        ensures leaf { IsTrue result → index ≡ leaf_for K.cmp key.now self.now }
+    /// Whether a key surely belongs into this leaf, where it has this index. It does if it is there, or between two
+    /// entries: other leaves are looked at only where it would be put at an end.
+    fn belongs(&self, leaf: usize, key: &K, index: &Result<usize, usize>) -> bool
+        requires index { index.now ≡ index_of K.cmp key.now (get_or self.now leaf []) }
+        ensures leaf { IsTrue result → leaf ≡ leaf_for K.cmp key.now self.now }
         ensures leaf_list { IsLeafList K.cmp C.valid self.now }
     {
         let count = self.count();
-        if index >= count {
+        if leaf >= count {
             return false;
         }
-        if self.previous_ends_below(index, key) {
-            return self.ends_not_below(index, key);
+        match index {
+            Ok(_) => true,
+            Err(place) => self.is_gap_for(leaf, key, *place),
+        }
+    }
+
+    /// Whether a key that would be put at a place in this leaf surely belongs there.
+    fn is_gap_for(&self, leaf: usize, key: &K, place: usize) -> bool
+        requires leaf { leaf < length self.now }
+        requires place { Err place ≡ index_of K.cmp key.now (get_or self.now leaf []) }
+        ensures { IsTrue result → leaf ≡ leaf_for K.cmp key.now self.now }
+    {
+        self.recall_leaf_list();
+        if self.is_before_end(leaf, place) {
+            return self.previous_ends_below(leaf, key, place);
         }
         false
     }
 
-    /// Whether the leaf before this one ends below the key, or this is the first. It does if this one begins
-    /// below the key.
-    fn previous_ends_below(&self, index: usize, key: &K) -> bool
-        ensures { IsTrue result → 0 < index → ends_below K.cmp key.now (get_or self.now (index - 1) []) ≡ true }
+    /// Whether the leaf before this one ends below the key, or this is the first. It does if the key would be put after
+    /// another of this one.
+    fn previous_ends_below(&self, leaf: usize, key: &K, place: usize) -> bool
+        requires { Err place ≡ index_of K.cmp key.now (get_or self.now leaf []) }
+        ensures { IsTrue result → 0 < leaf → ends_below K.cmp key.now (get_or self.now (leaf - 1) []) ≡ true }
     {
-        if index == 0 || is_first_below(self.entries_of(index), key) {
+        self.recall_leaf_list();
+        if leaf == 0 {
             return true;
         }
-        is_last_below(self.entries_of(index - 1), key)
+        if place > 0 {
+            return true;
+        }
+        is_last_below(self.entries_of(leaf - 1), key)
     }
 
-    /// Whether the leaf does not end below the key, or is the last.
-    fn ends_not_below(&self, index: usize, key: &K) -> bool
-        requires { index < length self.now }
-        ensures { IsTrue result → index + 1 < length self.now → ends_below K.cmp key.now (get_or self.now index []) ≡ false }
+    /// Whether a place lies before the end of a leaf, or the leaf is the last.
+    fn is_before_end(&self, leaf: usize, place: usize) -> bool
+        requires { leaf < length self.now }
+        ensures { IsTrue result → leaf + 1 < length self.now → place < length (get_or self.now leaf []) }
     {
         let count = self.count();
-        if index + 1 == count {
+        if leaf + 1 == count {
             return true;
         }
-        !is_last_below(self.entries_of(index), key)
+        place < self.entries_of(leaf).len()
     }
+}
+
+/// The content of an entry.
+fn content_of<K, C>(entries: &[(K, C)], index: usize) -> Option<&C>
+    ensures { option_copied result ≡ option_map (λ e. e.1) (slice_get entries.now index) }
+{
+    let (_, content) = entries.get(index)?;
+    Some(content)
 }
 
 /// Adds the last key of a leaf that was split to the last keys, if there is memory for it.

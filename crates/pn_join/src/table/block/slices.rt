@@ -150,7 +150,7 @@ fn merge<K: Dup, C: Dup>(
 }
 
 /// Adds the missing last keys of the leaves. The others are those of the last leaves.
-fn add_last_keys<K: Dup, C>(
+pub(super) fn add_last_keys<K: Dup, C>(
     last_keys: &mut Vec<K>,
     leaves: &[Leaf<K, C>],
     others: &[K],

@@ -1,6 +1,7 @@
 use Rattle.std.proofs.Common.{◌≡◌, ◌+◌, ◌-◌, ◌^◌, ◌<◌, ◌++◌, [], length, get_or, take, set, ap, ◌∙◌, sym, arith}
 use Rattle.std.proofs.lemmas.List.{length-append}
 use Rattle.pn_join.specs.LeafEntries.{leaf_entries, leaves_of}
+use Rattle.pn_join.specs.Indices.{index_of}
 use Rattle.pn_join.specs.Leaves.{all_entries, leaf_for}
 use Rattle.pn_join.specs.PutInLeaves.{IsPutOf}
 use Rattle.pn_join.specs.LeafListChanges.{with_back, counts_with}
@@ -13,7 +14,7 @@ use Rattle.pn_join.proofs.LeafListIndices.{leaf_within, length-counts}
 use Rattle.pn_join.proofs.table.block.Block.join_in_list.Goals as goal
 
 pub start-start-requires : goal.start-start-requires
-start-start-requires g c = rw c.leaf_for-index.ensures.leaf (leaf_for-inside g.K.Ord.cmp g.C.Join.valid c.args.key g.met.K.Ord.total c.args.self.now)
+start-start-requires g c = rw c.place_of-index.ensures.leaf (leaf_for-inside g.K.Ord.cmp g.C.Join.valid c.args.key g.met.K.Ord.total c.args.self.now)
 
 pub index_mut-leaf-requires : goal.index_mut-leaf-requires
 index_mut-leaf-requires g c =
@@ -21,9 +22,22 @@ index_mut-leaf-requires g c =
     let key = c.args.key in
     let own = c.self.inside.leaves.items in
     let list = leaves_of own in
-    let i = c.leaf_for-index.result in
-    let within : i < length list = inside_list cmp g.C.Join.valid key g.met.K.Ord.total list c.args.self.now i c.self.view_is c.requires.some c.leaf_for-index.ensures.leaf in
+    let i = c.place_of-index.result.0 in
+    let within : i < length list = inside_list cmp g.C.Join.valid key g.met.K.Ord.total list c.args.self.now i c.self.view_is c.requires.some c.place_of-index.ensures.leaf in
     omega (arith, within, length-leaves own, c.in_ok-reserve.ensures.len, c.self.inside.leaves.ok.0)
+
+pub join_in_leaf-requires-clause-index : goal.join_in_leaf-requires-clause-index
+join_in_leaf-requires-clause-index g c =
+    let cmp = g.K.Ord.cmp in
+    let o = g.met.K.Ord.total in
+    let valid = g.C.Join.valid in
+    let key = c.args.key in
+    let own = c.self.inside.leaves.items in
+    let list = leaves_of own in
+    let i = c.place_of-index.result.0 in
+    let within : i < length list = inside_list cmp valid key o list c.args.self.now i c.self.view_is c.requires.some c.place_of-index.ensures.leaf in
+    let leaf : leaf_entries c.index_mut-leaf.result.now ≡ get_or list i [] = leaf_is cmp valid own c.reserve.new.self.items i c.index_mut-leaf.result.now c.in_ok-reserve.ensures.items within c.index_mut-leaf.ensures.value in
+    c.place_of-index.ensures.index ∙ ap (λ ls. index_of cmp key (get_or ls i [])) (sym c.self.view_is) ∙ ap (index_of cmp key) (sym leaf)
 
 pub join_in_leaf-requires-clause-table : goal.join_in_leaf-requires-clause-table
 join_in_leaf-requires-clause-table g c =
@@ -33,8 +47,8 @@ join_in_leaf-requires-clause-table g c =
     let key = c.args.key in
     let own = c.self.inside.leaves.items in
     let list = leaves_of own in
-    let i = c.leaf_for-index.result in
-    let within : i < length list = inside_list cmp valid key o list c.args.self.now i c.self.view_is c.requires.some c.leaf_for-index.ensures.leaf in
+    let i = c.place_of-index.result.0 in
+    let within : i < length list = inside_list cmp valid key o list c.args.self.now i c.self.view_is c.requires.some c.place_of-index.ensures.leaf in
     let leaf : leaf_entries c.index_mut-leaf.result.now ≡ get_or list i [] = leaf_is cmp valid own c.reserve.new.self.items i c.index_mut-leaf.result.now c.in_ok-reserve.ensures.items within c.index_mut-leaf.ensures.value in
     rw leaf (IsTable-leaf cmp valid key o list c.self.invariant.0 i)
 
@@ -46,8 +60,8 @@ join_in_leaf-requires-clause-size g c =
     let key = c.args.key in
     let own = c.self.inside.leaves.items in
     let list = leaves_of own in
-    let i = c.leaf_for-index.result in
-    let within : i < length list = inside_list cmp valid key o list c.args.self.now i c.self.view_is c.requires.some c.leaf_for-index.ensures.leaf in
+    let i = c.place_of-index.result.0 in
+    let within : i < length list = inside_list cmp valid key o list c.args.self.now i c.self.view_is c.requires.some c.place_of-index.ensures.leaf in
     let leaf : leaf_entries c.index_mut-leaf.result.now ≡ get_or list i [] = leaf_is cmp valid own c.reserve.new.self.items i c.index_mut-leaf.result.now c.in_ok-reserve.ensures.items within c.index_mut-leaf.ensures.value in
     rw leaf (IsLeaf-at cmp valid list i c.self.invariant.0.sizes within)
 
@@ -59,8 +73,8 @@ invariant_of-self-in_err-back g c =
     let key = c.args.key in
     let own = c.self.inside.leaves.items in
     let list = leaves_of own in
-    let i = c.leaf_for-index.result in
-    let within : i < length list = inside_list cmp valid key o list c.args.self.now i c.self.view_is c.requires.some c.leaf_for-index.ensures.leaf in
+    let i = c.place_of-index.result.0 in
+    let within : i < length list = inside_list cmp valid key o list c.args.self.now i c.self.view_is c.requires.some c.place_of-index.ensures.leaf in
     let leaf : leaf_entries c.index_mut-leaf.result.now ≡ get_or list i [] = leaf_is cmp valid own c.reserve.new.self.items i c.index_mut-leaf.result.now c.in_ok-reserve.ensures.items within c.index_mut-leaf.ensures.value in
     let same : leaves_of (set c.reserve.new.self.items i c.join_in_leaf.new.leaf) ≡ list = ap (λ ls. leaves_of (set ls i c.join_in_leaf.new.leaf)) c.in_ok-reserve.ensures.items ∙ same_leaves own i c.join_in_leaf.new.leaf (c.in_err-back.ensures.err ∙ leaf) in
     rw (same, c.in_ok-reserve-2.ensures.items) c.self.invariant
@@ -73,8 +87,8 @@ returns-in_err-back-clause-err g c =
     let key = c.args.key in
     let own = c.self.inside.leaves.items in
     let list = leaves_of own in
-    let i = c.leaf_for-index.result in
-    let within : i < length list = inside_list cmp valid key o list c.args.self.now i c.self.view_is c.requires.some c.leaf_for-index.ensures.leaf in
+    let i = c.place_of-index.result.0 in
+    let within : i < length list = inside_list cmp valid key o list c.args.self.now i c.self.view_is c.requires.some c.place_of-index.ensures.leaf in
     let leaf : leaf_entries c.index_mut-leaf.result.now ≡ get_or list i [] = leaf_is cmp valid own c.reserve.new.self.items i c.index_mut-leaf.result.now c.in_ok-reserve.ensures.items within c.index_mut-leaf.ensures.value in
     let same : leaves_of (set c.reserve.new.self.items i c.join_in_leaf.new.leaf) ≡ list = ap (λ ls. leaves_of (set ls i c.join_in_leaf.new.leaf)) c.in_ok-reserve.ensures.items ∙ same_leaves own i c.join_in_leaf.new.leaf (c.in_err-back.ensures.err ∙ leaf) in
     on_err_of c.from_residual-in_err-back.result (same ∙ c.self.view_is)
@@ -87,8 +101,8 @@ returns-in_err-back-clause-leaf_list g c =
     let key = c.args.key in
     let own = c.self.inside.leaves.items in
     let list = leaves_of own in
-    let i = c.leaf_for-index.result in
-    let within : i < length list = inside_list cmp valid key o list c.args.self.now i c.self.view_is c.requires.some c.leaf_for-index.ensures.leaf in
+    let i = c.place_of-index.result.0 in
+    let within : i < length list = inside_list cmp valid key o list c.args.self.now i c.self.view_is c.requires.some c.place_of-index.ensures.leaf in
     let leaf : leaf_entries c.index_mut-leaf.result.now ≡ get_or list i [] = leaf_is cmp valid own c.reserve.new.self.items i c.index_mut-leaf.result.now c.in_ok-reserve.ensures.items within c.index_mut-leaf.ensures.value in
     let same : leaves_of (set c.reserve.new.self.items i c.join_in_leaf.new.leaf) ≡ list = ap (λ ls. leaves_of (set ls i c.join_in_leaf.new.leaf)) c.in_ok-reserve.ensures.items ∙ same_leaves own i c.join_in_leaf.new.leaf (c.in_err-back.ensures.err ∙ leaf) in
     rw same c.self.invariant.0
@@ -109,8 +123,8 @@ overflow_sub-more g c =
     let key = c.args.key in
     let own = c.self.inside.leaves.items in
     let list = leaves_of own in
-    let i = c.leaf_for-index.result in
-    let within : i < length list = inside_list cmp valid key o list c.args.self.now i c.self.view_is c.requires.some c.leaf_for-index.ensures.leaf in
+    let i = c.place_of-index.result.0 in
+    let within : i < length list = inside_list cmp valid key o list c.args.self.now i c.self.view_is c.requires.some c.place_of-index.ensures.leaf in
     let leaf : leaf_entries c.index_mut-leaf.result.now ≡ get_or list i [] = leaf_is cmp valid own c.reserve.new.self.items i c.index_mut-leaf.result.now c.in_ok-reserve.ensures.items within c.index_mut-leaf.ensures.value in
     let front = leaf_entries c.join_in_leaf.new.leaf in
     let back = c.in_ok-back.back.items in
@@ -129,8 +143,8 @@ overflow_add-start g c =
     let key = c.args.key in
     let own = c.self.inside.leaves.items in
     let list = leaves_of own in
-    let i = c.leaf_for-index.result in
-    let within : i < length list = inside_list cmp valid key o list c.args.self.now i c.self.view_is c.requires.some c.leaf_for-index.ensures.leaf in
+    let i = c.place_of-index.result.0 in
+    let within : i < length list = inside_list cmp valid key o list c.args.self.now i c.self.view_is c.requires.some c.place_of-index.ensures.leaf in
     let leaf : leaf_entries c.index_mut-leaf.result.now ≡ get_or list i [] = leaf_is cmp valid own c.reserve.new.self.items i c.index_mut-leaf.result.now c.in_ok-reserve.ensures.items within c.index_mut-leaf.ensures.value in
     let front = leaf_entries c.join_in_leaf.new.leaf in
     let back = c.in_ok-back.back.items in
@@ -149,8 +163,8 @@ add_to_counts-requires-clause-within g c =
     let key = c.args.key in
     let own = c.self.inside.leaves.items in
     let list = leaves_of own in
-    let i = c.leaf_for-index.result in
-    let within : i < length list = inside_list cmp valid key o list c.args.self.now i c.self.view_is c.requires.some c.leaf_for-index.ensures.leaf in
+    let i = c.place_of-index.result.0 in
+    let within : i < length list = inside_list cmp valid key o list c.args.self.now i c.self.view_is c.requires.some c.place_of-index.ensures.leaf in
     omega (arith, within, ap length c.self.invariant.1.each, length-counts 0 list, c.in_ok-reserve-2.ensures.len, c.self.inside.entry_counts.ok.0)
 
 pub add_to_counts-requires-clause-fit : goal.add_to_counts-requires-clause-fit
@@ -161,8 +175,8 @@ add_to_counts-requires-clause-fit g c =
     let key = c.args.key in
     let own = c.self.inside.leaves.items in
     let list = leaves_of own in
-    let i = c.leaf_for-index.result in
-    let within : i < length list = inside_list cmp valid key o list c.args.self.now i c.self.view_is c.requires.some c.leaf_for-index.ensures.leaf in
+    let i = c.place_of-index.result.0 in
+    let within : i < length list = inside_list cmp valid key o list c.args.self.now i c.self.view_is c.requires.some c.place_of-index.ensures.leaf in
     let leaf : leaf_entries c.index_mut-leaf.result.now ≡ get_or list i [] = leaf_is cmp valid own c.reserve.new.self.items i c.index_mut-leaf.result.now c.in_ok-reserve.ensures.items within c.index_mut-leaf.ensures.value in
     let front = leaf_entries c.join_in_leaf.new.leaf in
     let back = c.in_ok-back.back.items in
@@ -184,8 +198,8 @@ add_back-requires-clause-within g c =
     let key = c.args.key in
     let own = c.self.inside.leaves.items in
     let list = leaves_of own in
-    let i = c.leaf_for-index.result in
-    let within : i < length list = inside_list cmp valid key o list c.args.self.now i c.self.view_is c.requires.some c.leaf_for-index.ensures.leaf in
+    let i = c.place_of-index.result.0 in
+    let within : i < length list = inside_list cmp valid key o list c.args.self.now i c.self.view_is c.requires.some c.place_of-index.ensures.leaf in
     omega (arith, within, length-leaves own, c.in_ok-reserve.ensures.len, c.self.inside.leaves.ok.0)
 
 pub invariant_of-self-2 : goal.invariant_of-self-2
@@ -196,8 +210,8 @@ invariant_of-self-2 g c =
     let key = c.args.key in
     let own = c.self.inside.leaves.items in
     let list = leaves_of own in
-    let i = c.leaf_for-index.result in
-    let within : i < length list = inside_list cmp valid key o list c.args.self.now i c.self.view_is c.requires.some c.leaf_for-index.ensures.leaf in
+    let i = c.place_of-index.result.0 in
+    let within : i < length list = inside_list cmp valid key o list c.args.self.now i c.self.view_is c.requires.some c.place_of-index.ensures.leaf in
     let leaf : leaf_entries c.index_mut-leaf.result.now ≡ get_or list i [] = leaf_is cmp valid own c.reserve.new.self.items i c.index_mut-leaf.result.now c.in_ok-reserve.ensures.items within c.index_mut-leaf.ensures.value in
     let front = leaf_entries c.join_in_leaf.new.leaf in
     let back = c.in_ok-back.back.items in
@@ -208,7 +222,7 @@ invariant_of-self-2 g c =
     let starts : c.start-start.result ≡ length (all_entries (take i list)) = c.start-start.ensures.start ∙ ap (λ ls. length (all_entries (take i ls))) (sym c.self.view_is) in
     let both : length (front ++ back) ≡ length front + length back = length-append front back in
     let backs : c.len-2.result ≡ length back = omega (arith, c.len-2.ensures, c.in_ok-back.back.ok.0) in
-    let at : i ≡ leaf_for cmp key list = c.leaf_for-index.ensures.leaf ∙ ap (leaf_for cmp key) (sym c.self.view_is) in
+    let at : i ≡ leaf_for cmp key list = c.place_of-index.ensures.leaf ∙ ap (leaf_for cmp key) (sym c.self.view_is) in
     let some : 0 < length list = omega (arith, within) in
     let put : leaves_of (set c.reserve.new.self.items i c.join_in_leaf.new.leaf) ≡ set list i front = leaves_of-set c.reserve.new.self.items i c.join_in_leaf.new.leaf ∙ ap (λ ls. set (leaves_of ls) i front) c.in_ok-reserve.ensures.items in
     let new : leaves_of c.add_back.new.leaves.items ≡ with_back i back (set list i front) = c.add_back.ensures ∙ ap (with_back i back) put in
@@ -228,13 +242,13 @@ returns-clause-ok g c =
     let key = c.args.key in
     let own = c.self.inside.leaves.items in
     let list = leaves_of own in
-    let i = c.leaf_for-index.result in
-    let within : i < length list = inside_list cmp valid key o list c.args.self.now i c.self.view_is c.requires.some c.leaf_for-index.ensures.leaf in
+    let i = c.place_of-index.result.0 in
+    let within : i < length list = inside_list cmp valid key o list c.args.self.now i c.self.view_is c.requires.some c.place_of-index.ensures.leaf in
     let leaf : leaf_entries c.index_mut-leaf.result.now ≡ get_or list i [] = leaf_is cmp valid own c.reserve.new.self.items i c.index_mut-leaf.result.now c.in_ok-reserve.ensures.items within c.index_mut-leaf.ensures.value in
     let front = leaf_entries c.join_in_leaf.new.leaf in
     let back = c.in_ok-back.back.items in
     let is : IsPutOf cmp g.C.Join.meaning g.C.Join.joined valid key c.args.content (get_or list i []) (front ++ back) = rw leaf at c.in_ok-back.ensures.ok in
-    let at : i ≡ leaf_for cmp key list = c.leaf_for-index.ensures.leaf ∙ ap (leaf_for cmp key) (sym c.self.view_is) in
+    let at : i ≡ leaf_for cmp key list = c.place_of-index.ensures.leaf ∙ ap (leaf_for cmp key) (sym c.self.view_is) in
     let some : 0 < length list = omega (arith, within) in
     let put : leaves_of (set c.reserve.new.self.items i c.join_in_leaf.new.leaf) ≡ set list i front = leaves_of-set c.reserve.new.self.items i c.join_in_leaf.new.leaf ∙ ap (λ ls. set (leaves_of ls) i front) c.in_ok-reserve.ensures.items in
     let new : leaves_of c.add_back.new.leaves.items ≡ with_back i back (set list i front) = c.add_back.ensures ∙ ap (with_back i back) put in
@@ -248,8 +262,8 @@ returns-clause-one g c =
     let key = c.args.key in
     let own = c.self.inside.leaves.items in
     let list = leaves_of own in
-    let i = c.leaf_for-index.result in
-    let within : i < length list = inside_list cmp valid key o list c.args.self.now i c.self.view_is c.requires.some c.leaf_for-index.ensures.leaf in
+    let i = c.place_of-index.result.0 in
+    let within : i < length list = inside_list cmp valid key o list c.args.self.now i c.self.view_is c.requires.some c.place_of-index.ensures.leaf in
     let front = leaf_entries c.join_in_leaf.new.leaf in
     let back = c.in_ok-back.back.items in
     let put : leaves_of (set c.reserve.new.self.items i c.join_in_leaf.new.leaf) ≡ set list i front = leaves_of-set c.reserve.new.self.items i c.join_in_leaf.new.leaf ∙ ap (λ ls. set (leaves_of ls) i front) c.in_ok-reserve.ensures.items in
@@ -264,13 +278,13 @@ returns-clause-leaf_list g c =
     let key = c.args.key in
     let own = c.self.inside.leaves.items in
     let list = leaves_of own in
-    let i = c.leaf_for-index.result in
-    let within : i < length list = inside_list cmp valid key o list c.args.self.now i c.self.view_is c.requires.some c.leaf_for-index.ensures.leaf in
+    let i = c.place_of-index.result.0 in
+    let within : i < length list = inside_list cmp valid key o list c.args.self.now i c.self.view_is c.requires.some c.place_of-index.ensures.leaf in
     let leaf : leaf_entries c.index_mut-leaf.result.now ≡ get_or list i [] = leaf_is cmp valid own c.reserve.new.self.items i c.index_mut-leaf.result.now c.in_ok-reserve.ensures.items within c.index_mut-leaf.ensures.value in
     let front = leaf_entries c.join_in_leaf.new.leaf in
     let back = c.in_ok-back.back.items in
     let is : IsPutOf cmp g.C.Join.meaning g.C.Join.joined valid key c.args.content (get_or list i []) (front ++ back) = rw leaf at c.in_ok-back.ensures.ok in
-    let at : i ≡ leaf_for cmp key list = c.leaf_for-index.ensures.leaf ∙ ap (leaf_for cmp key) (sym c.self.view_is) in
+    let at : i ≡ leaf_for cmp key list = c.place_of-index.ensures.leaf ∙ ap (leaf_for cmp key) (sym c.self.view_is) in
     let some : 0 < length list = omega (arith, within) in
     let put : leaves_of (set c.reserve.new.self.items i c.join_in_leaf.new.leaf) ≡ set list i front = leaves_of-set c.reserve.new.self.items i c.join_in_leaf.new.leaf ∙ ap (λ ls. set (leaves_of ls) i front) c.in_ok-reserve.ensures.items in
     let new : leaves_of c.add_back.new.leaves.items ≡ with_back i back (set list i front) = c.add_back.ensures ∙ ap (with_back i back) put in

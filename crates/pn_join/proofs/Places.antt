@@ -1,0 +1,129 @@
+-- What the index of a key in one leaf tells of the leaves.
+use Rattle.std.proofs.Common.{◌≡◌, ℕ, zero, suc, ◌<◌, true, false, cond, List, [], ◌∷◌, length, get_or, slice_get, option_map, option_copied, Option, None, Some, Result, Ok, Err, Ordering, Less, Equal, Greater, is_eq, is_lt, Bor, inl, inr, refl, sym, ap, ◌∙◌, subst, arith}
+use Rattle.std.specs.Prelude.{IfSome, ◌⊎◌}
+use Rattle.std.specs.List.{AllByRecursion}
+use Rattle.std.specs.Cmp.{IsTotalOrder, alike_right}
+use Rattle.std.specs.FinMap.{find}
+use Rattle.std.specs.FinMap.Entries.{by_order}
+use Rattle.pn_join.specs.Indices.{later, index_of}
+use Rattle.pn_join.specs.Leaves.{all_entries, begins_below, ends_below, leaf_for}
+use Rattle.pn_join.proofs.Each.{each_back, each_prefix}
+use Rattle.pn_join.proofs.IndexAtEnd.{past_end}
+use Rattle.pn_join.proofs.Indices.{by_index}
+use Rattle.pn_join.proofs.LeafListSearch.{IsAbove, Below-leaf, Rising-leaf, ends_below-above, ends_below-before, leaf_for-at}
+use Rattle.pn_join.proofs.Rising.{Below, Rising, AllBelow, AllBelow-from_Rising, Rising-back, flipped}
+
+module _ {K X : Type 0} (cmp : K → K → Ordering) (key : K) where
+  -- the entry at the index has the content at the key
+  abbrev HasContent : List (K × X) → Result ℕ ℕ → Type 0
+  HasContent es r = (i : ℕ) → Ok i ≡ r → option_map (λ (e : K × X). e.1) (slice_get es i) ≡ find cmp key es
+
+  first_found : (e : K × X) (es : List (K × X)) (r : Ordering) → cmp key e.0 ≡ r → find cmp key (e ∷ es) ≡ cond (is_eq r) (Some e.1) (find cmp key es)
+  first_found e es r p = ap (λ r. cond (is_eq r) (Some e.1) (find cmp key es)) p
+
+  content_first : (e : K × X) (es : List (K × X)) → cmp key e.0 ≡ Equal → HasContent (e ∷ es) (Ok 0)
+  content_first e es p i is =
+      let at : i ≡ 0 = cc in
+      ap (λ (n : ℕ). option_map (λ (x : K × X). x.1) (slice_get (e ∷ es) n)) at ∙ sym (first_found e es Equal p)
+
+  content_later : (e : K × X) (es : List (K × X)) → cmp key e.0 ≡ Greater → (r : Result ℕ ℕ) → HasContent es r → HasContent (e ∷ es) (later r)
+  content_later e es p (Ok j) has i is =
+      let at : i ≡ suc j = cc in
+      ap (λ (n : ℕ). option_map (λ (x : K × X). x.1) (slice_get (e ∷ es) n)) at ∙ has j refl ∙ sym (first_found e es Greater p)
+  content_later e es p (Err j) has i is = cc
+
+  content_at_tie : (es : List (K × X)) (i : ℕ) → Ok i ≡ index_of cmp key es → option_map (λ (e : K × X). e.1) (slice_get es i) ≡ find cmp key es
+  content_at_tie es = by_index cmp key HasContent (λ i is. cc) (λ e es p i is. cc) content_first content_later es
+
+  -- the content read at the index of a key is that at the key
+  pub content_read : (es leaf : List (K × X)) (i : ℕ) (r : Option (Bor X)) → option_copied r ≡ option_map (λ (e : K × X). e.1) (slice_get es i) → es ≡ leaf → Ok i ≡ index_of cmp key leaf → option_copied r ≡ find cmp key leaf
+  content_read es leaf i r is same at = is ∙ ap (λ (xs : List (K × X)). option_map (λ (e : K × X). e.1) (slice_get xs i)) same ∙ content_at_tie leaf i at
+
+  -- the first of the entries has the key
+  abbrev BeginsTied : List (K × X) → Type 0
+  BeginsTied [] = ⊥
+  BeginsTied (e ∷ es) = cmp key e.0 ≡ Equal
+
+  module _ (o : IsTotalOrder cmp) where
+    -- a key that would be put after some entries is above the first
+    pub begins_before : (es : List (K × X)) (i : ℕ) → Err i ≡ index_of cmp key es → 0 < i → begins_below cmp key es ≡ true
+    begins_before [] i is some = let at : i ≡ 0 = cc in absurd (omega (arith, some, at))
+    begins_before (e ∷ es) i is some =
+        elim (cmp key e.0) as (λ r. cmp key e.0 ≡ r → Err i ≡ by_order r (Err 0) (Ok 0) (later (index_of cmp key es)) → is_lt (cmp e.0 key) ≡ true) [
+          | Less ↦ λ p q. let at : i ≡ 0 = cc in absurd (omega (arith, some, at))
+          | Equal ↦ λ p q. cc
+          | Greater ↦ λ p q. ap is_lt (flipped o key e.0 p)
+        ] refl is
+
+    -- a key that would be put before the end is not above the last
+    pub ends_after : (es : List (K × X)) → Rising cmp es → (i : ℕ) → Err i ≡ index_of cmp key es → i < length es → ends_below cmp key es ≡ false
+    ends_after es h i is lt =
+        elim (ends_below cmp key es) as (λ b. ends_below cmp key es ≡ b → b ≡ false) [
+          | true ↦ λ p. let past = past_end cmp key o es h p in let at : i ≡ length es = cc in absurd (omega (arith, lt, at))
+          | false ↦ λ p. refl
+        ] refl
+
+    found_begins : (es : List (K × X)) (i : ℕ) → Ok i ≡ index_of cmp key es → (begins_below cmp key es ≡ true) ⊎ BeginsTied es
+    found_begins [] i is = cc
+    found_begins (e ∷ es) i is =
+        elim (cmp key e.0) as (λ r. cmp key e.0 ≡ r → Ok i ≡ by_order r (Err 0) (Ok 0) (later (index_of cmp key es)) → (is_lt (cmp e.0 key) ≡ true) ⊎ (cmp key e.0 ≡ Equal)) [
+          | Less ↦ λ p q. cc
+          | Equal ↦ λ p q. inr p
+          | Greater ↦ λ p q. inl (ap is_lt (flipped o key e.0 p))
+        ] refl is
+
+    found_ends : (es : List (K × X)) → Rising cmp es → (i : ℕ) → Ok i ≡ index_of cmp key es → ends_below cmp key es ≡ false
+    found_ends es h i is =
+        elim (ends_below cmp key es) as (λ b. ends_below cmp key es ≡ b → b ≡ false) [
+          | true ↦ λ p. let past = past_end cmp key o es h p in cc
+          | false ↦ λ p. refl
+        ] refl
+
+    below_tied : (e : K × X) (es : List (K × X)) → Below cmp e.0 es → BeginsTied es → cmp key e.0 ≡ Greater
+    below_tied e [] h t = absurd t
+    below_tied e (f ∷ es) h t = flipped o e.0 key (sym (alike_right o f.0 key e.0 (flipped o key f.0 t)) ∙ h.0)
+
+    all_below_tied : (es : List (K × X)) (list : List (List (K × X))) → AllBelow cmp es (all_entries list) → (j : ℕ) → BeginsTied (get_or list j []) → IsAbove cmp key es
+    all_below_tied [] list h j t = tt
+    all_below_tied (e ∷ es) list h j t = (below_tied e (get_or list j []) (Below-leaf cmp key o e.0 list h.0 j) t, all_below_tied es list h.1 j t)
+
+    -- if a leaf begins with the key, the one before it ends below it
+    tied-before : (list : List (List (K × X))) → AllByRecursion (λ leaf. 0 < length leaf) list → Rising cmp (all_entries list) → (i : ℕ) → BeginsTied (get_or list (suc i) []) → ends_below cmp key (get_or list i []) ≡ true
+    tied-before [] some h i t = absurd t
+    tied-before (l ∷ ls) some h zero t = ends_below-above cmp key o l some.0 (all_below_tied l ls (AllBelow-from_Rising cmp l (all_entries ls) h) 0 t)
+    tied-before (l ∷ ls) some h (suc i) t = tied-before ls some.1 (Rising-back cmp l (all_entries ls) h) i t
+
+    -- a key belongs into the leaf that has it
+    pub leaf_that_has : (list : List (List (K × X))) → AllByRecursion (λ leaf. 0 < length leaf) list → Rising cmp (all_entries list) → (j i : ℕ) → j < length list → Ok i ≡ index_of cmp key (get_or list j []) → j ≡ leaf_for cmp key list
+    leaf_that_has list some h j i lt is =
+        leaf_for-at cmp key o list some h j lt
+        (λ k e. before k (is ∙ ap (λ (n : ℕ). index_of cmp key (get_or list n [])) (sym e)))
+        (λ more. found_ends (get_or list j []) (Rising-leaf cmp key o list h j) i is)
+      where
+        before : (k : ℕ) → Ok i ≡ index_of cmp key (get_or list (suc k) []) → ends_below cmp key (get_or list k []) ≡ true
+        before k at = elim (found_begins (get_or list (suc k) []) i at) [
+          | inl b ↦ ends_below-before cmp key o list some h k b
+          | inr t ↦ tied-before list some h k t
+        ]
+
+valid_copied : {X : Type 0} (valid : X → Type 0) (r : Option (Bor X)) (o : Option X) → option_copied r ≡ o → IfSome o valid → IfSome r (λ x. valid x.now)
+valid_copied valid None o is h = tt
+valid_copied valid (Some x) None is h = cc
+valid_copied valid (Some x) (Some y) is h = let same : y ≡ x.now = cc in subst valid same h
+
+module _ {K X : Type 0} (valid : X → Type 0) where
+  valid_there : (es : List (K × X)) (i : ℕ) → AllByRecursion (λ e. valid e.1) es → IfSome (option_map (λ (e : K × X). e.1) (slice_get es i)) valid
+  valid_there [] i h = tt
+  valid_there (e ∷ es) zero h = h.0
+  valid_there (e ∷ es) (suc i) h = valid_there es i h.1
+
+  -- the contents of each leaf are valid
+  leaf_contents : (list : List (List (K × X))) (i : ℕ) → AllByRecursion (λ e. valid e.1) (all_entries list) → AllByRecursion (λ e. valid e.1) (get_or list i [])
+  leaf_contents [] i h = tt
+  leaf_contents (l ∷ ls) zero h = each_prefix (λ e. valid e.1) l (all_entries ls) h
+  leaf_contents (l ∷ ls) (suc i) h = leaf_contents ls i (each_back (λ e. valid e.1) l (all_entries ls) h)
+
+  -- a content read in a leaf is valid
+  pub valid_read : (list : List (List (K × X))) (leaf : ℕ) (es : List (K × X)) (i : ℕ) (r : Option (Bor X)) → AllByRecursion (λ e. valid e.1) (all_entries list) → option_copied r ≡ option_map (λ (e : K × X). e.1) (slice_get es i) → es ≡ get_or list leaf [] → IfSome r (λ x. valid x.now)
+  valid_read list leaf es i r h is same =
+      valid_copied valid r (option_map (λ (e : K × X). e.1) (slice_get es i)) is (valid_there es i (subst (λ (xs : List (K × X)). AllByRecursion (λ e. valid e.1) xs) (sym same) (leaf_contents list leaf h)))
