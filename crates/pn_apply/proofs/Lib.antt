@@ -3,6 +3,7 @@ pub mod Crossing
 pub mod Cuts
 pub mod Entries
 pub mod Halves
+pub mod Neighbours
 pub mod Parts
 pub mod Prefixes
 pub mod ReduceLaws

@@ -6,14 +6,16 @@ ghost use Rattle.pn_stream.specs.Positions.{are_positions};
 ghost use Rattle.pn_apply.specs.Shares.{AreMade};
 
 mod entries;
+mod tables;
 
-use entries::{make_entries, table_of_entries};
+use entries::make_entries;
 use pn_join::{NoMemory, StreamName};
 use pn_record::{Cell, Image, Key, Records};
 use pn_stream::Delivery;
 use std::alloc::Global;
 use std::marker::Model;
 use std::snapshot::Snapshot;
+use tables::table_of_entries;
 
 /// What a delivery brings to a round: once it is finished, a table of the cells of its images. Other tables share their
 /// contents.

@@ -1,15 +1,11 @@
-//! The cells of images, one after another, and their table.
+//! The cells of images, one after another.
 
-ghost use Rattle.std.specs.Prelude.{◌≡◌, ◌++◌, ◌∷◌, [], List, map, IfOk, IfErr, IsTrue, OnOk};
-ghost use Rattle.std.specs.FinMap.{is_sorted};
-ghost use Rattle.pn_record.specs.Cells.{Holds};
+ghost use Rattle.std.specs.Prelude.{◌≡◌, [], List, IfOk, IfErr, OnOk};
 ghost use Rattle.pn_record.specs.declared.image.Image.{Image};
-ghost use Rattle.pn_record.specs.Order.{bytes_cmp};
-ghost use Rattle.pn_record.specs.Prelude.{table_of};
 ghost use Rattle.pn_apply.specs.Shares.{AreMade, entry_of as the_entry_of};
 
-use pn_join::{Dup, NoMemory};
-use pn_record::{Cell, Image, Key, Records};
+use pn_join::NoMemory;
+use pn_record::{Cell, Image, Key};
 use std::alloc::Global;
 
 /// Moves the images, of which the next is the last, into cells. After an error a further call goes on.
@@ -53,25 +49,4 @@ fn entry_of(alloc: Global, image: Image) -> Result<(Key, Cell), Image>
             content,
         }),
     }
-}
-
-/// The table of cells of images.
-pub fn table_of_entries(alloc: Global, entries: &[(Key, Cell)]) -> Result<Records, NoMemory>
-    ensures { IfOk result (λ cells. (images : List Image) → entries.now ≡ map the_entry_of images → cells ≡ table_of images) }
-{
-    let mut cells = Records::new(alloc);
-    for (key, cell) in entries {
-        join_cell(&mut cells, key.dup()?, cell.dup()?)?;
-    }
-    Ok(cells)
-}
-
-// Joins the cell of an image.
-fn join_cell(cells: &mut Records, key: Key, cell: Cell) -> Result<(), NoMemory>
-    ensures held { OnOk result ((taken : List Image) (image : Image) → (key, cell) ≡ the_entry_of image → Holds cells.old taken
-        → Holds cells.new (taken ++ image ∷ [])) }
-    ensures rising { OnOk result (IsTrue (is_sorted bytes_cmp cells.new)) }
-{
-    let _ = cell.version();
-    cells.join_entry(key, cell)
 }
