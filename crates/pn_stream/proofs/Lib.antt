@@ -1,3 +1,4 @@
+pub mod Attempts
 pub mod ChunkLaws
 pub mod FirstMessage
 pub mod Gathering

@@ -1,3 +1,4 @@
+pub mod Attempts
 pub mod Batches
 pub mod Brokers
 pub mod Calls

@@ -7,7 +7,7 @@ ghost use Rattle.pn_stream.specs.Faults.{Stands};
 ghost use Rattle.pn_stream.specs.Lines.{Gathered, IsNextLine, IsWhole};
 
 use crate::fault::StreamFault;
-use crate::memory::{ReaderMemory, push_one};
+use crate::memory::{ReaderMemory, make_in_memory, push_one};
 use crate::next::{BatchSize, take_line, whole_line};
 use pn_join::NoMemory;
 use pn_line::{LineBuffer, Source, read_bounded_line};
@@ -100,16 +100,7 @@ fn copy_in_memory<M: ReaderMemory>(memory: &M, bytes: &[u8]) -> Result<WholeLine
     ensures copy { IfOk result (λ line. line ≡ bytes.now) }
     ensures gives_up { OnErr result M.may_give_up }
 {
-    for _ in 0..u64::MAX {
-        if let Ok(line) = WholeLine::copy_of(memory.alloc(), bytes) {
-            return Ok(line);
-        }
-        if !memory.wait() {
-            return Err(NoMemory);
-        }
-    }
-    memory.give_up();
-    Err(NoMemory)
+    make_in_memory(memory, &mut || WholeLine::copy_of(memory.alloc(), bytes))
 }
 
 // The next whole line. None where none is left.

@@ -1,6 +1,7 @@
 //! The memory of a reader, which may be waited for where it runs out.
 
 ghost use Rattle.std.specs.Prelude.{◌≡◌, ◌<◌, [], ◌∷◌, ◌++◌, false, vec_len, vec_capacity, IfOk, OnOk, OnErr};
+ghost use Rattle.pn_stream.specs.Attempts.{FailedSoFar, MadeAtLast};
 ghost use Rattle.pn_line.specs.Prelude.{so_far};
 
 use pn_join::NoMemory;
@@ -51,14 +52,19 @@ impl ReaderMemory for NoWait {
     fn give_up(&self) {}
 }
 
-/// A line that has no byte yet.
-pub(crate) fn new_line<M: ReaderMemory>(memory: &M) -> Result<LineBuffer, NoMemory>
-    ensures line { IfOk result (λ line. line ≡ so_far []) }
+/// What the attempt makes. Where memory runs out for it, memory is waited for, and the attempt is made again.
+pub(crate) fn make_in_memory<T, M: ReaderMemory, F: FnMut() -> Result<T, NoMemory>>(
+    memory: &M,
+    attempt: &mut F,
+) -> Result<T, NoMemory>
+    requires { F.IsAlwaysCallable attempt.old }
+    ensures made { IfOk result (λ made. MadeAtLast F.step attempt.old made attempt.new) }
+    ensures failed { OnErr result (FailedSoFar F.step attempt.old attempt.new) }
     ensures gives_up { OnErr result M.may_give_up }
 {
     for _ in 0..u64::MAX {
-        if let Ok(line) = LineBuffer::new(memory.alloc()) {
-            return Ok(line);
+        if let Ok(made) = attempt() {
+            return Ok(made);
         }
         if !memory.wait() {
             return Err(NoMemory);
@@ -68,22 +74,21 @@ pub(crate) fn new_line<M: ReaderMemory>(memory: &M) -> Result<LineBuffer, NoMemo
     Err(NoMemory)
 }
 
+/// A line that has no byte yet.
+pub(crate) fn new_line<M: ReaderMemory>(memory: &M) -> Result<LineBuffer, NoMemory>
+    ensures line { IfOk result (λ line. line ≡ so_far []) }
+    ensures gives_up { OnErr result M.may_give_up }
+{
+    make_in_memory(memory, &mut || Ok(LineBuffer::new(memory.alloc())?))
+}
+
 // Reserves memory for one more.
 fn reserve_one<T, M: ReaderMemory>(memory: &M, list: &mut Vec<T>) -> Result<(), NoMemory>
     ensures room { OnOk result (vec_len list.new < vec_capacity list.new) }
     ensures items { list.new.items ≡ list.old.items }
     ensures gives_up { OnErr result M.may_give_up }
 {
-    for _ in 0..u64::MAX {
-        if list.reserve(1).is_ok() {
-            return Ok(());
-        }
-        if !memory.wait() {
-            return Err(NoMemory);
-        }
-    }
-    memory.give_up();
-    Err(NoMemory)
+    make_in_memory(memory, &mut || Ok(list.reserve(1)?))
 }
 
 /// Adds one more. An error leaves the list as it was.

@@ -10,8 +10,9 @@ ghost use Rattle.pn_stream.specs.Faults.{Refuses, Stands};
 ghost use Rattle.pn_stream.specs.Batches.{Batch, IsPart, IsNext, part_of};
 
 use crate::fault::StreamFault;
-use crate::memory::{ReaderMemory, new_line, push_one};
+use crate::memory::{ReaderMemory, make_in_memory, new_line, push_one};
 use crate::message::read_message;
+use pn_join::NoMemory;
 use pn_line::{BoundedEnd, LineBuffer, Source, read_bounded_line};
 use pn_record::{Image, ImageFault};
 use std::alloc::Global;
@@ -191,18 +192,19 @@ fn message_in_memory<M: ReaderMemory>(
     ensures any_step { IfErr result (λ fault. (named got : ℕ) → fault ≢ StreamFault.OutOfStep named got) }
     ensures gives_up { IsErrOf result StreamFault.Memory → M.may_give_up }
 {
-    for _ in 0..u64::MAX {
-        match message_of_line(memory.alloc(), line, wanted) {
-            Err(StreamFault::Memory) => {
-                if !memory.wait() {
-                    return Err(StreamFault::Memory);
-                }
-            }
-            read => return read,
-        }
+    let mut attempt = || unless_memory(message_of_line(memory.alloc(), line, wanted));
+    make_in_memory(memory, &mut attempt)?
+}
+
+// What was read, unless memory ran out.
+fn unless_memory<T: Drop>(read: Result<T, StreamFault>) -> Result<Result<T, StreamFault>, NoMemory>
+    ensures read { IfOk result (λ made. made ≡ read) }
+    ensures memory { IfOk result (λ made. IsErrOf made StreamFault.Memory → ⊥) }
+{
+    match read {
+        Err(StreamFault::Memory) => Err(NoMemory),
+        read => Ok(read),
     }
-    memory.give_up();
-    Err(StreamFault::Memory)
 }
 
 /// Whether a further newline was seen after the line, if a whole one was read.
