@@ -49,8 +49,8 @@ pub record IsPart (line : LineBufferValue) : Type 0 where
   pub line_is : line ≡ so_far line.bytes
   pub part : NoLine line.bytes
 
--- of a message that was read: no byte after its line was read, a newline that was seen there is left, and its position is
--- one of a stream
+-- of a message that was read: nothing of the next line was read, a newline that was seen there is left, and the position
+-- is one of a stream
 pub record IsTaken (part : List ℕ) (left leaves : Option (List ℕ)) (message : NextMessage) : Type 0 where
   pub none : part ≡ []
   pub more : OnSome left (HasShown message.more leaves)
