@@ -3,19 +3,11 @@ use Rattle.std.specs.Prelude.{ℕ, List, codes, Option, None, Some, option_map, 
 use Rattle.serde_json.specs.Data.{Data, null, number, object, string, unsigned, no_members, member}
 use Rattle.pn_json.specs.Lines.{line_of}
 use Rattle.pn_record.specs.Reading.{value_at}
-use Rattle.pn_record.specs.Words.{word_of}
+use Rattle.pn_record.specs.Words.{word_of, word_of_fault}
 use Rattle.pn_record.specs.declared.fault.ImageFault.{ImageFault}
 use Rattle.pn_record.specs.declared.fault.ImageFault.TheVariants.{TooLong, NotJson, Memory, BadShape, OutOfRange}
 use Rattle.pn_check.specs.Faults.{read_fault}
 use Rattle.pn_check.specs.Names.{name_in}
-
--- a fault in a word, as a region says it
-abbrev pub fault_word : ImageFault → List ℕ
-fault_word TooLong = codes "too-long"
-fault_word NotJson = codes "not-json"
-fault_word Memory = codes "memory"
-fault_word (BadShape part) = codes "bad-shape"
-fault_word (OutOfRange part) = codes "out-of-range"
 
 -- the member at fault, if one is
 abbrev pub member_word : ImageFault → Option (List ℕ)
@@ -33,7 +25,7 @@ text_or_null (Some text) = string text
 -- the fault of the line of a number, and the name at fault
 unfoldable pub told_data : ImageFault → ℕ → Option (List ℕ) → Data
 told_data fault line name =
-    object (member (codes "error") (string (fault_word fault))
+    object (member (codes "error") (string (word_of_fault fault))
     (member (codes "line") (number (unsigned line))
     (member (codes "member") (text_or_null (member_word fault))
     (member (codes "name") (text_or_null name) no_members))))

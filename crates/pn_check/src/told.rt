@@ -2,7 +2,7 @@
 
 ghost use Rattle.std.specs.Prelude.{◌≡◌, IfOk, OnOk, codes, option_map};
 ghost use Rattle.pn_json.specs.Prelude.{line_of, Appends, member_tokens, seen_text, value_tokens};
-ghost use Rattle.pn_check.specs.Told.{fault_word as word_of_fault, member_word as word_of_member, text_or_null, told, told_data};
+ghost use Rattle.pn_check.specs.Told.{member_word as word_of_member, text_or_null, told, told_data};
 
 use crate::faults::fault_of_line;
 use crate::names::name_at_fault;
@@ -57,7 +57,7 @@ fn write_fault(
     ensures { OnOk result (Appends writer.old writer.new (value_tokens (told_data fault.now number (seen_text name.entry)))) }
 {
     writer.begin_object()?;
-    write_text_member(writer, "error", fault_word(fault))?;
+    write_text_member(writer, "error", fault.word())?;
     write_number_member(writer, "line", number)?;
     write_text_or_null(writer, "member", member_word(fault))?;
     write_text_or_null(writer, "name", name)?;
@@ -72,18 +72,6 @@ fn write_text_or_null(writer: &mut Writer, name: &str, text: Option<&str>) -> Re
     match text {
         Some(text) => write_text_member(writer, name, text),
         None => write_null_member(writer, name),
-    }
-}
-
-fn fault_word(fault: &ImageFault) -> &'static str
-    ensures { result.now ≡ word_of_fault fault.now }
-{
-    match fault {
-        ImageFault::TooLong => "too-long",
-        ImageFault::NotJson => "not-json",
-        ImageFault::Memory => "memory",
-        ImageFault::BadShape(_) => "bad-shape",
-        ImageFault::OutOfRange(_) => "out-of-range",
     }
 }
 

@@ -28,3 +28,8 @@ pub known_before : (P : Type 0) (first between : Option (List ℕ)) (bs : List �
 known_before P None between bs consumed holds = tt
 known_before P (Some xs) None bs consumed holds = absurd consumed
 known_before P (Some xs) (Some ys) bs consumed holds = holds
+
+-- of known bytes nothing is asked
+pub on_any : (known : Option (List ℕ)) → OnSome known (Unit {0})
+on_any None = tt
+on_any (Some bytes) = tt

@@ -1,7 +1,8 @@
 -- What reading a line takes from its source.
-use Rattle.std.specs.Prelude.{◌≡◌, ◌≢◌, ℕ, Bool, true, false, List, [], ◌∷◌, ◌++◌, Option, IfSome, All, Contains}
-use Rattle.std.specs.Io.KnownBytes.{Consumes}
+use Rattle.std.specs.Prelude.{◌≡◌, ◌≢◌, ◌<◌, ℕ, Bool, true, false, List, [], ◌∷◌, ◌++◌, Option, IfSome, OnSome, All, Contains}
+use Rattle.std.specs.Io.KnownBytes.{Consumes, IsAtEnd}
 use Rattle.pn_line.specs.Line.{LineBufferValue, with_bytes}
+use Rattle.pn_line.specs.declared.line_buffer.TheConstants.{ENDLESS}
 use Rattle.pn_line.specs.declared.piece.Piece.{Piece}
 use Rattle.pn_line.specs.declared.piece.Piece.TheVariants.{Part, Ended, NoMore}
 
@@ -39,3 +40,11 @@ abbrev pub HasMore : Piece → Option (List ℕ) → Type 0
 HasMore Part left = Unit {0}
 HasMore (Ended more) left = HasShown more left
 HasMore NoMore left = Unit {0}
+
+-- what a look took of a line: bytes of it, or the rest of it and its newline, or nothing at the end of the source
+pub record TakesPiece (piece : Piece) (old new : LineBufferValue) (left leaves : Option (List ℕ)) : Type 0 where
+  pub takes : Takes old new left leaves (newline_after piece)
+  pub grows : piece ≡ Part → old.count < new.count
+  pub below : piece ≢ Part → new.count < ENDLESS
+  pub end : piece ≡ NoMore → OnSome left (IsAtEnd leaves)
+  pub more : OnSome left (HasMore piece leaves)

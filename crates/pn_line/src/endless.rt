@@ -1,7 +1,7 @@
 //! A source that never ends, and whose looks are counted.
-ghost use Rattle.std.specs.Prelude.{◌≡◌, ◌≢◌, ◌+◌, ◌-◌, ◌<◌, ◌≤◌, ◌^◌, true, false, List, ℕ, [], Ok, None, IfOk, IfSome, OnErr, OnSome, length, min};
-ghost use Rattle.std.specs.Io.KnownBytes.{IsAtEnd, Keeps};
-ghost use Rattle.pn_line.specs.Reads.{Takes, newline_after, HasMore};
+ghost use Rattle.std.specs.Prelude.{◌≡◌, ◌≢◌, ◌+◌, ◌-◌, ◌<◌, ◌≤◌, ◌^◌, true, false, List, ℕ, [], Ok, None, IfOk, IfSome, OnErr, length, min};
+ghost use Rattle.std.specs.Io.KnownBytes.{Keeps};
+ghost use Rattle.pn_line.specs.Reads.{TakesPiece};
 
 use crate::line_buffer::{ENDLESS, LineBuffer};
 use crate::piece::{Piece, take_piece};
@@ -59,12 +59,8 @@ impl Source for EndlessSource<'_> {
     /// Counts as a look, and never fails or ends.
     fn take_some(&mut self, line: &mut LineBuffer) -> io::Result<Piece>
         requires { line.old.count < ENDLESS }
-        ensures takes { IfOk result (λ piece. Takes line.old line.new None None (newline_after piece)) }
-        ensures part { result ≡ Ok Piece.Part → line.old.count < line.new.count }
-        ensures below { result ≢ Ok Piece.Part → line.new.count < ENDLESS }
-        ensures end { result ≡ Ok Piece.NoMore → OnSome {T = List ℕ} None (IsAtEnd None) }
+        ensures takes { IfOk result (λ piece. TakesPiece piece line.old line.new None None) }
         ensures end_comes { result ≡ Ok Piece.NoMore → ⊥ }
-        ensures more { IfOk result (λ piece. OnSome {T = List ℕ} None (HasMore piece None)) }
         ensures looks { self.new ≤ self.old + 1 }
         ensures fault { OnErr result ⊥ }
         ensures kept { OnErr result (Keeps None None) }

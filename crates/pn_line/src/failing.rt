@@ -1,8 +1,8 @@
 //! A source and a sink of which one chosen call fails. A contract sees their bytes, so that it says what a
 //! failed run read and wrote.
-ghost use Rattle.std.specs.Prelude.{◌≡◌, ◌≢◌, ◌-◌, ◌<◌, ◌≤◌, ◌↔◌, [], true, false, Ok, Some, IfOk, IfSome, IsErr, OnOk, OnErr, OnSome, length, max, min, take};
-ghost use Rattle.std.specs.Io.KnownBytes.{Appends, Keeps, IsAtEnd};
-ghost use Rattle.pn_line.specs.Reads.{Takes, newline_after, HasMore};
+ghost use Rattle.std.specs.Prelude.{◌≡◌, ◌≢◌, ◌-◌, ◌<◌, ◌≤◌, ◌↔◌, [], true, false, Ok, Some, IfOk, IfSome, IsErr, OnOk, OnErr, length, max, min, take};
+ghost use Rattle.std.specs.Io.KnownBytes.{Appends, Keeps};
+ghost use Rattle.pn_line.specs.Reads.{TakesPiece};
 
 use crate::in_memory::InMemory;
 use crate::line_buffer::{ENDLESS, LineBuffer};
@@ -76,11 +76,7 @@ impl Source for FailingSource<'_> {
     fn take_some(&mut self, line: &mut LineBuffer) -> io::Result<Piece>
         requires { line.old.count < ENDLESS }
         ensures takes { IfOk result
-            (λ piece. Takes line.old line.new (Some self.old.left) (Some self.new.left) (newline_after piece)) }
-        ensures part { result ≡ Ok Piece.Part → line.old.count < line.new.count }
-        ensures below { result ≢ Ok Piece.Part → line.new.count < ENDLESS }
-        ensures end { result ≡ Ok Piece.NoMore → OnSome (Some self.old.left) (IsAtEnd (Some self.new.left)) }
-        ensures more { IfOk result (λ piece. OnSome (Some self.old.left) (HasMore piece (Some self.new.left))) }
+            (λ piece. TakesPiece piece line.old line.new (Some self.old.left) (Some self.new.left)) }
         ensures fault { OnErr result (Unit {0}) }
         ensures kept { OnErr result (Keeps (Some self.old.left) (Some self.new.left)) }
         ensures line_kept { OnErr result (line.new ≡ line.old) }

@@ -1,7 +1,7 @@
 //! Where lines are read from: any buffered reader, or bytes in memory, whose reads never fail.
-ghost use Rattle.std.specs.Prelude.{◌≡◌, ◌≢◌, ◌+◌, ◌<◌, ◌≤◌, ℕ, List, [], true, false, IfOk, OnErr, IfSome, OnSome, Option};
-ghost use Rattle.std.specs.Io.KnownBytes.{Keeps, IsAtEnd};
-ghost use Rattle.pn_line.specs.Reads.{Takes, newline_after, HasMore};
+ghost use Rattle.std.specs.Prelude.{◌≡◌, ◌≢◌, ◌+◌, ◌<◌, ◌≤◌, ℕ, List, [], true, false, IfOk, OnErr, IfSome, Option};
+ghost use Rattle.std.specs.Io.KnownBytes.{Keeps};
+ghost use Rattle.pn_line.specs.Reads.{TakesPiece};
 
 use crate::line_buffer::{ENDLESS, LineBuffer};
 use crate::piece::{Piece, take_piece};
@@ -28,13 +28,8 @@ pub trait Source {
     /// An error of the reader takes nothing, so that the call can be repeated.
     fn take_some(&mut self, line: &mut LineBuffer) -> io::Result<Piece>
         requires { line.old.count < ENDLESS }
-        ensures takes { IfOk result
-            (λ piece. Takes line.old line.new (left self.old) (left self.new) (newline_after piece)) }
-        ensures part { result ≡ Ok Piece.Part → line.old.count < line.new.count }
-        ensures below { result ≢ Ok Piece.Part → line.new.count < ENDLESS }
-        ensures end { result ≡ Ok Piece.NoMore → OnSome (left self.old) (IsAtEnd (left self.new)) }
+        ensures takes { IfOk result (λ piece. TakesPiece piece line.old line.new (left self.old) (left self.new)) }
         ensures end_comes { result ≡ Ok Piece.NoMore → may_end }
-        ensures more { IfOk result (λ piece. OnSome (left self.old) (HasMore piece (left self.new))) }
         ensures looks { looks self.new ≤ looks self.old + 1 }
         ensures fault { OnErr result may_fail }
         ensures kept { OnErr result (Keeps (left self.old) (left self.new)) }

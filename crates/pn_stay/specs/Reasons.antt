@@ -1,6 +1,6 @@
 -- What is said of a fault of a writer, in words and in a line for the writer.
 use Rattle.std.specs.Prelude.{ℕ, List, ◌++◌, [], codes, decimal}
-use Rattle.pn_record.specs.Words.{word_of}
+use Rattle.pn_record.specs.Words.{word_of, word_of_fault}
 use Rattle.pn_record.specs.declared.fault.ImageFault.{ImageFault}
 use Rattle.pn_record.specs.declared.fault.ImageFault.TheVariants.{TooLong, NotJson, Memory as no_memory, BadShape, OutOfRange}
 use Rattle.pn_stream.specs.declared.fault.StreamFault.{StreamFault}
@@ -8,19 +8,11 @@ use Rattle.pn_stream.specs.declared.fault.StreamFault.TheVariants.{Read, LineToo
 use Rattle.pn_stream.specs.declared.fault.ResumeFault.{ResumeFault}
 use Rattle.pn_stream.specs.declared.fault.ResumeFault.TheVariants.{Stream, Gap}
 
--- what is wrong with an image
-abbrev pub image_word : ImageFault → List ℕ
-image_word TooLong = codes "too-long"
-image_word NotJson = codes "not-json"
-image_word no_memory = codes "memory"
-image_word (BadShape part) = codes "bad-shape"
-image_word (OutOfRange part) = codes "out-of-range"
-
 -- what is wrong with a writer's input
 abbrev pub stream_word : StreamFault → List ℕ
 stream_word Read = codes "read"
 stream_word LineTooLong = codes "too-long"
-stream_word (BadMessage position fault) = image_word fault
+stream_word (BadMessage position fault) = word_of_fault fault
 stream_word (OutOfStep wanted got) = codes "out-of-step"
 stream_word Memory = codes "memory"
 stream_word Failed = codes "read"
@@ -50,9 +42,9 @@ refusal_line (Stream fault) position =
 
 -- the image's fault in words
 abbrev pub image_words : ImageFault → List ℕ
-image_words TooLong = image_word TooLong
-image_words NotJson = image_word NotJson
-image_words no_memory = image_word no_memory
+image_words TooLong = word_of_fault TooLong
+image_words NotJson = word_of_fault NotJson
+image_words no_memory = word_of_fault no_memory
 image_words (BadShape part) = codes "bad-shape " ++ word_of part
 image_words (OutOfRange part) = codes "out-of-range " ++ word_of part
 

@@ -2,7 +2,7 @@
 
 ghost use Rattle.std.specs.Prelude.{◌≡◌, ◌++◌, codes, decimal, max, string_bytes, IfOk};
 ghost use Rattle.pn_serve.specs.Server.Shown.{IsShown};
-ghost use Rattle.pn_stay.specs.Reasons.{image_word, stream_word, member_detail, stream_detail, refusal_line};
+ghost use Rattle.pn_stay.specs.Reasons.{stream_word, member_detail, stream_detail, refusal_line};
 ghost use Rattle.pn_stay.specs.Reasons.{image_words, stream_words, reason_words, failure_words};
 
 use pn_join::Name;
@@ -91,7 +91,7 @@ fn describe_image(alloc: Global, fault: &ImageFault) -> Result<String, AllocErro
         ImageFault::BadShape(member) => format!(in alloc; "bad-shape {}", member.word()),
         ImageFault::OutOfRange(member) => format!(in alloc; "out-of-range {}", member.word()),
         ImageFault::TooLong | ImageFault::NotJson | ImageFault::Memory => {
-            String::from_str(alloc, name_image_fault(fault))
+            String::from_str(alloc, fault.word())
         }
     }
 }
@@ -102,22 +102,10 @@ fn name_fault(fault: &StreamFault) -> &'static str
     match fault {
         StreamFault::Read => "read",
         StreamFault::LineTooLong => "too-long",
-        StreamFault::BadMessage { at: _, fault } => name_image_fault(fault),
+        StreamFault::BadMessage { at: _, fault } => fault.word(),
         StreamFault::OutOfStep { .. } => "out-of-step",
         StreamFault::Memory => "memory",
         StreamFault::Failed => "read",
-    }
-}
-
-fn name_image_fault(fault: &ImageFault) -> &'static str
-    ensures { result.now ≡ image_word fault.now }
-{
-    match fault {
-        ImageFault::TooLong => "too-long",
-        ImageFault::NotJson => "not-json",
-        ImageFault::Memory => "memory",
-        ImageFault::BadShape(_) => "bad-shape",
-        ImageFault::OutOfRange(_) => "out-of-range",
     }
 }
 

@@ -1,6 +1,8 @@
 -- What a call for the next messages of a stream gives.
-use Rattle.std.specs.Prelude.{◌≡◌, ℕ, ◌+◌, ◌<◌, ◌≤◌, List, [], length, Option, Some, None, ◌⊎◌}
+use Rattle.std.specs.Prelude.{◌≡◌, ℕ, ◌+◌, ◌<◌, ◌≤◌, List, [], length, Option, OnSome, Some, None, ◌⊎◌, IsTrue}
 use Rattle.pn_line.specs.Line.{LineBufferValue, so_far}
+use Rattle.pn_line.specs.Reads.{HasShown}
+use Rattle.pn_join.specs.Marks.{is_position}
 use Rattle.pn_record.specs.declared.image.Image.{Image}
 use Rattle.pn_stream.specs.MessageLines.{IsMessageLine}
 use Rattle.pn_stream.specs.Streams.{Run, FirstLine, NoLine, IsLeft}
@@ -46,6 +48,13 @@ pub record SoFar (position : ℕ) (text : List ℕ) (images : List Image) (part 
 pub record IsPart (line : LineBufferValue) : Type 0 where
   pub line_is : line ≡ so_far line.bytes
   pub part : NoLine line.bytes
+
+-- of a message that was read: nothing of the next line was read, a newline that was seen there is left, and the position
+-- is one of a stream
+pub record IsTaken (part : List ℕ) (left leaves : Option (List ℕ)) (message : NextMessage) : Type 0 where
+  pub none : part ≡ []
+  pub more : OnSome left (HasShown message.more leaves)
+  pub in_range : IsTrue (is_position message.at)
 
 -- the next message of the text, if a whole line is there, and what is left then
 abbrev pub IsNext : List ℕ → Option NextMessage → List ℕ → Option (List ℕ) → Type 0

@@ -1,6 +1,8 @@
 -- What the call for a writer's first message answers, and the reader after it.
-use Rattle.std.specs.Prelude.{◌≡◌, ◌≢◌, ℕ, ◌+◌, ◌<◌, ◌≤◌, pred, List, ◌++◌, length, Option, Some, None, Result, Err, IfOk, IfErr, IfSome}
+use Rattle.std.specs.Prelude.{◌≡◌, ◌≢◌, ℕ, ◌+◌, ◌<◌, ◌≤◌, pred, List, ◌++◌, length, Option, Some, None, Result, Err, IfOk, IfErr, IfSome, IsTrue}
+use Rattle.pn_join.specs.Marks.{is_position}
 use Rattle.pn_record.specs.Limits.{max_line_bytes}
+use Rattle.pn_record.specs.declared.image.Image.{Image}
 use Rattle.pn_stream.specs.Batches.{Stream, Batch}
 use Rattle.pn_stream.specs.Faults.{Stands}
 use Rattle.pn_stream.specs.Positions.{DeliveryValue}
@@ -14,6 +16,14 @@ use Rattle.pn_stream.specs.declared.fault.StreamFault.TheVariants.{Read, OutOfSt
 abbrev pub StandsFirst : ℕ → List ℕ → ResumeFault → Type 0
 StandsFirst wanted text (OfStream fault) = Stands wanted text fault × ((named got : ℕ) → fault ≢ OutOfStep named got)
 StandsFirst wanted text (Gap got named) = (named ≡ wanted) × (wanted < got) × Stands wanted text (OutOfStep wanted got)
+
+-- the first message of a text: its position is at most one past this one, and its one image is a batch that begins just
+-- before it
+pub record IsFirst (position : ℕ) (part : List ℕ) (left : Option (List ℕ)) (at : ℕ) (images : List Image) (now : List ℕ) (leaves : Option (List ℕ)) : Type 0 where
+  pub batch : IfSome left (λ text. Batch 1 1 (pred at) (part ++ text) images None now leaves)
+  pub one : length images ≡ 1
+  pub in_range : IsTrue (is_position at)
+  pub up_to : at ≤ position + 1
 
 -- the first message is delivered: its position is at most one past the last one, and the reader goes on after it as
 -- one that began just before it

@@ -81,9 +81,7 @@ impl<S: Source + Drop> StreamReader<S> {
         ensures read { result.1 ≡ Some StreamFault.Read → S.may_fail }
         ensures gives_up { result.1 ≡ Some StreamFault.Memory → M.may_give_up }
         ensures not_failed { result.1 ≢ Some StreamFault.Failed }
-        ensures name { self.new.name ≡ self.old.name }
-        ensures position { self.new.position ≡ self.old.position }
-        ensures fault { self.new.fault ≡ self.old.fault }
+        ensures kept { self.new ≡ record self.old { part = self.new.part; source = self.new.source } }
         ensures part { length self.new.part ≤ max_line_bytes }
     {
         let mut lines = Vec::new(memory.alloc());

@@ -18,7 +18,7 @@ fault_of word line part name =
 pub returns : goal.returns
 unfolding told_data
 returns c =
-    appends_as (λ i. value_tokens (fault_of (c.fault_word.ensures i) c.args.number (c.member_word.ensures i) (seen_text c.args.name)))
+    appends_as (λ i. value_tokens (fault_of (c.word.ensures i) c.args.number (c.member_word.ensures i) (seen_text c.args.name)))
     (appends_both (appends_token c.in_ok-begin_object.ensures)
     (appends_both c.in_ok-write_text_member.ensures
     (appends_both c.in_ok-write_number_member.ensures

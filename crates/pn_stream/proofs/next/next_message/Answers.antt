@@ -34,9 +34,9 @@ returns-clause-next g c =
     next_ok _ _ _ (record { at = c.in_ok-at.at; image = c.in_ok-at.image; more = c.in-Some.more }) _ _ takes (rw c.bytes.ensures at c.in_ok-at.ensures.ok) (part-none _ c.start.ensures)
 
 pub returns-clause-taken : goal.returns-clause-taken
-returns-clause-taken g c = λ found. part-none _ c.start.ensures
-
-pub returns-clause-more : goal.returns-clause-more
-returns-clause-more g c =
-    let whole = sym c.in_ok-more.ensures ∙ ap Ok c.in-Some.is in
-    (newline_read c.read_bounded_line.result c.in-Some.more (λ end. ReadsTo end c.args.line.now c.read_bounded_line.new.line _ _) whole c.read_bounded_line.ensures.takes).2
+returns-clause-taken g c =
+    let whole = sym c.in_ok-more.ensures ∙ ap Ok c.in-Some.is in record {
+      none = part-none _ c.start.ensures;
+      more = (newline_read c.read_bounded_line.result c.in-Some.more (λ end. ReadsTo end c.args.line.now c.read_bounded_line.new.line _ _) whole c.read_bounded_line.ensures.takes).2;
+      in_range = c.in_ok-at.ensures.ok.spelled.position;
+    }
