@@ -15,7 +15,7 @@ use crate::front::{Front, TabletNote};
 use crate::tablet_reader::TabletReader;
 use pn_join::Marks;
 use pn_record::{Cell, Key, Version};
-use pn_scan::{Budget, Page, PartResult, Query, ScanFault, View, page, read_at_least};
+use pn_scan::{Budget, Page, PartResult, Query, ScanFault, View, get, page, read_at_least};
 use pn_tablet::{CopyFault, Layout, RecordCounts, TabletCopy};
 use std::alloc::Global;
 use std::marker::Model;
@@ -106,7 +106,7 @@ impl LiveReader {
         ensures same { tablets_of self.new ≡ tablets_of self.old }
     {
         let alloc = self.alloc;
-        get_cells(alloc, self, keys)
+        get(alloc, self, keys)
     }
 
     /// The first rows that a query shows, up to its limit, and the query for the rest, if any. Tablets that may have rows
@@ -157,46 +157,6 @@ fn learn_all(tablet_readers: &mut [TabletReader], notes: Vec<TabletNote>)
         tablet_readers[number].learn(note);
         number += 1;
     }
-}
-
-// The cells of keys in order, each read by an entry of its own. Where memory runs out, the other keys are still read,
-// since the fault of a tablet is answered first.
-fn get_cells(
-    alloc: Global,
-    reader: &mut LiveReader,
-    keys: &[Key],
-) -> Result<Vec<Option<Cell>>, ScanFault>
-    ensures { (seen : List Look) × IsGet LooksLive reader.old.layout keys.now reader.old reader.new (λ cells. cells.items) result seen
-        × (IsErrOf result ScanFault.Memory → length seen ≡ length keys.now) }
-{
-    let mut cells = Vec::with_capacity(alloc, keys.len()).ok();
-    for key in keys {
-        cells = with_cell(cells, reader.cell(key))?;
-    }
-    cells.ok_or(ScanFault::Memory)
-}
-
-/// The cells with one more, or none once memory ran out.
-pub(crate) fn with_cell(
-    cells: Option<Vec<Option<Cell>>>,
-    read: Result<Option<Cell>, ScanFault>,
-) -> Result<Option<Vec<Option<Cell>>>, ScanFault>
-    requires capacity { IfSome cells (λ cells. vec_len cells < vec_capacity cells) }
-    ensures cells { IfOk result (λ now. IfSome now (λ now. IsSomeAnd cells (λ was. IsOkAnd read (λ cell. now.items ≡ was.items ++ cell ∷ [])))) }
-    ensures kept { IfOk result (λ now. IfSome now (λ now. IsSomeAnd cells (λ was. (vec_len now ≡ vec_len was + 1) × (vec_capacity now ≡ vec_capacity was)))) }
-    ensures memory { IfOk result (λ _. IfErr read (λ fault. is_memory fault ≡ true)) }
-    ensures fault { IfErr result (λ fault. (read ≡ Err fault) × (is_memory fault ≡ false)) }
-{
-    let cell = match read {
-        Ok(cell) => cell,
-        Err(ScanFault::Memory) => return Ok(None),
-        Err(fault) => return Err(fault),
-    };
-    let Some(mut cells) = cells else {
-        return Ok(None);
-    };
-    cells.push_reserved(cell);
-    Ok(Some(cells))
 }
 
 /// Each look is one entry into one tablet.

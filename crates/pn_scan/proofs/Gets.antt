@@ -36,17 +36,6 @@ pub record IsGetting {V : Type 0} (looks : V → Look → V → Type 0) (bounds 
 pub getting_none : {V : Type 0} (looks : V → Look → V → Type 0) (bounds : Bounds) (keys : List (List ℕ)) (now : V) → IsGetting looks bounds keys 0 now now [] []
 getting_none looks bounds keys now = record { looked = refl; found = tt; count = refl; order = refl; none_refused = refl; got = none_got keys }
 
--- before the first look nothing but memory can fail
-pub get_fails_at_once : {V A : Type 0} (looks : V → Look → V → Type 0) (bounds : Bounds) (keys : List (List ℕ)) (now : V) (show : A → List (Option CellValue)) (why : ScanFault) → is_memory why ≡ true → IsGet looks bounds keys now now show (Err why) []
-get_fails_at_once looks bounds keys now show why memory = record {
-  looked = refl;
-  found = tt;
-  order = refl;
-  only = λ n inside. absurd (omega (arith, inside));
-  answers = subst (λ b. IsRight b why (Ok (cells_of_keys keys []))) (sym memory) refl;
-  whole = tt;
-}
-
 module _ {V : Type 0} {looks : V → Look → V → Type 0} {bounds : Bounds} {keys : List (List ℕ)} {index : ℕ} {old now : V} {cells : List (Option CellValue)} {seen : List Look} (getting : IsGetting looks bounds keys index old now cells seen) where
   -- one look more
   module _ {key : List ℕ} (inside : index < length keys) (at : key ≡ get_or keys index key) {look : Look} {new : V} {same : Bounds} (is : same ≡ bounds) (here : look.0 ≡ tablet_of same key) (looked : looks now look new) (there : IsFoundIn same look) where

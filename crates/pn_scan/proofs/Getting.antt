@@ -4,7 +4,7 @@ use Rattle.std.specs.Prelude.{IsOk, IfOk, IfErr, IfSome, IsSomeAnd, IsOkAnd, IsE
 use Rattle.std.specs.Result.{result_ok}
 use Rattle.pn_record.specs.Sets.{CellValue}
 use Rattle.pn_record.specs.declared.cell.Cell.{Cell}
-use Rattle.pn_tablet.specs.Layouts.{tablet_of}
+use Rattle.pn_tablet.specs.Layouts.{Bounds, tablet_of}
 use Rattle.pn_tablet.specs.Refusals.{IsRight, Refuses}
 use Rattle.pn_scan.specs.Candidates.{Look}
 use Rattle.pn_scan.specs.Pages.{unless}
@@ -14,7 +14,6 @@ use Rattle.pn_scan.specs.declared.fault.ScanFault.{ScanFault}
 use Rattle.pn_scan.specs.declared.fault.ScanFault.TheVariants.{Memory}
 use Rattle.pn_scan.proofs.Gets.{IsGetting, getting_none, getting_more, get_fails, get_ends}
 use Rattle.pn_scan.proofs.Scans.{none_refused_front}
-use Rattle.pn_live.specs.Readers.{LiveReaderValue, LooksLive}
 
 abbrev pub Cells : Type 0
 Cells = Vec (Option Cell) Global
@@ -26,19 +25,19 @@ abbrev items_of : Cells → List (Option CellValue)
 items_of cells = cells.items
 
 -- the keys below the index were looked up, and none was refused
-abbrev pub IsLooking : List (List ℕ) → ℕ → LiveReaderValue → LiveReaderValue → List (Option CellValue) → Type 0
-IsLooking keys index old now cells = (seen : List Look) × IsGetting LooksLive old.layout keys index old now cells seen
+abbrev pub IsLooking : {V : Type 0} → (V → Look → V → Type 0) → Bounds → List (List ℕ) → ℕ → V → V → List (Option CellValue) → Type 0
+IsLooking looks bounds keys index old now cells = (seen : List Look) × IsGetting looks bounds keys index old now cells seen
 
 -- these cells are at hand, if memory did not run out
 abbrev pub AreAtHand : Option Cells → List (Option CellValue) → Type 0
 AreAtHand hand cells = IfSome hand (λ all. all.items ≡ cells)
 
-abbrev pub IsLookingOn : List (List ℕ) → ℕ → LiveReaderValue → LiveReaderValue → Option Cells → Type 0
-IsLookingOn keys index old now hand = (cells : List (Option CellValue)) × IsLooking keys index old now cells × AreAtHand hand cells
+abbrev pub IsLookingOn : {V : Type 0} → (V → Look → V → Type 0) → Bounds → List (List ℕ) → ℕ → V → V → Option Cells → Type 0
+IsLookingOn looks bounds keys index old now hand = (cells : List (Option CellValue)) × IsLooking looks bounds keys index old now cells × AreAtHand hand cells
 
 -- what a get has answered
-abbrev pub HasGot : List (List ℕ) → LiveReaderValue → LiveReaderValue → Result Cells ScanFault → Type 0
-HasGot keys old new answer = (seen : List Look) × IsGet LooksLive old.layout keys old new items_of answer seen × (IsErrOf answer Memory → length seen ≡ length keys)
+abbrev pub HasGot : {V : Type 0} → (V → Look → V → Type 0) → Bounds → List (List ℕ) → V → V → Result Cells ScanFault → Type 0
+HasGot looks bounds keys old new answer = (seen : List Look) × IsGet looks bounds keys old new items_of answer seen × (IsErrOf answer Memory → length seen ≡ length keys)
 
 value_of : {A : Type 0} (right : Result A ScanFault) → IsOk right → (value : A) × (right ≡ Ok value)
 value_of (Ok value) is = (value, refl)
@@ -72,8 +71,8 @@ capacity_made (Ok cells) hand count is wide none = subst (λ o. IfSome o (λ cel
 capacity_made (Err why) hand count is wide none = subst (λ o. IfSome o (λ cells. (count ≤ vec_capacity cells) × (vec_len cells ≡ 0))) (sym is) tt
 
 -- before the first key
-pub looking_none : (keys : List (List ℕ)) (now : LiveReaderValue) (hand : Option Cells) → AreAtHand hand [] → IsLookingOn keys 0 now now hand
-looking_none keys now hand none = ([], ([], getting_none LooksLive now.layout keys now), none)
+pub looking_none : {V : Type 0} (looks : V → Look → V → Type 0) (bounds : Bounds) (keys : List (List ℕ)) (now : V) (hand : Option Cells) → AreAtHand hand [] → IsLookingOn looks bounds keys 0 now now hand
+looking_none looks bounds keys now hand none = ([], ([], getting_none looks bounds keys now), none)
 
 pub none_at_hand : {E : Type 0} (answer : Result Cells E) (hand : Option Cells) → hand ≡ result_ok answer → IfOk answer (λ cells. cells.items ≡ []) → AreAtHand hand []
 none_at_hand (Ok cells) hand is none = subst (λ o. AreAtHand o []) (sym is) none
@@ -83,31 +82,31 @@ abbrev memory_in : Result Cells ScanFault → Bool
 memory_in (Ok cells) = false
 memory_in (Err why) = is_memory why
 
-module _ {keys : List (List ℕ)} {index : ℕ} {old now : LiveReaderValue} (hand : Option Cells) (looking : IsLookingOn keys index old now hand) where
+module _ {V : Type 0} {looks : V → Look → V → Type 0} {bounds : Bounds} {keys : List (List ℕ)} {index : ℕ} {old now : V} (hand : Option Cells) (looking : IsLookingOn looks bounds keys index old now hand) where
   -- one key more
-  module _ {key : List ℕ} (inside : index < length keys) (at : key ≡ get_or keys index key) (same : now.layout ≡ old.layout) {look : Look} {new : LiveReaderValue} {read : Read}
-      (here : look.0 ≡ tablet_of now.layout key) (once : LooksOnce LooksLive now.layout now new (λ cell. cell) read (cell_at key) look) where
+  module _ {key : List ℕ} (inside : index < length keys) (at : key ≡ get_or keys index key) {same : Bounds} (is_same : same ≡ bounds) {look : Look} {new : V} {read : Read}
+      (here : look.0 ≡ tablet_of same key) (once : LooksOnce looks same now new (λ cell. cell) read (cell_at key) look) where
     pub looking_more : (more : Option Cells) → IfErr read (λ why. is_memory why ≡ true)
-        → IfSome more (λ now. IsSomeAnd hand (λ was. IsOkAnd read (λ cell. now.items ≡ was.items ++ cell ∷ []))) → IsLookingOn keys (index + 1) old new more
+        → IfSome more (λ now. IsSomeAnd hand (λ was. IsOkAnd read (λ cell. now.items ≡ was.items ++ cell ∷ []))) → IsLookingOn looks bounds keys (index + 1) old new more
     looking_more more memory made =
         let found = found_cell read (cell_at key look) once.answers memory in (
           looking.0 ++ found.0 ∷ [],
-          (_, getting_more looking.1.1 inside at same here once.looked once.found found.0 refl found.1),
+          (_, getting_more looking.1.1 inside at is_same here once.looked once.found found.0 refl found.1),
           one_more hand more read looking.0 found.0 looking.2 found.2 made,
         )
 
-    pub looking_fails : {answer : Result Cells ScanFault} (why : ScanFault) → answer ≡ Err why → read ≡ Err why → is_memory why ≡ false → HasGot keys old new answer
+    pub looking_fails : {answer : Result Cells ScanFault} (why : ScanFault) → answer ≡ Err why → read ≡ Err why → is_memory why ≡ false → HasGot looks bounds keys old new answer
     looking_fails {answer} why failed is other =
         let refuses : Refuses is_memory why (cell_at key look) = subst (λ (r : Read). Answers (λ cell. cell) r (cell_at key look)) is once.answers in (
           _,
-          get_fails looking.1.1 inside at same here once.looked once.found items_of why answer failed refuses,
+          get_fails looking.1.1 inside at is_same here once.looked once.found items_of why answer failed refuses,
           λ memory. absurd (true≢false (sym (ap memory_in (sym failed ∙ memory)) ∙ other)),
         )
 
   abbrev seen : List Look
   seen = looking.1.0
 
-  out_of_memory : IsGet LooksLive old.layout keys old now items_of (Err Memory) seen
+  out_of_memory : IsGet looks bounds keys old now items_of (Err Memory) seen
   out_of_memory = record {
     looked = looking.1.1.looked;
     found = looking.1.1.found;
@@ -117,10 +116,10 @@ module _ {keys : List (List ℕ)} {index : ℕ} {old now : LiveReaderValue} (han
     whole = tt;
   }
 
-  by_hand : (left : Option Cells) → AreAtHand left looking.0 → length keys ≡ index → HasGot keys old now (ok_or left Memory)
+  by_hand : (left : Option Cells) → AreAtHand left looking.0 → length keys ≡ index → HasGot looks bounds keys old now (ok_or left Memory)
   by_hand (Some cells) has all = (seen, get_ends looking.1.1 items_of cells has all, λ memory. absurd (cc memory))
   by_hand None has all = (seen, out_of_memory, λ memory. looking.1.1.count ∙ sym all)
 
   -- no key is left
-  pub looking_ends : (answer : Result Cells ScanFault) → answer ≡ ok_or hand Memory → length keys ≡ index → HasGot keys old now answer
-  looking_ends answer is all = subst (HasGot keys old now) (sym is) (by_hand hand looking.2 all)
+  pub looking_ends : (answer : Result Cells ScanFault) → answer ≡ ok_or hand Memory → length keys ≡ index → HasGot looks bounds keys old now answer
+  looking_ends answer is all = subst (HasGot looks bounds keys old now) (sym is) (by_hand hand looking.2 all)
