@@ -1,10 +1,8 @@
 //! Readers of a live region.
 
-ghost use Rattle.std.specs.Prelude.{◌≡◌, ◌+◌, ◌≤◌, ◌<◌, ◌++◌, ◌∷◌, [], true, false, List, map, max};
-ghost use Rattle.std.specs.Prelude.{Option, Some, Ok, Err, IfOk, IfErr, IfSome, IsSomeAnd, IsOkAnd, IsErrOf, length, vec_capacity, vec_len};
+ghost use Rattle.std.specs.Prelude.{◌≡◌, ◌+◌, ◌≤◌, ◌<◌, List, map, max, Option, IsErrOf, length};
 ghost use Rattle.pn_tablet.specs.Prelude.{tablet_of, TabletStateValue};
 ghost use Rattle.pn_scan.specs.Prelude.{Look, first_page, IsRead, IsGet, IsScan};
-ghost use Rattle.pn_scan.specs.Views.{is_memory};
 ghost use Rattle.pn_live.specs.Copying.{IsCopied};
 ghost use Rattle.pn_live.specs.Counting.{IsCounted};
 ghost use Rattle.pn_live.specs.Readers.{LooksLive, IsFrontFor, AreTabletReadersOf, tablets_of};

@@ -1,12 +1,12 @@
 -- A get that looks up one key after another.
-use Rattle.std.proofs.Common.{◌≡◌, ℕ, ◌+◌, ◌<◌, ◌≤◌, List, [], ◌∷◌, ◌++◌, length, map, take, get_or, true, Option, None, Result, Ok, Err, refl, sym, ap, ◌∙◌, subst, arith, length-append}
+use Rattle.std.proofs.Common.{◌≡◌, ℕ, ◌+◌, ◌<◌, ◌≤◌, List, [], ◌∷◌, ◌++◌, length, map, take, get_or, Option, None, Result, Ok, Err, refl, sym, ap, ◌∙◌, subst, arith, length-append}
 use Rattle.std.specs.List.{AllByRecursion}
 use Rattle.std.specs.FinMap.{find}
 use Rattle.std.proofs.lemmas.List.{map-append, take_more, take-append-le}
 use Rattle.pn_record.specs.Order.{bytes_cmp}
 use Rattle.pn_record.specs.Sets.{CellValue}
 use Rattle.pn_tablet.specs.Layouts.{Bounds, tablet_of}
-use Rattle.pn_tablet.specs.Refusals.{IsRight, Refuses}
+use Rattle.pn_tablet.specs.Refusals.{Refuses}
 use Rattle.pn_scan.specs.Candidates.{Look, cells_in}
 use Rattle.pn_scan.specs.Pages.{refusal, first_refusal, unless}
 use Rattle.pn_scan.specs.Views.{IsFoundIn, Looks, is_memory, cell_at}

@@ -1,6 +1,6 @@
 //! Reads of single records.
 
-ghost use Rattle.std.specs.Prelude.{◌≡◌, ◌+◌, ◌≤◌, ◌<◌, ◌++◌, ◌∷◌, [], List, Option, Ok, Err, Result, if◌then◌else◌, true, false, length};
+ghost use Rattle.std.specs.Prelude.{◌≡◌, ◌+◌, ◌<◌, ◌++◌, ◌∷◌, [], List, Option, Ok, Err, Result, true, false, length};
 ghost use Rattle.std.specs.Prelude.{IfOk, IfErr, IfSome, IsSomeAnd, IsOkAnd, IsErrOf, vec_capacity, vec_len};
 ghost use Rattle.std.specs.Option.{option_copied};
 ghost use Rattle.pn_tablet.specs.Prelude.{version_at, tablet_of, TabletStateValue};
