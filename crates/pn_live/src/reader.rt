@@ -3,11 +3,11 @@
 ghost use Rattle.std.specs.Prelude.{◌≡◌, ◌+◌, ◌≤◌, ◌<◌, List, map, max, Option, IsErrOf, length};
 ghost use Rattle.pn_tablet.specs.Prelude.{tablet_of, TabletStateValue};
 ghost use Rattle.pn_scan.specs.Prelude.{Look, first_page, IsRead, IsGet, IsScan};
+ghost use Rattle.pn_scan.specs.declared.work.TheConstants.{MAX_PART_WORK};
 ghost use Rattle.pn_live.specs.Copying.{IsCopied};
 ghost use Rattle.pn_live.specs.Counting.{IsCounted};
 ghost use Rattle.pn_live.specs.Readers.{LooksLive, IsFrontFor, AreTabletReadersOf, tablets_of};
 ghost use Rattle.pn_live.specs.TabletReaders.{AllLearn};
-ghost use Rattle.pn_live.specs.declared.reader.TheConstants.{ENTRY_WORK};
 
 use crate::front::{Front, TabletNote};
 use crate::tablet_reader::TabletReader;
@@ -17,10 +17,6 @@ use pn_scan::{Budget, Page, PartResult, Query, ScanFault, View, get, page, read_
 use pn_tablet::{CopyFault, Layout, RecordCounts, TabletCopy};
 use std::alloc::Global;
 use std::marker::Model;
-
-/// How much work one entry into a tablet does where there is as much; it takes the other records with it, by a slice. While a
-/// reader is inside, the writer spins. A page without conditions is no more work, and a slice costs more than this.
-pub const ENTRY_WORK: usize = 2_048;
 
 /// A reader of a live region, for one thread at a time. None of its calls waits.
 #[derive(Drop)]
@@ -161,7 +157,7 @@ fn learn_all(tablet_readers: &mut [TabletReader], notes: Vec<TabletNote>)
 impl View for LiveReader {
     ghost bounds = { λ reader. reader.layout };
 
-    ghost most = { λ work. max work ENTRY_WORK };
+    ghost most = { λ work. max work MAX_PART_WORK };
 
     ghost looks = { LooksLive };
 
@@ -170,12 +166,7 @@ impl View for LiveReader {
     }
 
     fn part(&mut self, tablet: usize, query: &Query, room: usize, budget: Budget) -> PartResult {
-        let work = budget.work.max(ENTRY_WORK);
-        let entry = Budget {
-            alloc: budget.alloc,
-            work,
-        };
-        self.tablet_readers[tablet].part(tablet, query, room, entry)
+        self.tablet_readers[tablet].part(tablet, query, room, budget)
     }
 
     fn cell(&mut self, key: &Key) -> Result<Option<Cell>, ScanFault> {
