@@ -27,8 +27,8 @@ abbrev pub HasPage : {V : Type 0} → (V → Look → V → Type 0) → Bounds �
 HasPage looks bounds query old new answer = (seen : List Look) × IsScan looks bounds query old new page_value answer (first_page query) seen
 
 -- before the first step
-pub paging_none : {V : Type 0} (looks : V → Look → V → Type 0) {bounds layout : Bounds} (query : QueryValue) (now : V) (walk : PageWalkValue) → layout ≡ bounds → IsNewWalk layout query walk → IsPaging looks bounds query now now walk
-paging_none looks {bounds} query now walk is new = ([], refl, new_page looks bounds query walk (subst (λ b. IsNewWalk b query walk) is new))
+pub paging_none : {V : Type 0} (looks : V → Look → V → Type 0) (bounds layout : Bounds) (query : QueryValue) (now : V) (walk : PageWalkValue) → layout ≡ bounds → IsNewWalk layout query walk → IsPaging looks bounds query now now walk
+paging_none looks bounds layout query now walk is new = ([], refl, new_page looks bounds query walk (subst (λ (b : Bounds). IsNewWalk b query walk) is new))
 
 -- looks after looks
 follows_append : {V : Type 0} (old mid new : V) (trace more : List (LookMade V)) → Follows old trace mid → Follows mid more new → Follows old (trace ++ more) new
@@ -45,18 +45,18 @@ module _ {V : Type 0} {looks : V → Look → V → Type 0} {bounds : Bounds} {q
   Goes step = (trace : List (LookMade V)) → IsOnPage looks same query walk trace → PagesTo looks same query now new step trace
 
   gone : (step : Result PageStep ScanFault) → Goes step → PagesTo looks bounds query now new step paging.0
-  gone step goes = subst (λ b. PagesTo looks b query now new step paging.0) is_same (goes paging.0 (subst (λ b. IsOnPage looks b query walk paging.0) (sym is_same) paging.2))
+  gone step goes = subst (λ (b : Bounds). PagesTo looks b query now new step paging.0) is_same (goes paging.0 (subst (λ (b : Bounds). IsOnPage looks b query walk paging.0) (sym is_same) paging.2))
 
   -- after a step that is not the last
   pub paging_on : (step : PageStep) (next : PageWalkValue) → Goes (Ok step) → step ≡ Next next → IsPaging looks bounds query old new next
   paging_on step next goes is =
-      let to = subst (λ (s : PageStep). PagesTo looks bounds query now new (Ok s) paging.0) is (gone (Ok step) goes) in
+      let to : PagesTo looks bounds query now new (Ok (Next next)) paging.0 = subst (λ (s : PageStep). PagesTo looks bounds query now new (Ok s) paging.0) is (gone (Ok step) goes) in
       (paging.0 ++ to.0, follows_append old now new paging.0 to.0 paging.1 to.1, to.2)
 
   -- after the last step
   pub paging_ends : (step : PageStep) (page : Page) → Goes (Ok step) → step ≡ Done page → HasPage looks bounds query old new (Ok page)
   paging_ends step page goes is =
-      let to = subst (λ (s : PageStep). PagesTo looks bounds query now new (Ok s) paging.0) is (gone (Ok step) goes) in
+      let to : PagesTo looks bounds query now new (Ok (Done page)) paging.0 = subst (λ (s : PageStep). PagesTo looks bounds query now new (Ok s) paging.0) is (gone (Ok step) goes) in
       let trace = paging.0 ++ to.0 in
       let ends : EndsPage looks bounds query (Ok (page_value page)) trace = to.2 in (
         looks_in trace,
@@ -72,7 +72,7 @@ module _ {V : Type 0} {looks : V → Look → V → Type 0} {bounds : Bounds} {q
   -- after one that failed
   pub paging_fails : {answer : Result Page ScanFault} (why : ScanFault) → answer ≡ Err why → Goes (Err why) → HasPage looks bounds query old new answer
   paging_fails why failed goes =
-      let to = gone (Err why) goes in
+      let to : PagesTo looks bounds query now new (Err why) paging.0 = gone (Err why) goes in
       let trace = paging.0 ++ to.0 in
       let ends : EndsPage looks bounds query (Err why) trace = to.2 in
       let seen = looks_in trace in
@@ -93,7 +93,8 @@ paging_left walk = (walk.end - walk.next) * 2 ^ 129 + steps_left walk.part
 
 pub nearer_left : (old next : PageWalkValue) (step : PageStep) → step ≡ Next next → IsNearer old step → steps_left next.part ≤ 2 ^ 128 → paging_left next < paging_left old
 nearer_left old next step is nearer few =
-    elim (subst (IsNearer old) is nearer) [
+    let near : IsNearer old (Next next) = subst (IsNearer old) is nearer in
+    elim near [
       | inl fewer ↦ omega (arith, fewer, few)
       | inr less ↦ omega (arith, less.0, less.1, less.2)
     ]

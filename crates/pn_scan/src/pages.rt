@@ -30,7 +30,8 @@ pub fn page<V: View>(alloc: Global, view: &mut V, query: &Query) -> Result<Page,
     let mut walk = PageWalk::new(alloc, view.layout(), query);
     'steps: loop {
         let units = walk.most_units();
-        match walk.go_on(alloc, view, query, units)? {
+        let step = walk.go_on(alloc, view, query, units)?;
+        match step {
             PageStep::Done(page) => return Ok(page),
             PageStep::Next(next) => {
                 next.recall_steps();
