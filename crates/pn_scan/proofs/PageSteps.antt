@@ -39,24 +39,24 @@ looks_made : {V : Type 0} (looks : V → Look → V → Type 0) (old new : V) (t
 looks_made looks old new [] made follows = follows
 looks_made looks old new (one ∷ trace) made follows = (one.new, subst (λ v. looks v one.look one.new) follows.0 made.0, looks_made looks one.new new trace made.1 follows.1)
 
-module _ {V : Type 0} {looks : V → Look → V → Type 0} {bounds : Bounds} {query : QueryValue} {old now : V} {walk : PageWalkValue} (paging : IsPaging looks bounds query old now walk) {same : Bounds} (is_same : same ≡ bounds) {new : V} where
+module _ {V : Type 0} {looks : V → Look → V → Type 0} {bounds : Bounds} {query : QueryValue} {old now : V} {walk : PageWalkValue} (paging : IsPaging looks bounds query old now walk) {same : Bounds} (is_same : same ≡ bounds) where
   -- what a step says of its answer
-  abbrev pub Goes : Result PageStep ScanFault → Type 0
-  Goes step = (trace : List (LookMade V)) → IsOnPage looks same query walk trace → PagesTo looks same query now new step trace
+  abbrev pub Goes : V → Result PageStep ScanFault → Type 0
+  Goes new step = (trace : List (LookMade V)) → IsOnPage looks same query walk trace → PagesTo looks same query now new step trace
 
-  gone : (step : Result PageStep ScanFault) → Goes step → PagesTo looks bounds query now new step paging.0
-  gone step goes = subst (λ (b : Bounds). PagesTo looks b query now new step paging.0) is_same (goes paging.0 (subst (λ (b : Bounds). IsOnPage looks b query walk paging.0) (sym is_same) paging.2))
+  gone : (new : V) (step : Result PageStep ScanFault) → Goes new step → PagesTo looks bounds query now new step paging.0
+  gone new step goes = subst (λ (b : Bounds). PagesTo looks b query now new step paging.0) is_same (goes paging.0 (subst (λ (b : Bounds). IsOnPage looks b query walk paging.0) (sym is_same) paging.2))
 
   -- after a step that is not the last
-  pub paging_on : (step : PageStep) (next : PageWalkValue) → Goes (Ok step) → step ≡ Next next → IsPaging looks bounds query old new next
-  paging_on step next goes is =
-      let to : PagesTo looks bounds query now new (Ok (Next next)) paging.0 = subst (λ (s : PageStep). PagesTo looks bounds query now new (Ok s) paging.0) is (gone (Ok step) goes) in
+  pub paging_on : {new : V} (step : PageStep) (next : PageWalkValue) → Goes new (Ok step) → step ≡ Next next → IsPaging looks bounds query old new next
+  paging_on {new = new} step next goes is =
+      let to : PagesTo looks bounds query now new (Ok (Next next)) paging.0 = subst (λ (s : PageStep). PagesTo looks bounds query now new (Ok s) paging.0) is (gone new (Ok step) goes) in
       (paging.0 ++ to.0, follows_append old now new paging.0 to.0 paging.1 to.1, to.2)
 
   -- after the last step
-  pub paging_ends : (step : PageStep) (page : Page) → Goes (Ok step) → step ≡ Done page → HasPage looks bounds query old new (Ok page)
-  paging_ends step page goes is =
-      let to : PagesTo looks bounds query now new (Ok (Done page)) paging.0 = subst (λ (s : PageStep). PagesTo looks bounds query now new (Ok s) paging.0) is (gone (Ok step) goes) in
+  pub paging_ends : {new : V} (step : PageStep) (page : Page) → Goes new (Ok step) → step ≡ Done page → HasPage looks bounds query old new (Ok page)
+  paging_ends {new = new} step page goes is =
+      let to : PagesTo looks bounds query now new (Ok (Done page)) paging.0 = subst (λ (s : PageStep). PagesTo looks bounds query now new (Ok s) paging.0) is (gone new (Ok step) goes) in
       let trace = paging.0 ++ to.0 in
       let ends : EndsPage looks bounds query (Ok (page_value page)) trace = to.2 in (
         looks_in trace,
@@ -70,9 +70,9 @@ module _ {V : Type 0} {looks : V → Look → V → Type 0} {bounds : Bounds} {q
       )
 
   -- after one that failed
-  pub paging_fails : {answer : Result Page ScanFault} (why : ScanFault) → answer ≡ Err why → Goes (Err why) → HasPage looks bounds query old new answer
-  paging_fails why failed goes =
-      let to : PagesTo looks bounds query now new (Err why) paging.0 = gone (Err why) goes in
+  pub paging_fails : {new : V} {answer : Result Page ScanFault} (why : ScanFault) → answer ≡ Err why → Goes new (Err why) → HasPage looks bounds query old new answer
+  paging_fails {new = new} why failed goes =
+      let to : PagesTo looks bounds query now new (Err why) paging.0 = gone new (Err why) goes in
       let trace = paging.0 ++ to.0 in
       let ends : EndsPage looks bounds query (Err why) trace = to.2 in
       let seen = looks_in trace in
