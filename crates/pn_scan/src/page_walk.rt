@@ -17,7 +17,8 @@ use pn_tablet::Layout;
 use std::alloc::Global;
 use std::marker::Model;
 
-/// How many units of work the first look into a tablet does, where the tablets may change meanwhile, before it is resumed.
+/// How many units of work the first look into a tablet does, where the tablets may change meanwhile, before it is resumed. Whoever changes the
+/// tablet may wait for it. A page without conditions is no more work, and to take the other records costs more than this.
 pub const LOOK_UNITS: u32 = 64;
 
 /// What a page comes to where it is resumed.
