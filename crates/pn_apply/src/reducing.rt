@@ -7,7 +7,6 @@ ghost use Rattle.pn_record.specs.Cells.{Holds};
 ghost use Rattle.pn_record.specs.declared.image.Image.{Image};
 ghost use Rattle.pn_record.specs.Order.{bytes_cmp};
 ghost use Rattle.pn_record.specs.Prelude.{table_of};
-ghost use Rattle.pn_tablet.specs.Prelude.{tablet_ends};
 ghost use Rattle.pn_tablet.specs.declared.state.TabletOp.TheVariants.{Join};
 ghost use Rattle.pn_apply.specs.declared.reducing.TheConstants.{MAX_WORKERS};
 ghost use Rattle.pn_apply.specs.Reducing.{all_images, images_in, joins_of, ranges};
@@ -65,17 +64,9 @@ fn ranges_of(alloc: Global, layout: &Layout) -> Result<Vec<Range>, NoMemory>
 {
     let mut found = Vec::with_capacity(alloc, layout.count())?;
     for tablet in 0..layout.count() {
-        found.push_reserved(range_of(layout, tablet)?);
+        found.push_reserved(layout.range_of(tablet)?);
     }
     Ok(found)
-}
-
-fn range_of(layout: &Layout, tablet: usize) -> Result<Range, NoMemory>
-    requires { tablet ≤ length layout.now }
-    ensures { IfOk result (λ range. range ≡ tablet_ends layout.now tablet) }
-{
-    let (from, to) = layout.range(tablet);
-    Range::from_ends(from, to)
 }
 
 // A join of each tablet's cells, with the marks.

@@ -18,7 +18,7 @@ use Rattle.pn_scan.proofs.Paging.{made_more, looks_more}
 use Rattle.pn_scan.proofs.Scans.{none_refused_front}
 use Rattle.pn_live.specs.Getting.{IsOnGet, EndsGet}
 use Rattle.pn_live.specs.Readers.{LiveReaderValue, LooksLive}
-use Rattle.pn_live.proofs.Getting.{Cells, Read, AreAtHand, found_cell, one_more}
+use Rattle.pn_scan.proofs.Getting.{Cells, Read, AreAtHand, found_cell, one_more}
 
 -- the cells that are at hand, if memory did not run out
 abbrev pub at_hand : Option Cells → Option (List (Option CellValue))

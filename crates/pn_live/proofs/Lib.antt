@@ -12,7 +12,6 @@ pub mod Learning
 pub mod Entering
 pub mod GetEnds
 pub mod GetWalks
-pub mod Getting
 pub mod Opening
 pub mod Closing
 pub mod OneTablet

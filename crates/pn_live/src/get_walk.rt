@@ -9,9 +9,8 @@ ghost use Rattle.pn_live.specs.Getting.{cells_shown, EndsGet, GetsOn, IsNewGet, 
 ghost use Rattle.pn_live.specs.Readers.{LiveReaderValue, LooksLive, tablets_of};
 
 use crate::LiveReader;
-use crate::reader::with_cell;
 use pn_record::{Cell, Key};
-use pn_scan::{ScanFault, View};
+use pn_scan::{ScanFault, View, with_cell};
 use std::alloc::Global;
 use std::marker::Model;
 

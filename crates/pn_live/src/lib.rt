@@ -26,5 +26,5 @@ mod tablet_reader;
 pub use fault::{OpenFault, StartFault};
 pub use front::Front;
 pub use get_walk::GetWalk;
-pub use reader::{ENTRY_WORK, LiveReader};
+pub use reader::LiveReader;
 pub use region::{LiveRegion, MAX_READERS};

@@ -14,7 +14,7 @@ use crate::live_tablet::{LiveTablet, StateDraft};
 use crate::publication_order::PublicationOrder;
 use crate::tablet_reader::TabletReader;
 use pn_join::NoMemory;
-use pn_tablet::{Layout, Range, TabletOp, TabletState};
+use pn_tablet::{Layout, TabletOp, TabletState};
 use std::alloc::Global;
 use std::marker::Model;
 use std::sync::Wait;
@@ -54,8 +54,7 @@ impl PublishedTablet {
         requires readers { (0 < readers) × (readers < 2 ^ 32) }
         ensures { IfOk result (λ tablet. IsNewTablet (tablet_ends layout.now number) tablet) }
     {
-        let (from, to) = layout.range(number);
-        let range = Range::from_ends(from, to)?;
+        let range = layout.range_of(number)?;
         let live = LiveTablet::open(rt, alloc, range, readers)?;
         Ok(PublishedTablet { live })
     }

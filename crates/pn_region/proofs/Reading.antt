@@ -1,7 +1,7 @@
 -- What a view of a region reads, by its looks.
-use Rattle.std.proofs.Common.{◌≡◌, ℕ, Bool, true, false, if◌then◌else◌, ◌≤◌, suc, ◌+◌, ◌<◌, get_or, drop-cons, List, [], ◌∷◌, ◌++◌, length, map, take, drop, slice_get, Option, Some, None, Result, Ok, Err, IsOk, refl, sym, ap, ◌∙◌, subst, arith}
+use Rattle.std.proofs.Common.{◌≡◌, ℕ, List, [], ◌∷◌, ◌++◌, length, map, take, drop, slice_get, Option, Some, None, Result, Ok, Err, IsOk, refl, sym, ap, ◌∙◌, subst, arith}
 use Rattle.std.specs.Prelude.{IsErrOf}
-use Rattle.std.proofs.lemmas.List.{drop_all, map-append, take-append-drop, take_all}
+use Rattle.std.proofs.lemmas.List.{map-append, take-append-drop, take_all}
 use Rattle.pn_json.specs.Answers.{ShowsUnless}
 use Rattle.pn_scan.specs.Queries.{QueryValue}
 use Rattle.pn_scan.specs.Candidates.{Look, cells_in}
@@ -12,8 +12,8 @@ use Rattle.pn_scan.specs.Visits.{IsScan}
 use Rattle.pn_scan.specs.declared.fault.ScanFault.{ScanFault}
 use Rattle.pn_scan.specs.declared.fault.ScanFault.TheVariants as fault
 use Rattle.pn_scan.proofs.Settled.{Stand, page_settled, page_begun}
-use Rattle.pn_region.specs.Reads.{IsThere, BeginsToRead, look_in}
-use Rattle.pn_region.proofs.Common.{find, option_or, bytes_cmp, CellValue, Bounds, TabletStateValue, tablet_of, refusal, first_refusal, first_page, RegionValue, IsRegion, look_for, get_in, page_in}
+use Rattle.pn_region.specs.Reads.{IsThere, BeginsToRead}
+use Rattle.pn_region.proofs.Common.{find, option_or, bytes_cmp, CellValue, tablet_of, refusal, first_refusal, first_page, RegionValue, IsRegion, look_for, get_in, page_in}
 use Rattle.pn_region.proofs.Standing.{all_found}
 
 err_value : {A : Type 0} (o : Option ScanFault) (a : A) (why : ScanFault) → unless o a ≡ Err why → o ≡ Some why
@@ -45,11 +45,17 @@ for_keys region (look ∷ seen) (key ∷ keys) stand order =
 
 -- what a get answered, by looks into the tablets of the first keys
 module _ (region : RegionValue) (keys : List (List ℕ)) (seen : List Look) (stands : seen ≡ map (look_for region) (take (length seen) keys)) where
-  all_got : (cells : List (Option CellValue)) → length seen ≡ length keys → unless (first_refusal seen) (cells_of_keys keys seen) ≡ Ok cells → get_in region keys ≡ Ok cells
-  all_got cells whole right =
+  same_answer : length seen ≡ length keys → get_in region keys ≡ unless (first_refusal seen) (cells_of_keys keys seen)
+  same_answer whole =
       let all : seen ≡ map (look_for region) keys = stands ∙ ap (map (look_for region)) (ap (λ n. take n keys) whole ∙ take_all (length keys) keys (omega arith)) in
       let got = ap (cells_of_keys keys) all ∙ got_each region keys in
-      (λ i. unless (first_refusal (sym all i)) (sym got i)) ∙ right
+      λ i. unless (first_refusal (sym all i)) (sym got i)
+
+  all_got : (cells : List (Option CellValue)) → length seen ≡ length keys → unless (first_refusal seen) (cells_of_keys keys seen) ≡ Ok cells → get_in region keys ≡ Ok cells
+  all_got cells whole right = same_answer whole ∙ right
+
+  all_read : length seen ≡ length keys → IsOk (unless (first_refusal seen) (cells_of_keys keys seen)) → IsOk (get_in region keys)
+  all_read whole right = subst (λ (answer : Result (List (Option CellValue)) ScanFault). IsOk answer) (sym (same_answer whole)) right
 
   get_refused : (why : ScanFault) → unless (first_refusal seen) (cells_of_keys keys seen) ≡ Err why → get_in region keys ≡ Err why
   get_refused why right =
@@ -78,6 +84,13 @@ module _ {V : Type 0} (region_of : V → RegionValue) {looks : V → Look → V 
     get_tells keys show (Err (fault.Behind has)) got = λ other. get_refused (region_of old) keys seen (get_stands keys show (Err (fault.Behind has)) got) (fault.Behind has) got.answers
     get_tells keys show (Err fault.NoEntry) got = λ other. get_refused (region_of old) keys seen (get_stands keys show (Err fault.NoEntry) got) fault.NoEntry got.answers
 
+    -- out of memory, it had read every key
+    pub get_read : (keys : List (List ℕ)) (show : A → List (Option CellValue)) (answer : Result A ScanFault) → IsGet looks (region_of old).layout keys old new show answer seen → (IsErrOf answer fault.Memory → length seen ≡ length keys)
+        → IsErrOf answer fault.Memory → IsOk (get_in (region_of old) keys)
+    get_read keys show answer got whole is =
+        let failed = subst (λ (a : Result A ScanFault). IsGet looks (region_of old).layout keys old new show a seen) is got in
+        all_read (region_of old) keys seen (get_stands keys show (Err fault.Memory) failed) (whole is) failed.answers
+
     pub page_tells : IsRegion (region_of old) → (query : QueryValue) (show : A → PageValue) (answer : Result A ScanFault) → IsScan looks (region_of old).layout query old new show answer (first_page query) seen → ShowsUnless fault.Memory show answer (page_in (region_of old) query)
     page_tells is query show answer scan =
         page_settled (region_of old).tablets looks (region_of old).layout query old new show answer seen is.lawful (all_found (region_of old) is) (all_stand old new seen scan.looked) scan
@@ -86,42 +99,3 @@ module _ {V : Type 0} (region_of : V → RegionValue) {looks : V → Look → V 
         → IsErrOf answer fault.Memory → BeginsToRead (region_of old) query
     page_begins is query show answer scan =
         page_begun (region_of old).tablets looks (region_of old).layout query old new show answer seen is.lawful (all_stand old new seen scan.looked) scan
-
--- ---- tablets of keys
-
-module _ (bounds : Bounds) (tablets : List TabletStateValue) (keys : List (List ℕ)) (i : ℕ) (so_far : first_refusal (map (look_in bounds tablets) keys) ≡ first_refusal (map (look_in bounds tablets) (drop i keys))) where
-  module _ (key : List ℕ) (within : i < length keys) (at : key ≡ get_or keys i key) (n : ℕ) (named : n ≡ tablet_of bounds key) (recovers : Bool)
-      (refused : refusal (n, slice_get tablets n) ≡ (if recovers then Some (fault.Recovering n) else None)) where
-    here : refusal (look_in bounds tablets key) ≡ (if recovers then Some (fault.Recovering n) else None)
-    here = ap (λ (tablet : ℕ). refusal (tablet, slice_get tablets tablet)) (sym named) ∙ refused
-
-    next : first_refusal (map (look_in bounds tablets) keys) ≡ option_or (if recovers then Some (fault.Recovering n) else None) (first_refusal (map (look_in bounds tablets) (drop (i + 1) keys)))
-    next =
-        let further : suc i ≡ i + 1 = omega arith in
-        so_far ∙ ap (λ (l : List (List ℕ)). first_refusal (map (look_in bounds tablets) l)) (drop-cons keys i key within)
-        ∙ (λ j. option_or (refusal (look_in bounds tablets (sym at j))) (first_refusal (map (look_in bounds tablets) (drop (further j) keys))))
-        ∙ ap (λ (o : Option ScanFault). option_or o (first_refusal (map (look_in bounds tablets) (drop (i + 1) keys)))) here
-
-    -- the first of the keys left recovers, or the others decide
-    pub stops_here : recovers ≡ true → first_refusal (map (look_in bounds tablets) keys) ≡ Some (fault.Recovering n)
-    stops_here is = next ∙ ap (λ (b : Bool). option_or (if b then Some (fault.Recovering n) else None) (first_refusal (map (look_in bounds tablets) (drop (i + 1) keys)))) is
-
-    pub goes_on_here : recovers ≡ false → first_refusal (map (look_in bounds tablets) keys) ≡ first_refusal (map (look_in bounds tablets) (drop (i + 1) keys))
-    goes_on_here is = next ∙ ap (λ (b : Bool). option_or (if b then Some (fault.Recovering n) else None) (first_refusal (map (look_in bounds tablets) (drop (i + 1) keys)))) is
-
-  -- no key is left
-  pub none_stops : length keys ≤ i → first_refusal (map (look_in bounds tablets) keys) ≡ None
-  none_stops past = so_far ∙ ap (λ (l : List (List ℕ)). first_refusal (map (look_in bounds tablets) l)) (drop_all i keys past)
-
-module _ (region : RegionValue) (keys : List (List ℕ)) (bounds : Bounds) (tablets : List TabletStateValue) (same : bounds ≡ region.layout) (same_too : tablets ≡ region.tablets) where
-  got_as : (first : Option ScanFault) → first_refusal (map (look_in bounds tablets) keys) ≡ first → get_in region keys ≡ unless first (map (λ key. find bytes_cmp key (cells_in (look_for region key).1)) keys)
-  got_as first is =
-      ap (λ (o : Option ScanFault). unless o (map (λ key. find bytes_cmp key (cells_in (look_for region key).1)) keys))
-      ((λ j. first_refusal (map (look_in (sym same j) (sym same_too j)) keys)) ∙ is)
-
-  -- a tablet of a key recovers, or all cells are there
-  pub refused_get : (n : ℕ) → first_refusal (map (look_in bounds tablets) keys) ≡ Some (fault.Recovering n) → get_in region keys ≡ Err (fault.Recovering n)
-  refused_get n is = got_as (Some (fault.Recovering n)) is
-
-  pub all_read : first_refusal (map (look_in bounds tablets) keys) ≡ None → IsOk (get_in region keys)
-  all_read is = subst (λ (answer : Result (List (Option CellValue)) ScanFault). IsOk answer) (sym (got_as None is)) refl

@@ -3,8 +3,7 @@ use Rattle.std.specs.Prelude.{◌≡◌, ℕ, List, map, slice_get, Option, None
 use Rattle.std.specs.FinMap.{find}
 use Rattle.pn_record.specs.Order.{bytes_cmp}
 use Rattle.pn_record.specs.Sets.{Stamp, CellValue}
-use Rattle.pn_tablet.specs.Layouts.{Bounds, tablet_of}
-use Rattle.pn_tablet.specs.Tablets.{TabletStateValue}
+use Rattle.pn_tablet.specs.Layouts.{tablet_of}
 use Rattle.pn_scan.specs.Queries.{QueryValue}
 use Rattle.pn_scan.specs.Candidates.{Look, cells_in, candidates_of}
 use Rattle.pn_scan.specs.Pages.{PageValue, refusal, first_refusal, unless, page_of}
@@ -14,11 +13,8 @@ use Rattle.pn_scan.specs.declared.fault.ScanFault.{ScanFault}
 use Rattle.pn_region.specs.Regions.{RegionValue}
 
 -- a key's tablet in its present state
-abbrev pub look_in : Bounds → List TabletStateValue → List ℕ → Look
-look_in bounds tablets key = (tablet_of bounds key, slice_get tablets (tablet_of bounds key))
-
 abbrev pub look_for : RegionValue → List ℕ → Look
-look_for region key = look_in region.layout region.tablets key
+look_for region key = (tablet_of region.layout key, slice_get region.tablets (tablet_of region.layout key))
 
 -- all tablets in their present states
 abbrev pub all_looks : RegionValue → List Look

@@ -14,6 +14,7 @@ pub mod Looking
 pub mod Numbers
 pub mod PageBegins
 pub mod PageEnds
+pub mod PageSteps
 pub mod Paging
 pub mod QueryFaults
 pub mod RisingPages

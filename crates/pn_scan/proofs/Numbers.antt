@@ -1,5 +1,5 @@
 -- Looks into tablets whose numbers follow one another.
-use Rattle.std.proofs.Common.{◌≡◌, ℕ, zero, suc, ◌+◌, ◌<◌, ◌≤◌, Bool, true, false, cond, List, [], ◌∷◌, ◌++◌, length, map, take, nat_lt, nat_le, refl, sym, ap, ◌∙◌, subst, arith, append-nil, append_assoc, length-append}
+use Rattle.std.proofs.Common.{◌≡◌, ℕ, zero, suc, ◌+◌, ◌<◌, ◌≤◌, Bool, true, false, cond, List, [], ◌∷◌, ◌++◌, length, take, nat_lt, nat_le, refl, sym, ap, ◌∙◌, subst, arith, append-nil, append_assoc, length-append}
 use Rattle.std.specs.Prelude.{filter}
 use Rattle.std.specs.List.{list_all, range_with_len}
 use Rattle.std.proofs.Math.Seq.{take-append_seam}
@@ -14,23 +14,6 @@ use Rattle.pn_scan.specs.Candidates.{Look, is_candidate, candidates, rows_in, lo
 abbrev pub Numbered : ℕ → List Look → Type 0
 Numbered n [] = Unit {0}
 Numbered n (look ∷ looks) = (look.0 ≡ n) × Numbered (n + 1) looks
-
-pub numbered_more : (n : ℕ) (looks : List Look) (look : Look) → Numbered n looks → look.0 ≡ n + length looks → Numbered n (looks ++ look ∷ [])
-numbered_more n [] look numbered is = (omega (arith, is), tt)
-numbered_more n (l ∷ ls) look numbered is = (numbered.0, numbered_more (n + 1) ls look numbered.1 (omega (arith, is)))
-
-numbers_of : (n : ℕ) (looks : List Look) → Numbered n looks → map (λ look. look.0) looks ≡ range_with_len n (length looks)
-numbers_of n [] numbered = refl
-numbers_of n (l ∷ ls) numbered = λ i. numbered.0 i ∷ numbers_of (n + 1) ls numbered.1 i
-
-take_range : (k n len : ℕ) → k ≤ len → take k (range_with_len n len) ≡ range_with_len n k
-take_range zero n len le = refl
-take_range (suc k) n zero le = absurd (omega arith)
-take_range (suc k) n (suc len) le = ap (λ l. n ∷ l) (take_range k (n + 1) len (omega arith))
-
--- they are the first of a range that begins with the same number
-pub in_order : (n len : ℕ) (looks : List Look) → Numbered n looks → length looks ≤ len → map (λ look. look.0) looks ≡ take (length looks) (range_with_len n len)
-in_order n len looks numbered le = numbers_of n looks numbered ∙ sym (take_range (length looks) n len le)
 
 lt_true : (m n : ℕ) → m < n → nat_lt m n ≡ true
 lt_true m n less = grind (arith, nat_tests)

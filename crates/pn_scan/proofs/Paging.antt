@@ -257,8 +257,8 @@ pub gaps_more : {V : Type 0} (moves : Moving V) (was between old new : V) (trace
 gaps_more moves was between old new [] more order gaps moved follows = gaps_on moves old new more was order (order.goes_on was between old gaps moved) follows
 gaps_more moves was between old new (one ∷ trace) more order gaps moved follows = (gaps.0, gaps_more moves one.new between old new trace more order gaps.1 moved follows)
 
-begun_too : {V : Type 0} (answer : Result PageValue ScanFault) (trace : List (LookMade V)) → OnErr answer (0 < length trace) → OnErr answer (0 < length (looks_in trace))
-begun_too (Ok page) trace begun = tt
+pub begun_too : {A V : Type 0} (answer : Result A ScanFault) (trace : List (LookMade V)) → OnErr answer (0 < length trace) → OnErr answer (0 < length (looks_in trace))
+begun_too (Ok value) trace begun = tt
 begun_too (Err why) trace begun = omega (arith, begun, length-map trace (λ one. one.look))
 
 -- a page that was found by looks between which the view moved

@@ -1,12 +1,11 @@
 -- Pages over what the looks of a view found.
-use Rattle.std.specs.Prelude.{◌≡◌, ℕ, ◌+◌, ◌-◌, ◌<◌, ◌≤◌, ◌⊎◌, List, length, map, take, ◌++◌, None, Result, OnOk, OnErr}
+use Rattle.std.specs.Prelude.{◌≡◌, ℕ, ◌<◌, ◌≤◌, ◌⊎◌, List, length, map, take, None, Result, OnOk, OnErr}
 use Rattle.std.specs.List.{AllByRecursion}
 use Rattle.pn_record.specs.CellMap.{Entries}
 use Rattle.pn_tablet.specs.Layouts.{Bounds}
 use Rattle.pn_scan.specs.Queries.{QueryValue}
-use Rattle.pn_scan.specs.Shown.{shown_rows}
-use Rattle.pn_scan.specs.Candidates.{Look, cells_in, candidates, rows_in, visited}
-use Rattle.pn_scan.specs.Pages.{refusal, first_refusal, unless}
+use Rattle.pn_scan.specs.Candidates.{Look, candidates, rows_in, visited}
+use Rattle.pn_scan.specs.Pages.{first_refusal, unless}
 use Rattle.pn_scan.specs.Views.{IsFoundIn, Answers, Looks}
 use Rattle.pn_scan.specs.declared.fault.ScanFault.{ScanFault}
 
@@ -32,7 +31,3 @@ pub record IsScan {V A B : Type 0} (looks : V → Look → V → Type 0) (bounds
   pub answers : Answers show answer (unless (first_refusal (visited bounds query seen)) (right (rows_in query seen)))
   pub whole : OnOk answer (IsWhole bounds query seen)
   pub begun : OnErr answer (0 < length seen)
-
--- rows, and after them those of one more tablet, up to one more than a page has
-abbrev pub rows_after : QueryValue → Entries → Look → Result Entries ScanFault
-rows_after query rows look = unless (refusal look) (rows ++ take (query.limit + 1 - length rows) (shown_rows query (cells_in look.1)))

@@ -1,6 +1,6 @@
 //! Pages that are resumed.
 
-ghost use Rattle.std.specs.Prelude.{◌≡◌, ◌<◌, ◌≤◌, ◌+◌, ◌*◌, ◌^◌, ◌++◌, ◌⊎◌, true, false, List, length, max, None, IfOk};
+ghost use Rattle.std.specs.Prelude.{◌≡◌, ◌<◌, ◌≤◌, ◌+◌, ◌-◌, ◌*◌, ◌^◌, ◌++◌, ◌⊎◌, true, false, List, length, max, None, IfOk, IfSome};
 ghost use Rattle.pn_tablet.specs.Prelude.{IsLayout};
 ghost use Rattle.pn_scan.specs.Paging.{CountsWork, going_in, rows_to_come, steps_left, IsNearer, IsNewWalk, IsOnPage, LookMade, OnlyLooks, PagesTo};
 ghost use Rattle.pn_scan.specs.Parts.{looked_in, part_at};
@@ -17,7 +17,8 @@ use pn_tablet::Layout;
 use std::alloc::Global;
 use std::marker::Model;
 
-/// How many units of work the first look into a tablet does, where the tablets may change meanwhile, before it is resumed.
+/// How many units of work the first look into a tablet does, where the tablets may change meanwhile, before it is resumed. Whoever changes the
+/// tablet may wait for it. A page without conditions is no more work, and to take the other records costs more than this.
 pub const LOOK_UNITS: u32 = 64;
 
 /// What a page comes to where it is resumed.
@@ -82,6 +83,17 @@ impl PageWalk {
     {
         if let Some(part) = &self.part {
             part.recall_left();
+        }
+    }
+
+    /// How many units of work a step does where nobody waits for it: those of a first look, or the rest of a look that was begun.
+    pub(crate) fn most_units(&self) -> u32
+        ensures first { self.now.part ≡ None → result ≡ LOOK_UNITS }
+        ensures rest { IfSome self.now.part (λ _. result ≡ 2 ^ 32 - 1) }
+    {
+        match &self.part {
+            Some(_) => u32::MAX,
+            None => LOOK_UNITS,
         }
     }
 

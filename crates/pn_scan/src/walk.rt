@@ -22,18 +22,6 @@ pub enum TabletRows {
     Rest(PartWalk),
 }
 
-impl TabletRows {
-    /// The first rows, once all is looked at.
-    pub fn into_rows(self, query: &Query) -> Result<Vec<Row>, NoMemory>
-        ensures { IfOk result (λ rows. rows.items ≡ (part_at query.now self).0) }
-    {
-        match self {
-            TabletRows::Done(rows, _, _) => Ok(rows),
-            TabletRows::Rest(walk) => walk.into_rows(query),
-        }
-    }
-}
-
 /// How many records were looked at, and how many contents of the next one.
 #[derive(Clone, Copy, Debug, PartialEq, Eq)]
 pub(crate) struct Place {
@@ -111,19 +99,6 @@ impl PartWalk {
         ensures { part_left self.now ≤ 2 ^ 128 }
     {
         recall_len(&self.rest);
-    }
-
-    // The first rows, once all is looked at.
-    fn into_rows(self, query: &Query) -> Result<Vec<Row>, NoMemory>
-        ensures { IfOk result (λ rows. rows.items ≡ (walk_answer query.now self).0) }
-    {
-        let mut walk = self;
-        'looks: loop {
-            match walk.go_on(query, usize::MAX)? {
-                TabletRows::Done(rows, _, _) => return Ok(rows),
-                TabletRows::Rest(rest) => walk = rest,
-            }
-        }
     }
 }
 

@@ -4,7 +4,6 @@ use Rattle.std.specs.Prelude.{Result, Ok, Err, IfOk, IfErr}
 use Rattle.pn_join.specs.declared.memory.NoMemory.{NoMemory}
 use Rattle.pn_lines.specs.Answers.{answer_left as engine_left}
 use Rattle.pn_live.specs.Getting.{GetWalkValue}
-use Rattle.pn_live.specs.declared.reader.TheConstants.{ENTRY_WORK}
 use Rattle.pn_scan.specs.Paging.{CountsWork}
 use Rattle.pn_scan.specs.Queries.{QueryValue}
 use Rattle.pn_scan.specs.WalkValues.{PageWalkValue}
@@ -12,7 +11,7 @@ use Rattle.pn_scan.specs.declared.fault.ScanFault.{ScanFault}
 use Rattle.pn_scan.specs.declared.page_walk.PageStep.{PageStep}
 use Rattle.pn_scan.specs.declared.page_walk.PageStep.TheVariants as pages
 use Rattle.pn_scan.specs.declared.page_walk.TheConstants.{LOOK_UNITS}
-use Rattle.pn_scan.specs.declared.work.TheConstants.{UNIT_WORK}
+use Rattle.pn_scan.specs.declared.work.TheConstants.{MAX_PART_WORK, UNIT_WORK}
 use Rattle.pn_tablet.specs.CopyCounts.{CountsOn}
 use Rattle.pn_tablet.specs.CopyMaking.{CopyCountValue}
 use Rattle.pn_tablet.specs.declared.copy_count.CopyStep.{CopyStep}
@@ -31,7 +30,7 @@ abbrev most_work : ℕ → ℕ
 most_work units = UNIT_WORK * max units LOOK_UNITS
 
 -- a page used no more units than it may
-pub page_few : (units used : ℕ) (query : QueryValue) (old : PageWalkValue) (step : Result PageStep ScanFault) → CountsStep units step used → IfOk step (CountsWork query (most_work units) (max (most_work units) ENTRY_WORK) old) → used ≤ max units 64
+pub page_few : (units used : ℕ) (query : QueryValue) (old : PageWalkValue) (step : Result PageStep ScanFault) → CountsStep units step used → IfOk step (CountsWork query (most_work units) (max (most_work units) MAX_PART_WORK) old) → used ≤ max units 64
 page_few units used query old (Ok (pages.Done page)) counts few = omega (arith, counts)
 page_few units used query old (Ok (pages.Next next)) counts few = omega (arith, counts, few.0)
 page_few units used query old (Err fault) counts few = omega (arith, counts)

@@ -5,6 +5,7 @@ ghost use Rattle.std.specs.Option.{option_copied};
 ghost use Rattle.pn_tablet.specs.Layouts.{IsLayout, first_fall, layout_of, tablet_of, tablet_ends};
 ghost use Rattle.pn_tablet.specs.Ranges.{are_ends};
 
+use crate::Range;
 use pn_join::{Dup, NoMemory};
 use pn_record::Key;
 use std::marker::Model;
@@ -91,6 +92,15 @@ impl Layout {
             None => None,
         };
         (from, self.bounds.get(tablet))
+    }
+
+    /// The range of a tablet below the count, with keys of its own.
+    pub fn range_of(&self, tablet: usize) -> Result<Range, NoMemory>
+        requires { tablet ≤ length self.now }
+        ensures { IfOk result (λ range. range ≡ tablet_ends self.now tablet) }
+    {
+        let (from, to) = self.range(tablet);
+        Range::from_ends(from, to)
     }
 }
 

@@ -51,7 +51,7 @@ impl Range {
     }
 
     /// The range of copies of these ends, which are in order.
-    pub fn from_ends(from: Option<&Key>, to: Option<&Key>) -> Result<Range, NoMemory>
+    pub(crate) fn from_ends(from: Option<&Key>, to: Option<&Key>) -> Result<Range, NoMemory>
         requires { IsTrue (are_ends (option_copied from, option_copied to)) }
         ensures { IfOk result (λ range. range ≡ (option_copied from.entry, option_copied to.entry)) }
     {

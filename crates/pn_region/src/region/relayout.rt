@@ -10,7 +10,7 @@ ghost use Rattle.pn_apply.specs.Prelude.{ranges};
 ghost use Rattle.pn_region.specs.Relayouts.{after_relayout, made_of, parts_of, least_cover};
 ghost use Rattle.pn_region.specs.Relayouts.{greatest_reach, first_recovering as first_that_recovers, is_recovering, is_memory};
 
-use super::{Region, range_of};
+use super::Region;
 use crate::RelayoutFault;
 use crate::advancing::least_with;
 use pn_join::{Marks, NoMemory, raise};
@@ -69,7 +69,7 @@ fn build_tablets(
 {
     let mut made = Vec::with_capacity(alloc, layout.count())?;
     for tablet in 0..layout.count() {
-        made.push_reserved(build_tablet(alloc, tablets, range_of(layout, tablet)?)?);
+        made.push_reserved(build_tablet(alloc, tablets, layout.range_of(tablet)?)?);
     }
     Ok(made)
 }

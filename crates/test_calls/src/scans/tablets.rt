@@ -28,8 +28,7 @@ fn tablets(
 ) -> Result<Vec<TabletState>, Fail> {
     let mut tablets = Vec::new(alloc);
     for number in 0..layout.count() {
-        let (from, to) = layout.range(number);
-        tablets.push(tablet(alloc, Range::from_ends(from, to)?, words)?)?;
+        tablets.push(tablet(alloc, layout.range_of(number)?, words)?)?;
     }
     if is_lost {
         lose_last(&mut tablets)?;

@@ -9,7 +9,7 @@ use Rattle.pn_scan.specs.declared.fault.ScanFault.{ScanFault}
 use Rattle.pn_live.specs.Getting.{GetWalkValue, EndsGet, GetsOn, IsOnGet}
 use Rattle.pn_live.specs.Readers.{LiveReaderValue, LooksLive, Tablets}
 use Rattle.pn_live.proofs.GetWalks.{at_hand, follows_more, key_read, key_refused}
-use Rattle.pn_live.proofs.Getting.{capacity_more}
+use Rattle.pn_scan.proofs.Getting.{capacity_more}
 use Rattle.pn_live.proofs.Knowing.{looks_same}
 use Rattle.pn_live.proofs.get_walk.GetWalk.go_on.Goals as goal
 
