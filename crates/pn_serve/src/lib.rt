@@ -38,7 +38,7 @@ pub use server::{
     Acceptor, AnyWriters, ComesBack, Counter, FaultLog, MAX_SESSIONS, NextWriter, OpenedRegion,
     Origin, ReadingEnd, Sending, ServeFault, SessionThread, ShownMark, Stream, StreamFailure,
     StreamPath, TimeCounters, Watchers, WriterEnd, close_region, join_sessions, open_region,
-    read_streams, serve, serve_from, take_commands, take_commands_for,
+    read_streams, serve, take_commands, take_commands_for,
 };
 pub use sessions::counting_reader::CountingReader;
 pub use sessions::going::Going;
