@@ -13,6 +13,7 @@ mod script;
 mod server;
 mod sessions;
 mod settings;
+mod shared;
 mod start_laws;
 mod stream_laws;
 mod version;
@@ -44,6 +45,7 @@ pub use sessions::counting_reader::CountingReader;
 pub use sessions::going::Going;
 pub use sessions::session;
 pub use settings::Settings;
+pub use shared::share;
 pub use start_laws::a_start_from_copies_leaves_what_was_taken;
 pub use stream_laws::{
     honest_events_keep_what_is_published_honest, streams_beside_commands_leave_what_was_taken,
