@@ -24,7 +24,7 @@ pub use control::session::{ControlSession, StatsSource};
 pub use control::stop::StopSaid;
 pub use copies::{CopiesFault, CopiesReader, open_copies, recut_copies};
 pub use laws::regions_converge;
-pub use machine::line_answers::ReplyPieces;
+pub use machine::line_answers::{LineAnswer, ReplyPieces};
 pub use page_laws::{
     a_scan_line_shows_the_page_of_its_region, keys_rise_from_page_to_page_of_a_script,
     pages_of_a_script_are_together_its_rows,
