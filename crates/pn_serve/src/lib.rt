@@ -34,7 +34,7 @@ pub use repeat_laws::{
     a_repeated_deliver_leaves_no_trace_of_a_refused_one, repeated_delivers_leave_the_same_region,
 };
 pub use reply_laws::later_replies_show_no_older_record;
-pub use script::{Counts, MAX_LINES, RunFault, run, run_to_exit};
+pub use script::{Counts, FinishedRun, MAX_LINES, RunFault, run};
 pub use server::{
     Acceptor, AnyWriters, ComesBack, Counter, FaultLog, MAX_SESSIONS, NextWriter, OpenedRegion,
     Origin, ReadingEnd, Sending, ServeFault, SessionThread, ShownMark, Stream, StreamFailure,

@@ -67,6 +67,20 @@ impl<'a, R: Threads + Sync> ScriptHandler<'a, R> {
         })
     }
 
+    /// The region, with its log.
+    pub(crate) fn into_region(self) -> Region
+        ensures state { result.state ≡ self.region }
+        ensures log { result.log ≡ self.log }
+    {
+        let ScriptHandler {
+            rt: _rt,
+            region,
+            workers: _workers,
+            announced: _announced,
+        } = self;
+        region
+    }
+
     // Answers a line, or the end of the input, by its first bytes.
     fn reply_to(&mut self, alloc: Global, line: &[u8], ended: EndedBy) -> Reply
         requires ready { IsSync R.row }
