@@ -19,7 +19,7 @@ mod stream_laws;
 mod version;
 
 pub use control::laws::commands_are_events;
-pub use control::mailboxes::{ControlMailboxes, ControlsClosed, MAX_CONTROLS, StopAsked};
+pub use control::mailboxes::{ControlMailboxes, ControlsClosed, StopAsked};
 pub use control::session::{ControlSession, StatsSource};
 pub use control::stop::StopSaid;
 pub use copies::{CopiesFault, CopiesReader, open_copies, recut_copies};
@@ -36,10 +36,10 @@ pub use repeat_laws::{
 pub use reply_laws::later_replies_show_no_older_record;
 pub use script::{Counts, FinishedRun, MAX_LINES, RunFault, run};
 pub use server::{
-    Acceptor, AnyWriters, ComesBack, Counter, FaultLog, MAX_SESSIONS, NextWriter, OpenedRegion,
-    Origin, ReadingEnd, Sending, ServeFault, SessionThread, ShownMark, Stream, StreamFailure,
-    StreamPath, TimeCounters, Watchers, WriterEnd, close_region, join_sessions, open_region,
-    read_streams, serve, take_commands, take_commands_for,
+    Acceptor, AnyWriters, ComesBack, Counter, FaultLog, MAX_CONTROLS, MAX_SESSIONS, NextWriter,
+    OpenedRegion, Origin, ReadingEnd, SESSION_CAPACITY, Sending, ServeFault, SessionThread,
+    ShownMark, Stream, StreamFailure, StreamPath, TimeCounters, Watchers, WriterEnd, close_region,
+    join_sessions, open_region, read_streams, serve, take_commands, take_commands_for,
 };
 pub use sessions::counting_reader::CountingReader;
 pub use sessions::going::Going;

@@ -57,7 +57,7 @@ pub use counter::Counter;
 pub use events::{ReadingEnd, take_commands, take_commands_for};
 pub use fault::ServeFault;
 pub use fault_log::{FaultLog, StreamFailure};
-pub use limits::MAX_SESSIONS;
+pub use limits::{MAX_CONTROLS, MAX_SESSIONS, SESSION_CAPACITY};
 use pn_join::{Marks, NoMemory};
 use pn_line::{Sink, Source};
 use pn_live::{LiveReader, LiveRegion};

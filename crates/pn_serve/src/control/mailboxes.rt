@@ -21,9 +21,6 @@ use std::alloc::{AllocError, Global};
 use std::sync::{Arc, Condvar, Mutex, Wait};
 use std::time::{Clock, Instant};
 
-/// The most control sessions at once.
-pub const MAX_CONTROLS: usize = 16;
-
 /// What control sessions and the writer share: a mailbox for each session, and what wakes the writer.
 #[derive(Drop)]
 pub struct ControlMailboxes {
