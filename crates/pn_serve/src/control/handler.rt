@@ -192,10 +192,6 @@ impl<'a, R: Threads + Wait + Clock, C: StatsSource + Drop> LineHandler
     ghost use Rattle.pn_serve.specs.Session.Looking.{going_left};
     ghost use Rattle.std.specs.Prelude.{⊤};
 
-    type Going = Going;
-
-    type Text = ReplyPieces;
-
     ghost ready = { ⊤ };
 
     ghost handling = { controls };
@@ -203,6 +199,10 @@ impl<'a, R: Threads + Wait + Clock, C: StatsSource + Drop> LineHandler
     ghost left = { going_left };
 
     ghost keeps = { KeepsKnowing };
+
+    type Going = Going;
+
+    type Text = ReplyPieces;
 
     fn answer(&mut self, alloc: Global, line: &[u8], ended: EndedBy) -> LineAnswer {
         answered(Answer::Done(self.reply_to(alloc, line, ended)), 1)

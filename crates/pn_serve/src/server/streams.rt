@@ -65,9 +65,9 @@ pub fn read_streams<R, S, O, M>(
 ) -> Result<ReadingEnd, ServeFault>
 where
     R: Threads + Wait + Clock + Sync + Copy + Send + 'static,
-    S: Source + Drop + Send + 'static,
-    O: Origin<S, M> + Drop + Send + 'static,
     M: Sending + Send + 'static,
+    O: Origin<S, M> + Drop + Send + 'static,
+    S: Source + Drop + Send + 'static,
     requires workers { (1 ≤ workers) × (workers ≤ MAX_WORKERS) }
     ensures alone { watchers.now.controls ≡ None → ReadsStreams (IsSent M.known M.sends) (map (λ stream. stream.name) streams.items) live.old live.new result }
     ensures reads { ReadsBesides (IsSent M.known M.sends) (map (λ stream. stream.name) streams.items) live.old live.new result }

@@ -26,18 +26,20 @@ impl<'a> AloneReader<'a> {
 }
 
 impl LineHandler for AloneReader<'_> {
+    ghost use Rattle.std.specs.Prelude.{⊤};
+
+    ghost ready = { ⊤ };
+
     ghost use Rattle.pn_serve.specs.Proofs.Steady.{alone_reads_steadily};
     ghost use Rattle.pn_serve.specs.Session.Alone.{KeepsReader, alone_reads};
-    ghost use Rattle.pn_serve.specs.Session.Looking.{going_left};
-    ghost use Rattle.std.specs.Prelude.{⊤};
+
+    ghost handling = { alone_reads };
 
     type Going = Going;
 
     type Text = ReplyPieces;
 
-    ghost ready = { ⊤ };
-
-    ghost handling = { alone_reads };
+    ghost use Rattle.pn_serve.specs.Session.Looking.{going_left};
 
     ghost left = { going_left };
 

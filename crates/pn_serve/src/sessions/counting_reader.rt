@@ -32,11 +32,10 @@ pub struct CountingReader {
 }
 
 impl Model for CountingReader {
+    ghost use Rattle.pn_live.specs.Proofs.Coding.{reader_code};
     ghost use Rattle.pn_live.specs.Readers.{LiveReaderValue};
 
     ghost Value = { LiveReaderValue };
-
-    ghost use Rattle.pn_live.specs.Proofs.Coding.{reader_code};
 
     ghost coded = { reader_code };
 
