@@ -118,8 +118,7 @@ pub(crate) fn answer_lines<M: LineHandler, S: Source, W: Sink>(
     input: &mut S,
     output: &mut W,
 ) -> Result<Counts, RunFault>
-    requires ready { M.ready }
-    requires unclosed { (state : M) → M.handling.closed state → ⊥ }
+    requires { M.ready × ((state : M) → M.handling.closed state → ⊥) }
     ensures ends { HasRun M.handling (start_at machine.old (S.left input.old) (W.contents output.old))
         (S.left input.new) (W.contents output.new) machine.new result }
     ensures faults { (IsErrOf result RunFault.Read → S.may_fail) × (IsErrOf result RunFault.Write → W.may_fail) }
