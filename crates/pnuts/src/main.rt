@@ -60,13 +60,7 @@ fn main(rt: HostRuntime) -> ExitCode {
         counters,
         sockets,
     } = endpoints;
-    let is_telling = !service.is_progress_told
-        || thread::spawn(&rt, move || tell_progress(&rt, rt.alloc(), &counters)).is_ok();
-    let is_printing = match printer {
-        None => true,
-        Some(printer) => thread::spawn(&rt, move || printer.run(&rt)).is_ok(),
-    };
-    if !is_telling || !is_printing {
+    if !start_printing(rt, &service, counters, printer) {
         return close_copies(&rt, opened, refuse_start(&rt, &service, &sockets));
     }
     let (streams, connections) = match streams {
@@ -85,6 +79,22 @@ fn main(rt: HostRuntime) -> ExitCode {
         }
         Err(error) => fail_to_stay(&rt, &sockets, &error),
     }
+}
+
+// Starts the threads that print progress and messages, where they are printed. Whether the system gave them.
+fn start_printing(
+    rt: HostRuntime,
+    service: &Service,
+    counters: Arc<Counters>,
+    printer: Option<MessagePrinter>,
+) -> bool {
+    let is_telling = !service.is_progress_told
+        || thread::spawn(&rt, move || tell_progress(&rt, rt.alloc(), &counters)).is_ok();
+    let is_printing = match printer {
+        None => true,
+        Some(printer) => thread::spawn(&rt, move || printer.run(&rt)).is_ok(),
+    };
+    is_telling && is_printing
 }
 
 // What is to be served.
