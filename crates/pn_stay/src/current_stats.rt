@@ -27,7 +27,7 @@ impl<R: Wait + Clock> StatsSource for CurrentStats<'_, R> {
     fn stats(&self, alloc: Global, tablets: Vec<TabletStats>) -> Result<Stats, NoMemory> {
         let streams = stats_of_streams(self.rt, alloc, &self.counters.streams)?;
         let times = stats_of_times(alloc, self.counters)?;
-        Ok(self.with(tablets, streams, times))
+        Ok(self.collect(tablets, streams, times))
     }
 
     fn has_client_gone(&self) -> bool {
@@ -36,8 +36,8 @@ impl<R: Wait + Clock> StatsSource for CurrentStats<'_, R> {
 }
 
 impl<R: Clock> CurrentStats<'_, R> {
-    // All counts, with these of tablets, streams and times.
-    fn with(
+    // Collects all counts, with these of tablets, streams and times.
+    fn collect(
         &self,
         tablets: Vec<TabletStats>,
         streams: Vec<StreamStats>,
