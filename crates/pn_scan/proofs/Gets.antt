@@ -1,12 +1,12 @@
 -- A get that looks up one key after another.
-use Rattle.std.proofs.Common.{◌≡◌, ℕ, ◌+◌, ◌<◌, ◌≤◌, List, [], ◌∷◌, ◌++◌, length, map, take, get_or, true, Option, None, Result, Ok, Err, refl, sym, ap, ◌∙◌, subst, arith, length-append}
+use Rattle.std.proofs.Common.{◌≡◌, ℕ, ◌+◌, ◌<◌, ◌≤◌, List, [], ◌∷◌, ◌++◌, length, map, take, get_or, Option, None, Result, Ok, Err, refl, sym, ap, ◌∙◌, subst, arith, length-append}
 use Rattle.std.specs.List.{AllByRecursion}
 use Rattle.std.specs.FinMap.{find}
 use Rattle.std.proofs.lemmas.List.{map-append, take_more, take-append-le}
 use Rattle.pn_record.specs.Order.{bytes_cmp}
 use Rattle.pn_record.specs.Sets.{CellValue}
 use Rattle.pn_tablet.specs.Layouts.{Bounds, tablet_of}
-use Rattle.pn_tablet.specs.Refusals.{IsRight, Refuses}
+use Rattle.pn_tablet.specs.Refusals.{Refuses}
 use Rattle.pn_scan.specs.Candidates.{Look, cells_in}
 use Rattle.pn_scan.specs.Pages.{refusal, first_refusal, unless}
 use Rattle.pn_scan.specs.Views.{IsFoundIn, Looks, is_memory, cell_at}
@@ -35,17 +35,6 @@ pub record IsGetting {V : Type 0} (looks : V → Look → V → Type 0) (bounds 
 
 pub getting_none : {V : Type 0} (looks : V → Look → V → Type 0) (bounds : Bounds) (keys : List (List ℕ)) (now : V) → IsGetting looks bounds keys 0 now now [] []
 getting_none looks bounds keys now = record { looked = refl; found = tt; count = refl; order = refl; none_refused = refl; got = none_got keys }
-
--- before the first look nothing but memory can fail
-pub get_fails_at_once : {V A : Type 0} (looks : V → Look → V → Type 0) (bounds : Bounds) (keys : List (List ℕ)) (now : V) (show : A → List (Option CellValue)) (why : ScanFault) → is_memory why ≡ true → IsGet looks bounds keys now now show (Err why) []
-get_fails_at_once looks bounds keys now show why memory = record {
-  looked = refl;
-  found = tt;
-  order = refl;
-  only = λ n inside. absurd (omega (arith, inside));
-  answers = subst (λ b. IsRight b why (Ok (cells_of_keys keys []))) (sym memory) refl;
-  whole = tt;
-}
 
 module _ {V : Type 0} {looks : V → Look → V → Type 0} {bounds : Bounds} {keys : List (List ℕ)} {index : ℕ} {old now : V} {cells : List (Option CellValue)} {seen : List Look} (getting : IsGetting looks bounds keys index old now cells seen) where
   -- one look more

@@ -8,6 +8,7 @@ pub mod Counted
 pub mod EachMet
 pub mod FieldWalk
 pub mod Gets
+pub mod Getting
 pub mod InOrder
 pub mod Looking
 pub mod Numbers

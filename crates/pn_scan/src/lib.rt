@@ -27,7 +27,7 @@ pub use part::{cell_of, part_of};
 pub use query::{MAX_CONDITIONS, MAX_PAGE_ROWS, Query};
 pub use query_reading::{QueryFault, read_query};
 pub use query_writing::{query_value, write_query};
-pub use reads::{get, read_at_least};
+pub use reads::{get, read_at_least, with_cell};
 pub use view::{Budget, Page, PartResult, Row, View};
 pub use walk::{PartWalk, TabletRows};
 pub use work::{MAX_PART_WORK, UNIT_WORK};

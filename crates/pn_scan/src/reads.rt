@@ -1,42 +1,59 @@
 //! Reads of single records.
 
-ghost use Rattle.std.specs.Prelude.{◌≡◌, ◌≤◌, [], List, Option, Ok, Err, Result, if◌then◌else◌, IfOk, vec_capacity, vec_len};
+ghost use Rattle.std.specs.Prelude.{◌≡◌, ◌+◌, ◌<◌, ◌++◌, ◌∷◌, [], List, Option, Ok, Err, Result, true, false, length};
+ghost use Rattle.std.specs.Prelude.{IfOk, IfErr, IfSome, IsSomeAnd, IsOkAnd, IsErrOf, vec_capacity, vec_len};
 ghost use Rattle.std.specs.Option.{option_copied};
 ghost use Rattle.pn_tablet.specs.Prelude.{version_at, tablet_of, TabletStateValue};
 ghost use Rattle.pn_scan.specs.Candidates.{Look};
 ghost use Rattle.pn_scan.specs.Reads.{IsGet, IsRead, reaches as version_reaches};
+ghost use Rattle.pn_scan.specs.Views.{is_memory};
 ghost use Rattle.pn_scan.specs.declared.fault.ScanFault.TheVariants.{Behind};
 
 use crate::{ScanFault, View};
-use pn_join::NoMemory;
 use pn_record::{Cell, Key, Version};
 use std::alloc::Global;
 
 /// The cells of keys, in the order of the keys, each read in its own tablet; none where there is no record.
 ///
-/// `Recovering` names the tablet of the first key whose tablet recovers. After an error the view stays usable.
+/// `Recovering` names the tablet of the first key whose tablet recovers. `Memory` comes only where every key was read, and none of their
+/// tablets recovers. After an error the view stays usable.
 pub fn get<V: View>(
     alloc: Global,
     view: &mut V,
     keys: &[Key],
 ) -> Result<Vec<Option<Cell>>, ScanFault>
-    ensures get { (seen : List Look) × IsGet V.looks (V.bounds view.old) keys.now view.old view.new (λ cells. cells.items) result seen }
+    ensures get { (seen : List Look) × IsGet V.looks (V.bounds view.old) keys.now view.old view.new (λ cells. cells.items) result seen
+        × (IsErrOf result ScanFault.Memory → length seen ≡ length keys.now) }
     ensures layout { V.bounds view.new ≡ V.bounds view.old }
 {
-    let mut cells = reserve_cells(alloc, keys.len())?;
+    let mut cells = Vec::with_capacity(alloc, keys.len()).ok();
     for key in keys {
-        cells.push_reserved(view.cell(key)?);
+        cells = with_cell(cells, view.cell(key))?;
     }
-    Ok(cells)
+    cells.ok_or(ScanFault::Memory)
 }
 
-// An empty list that takes `count` cells without growing.
-fn reserve_cells(alloc: Global, count: usize) -> Result<Vec<Option<Cell>>, NoMemory>
-    ensures items { IfOk result (λ cells. cells.items ≡ []) }
-    ensures capacity { IfOk result (λ cells. count ≤ vec_capacity cells) }
-    ensures len { IfOk result (λ cells. vec_len cells ≡ 0) }
+/// The cells with one more, or none once memory ran out: the other keys are still read, since the fault of a tablet is answered first.
+pub fn with_cell(
+    cells: Option<Vec<Option<Cell>>>,
+    read: Result<Option<Cell>, ScanFault>,
+) -> Result<Option<Vec<Option<Cell>>>, ScanFault>
+    requires capacity { IfSome cells (λ cells. vec_len cells < vec_capacity cells) }
+    ensures cells { IfOk result (λ now. IfSome now (λ now. IsSomeAnd cells (λ was. IsOkAnd read (λ cell. now.items ≡ was.items ++ cell ∷ [])))) }
+    ensures kept { IfOk result (λ now. IfSome now (λ now. IsSomeAnd cells (λ was. (vec_len now ≡ vec_len was + 1) × (vec_capacity now ≡ vec_capacity was)))) }
+    ensures memory { IfOk result (λ _. IfErr read (λ fault. is_memory fault ≡ true)) }
+    ensures fault { IfErr result (λ fault. (read ≡ Err fault) × (is_memory fault ≡ false)) }
 {
-    Ok(Vec::with_capacity(alloc, count)?)
+    let cell = match read {
+        Ok(cell) => cell,
+        Err(ScanFault::Memory) => return Ok(None),
+        Err(fault) => return Err(fault),
+    };
+    let Some(mut cells) = cells else {
+        return Ok(None);
+    };
+    cells.push_reserved(cell);
+    Ok(Some(cells))
 }
 
 /// The cell of a key, or none where there is no record. A required version is reached.

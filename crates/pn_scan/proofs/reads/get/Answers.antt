@@ -1,45 +1,34 @@
 -- Each look finds the cell of one key more, until one is refused or no key is left.
-use Rattle.std.proofs.Common.{List, [], Err, Option, Vec, Global, refl, sym, ap, ◌∙◌, subst, arith}
+use Rattle.std.proofs.Common.{length, Err, refl, ap, ◌∙◌, arith}
 use Rattle.std.proofs.lemmas.Result.{err_from_is_err_and}
-use Rattle.pn_record.specs.Sets.{CellValue}
-use Rattle.pn_record.specs.declared.cell.Cell.{Cell}
-use Rattle.pn_scan.proofs.Gets.{IsGetting, getting_none, get_fails, getting_more, get_ends}
+use Rattle.pn_scan.proofs.Getting.{capacity_made, none_at_hand, looking_none, looking_more, capacity_more, looking_fails, looking_ends}
 use Rattle.pn_scan.proofs.reads.get.Goals as goal
-
-abbrev items_of : Vec (Option Cell) Global → List (Option CellValue)
-items_of cells = cells.items
 
 pub loop-key-init : goal.loop-key-init
 loop-key-init g c =
-    let looks = g.V.View.looks in
-    let now = c.args.view.now in
-    let bounds = g.V.View.bounds now in
+    let made = c.with_capacity.ensures in
+    let view = c.args.view.now in
     record {
-      getting = ([], subst (λ (cells : List (Option CellValue)). IsGetting looks bounds c.args.keys.now 0 now now cells []) (sym c.in_ok-cells.ensures.items) (getting_none looks bounds c.args.keys.now now));
-      capacity = c.in_ok-cells.ensures.capacity;
-      count = c.in_ok-cells.ensures.len;
+      got = looking_none g.V.View.looks (g.V.View.bounds view) c.args.keys.now view c.ok-cells.result (none_at_hand c.with_capacity.result c.ok-cells.result c.ok-cells.ensures.value made.items);
+      capacity = capacity_made c.with_capacity.result c.ok-cells.result (length c.args.keys.now) c.ok-cells.ensures.value made.capacity made.len;
       bounds = refl;
     }
 
-pub returns-in_err-cell-clause-get : goal.returns-in_err-cell-clause-get
-returns-in_err-cell-clause-get g c =
+pub returns-in_err-cells-clause-get : goal.returns-in_err-cells-clause-get
+returns-in_err-cells-clause-get g c =
     let was = c.loop-key.invariant in
-    let once = c.in_err-cell.ensures.look.1 in
-    let gave = err_from_is_err_and c.from_residual-in_err-cell.result c.from_residual-in_err-cell.ensures.1 in
-    (_, get_fails was.getting.1 c.loop-key-test.true c.key-item.is was.bounds refl once.looked once.found items_of c.in_err-cell.field-0.0 _ (gave.1 ∙ ap Err gave.2) once.answers)
+    let gave = err_from_is_err_and c.from_residual.result c.from_residual.ensures.1 in
+    looking_fails c.loop-key.cells was.got c.loop-key-test.true c.key-item.is was.bounds refl c.cell.ensures.look.1 c.in_err-cells.field-0.0 (gave.1 ∙ ap Err gave.2) c.in_err-cells.ensures.fault.0 c.in_err-cells.ensures.fault.1
 
 pub loop-key-preserved : goal.loop-key-preserved
 loop-key-preserved g c =
     let was = c.loop-key.invariant in
-    let once = c.in_ok-cell.ensures.look.1 in
+    let more = c.in_ok-cells.ensures in
     record {
-      getting = (_, getting_more was.getting.1 c.loop-key-test.true c.key-item.is was.bounds refl once.looked once.found c.in_ok-cell.field-0 c.push_reserved.ensures.items once.answers);
-      capacity = omega (arith, c.push_reserved.ensures.capacity, was.capacity);
-      count = omega (arith, c.push_reserved.ensures.len, was.count);
-      bounds = c.in_ok-cell.ensures.layout ∙ was.bounds;
+      got = looking_more c.loop-key.cells was.got c.loop-key-test.true c.key-item.is was.bounds refl c.cell.ensures.look.1 c.in_ok-cells.cells more.memory more.cells;
+      capacity = capacity_more c.loop-key.cells c.in_ok-cells.cells (length c.args.keys.now) c.loop-key.key-index was.capacity more.kept;
+      bounds = c.cell.ensures.layout ∙ was.bounds;
     }
 
 pub returns-clause-get : goal.returns-clause-get
-returns-clause-get g c =
-    let was = c.loop-key.invariant in
-    (_, get_ends was.getting.1 items_of c.loop-key.cells refl (omega arith))
+returns-clause-get g c = looking_ends c.loop-key.cells c.loop-key.invariant.got c.ok_or.result c.ok_or.ensures.value (omega arith)
