@@ -31,7 +31,7 @@ of_numeral text h = rw (lt-ltb _ _ h.0, digits_back _ h.1) refl
 
 pub of_number : (text : List ℕ) (n : ℕ)
     → (IsNumeral OCTAL (without_leading_plus text) × (digits_value OCTAL (without_leading_plus text) < 2 ^ 32))
-        × (n ≡ digits_value OCTAL (without_leading_plus text))
+    × (n ≡ digits_value OCTAL (without_leading_plus text))
     → not_too_great n ≡ permissions_in text
 of_number text n parsed = ap not_too_great parsed.1 ∙ sym (of_numeral text parsed.0.0)
 

@@ -20,8 +20,11 @@ ends_longest longest before after most ends key = by (ends key)
     by : EndsAt longest (before key) (after key) → (after key ≡ before key)
         ⊎ ((after key ≡ None) × (QUIET_QUARTERS ≤ quiet_in (before key)) × ((other : ℕ) → quiet_in (after other) ≤ quiet_in (before key)))
     by (inl same) = inl same
-    by (inr ended) = inr (ended.0, omega (arith, ended.1, ended.2),
-        λ other. omega (arith, ended.1, stays_less longest (before other) (after other) (ends other), most other))
+    by (inr ended) = inr (
+      ended.0,
+      omega (arith, ended.1, ended.2),
+      λ other. omega (arith, ended.1, stays_less longest (before other) (after other) (ends other), most other),
+    )
 
 -- again and again
 module _ (first between last : ℕ → Option UnreadValue) (before : EndsLongest first between) (after : EndsLongest between last) where

@@ -56,14 +56,14 @@ begins_under old new ended bytes text answer outer is moved answers looks =
 -- a look goes on
 module _ (old new : LiveReaderValue) (look : Going) (kept : Option AskedLine) (answer : Answer Going ReplyPieces) (outer : Answer Look ReplyPieces)
     (goes : (was between : LiveReaderValue) (ended : EndedBy) (line : List ℕ) → session_reads.goes was ended line between look → KnowsNoLess between old
-        → AnswersBy session_reads was ended line new (answer_of pieces_left answer))
+    → AnswersBy session_reads was ended line new (answer_of pieces_left answer))
     (moved : KnowsNoLess old new) where
   looks_by : (was between : LiveReaderValue) (ended : EndedBy) (line : List ℕ) → LooksOrWaits was ended line between (Under look kept)
       → KnowsNoLess between old → Comes kept answer outer → AnswersBy bounded_reads was ended line new (answer_of pieces_left outer)
   looks_by was between ended line so_far after (inl is) =
       subst (λ (a : Answer Look ReplyPieces). AnswersBy bounded_reads was ended line new (answer_of pieces_left a)) (sym is)
       (answers_under was so_far.1.begun new ended line kept answer so_far.1.moved (knows_on was between new so_far.0 (knows_on between old new after moved))
-          so_far.2 (goes so_far.1.begun between ended line so_far.1.goes after))
+      so_far.2 (goes so_far.1.begun between ended line so_far.1.goes after))
   looks_by was between ended line so_far after (inr off) =
       let (own, weight, some, is) = off in
       let now = knows_on between old new after moved in

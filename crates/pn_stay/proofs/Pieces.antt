@@ -24,7 +24,7 @@ bytes_after count (piece ∷ later) few =
 copied_front : (count : ℕ) (piece after now : List ℕ) → count ≤ length piece → now ≡ take count piece ++ after → take count now ≡ take count piece
 copied_front count piece after now few copied =
     ap (take count) copied ∙ subst (λ (n : ℕ). take n (take count piece ++ after) ≡ take count piece) (length-take-le count piece few)
-        (take-append_seam (take count piece) after)
+    (take-append_seam (take count piece) after)
 
 -- no byte is taken only where none is left
 none_left : (count : ℕ) (pieces : List (List ℕ)) → (IsPaused pieces → ⊥) → length (first_piece pieces) ≡ 0 → bytes_of (pieces_after count pieces) ≡ []
@@ -42,7 +42,7 @@ reads_bytes (Ok count) old new buf now Waits is copied left comes waits =
     let few : count ≤ length (first_piece old) = omega (arith, is, min-le_left (length (first_piece old)) (length buf)) in
     let source : bytes_of old ≡ take count now ++ bytes_of new =
     bytes_after count old few ∙ ap (λ (l : List ℕ). l ++ bytes_of (pieces_after count old))
-        (sym (copied_front count (first_piece old) (drop count buf) now few copied))
+    (sym (copied_front count (first_piece old) (drop count buf) now few copied))
     ∙ ap (λ (p : List (List ℕ)). take count now ++ bytes_of p) (sym left) in (
       source,
       λ none room.

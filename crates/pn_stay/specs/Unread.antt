@@ -55,4 +55,4 @@ EndsAt longest before after = (after ≡ before) ⊎ ((after ≡ None) × (quiet
 abbrev pub EndsLongest : (ℕ → Option UnreadValue) → (ℕ → Option UnreadValue) → Type 0
 EndsLongest before after = (key : ℕ)
     → (after key ≡ before key) ⊎ ((after key ≡ None) × (QUIET_QUARTERS ≤ quiet_in (before key))
-        × ((other : ℕ) → quiet_in (after other) ≤ quiet_in (before key)))
+    × ((other : ℕ) → quiet_in (after other) ≤ quiet_in (before key)))

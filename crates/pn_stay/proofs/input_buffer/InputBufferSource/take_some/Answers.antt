@@ -7,11 +7,11 @@ pub returns-clause-takes : goal.returns-clause-takes
 returns-clause-takes c =
     Takes-front _ _ (take c.self.inside.end c.self.inside.bytes.items) c.self.inside.start _ _ _ _ _
     (c.new-shown.ensures ∙ c.bytes.ensures.held) c.self.view_is c.in_ok-piece.ensures.takes
-        (omega (arith, c.len.ensures.count, c.len-before.ensures.count, c.newlines.ensures))
+    (omega (arith, c.len.ensures.count, c.len-before.ensures.count, c.newlines.ensures))
 
 pub returns-clause-more : goal.returns-clause-more
 returns-clause-more c =
     HasMore-front c.in_ok-piece.piece _ _ (take c.self.inside.end c.self.inside.bytes.items) c.self.inside.start _ _ _ _ _
     (c.new-shown.ensures ∙ c.bytes.ensures.held) c.self.view_is c.in_ok-piece.ensures.takes
-        (omega (arith, c.len.ensures.count, c.len-before.ensures.count, c.newlines.ensures))
+    (omega (arith, c.len.ensures.count, c.len-before.ensures.count, c.newlines.ensures))
     c.in_ok-piece.ensures.more
