@@ -60,7 +60,7 @@ fn main(rt: HostRuntime) -> ExitCode {
         counters,
         sockets,
     } = endpoints;
-    if !start_printing(rt, &service, counters, printer) {
+    if !start_telling(&rt, &service, counters) || !start_printing(&rt, printer) {
         return close_copies(&rt, opened, refuse_start(&rt, &service, &sockets));
     }
     let (streams, connections) = match streams {
@@ -81,20 +81,26 @@ fn main(rt: HostRuntime) -> ExitCode {
     }
 }
 
-// Starts the threads that print progress and messages, where they are printed. Whether the system gave them.
-fn start_printing(
-    rt: HostRuntime,
-    service: &Service,
-    counters: Arc<Counters>,
-    printer: Option<MessagePrinter>,
-) -> bool {
-    let is_telling = !service.is_progress_told
-        || thread::spawn(&rt, move || tell_progress(&rt, rt.alloc(), &counters)).is_ok();
-    let is_printing = match printer {
-        None => true,
-        Some(printer) => thread::spawn(&rt, move || printer.run(&rt)).is_ok(),
-    };
-    is_telling && is_printing
+// Starts the thread that tells progress, where it is told. Whether the system gave it.
+fn start_telling<R>(rt: &R, service: &Service, counters: Arc<Counters>) -> bool
+where
+    R: AllocGlobal + Eprint + Threads + Wait + Clock + Copy + Send + 'static,
+{
+    if !service.is_progress_told {
+        return true;
+    }
+    let host = *rt;
+    thread::spawn(rt, move || tell_progress(&host, host.alloc(), &counters)).is_ok()
+}
+
+// Starts the thread that prints messages about streams, where there are any. Whether the system gave it.
+fn start_printing<R>(rt: &R, printer: Option<MessagePrinter>) -> bool
+where
+    R: Eprint + Threads + Wait + Clock + Copy + Send + 'static,
+{
+    let Some(printer) = printer else { return true };
+    let host = *rt;
+    thread::spawn(rt, move || printer.run(&host)).is_ok()
 }
 
 // What is to be served.
