@@ -1,5 +1,6 @@
 -- What `clap` takes has a command, and what a command says is a plan or a fault.
-use Rattle.std.proofs.Common.{◌≡◌, ◌⊎◌, inl, inr, ℕ, Bool, true, false, cond, List, [], ◌∷◌, Option, Some, None, Result, Ok, Err, codes, refl, subst, is_some, arith}
+use Rattle.std.proofs.Common.{◌≡◌, ◌⊎◌, inl, inr, ℕ, Bool, true, false, cond, List, [], ◌∷◌, Option, Some, None, Result, Ok, Err, codes}
+use Rattle.std.proofs.Common.{refl, subst, is_some, arith}
 use Rattle.std.specs.Prelude.{◌≤◌, IfOk, IsSome, max, min}
 use Rattle.std.specs.Option.{ok_or}
 use Rattle.std.specs.declared.net.ip_addr.IpAddr.{IpAddr}
@@ -134,14 +135,16 @@ script_plans : (b : Bool) (options : List Row) (value : PlanValue) → cond b (O
 script_plans true options value e = let same : check ≡ value = cc in subst IsPlanned same tt
 script_plans false options value e = replay_plans options value e
 
-plans : (b : Bool) (written : Option IpAddr) (command : Text × List Row) (value : PlanValue) → cond b (serve_in written command.1) (script_in command) ≡ Ok value → IsPlanned value
+plans : (b : Bool) (written : Option IpAddr) (command : Text × List Row) (value : PlanValue)
+    → cond b (serve_in written command.1) (script_in command) ≡ Ok value → IsPlanned value
 plans true written command value e = serve_plans written command.1 value e
 plans false written command value e = script_plans _ command.1 value e
 
 -- ---- a command's plan is that of the words
 
 abbrev says : (words : List Text) → fault_of program words ≡ [] → (command : Text × List Row) → subcommand_of program words ≡ Some command
-    → (result : Result Plan PlanFault) (tells : Tells command result) (said : Result PlanValue OptionFault) → plan_in tells.written command ≡ said → Says words said
+    → (result : Result Plan PlanFault) (tells : Tells command result) (said : Result PlanValue OptionFault) → plan_in tells.written command ≡ said
+    → Says words said
 says words taken command found result tells said means =
     record { taken = taken; command = command; found = found; written = tells.written; reads = tells.reads; means = means }
 

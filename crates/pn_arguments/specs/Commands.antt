@@ -1,5 +1,6 @@
 -- What commands say with their options.
-use Rattle.std.specs.Prelude.{ℕ, Bool, ◌==◌, ◌&&◌, not, nat_lt, if◌then◌else◌, List, [], length, codes, Option, Some, None, unwrap_or, option_and_then, min, max, Result, Ok, Err}
+use Rattle.std.specs.Prelude.{ℕ, Bool, ◌==◌, ◌&&◌, not, nat_lt, if◌then◌else◌, List, [], length, codes, Option, Some, None, unwrap_or}
+use Rattle.std.specs.Prelude.{option_and_then, min, max, Result, Ok, Err}
 use Rattle.std.specs.Net.Grammar.{IsIpText}
 use Rattle.std.specs.Option.{ok_or}
 use Rattle.std.specs.Str.{bytes_eq}

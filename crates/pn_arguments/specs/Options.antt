@@ -91,7 +91,9 @@ replay = with_rule (with_rule (new_app (codes "replay")) bounds_option) workers_
 -- where and how long sessions are served
 abbrev pub with_service : App → App
 with_service app =
-    with_rule (with_rule (with_rule (with_rule (with_rule (with_rule (with_rule (with_rule (with_rule (with_rule (with_rule app sessions_option) listen_option) port_option) socket_option) socket_mode_option) stay_flag) control_option) connections_option) idle_option) unread_option) progress_flag
+    with_rule (with_rule (with_rule (with_rule (with_rule
+    (with_rule (with_rule (with_rule (with_rule (with_rule (with_rule app sessions_option) listen_option) port_option) socket_option)
+    socket_mode_option) stay_flag) control_option) connections_option) idle_option) unread_option) progress_flag
 
 -- and from which copies the region starts
 abbrev pub with_start : App → App

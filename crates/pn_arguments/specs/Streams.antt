@@ -1,10 +1,12 @@
 -- Streams as arguments.
-use Rattle.std.specs.Prelude.{ℕ, ◌+◌, Bool, not, ◌==◌, ◌&&◌, nat_lt, if◌then◌else◌, List, [], ◌∷◌, length, drop, codes, string_bytes, Option, Some, None, Result, Ok, Err}
+use Rattle.std.specs.Prelude.{ℕ, ◌+◌, Bool, not, ◌==◌, ◌&&◌, nat_lt, if◌then◌else◌, List, [], ◌∷◌, length, drop, codes, string_bytes}
+use Rattle.std.specs.Prelude.{Option, Some, None, Result, Ok, Err}
 use Rattle.std.specs.List.{list_any, before_first, after_first, position_or_len, starts_with}
 use Rattle.std.specs.Str.{bytes_eq}
 use Rattle.pn_json.specs.Answers.{◌>>=◌}
 use Rattle.pn_join.specs.Naming.{is_name}
-use Rattle.pn_arguments.specs.declared.streams.TheConstants.{MAX_SOCKET_BYTES, MAX_STREAMS}
+use Rattle.pn_region.specs.declared.marking.TheConstants.{MAX_STREAMS}
+use Rattle.pn_arguments.specs.declared.streams.TheConstants.{MAX_SOCKET_BYTES}
 use Rattle.pn_arguments.specs.declared.faults.OptionFault.{OptionFault}
 use Rattle.pn_arguments.specs.declared.faults.OptionFault.TheVariants as fault
 use Rattle.pn_arguments.specs.declared.faults.Why.TheVariants.{LongPath, NameTwice, NoEquals, NoName, NoPath, TooMany}

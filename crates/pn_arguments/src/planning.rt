@@ -126,16 +126,20 @@ fn host_of(options: &ArgMatches<'_>) -> Option<IpAddr>
 fn service_of(alloc: Global, host: IpAddr, options: &ArgMatches<'_>) -> Result<Service, OptionFault>
     ensures { ShowsUnless OptionFault.Memory service_value result (service_in host (rows_of (found_of options.now))) }
 {
+    let address = address_of(alloc, host, options)?;
+    let socket_mode = permissions_of(option_text(options, "socket-mode"))?;
+    let control = control_path(alloc, options)?;
+    let copies = copies_path(alloc, options)?;
     Ok(Service {
         sessions: option_number(options, "sessions", MAX_SESSIONS as u32) as usize,
-        address: address_of(alloc, host, options)?,
-        socket_mode: permissions_of(option_text(options, "socket-mode"))?,
+        address,
+        socket_mode,
         stay: stay_of(options),
-        control: control_path(alloc, options)?,
+        control,
         idle: idle_of(options),
         unread: option_number(options, "unread", MAX_UNREAD),
         is_progress_told: is_given(options, "progress"),
-        copies: copies_path(alloc, options)?,
+        copies,
     })
 }
 

@@ -10,11 +10,9 @@ ghost use Rattle.pn_arguments.specs.Streams.{repeated_from, socket_in, stream_in
 use crate::faults::{OptionFault, Why};
 use clap::ArgMatches;
 use pn_join::Name;
+use pn_region::MAX_STREAMS;
 use pn_serve::StreamPath;
 use std::alloc::Global;
-
-/// The most streams that are read.
-const MAX_STREAMS: usize = 16;
 
 /// The most bytes of the path of a Unix socket.
 pub(crate) const MAX_SOCKET_BYTES: usize = 107;

@@ -4,7 +4,8 @@ use denote.Param.SendFields.{declared_send}
 use denote.Struct.Record.{declared}
 use Rattle.std.proofs.Crossing.{crosses}
 use Rattle.pn_live.proofs.Crossing.Readers.{reader_send}
-use Rattle.pn_serve.proofs.Crossing.{controls_send, controls_sync, counter_send, counter_sync, faults_send, faults_sync, name_send, name_sync, shown_mark_send, shown_mark_sync}
+use Rattle.pn_serve.proofs.Crossing.{controls_send, controls_sync, counter_send, counter_sync, faults_send, faults_sync, name_send}
+use Rattle.pn_serve.proofs.Crossing.{name_sync, shown_mark_send, shown_mark_sync}
 use Rattle.pn_stay.specs.contracts.acceptor.SocketAcceptor as acceptor
 use Rattle.pn_stay.specs.contracts.socket_mailbox.SocketMailbox as mailbox
 use Rattle.pn_stay.specs.contracts.server.threads.LoopThread as loop
@@ -43,10 +44,34 @@ pub status_sync : IsSync status.the_row
 status_sync = search (sendable, crosses) depth 40 fits 20000
 
 stream_send : IsSend stream.the_row
-stream_send = search (sendable, crosses, name_send, counter_send, counter_sync, shown_mark_send, shown_mark_sync, input_send, input_sync, status_send, status_sync) depth 40 fits 20000
+stream_send = search (
+  sendable,
+  crosses,
+  name_send,
+  counter_send,
+  counter_sync,
+  shown_mark_send,
+  shown_mark_sync,
+  input_send,
+  input_sync,
+  status_send,
+  status_sync,
+) depth 40 fits 20000
 
 stream_sync : IsSync stream.the_row
-stream_sync = search (sendable, crosses, name_sync, counter_send, counter_sync, shown_mark_send, shown_mark_sync, input_send, input_sync, status_send, status_sync) depth 40 fits 20000
+stream_sync = search (
+  sendable,
+  crosses,
+  name_sync,
+  counter_send,
+  counter_sync,
+  shown_mark_send,
+  shown_mark_sync,
+  input_send,
+  input_sync,
+  status_send,
+  status_sync,
+) depth 40 fits 20000
 
 connections_send : IsSend connections.the_row
 connections_send = search (sendable, crosses, counter_send) depth 40 fits 20000

@@ -107,20 +107,23 @@ module _ (broker : BrokerRecord) (live : LiveRegionValue) (lived : LivedHonestly
       deeds_honest serve (left_taken broker (deeds lived))
   all_there (Some copies) begins serve =
       let events = region_events (deeds lived) in
-      has_what_it_took broker copies lived.layout events (core lived.started) (core live) (starts_from copies lived.layout lived.started lived.lawful begins.0 begins.1)
+      has_what_it_took broker copies lived.layout events (core lived.started) (core live)
+      (starts_from copies lived.layout lived.started lived.lawful begins.0 begins.1)
       begins.2 deeds_lead deeds_honest serve
       (subst (λ (images : List Image). AreIn images (all_taken broker (start_events copies ++ events))) (sym (left_of_start copies events))
       (λ image there. taken_after_start broker copies events image (left_taken broker (deeds lived) image there)))
 
   all_faithful : (copies : Option (List TabletCopyValue)) → Begins broker lived.layout copies lived.started → AreFaithful broker (core live).tablets
   all_faithful None begins =
-      events_faithful broker (region_events (deeds lived)) (new_region lived.layout) (core live) (new_one lived.layout lived.lawful) (new_faithful broker lived.layout)
+      events_faithful broker (region_events (deeds lived)) (new_region lived.layout) (core live) (new_one lived.layout lived.lawful)
+      (new_faithful broker lived.layout)
       deeds_honest (subst (λ region. AllLeadTo (region_events (deeds lived)) region (core live)) (new_core lived.layout lived.started begins) deeds_lead)
   all_faithful (Some copies) begins =
       later_faithful broker copies lived.layout (region_events (deeds lived)) (core lived.started) (core live)
       (starts_from copies lived.layout lived.started lived.lawful begins.0 begins.1) begins.2 deeds_lead deeds_honest
 
-  all_published : (copies : Option (List TabletCopyValue)) → Begins broker lived.layout copies lived.started → copies ≡ None → AreHonestTablets broker live.tablets
+  all_published : (copies : Option (List TabletCopyValue)) → Begins broker lived.layout copies lived.started → copies ≡ None
+      → AreHonestTablets broker live.tablets
   all_published None begins new =
       let read = did_honestly broker lived.layout _ lived.names lived.started lived.read lived.end lived.ran lived.lawful begins lived.adopts in
       let first : IsRegion (core lived.started) = subst IsRegion (sym (new_core lived.layout lived.started begins)) (new_one lived.layout lived.lawful) in
@@ -144,11 +147,13 @@ module _ (broker : BrokerRecord) (live : LiveRegionValue) (lived : LivedHonestly
 pub lived_alike : (broker : BrokerRecord) (one other : LiveRegionValue) (lived : LivedHonestly broker one) (lives : LivedHonestly broker other)
     → AllServe (core one) → AllServe (core other) → SameImages (images_lived lived) (images_lived lives) → all_cells (core one) ≡ all_cells (core other)
 lived_alike broker one other lived lives serve serves same =
-    alike (core one) (core other) (images_lived lived) (images_lived lives) (lived_records broker one lived serve) (lived_records broker other lives serves) same
+    alike (core one) (core other) (images_lived lived) (images_lived lives) (lived_records broker one lived serve) (lived_records broker other lives serves)
+    same
 
 -- so have a server and a script
 pub lived_as_told : (broker : BrokerRecord) (live : LiveRegionValue) (lived : LivedHonestly broker live) (script : Told) → AllServe (core live)
-    → Settled broker (new_region script.layout) script.input → SameImages (images_lived lived) (images_of broker script) → all_cells (core live) ≡ records_of script
+    → Settled broker (new_region script.layout) script.input → SameImages (images_lived lived) (images_of broker script)
+    → all_cells (core live) ≡ records_of script
 lived_as_told broker live lived script serve settled same =
     alike (core live) (machine_of script).region (images_lived lived) (images_of broker script)
     (lived_records broker live lived serve) (held_records broker script.layout script.lawful script.input settled) same

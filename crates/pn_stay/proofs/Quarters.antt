@@ -14,11 +14,13 @@ idle_past connections key past = ap (option_map (λ (connection : Connection). c
 
 pub ends_none : (most : ℕ) (before after : Option IdleTimeoutValue) → before ≡ None → after ≡ before → EndsQuarter most before after
 ends_none most before after none same =
-    subst (λ (a : Option IdleTimeoutValue). EndsQuarter most before a) (sym same) (subst (λ (b : Option IdleTimeoutValue). EndsQuarter most b b) (sym none) (record { dropped = λ is. refl; older = λ is. refl }))
+    subst (λ (a : Option IdleTimeoutValue). EndsQuarter most before a) (sym same)
+    (subst (λ (b : Option IdleTimeoutValue). EndsQuarter most b b) (sym none) (record { dropped = λ is. refl; older = λ is. refl }))
 
 module _ (most key : ℕ) (first was now : ℕ → Option IdleTimeoutValue) (others : (other : ℕ) → other ≢ key → now other ≡ was other) where
   -- it has ended for the keys below, and ends for this one
-  pub ended_more : ((k : ℕ) → k < key → EndsQuarter most (first k) (was k)) → was key ≡ first key → EndsQuarter most (was key) (now key) → (k : ℕ) → k < key + 1 → EndsQuarter most (first k) (now k)
+  pub ended_more : ((k : ℕ) → k < key → EndsQuarter most (first k) (was k)) → was key ≡ first key → EndsQuarter most (was key) (now key)
+      → (k : ℕ) → k < key + 1 → EndsQuarter most (first k) (now k)
   ended_more ended same here k below =
       let within : k ≤ key = omega (arith, below) in
       ⊎_elim

@@ -28,8 +28,10 @@ pub deaf_by : (before between after : Option UnreadValue) (told : Option Bool) �
     → (told ≡ Some true → after ≡ None) → (told ≡ Some false → after ≡ between) → (told ≡ None → after ≡ between) → EndsDeaf before after
 deaf_by None between after told is tells dropped older none = none (tells ∙ ap (option_map is_deaf) is) ∙ is
 deaf_by (Some unread) between after told is tells dropped older none =
-    let told_is : told ≡ Some (is_deaf (aged unread)) = tells ∙ ap (option_map is_deaf) is in
-    (λ deaf. dropped (told_is ∙ ap (λ (b : Bool). Some b) deaf), λ isnt. older (told_is ∙ ap (λ (b : Bool). Some b) (not_true (is_deaf (aged unread)) isnt)) ∙ is)
+    let told_is : told ≡ Some (is_deaf (aged unread)) = tells ∙ ap (option_map is_deaf) is in (
+      λ deaf. dropped (told_is ∙ ap (λ (b : Bool). Some b) deaf),
+      λ isnt. older (told_is ∙ ap (λ (b : Bool). Some b) (not_true (is_deaf (aged unread)) isnt)) ∙ is,
+    )
 
 module _ (quiet : ℕ → ℕ) (key longest here next : ℕ) (is : next ≡ max longest here) (at : here ≡ quiet key) where
   -- none below took none for longer

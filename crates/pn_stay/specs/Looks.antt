@@ -37,7 +37,8 @@ pub record IsLookedUp (was : LiveReaderValue) (ended : EndedBy) (line : List ℕ
 abbrev pub LooksOrWaits : LiveReaderValue → EndedBy → List ℕ → LiveReaderValue → Look → Type 0
 LooksOrWaits was ended line now (Under look kept) = KnowsNoLess was now × IsLookedUp was ended line now look × IfSome kept (KeepsLine ended line)
 LooksOrWaits was ended line now (PutOff kept weight waits) =
-    KnowsNoLess was now × KeepsLine ended line kept × ((reached : LiveReaderValue) × (look : Going) × IsLookedUp was ended line reached look × KnowsNoLess reached now)
+    KnowsNoLess was now × KeepsLine ended line kept
+    × ((reached : LiveReaderValue) × (look : Going) × IsLookedUp was ended line reached look × KnowsNoLess reached now)
 
 -- lines are answered as a session answers them, at once or after they were put off
 abbrev pub bounded_reads : Handling LiveReaderValue Look

@@ -54,4 +54,5 @@ EndsAt longest before after = (after ≡ before) ⊎ ((after ≡ None) × (quiet
 -- each client is as it was; or it was ended, that took no byte for a second at least, and for no less time than any that stays
 abbrev pub EndsLongest : (ℕ → Option UnreadValue) → (ℕ → Option UnreadValue) → Type 0
 EndsLongest before after = (key : ℕ)
-    → (after key ≡ before key) ⊎ ((after key ≡ None) × (QUIET_QUARTERS ≤ quiet_in (before key)) × ((other : ℕ) → quiet_in (after other) ≤ quiet_in (before key)))
+    → (after key ≡ before key) ⊎ ((after key ≡ None) × (QUIET_QUARTERS ≤ quiet_in (before key))
+    × ((other : ℕ) → quiet_in (after other) ≤ quiet_in (before key)))

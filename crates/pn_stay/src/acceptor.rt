@@ -6,6 +6,7 @@ use crate::connection_limit::{ConnectionLimit, Place};
 use crate::counters::{Counters, CountingSource};
 use crate::listener::Listener;
 use crate::messages::Messages;
+use crate::quarter_clock::QUARTER;
 use crate::reasons::describe_error;
 use crate::seldom::Seldom;
 use crate::shared::share;
@@ -24,9 +25,6 @@ const SESSION_READ_SIZE: usize = 65_536;
 
 /// For how many milliseconds nobody is accepted after the system refused a socket, as where no descriptor is left.
 const RETRY: u64 = 10;
-
-/// How many milliseconds a quarter of a second has.
-const QUARTER: u64 = 250;
 
 /// The message where as many connections are open as may be.
 const LIMIT_TEXT: &str = "cannot accept: all connections are open";

@@ -13,9 +13,6 @@ use std::alloc::{AllocError, Global};
 use std::io;
 use std::sync::Arc;
 
-/// How many bytes of records unread replies may keep, unless it is said.
-const DEFAULT_UNREAD: u64 = 64_000_000;
-
 /// How many lines were read, and how many bytes.
 #[derive(Drop)]
 pub struct InputCounters {
@@ -111,12 +108,12 @@ pub struct UnreadCounters {
 }
 
 impl UnreadCounters {
-    fn new() -> UnreadCounters {
+    fn new(limit: u64) -> UnreadCounters {
         UnreadCounters {
             bytes: Counter::new(),
             wanted: Counter::new(),
             ended: Counter::new(),
-            limit: DEFAULT_UNREAD,
+            limit,
         }
     }
 
@@ -174,13 +171,19 @@ pub struct Counters {
 }
 
 impl Counters {
-    /// The counters of a server that has done nothing so far.
-    pub fn new(alloc: Global, streams: Vec<StreamCounters>) -> Result<Counters, AllocError> {
+    /// The counters of a server that has done nothing so far. Unread replies may keep `unread` bytes of records.
+    pub fn new(
+        alloc: Global,
+        streams: Vec<StreamCounters>,
+        memory: MemoryMeter,
+        unread: u64,
+    ) -> Result<Counters, AllocError> {
         let rounds = Arc::new(alloc, Counter::new())?;
         let round_times = Arc::new(alloc, TimeCounters::new(alloc)?)?;
         let shortage = Arc::new(alloc, Counter::new())?;
         let waiting = Arc::new(alloc, Counter::new())?;
         let clients = Arc::new(alloc, InputCounters::new())?;
+        let line_times = TimeCounters::new(alloc)?;
         Ok(Counters {
             rounds,
             shortage,
@@ -188,12 +191,12 @@ impl Counters {
             clients,
             refused: Counter::new(),
             kinds: KindCounters::new(),
-            line_times: TimeCounters::new(alloc)?,
+            line_times,
             round_times,
             connections: ConnectionCounters::new(),
-            unread: UnreadCounters::new(),
+            unread: UnreadCounters::new(unread),
             streams,
-            memory: MemoryMeter::new(),
+            memory,
         })
     }
 }

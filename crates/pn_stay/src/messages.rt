@@ -24,8 +24,9 @@ pub struct Messages {
 impl Messages {
     /// No line waits.
     pub fn new(alloc: Global) -> Result<Messages, AllocError> {
+        let waiting = WaitingLines::new(alloc)?;
         Ok(Messages {
-            waiting: Mutex::new(WaitingLines::new(alloc)?),
+            waiting: Mutex::new(waiting),
             left: Condvar::new(),
         })
     }
@@ -75,10 +76,8 @@ impl WaitingLines {
     pub fn new(alloc: Global) -> Result<WaitingLines, AllocError>
         ensures { IfOk result (λ waiting. waiting ≡ ([], 0)) }
     {
-        Ok(WaitingLines {
-            lines: Vec::with_capacity(alloc, MAX_WAITING)?,
-            dropped: 0,
-        })
+        let lines = Vec::with_capacity(alloc, MAX_WAITING)?;
+        Ok(WaitingLines { lines, dropped: 0 })
     }
 
     pub fn lines(&self) -> &[String]

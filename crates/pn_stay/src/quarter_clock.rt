@@ -8,7 +8,7 @@ use std::io;
 use std::time::{Clock, Duration, Instant};
 
 /// How many milliseconds a quarter of a second has.
-const QUARTER: u64 = 250;
+pub(crate) const QUARTER: u64 = 250;
 
 /// After how many milliseconds the clock is looked at again while it runs.
 const PAUSE: u64 = 50;

@@ -127,9 +127,8 @@ fn new_counters<R>(
 where
     R: AllocGlobal + Files<File = File>,
 {
-    let mut counters = Counters::new(rt.alloc(), streams)?;
-    counters.memory = MemoryMeter::open(rt);
-    counters.unread.limit = service.unread as u64;
+    let memory = MemoryMeter::open(rt);
+    let counters = Counters::new(rt.alloc(), streams, memory, service.unread as u64)?;
     Ok(Arc::new(rt.alloc(), counters)?)
 }
 

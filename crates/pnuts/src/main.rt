@@ -60,13 +60,7 @@ fn main(rt: HostRuntime) -> ExitCode {
         counters,
         sockets,
     } = endpoints;
-    let is_telling = !service.is_progress_told
-        || thread::spawn(&rt, move || tell_progress(&rt, rt.alloc(), &counters)).is_ok();
-    let is_printing = match printer {
-        None => true,
-        Some(printer) => thread::spawn(&rt, move || printer.run(&rt)).is_ok(),
-    };
-    if !is_telling || !is_printing {
+    if !start_telling(&rt, &service, counters) || !start_printing(&rt, printer) {
         return close_copies(&rt, opened, refuse_start(&rt, &service, &sockets));
     }
     let (streams, connections) = match streams {
@@ -85,6 +79,28 @@ fn main(rt: HostRuntime) -> ExitCode {
         }
         Err(error) => fail_to_stay(&rt, &sockets, &error),
     }
+}
+
+// Starts the thread that tells progress, where it is told. Whether the system gave it.
+fn start_telling<R>(rt: &R, service: &Service, counters: Arc<Counters>) -> bool
+where
+    R: AllocGlobal + Eprint + Threads + Wait + Clock + Copy + Send + 'static,
+{
+    if !service.is_progress_told {
+        return true;
+    }
+    let host = *rt;
+    thread::spawn(rt, move || tell_progress(&host, host.alloc(), &counters)).is_ok()
+}
+
+// Starts the thread that prints messages about streams, where there are any. Whether the system gave it.
+fn start_printing<R>(rt: &R, printer: Option<MessagePrinter>) -> bool
+where
+    R: Eprint + Threads + Wait + Clock + Copy + Send + 'static,
+{
+    let Some(printer) = printer else { return true };
+    let host = *rt;
+    thread::spawn(rt, move || printer.run(&host)).is_ok()
 }
 
 // What is to be served.

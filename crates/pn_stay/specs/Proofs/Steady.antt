@@ -12,7 +12,8 @@ use Rattle.pn_stay.specs.Looks.{IsLookedUp, bounded_reads}
 use Rattle.pn_stay.specs.declared.bounded_reader.Look.TheVariants.{PutOff, Under}
 
 -- a line that is looked up so far has a reply where that is given up
-replied : (was between now : LiveReaderValue) (ended : EndedBy) (line : List ℕ) (look : Going) → IsLookedUp was ended line between look → KnowsNoLess between now
+replied : (was between now : LiveReaderValue) (ended : EndedBy) (line : List ℕ) (look : Going) → IsLookedUp was ended line between look
+    → KnowsNoLess between now
     → (reply : Replied) × Answers bounded_reads was ended line now reply
 replied was between now ended line look so_far moved =
     let up = so_far.goes.gives_up now moved in

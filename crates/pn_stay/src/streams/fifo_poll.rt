@@ -29,10 +29,9 @@ pub(crate) struct FifoPoll {
 impl FifoPoll {
     /// A poll of no FIFO.
     pub(crate) fn new<R: Net>(rt: &R, alloc: Global) -> io::Result<FifoPoll> {
-        Ok(FifoPoll {
-            poll: Poll::new(rt)?,
-            events: Events::with_capacity(alloc, EVENTS)?,
-        })
+        let poll = Poll::new(rt)?;
+        let events = Events::with_capacity(alloc, EVENTS)?;
+        Ok(FifoPoll { poll, events })
     }
 
     fn add(&self, fifo: &File) -> io::Result<()> {

@@ -65,8 +65,9 @@ pub fn open_files<R: Files<File = File>>(
     ensures names { IfOk result (λ opened. map (λ reader. reader.name) opened.readers.items ≡ map (λ stream. stream.0) streams.items) }
     ensures first { IfOk result (λ opened. All (λ reader. reader.position ≡ 0) opened.readers.items) }
 {
+    let readers = Vec::with_capacity(alloc, streams.len())?;
     let mut opened = OpenedFiles {
-        readers: Vec::with_capacity(alloc, streams.len())?,
+        readers,
         counters: Vec::new(alloc),
     };
     for (name, path) in streams {

@@ -17,9 +17,6 @@ use std::time::Clock;
 /// How many milliseconds at most pass until the path of a socket or FIFO is looked at again.
 pub(crate) const LOOK: u64 = 500;
 
-/// The same in microseconds.
-const LOOK_MICROSECONDS: i64 = 500_000;
-
 /// The socket of a stream. One of its writers is read at a time, and the others wait. Where its file is removed or replaced, it
 /// is made again.
 #[derive(Drop)]
@@ -97,7 +94,7 @@ impl StreamListener {
 // From now on an `accept` ends without a writer once it has waited for long enough.
 fn limit_wait(listener: &UnixListener) {
     let mut time = [0u8; 16];
-    time[8..].copy_from_slice(&LOOK_MICROSECONDS.to_ne_bytes());
+    time[8..].copy_from_slice(&(LOOK * 1_000).to_ne_bytes());
     let number = listener.as_raw_fd();
     let _ = unsafe { setsockopt(number, SOL_SOCKET, SO_RCVTIMEO, &time, 16) };
 }

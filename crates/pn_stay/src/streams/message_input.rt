@@ -55,11 +55,12 @@ impl<I: Read + Drop, L: NewestListener + Drop> MessageInput<I, L> {
         ensures held { IfOk result (λ made. made.held.items ≡ []) }
         ensures inside { IfOk result (λ made. made.is_inside ≡ false) }
     {
+        let held = Vec::with_capacity(alloc, MAX_LINE_BYTES + READ_SIZE)?;
         Ok(MessageInput {
             alloc,
             input,
             listener,
-            held: Vec::with_capacity(alloc, MAX_LINE_BYTES + READ_SIZE)?,
+            held,
             is_inside: false,
         })
     }

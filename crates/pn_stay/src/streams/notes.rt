@@ -28,10 +28,11 @@ pub(crate) struct StreamTeller {
 impl StreamTeller {
     /// Another handle of the same messages.
     pub(crate) fn try_clone(&self) -> Result<StreamTeller, AllocError> {
+        let messages = Arc::try_clone(&self.messages)?;
         Ok(StreamTeller {
             alloc: self.alloc,
             name: self.name,
-            messages: Arc::try_clone(&self.messages)?,
+            messages,
         })
     }
 

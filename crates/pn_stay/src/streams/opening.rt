@@ -58,8 +58,9 @@ where
     R: Files<File = File> + Net + Wait + Clock + Copy + Drop,
     ensures names { IfOk result (λ opened. map (λ stream. stream.name) opened.streams.items ≡ map (λ stream. stream.0) streams.items) }
 {
+    let room = Vec::with_capacity(setting.alloc, streams.len())?;
     let mut opened = OpenedStreams {
-        streams: Vec::with_capacity(setting.alloc, streams.len())?,
+        streams: room,
         counters: Vec::new(setting.alloc),
         sockets: Vec::new(setting.alloc),
     };

@@ -189,12 +189,13 @@ impl SocketWriters {
         ensures goes_on { IfOk result (λ accepted. GoesOn last accepted.after) }
         ensures later { IfOk result (λ accepted. last ≤ accepted.after) }
     {
+        let status = share(&notes.status)?;
         let positions = notes.positions.try_clone()?;
         let listener = Arc::try_clone(&self.listener)?;
         let alloc = notes.teller.alloc;
         let begun = WriterSocket::begin(notes.rt, alloc, stream, positions, last, listener)?;
         let (socket, after) = begun;
-        let broker = BrokerListener::new(notes.rt, share(&notes.status)?);
+        let broker = BrokerListener::new(notes.rt, status);
         let input = MessageInput::new(alloc, socket, broker)?;
         Ok(Accepted { input, after })
     }

@@ -96,8 +96,7 @@ impl<R: Clock + Drop> WriterSocket<R> {
         ensures goes_on { IfOk result (λ begun. GoesOn handed begun.1) }
         ensures later { IfOk result (λ begun. handed ≤ begun.1) }
     {
-        stream.set_write_timeout(Some(Duration::from_millis(PATIENCE)))?;
-        stream.set_read_timeout(Some(Duration::from_millis(LOOK)))?;
+        limit_waits(&stream)?;
         let taken = positions.taken.get();
         let after = position_after(handed, taken);
         positions.told.set(after);
@@ -227,6 +226,12 @@ pub(crate) fn position_after(handed: u64, taken: u64) -> u64
     ensures { result ≡ max handed taken }
 {
     handed.max(taken)
+}
+
+// From now on the calls of a writer's socket wait, but not for long.
+fn limit_waits(stream: &UnixStream) -> io::Result<()> {
+    stream.set_write_timeout(Some(Duration::from_millis(PATIENCE)))?;
+    stream.set_read_timeout(Some(Duration::from_millis(LOOK)))
 }
 
 // Whether `pause` milliseconds are over since then.

@@ -1,14 +1,15 @@
 //! A connection's turns, and the buffers that they use: each call where it succeeds.
 
 use crate::stay::echo::Echo;
+use crate::stay::served::UNREAD;
 use crate::stay::{TURNS, read_pieces, read_takes, show};
 use pn_join::{Name, NoMemory};
 use pn_line::{Discard, InMemory, LineBuffer, LineEnd, Sink, Source, read_line};
 use pn_lines::{LineTurns, Pause, TurnBuffers, TurnOutcome};
 use pn_serve::{Going, MAX_LINES, ReplyPieces};
 use pn_stay::{
-    Counters, CountingSource, InputBuffer, InputCounters, ScriptedSink, ScriptedSource,
-    StreamCounters,
+    Counters, CountingSource, InputBuffer, InputCounters, MemoryMeter, ScriptedSink,
+    ScriptedSource, StreamCounters,
 };
 use std::alloc::Global;
 use std::sync::Arc;
@@ -176,5 +177,5 @@ fn new_counters(alloc: Global, input: Arc<InputCounters>) -> Option<Counters> {
             size: None,
         })
         .ok()?;
-    Counters::new(alloc, streams).ok()
+    Counters::new(alloc, streams, MemoryMeter::new(), UNREAD).ok()
 }

@@ -30,8 +30,10 @@ loop-index-preserved c =
     record {
       so_far = c.loop-index.invariant.so_far
           ∙ at_drop_more (λ words. onto done (each_stream c.args.stays c.loop-index.index (texts words))) c.args.words.now c.loop-index.index no_word within
-          ∙ one_more c.args.stays c.loop-index.index (get_or c.args.words.now c.loop-index.index no_word).now (texts (drop (c.loop-index.index + 1) c.args.words.now)) _ done c.in_ok-stream_of.ensures
-          ∙ ap (λ streams. onto streams (each_stream c.args.stays (c.loop-index.index + 1) (texts (drop (c.loop-index.index + 1) c.args.words.now)))) (sym pushed);
+          ∙ one_more c.args.stays c.loop-index.index (get_or c.args.words.now c.loop-index.index no_word).now
+          (texts (drop (c.loop-index.index + 1) c.args.words.now)) _ done c.in_ok-stream_of.ensures
+          ∙ ap (λ streams. onto streams (each_stream c.args.stays (c.loop-index.index + 1) (texts (drop (c.loop-index.index + 1) c.args.words.now))))
+          (sym pushed);
       count = omega (arith, c.push_reserved.ensures.len, c.loop-index.invariant.count);
       capacity = c.push_reserved.ensures.capacity ∙ c.loop-index.invariant.capacity;
     }

@@ -12,12 +12,16 @@ use Rattle.pn_stay.proofs.bounded_reader.BoundedReader.look_on.Goals as goal
 
 pub returns-in-Going-clause-looks : goal.returns-in-Going-clause-looks
 returns-in-Going-clause-looks c =
-    subst (λ (r : LiveReaderValue). LooksOn r c.go_on-answer.new.self c.args.going c.args.line (answer_of pieces_left (GoesOn (Under c.in-Going.going c.args.line)))) c.self.view_is
-    (looks_under c.self.inside.reader c.go_on-answer.new.self c.args.going c.args.line c.go_on-answer.result.answer (GoesOn (Under c.in-Going.going c.args.line)) c.go_on-answer.ensures.answers c.go_on-answer.ensures.kept (inl (ap (under c.args.line) (sym c.in-Going.is))))
+    subst (λ (r : LiveReaderValue). LooksOn r c.go_on-answer.new.self c.args.going c.args.line
+    (answer_of pieces_left (GoesOn (Under c.in-Going.going c.args.line)))) c.self.view_is
+    (looks_under c.self.inside.reader c.go_on-answer.new.self c.args.going c.args.line c.go_on-answer.result.answer
+    (GoesOn (Under c.in-Going.going c.args.line)) c.go_on-answer.ensures.answers c.go_on-answer.ensures.kept
+    (inl (ap (under c.args.line) (sym c.in-Going.is))))
 
 pub returns-in-Going-clause-nearer : goal.returns-in-Going-clause-nearer
 returns-in-Going-clause-nearer c = λ some.
-    left_under c.args.going c.args.line c.go_on-answer.result.answer (GoesOn (Under c.in-Going.going c.args.line)) (c.go_on-answer.ensures.nearer some) (inl (ap (under c.args.line) (sym c.in-Going.is)))
+    left_under c.args.going c.args.line c.go_on-answer.result.answer (GoesOn (Under c.in-Going.going c.args.line)) (c.go_on-answer.ensures.nearer some)
+    (inl (ap (under c.args.line) (sym c.in-Going.is)))
 
 pub returns-in-Going-clause-kept : goal.returns-in-Going-clause-kept
 returns-in-Going-clause-kept c = subst (λ (r : LiveReaderValue). KnowsNoLess r c.go_on-answer.new.self) c.self.view_is c.go_on-answer.ensures.kept
@@ -26,7 +30,8 @@ pub returns-in-Done-clause-looks : goal.returns-in-Done-clause-looks
 returns-in-Done-clause-looks c =
     subst (λ (n : LiveReaderValue). LooksOn c.args.self.now n c.args.going c.args.line (answer_of pieces_left c.settle.result)) (sym c.settle.ensures.kept)
     (subst (λ (r : LiveReaderValue). LooksOn r c.go_on-answer.new.self c.args.going c.args.line (answer_of pieces_left c.settle.result)) c.self.view_is
-    (looks_under c.self.inside.reader c.go_on-answer.new.self c.args.going c.args.line c.go_on-answer.result.answer c.settle.result c.go_on-answer.ensures.answers c.go_on-answer.ensures.kept
+    (looks_under c.self.inside.reader c.go_on-answer.new.self c.args.going c.args.line c.go_on-answer.result.answer c.settle.result
+    c.go_on-answer.ensures.answers c.go_on-answer.ensures.kept
     (comes_settled c.args.line c.go_on-answer.result.answer c.in-Done.reply c.settle.result c.in-Done.is c.settle.ensures.settles)))
 
 pub returns-in-Done-clause-nearer : goal.returns-in-Done-clause-nearer

@@ -14,7 +14,8 @@ clients-preserved g c =
     let before = unread_at was.self.connections in
     let after = unread_at c.end_deaf_at.new.self.connections in
     record {
-      done = done_more EndsDeaf was.key first before after c.end_deaf_at.ensures.others was.invariant.done (was.invariant.rest was.key (omega arith)) c.end_deaf_at.ensures.here;
+      done = done_more EndsDeaf was.key first before after c.end_deaf_at.ensures.others was.invariant.done (was.invariant.rest was.key (omega arith))
+          c.end_deaf_at.ensures.here;
       rest = rest_less EndsDeaf was.key first before after c.end_deaf_at.ensures.others was.invariant.rest;
     }
 

@@ -7,4 +7,5 @@ pub rounds-init : goal.rounds-init
 rounds-init g c = ends_none (unread_at c.args.self.now.connections)
 
 pub rounds-preserved : goal.rounds-preserved
-rounds-preserved g c = ends_on (unread_at c.args.self.now.connections) (unread_at c.rounds.self.connections) (unread_at c.end_next-goes_on.new.self.connections) c.rounds.invariant c.end_next-goes_on.ensures
+rounds-preserved g c = ends_on (unread_at c.args.self.now.connections) (unread_at c.rounds.self.connections)
+    (unread_at c.end_next-goes_on.new.self.connections) c.rounds.invariant c.end_next-goes_on.ensures

@@ -12,7 +12,8 @@ quarters-preserved g c =
     let before = idle_at was.self.connections in
     let after = idle_at c.end_quarter_at.new.self.connections in
     record {
-      done = ended_more c.args.idle was.key first before after c.end_quarter_at.ensures.others was.invariant.done (was.invariant.rest was.key (omega arith)) c.end_quarter_at.ensures.here;
+      done = ended_more c.args.idle was.key first before after c.end_quarter_at.ensures.others was.invariant.done (was.invariant.rest was.key (omega arith))
+          c.end_quarter_at.ensures.here;
       rest = rest_less c.args.idle was.key first before after c.end_quarter_at.ensures.others was.invariant.rest;
     }
 

@@ -11,8 +11,10 @@ clients-preserved c =
     let at = c.clients in
     let quiet = quiet_at c.args.connections.now in
     record {
-      most = most_more quiet at.key at.longest c.quiet_of_client.result c.longer_of-longest.result c.longer_of-longest.ensures c.quiet_of_client.ensures at.invariant.most;
-      some = some_more quiet at.key at.longest c.quiet_of_client.result c.longer_of-longest.result c.longer_of-longest.ensures c.quiet_of_client.ensures at.invariant.some;
+      most = most_more quiet at.key at.longest c.quiet_of_client.result c.longer_of-longest.result c.longer_of-longest.ensures c.quiet_of_client.ensures
+          at.invariant.most;
+      some = some_more quiet at.key at.longest c.quiet_of_client.result c.longer_of-longest.result c.longer_of-longest.ensures c.quiet_of_client.ensures
+          at.invariant.some;
     }
 
 pub returns-clause-most : goal.returns-clause-most

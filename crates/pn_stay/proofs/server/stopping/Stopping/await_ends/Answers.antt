@@ -1,7 +1,7 @@
 -- Commands come after commands.
 use Rattle.std.proofs.Common.{refl, ◌∙◌}
 use Rattle.pn_serve.proofs.EventsRead.{more_commands, no_commands}
-use Rattle.pn_stay.proofs.server.stopping.Stopping.await_controls.Goals as goal
+use Rattle.pn_stay.proofs.server.stopping.Stopping.await_ends.Goals as goal
 
 pub loop-init : goal.loop-init
 loop-init g c = record { runs = no_commands _ _ refl; same = refl }
