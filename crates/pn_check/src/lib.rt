@@ -7,8 +7,6 @@ mod checker;
 mod faults;
 mod input;
 mod names;
-#[cfg(test)]
-mod tests;
 mod told;
 
 pub use input::{CheckFault, check};

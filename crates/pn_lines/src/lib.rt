@@ -8,8 +8,6 @@ mod engine;
 mod finding;
 mod handler;
 mod piece_text;
-#[cfg(test)]
-mod tests;
 mod turns;
 
 pub use driver::buffers::LineBuffers;

@@ -1,9 +1,11 @@
-//! Cases of the crates from `pn_join` to `pn_region`: a line names the crate and what is tried, and `stdout` has what must be answered.
+//! Cases of the crates from `pn_lines` to `pn_region`: a line names the crate and what is tried, and `stdout` has what must be answered.
 //!
 //! One program has them all, since to read the libraries below costs more than to prove most cases.
 #![tactic(auto)]
 
+mod checks;
 mod joins;
+mod lines;
 mod records;
 mod regions;
 mod scans;
@@ -23,6 +25,8 @@ fn main(rt: HostRuntime) -> Result<(), Fail> {
 fn answer<R: Threads + Sync>(rt: &R, alloc: Global, line: &str) -> Result<String, Fail> {
     let (name, case) = line.split_once(' ').unwrap_or((line, ""));
     match name {
+        "pn_lines" => lines::answer(alloc, case),
+        "pn_check" => checks::answer(alloc, case),
         "pn_join" => joins::answer(alloc, case),
         "pn_record" => records::answer(alloc, case),
         "pn_stream" => streams::answer(rt, alloc, case),

@@ -14,3 +14,8 @@ pub(crate) fn next_word<'a>(words: &mut &'a str) -> &'a str {
 pub(crate) fn next_number(words: &mut &str) -> Result<u64, Fail> {
     Ok(next_word(words).parse::<u64>()?)
 }
+
+/// Takes the next word as a number of things in memory.
+pub(crate) fn next_count(words: &mut &str) -> Result<usize, Fail> {
+    Ok(next_word(words).parse::<usize>()?)
+}

@@ -10,7 +10,7 @@ mod stopping_writer;
 
 pub use asking::{Answer, ask};
 pub use given::{deliveries, image, keys, layout};
-pub use lines::{answer_lines, bars, newlines, spell_out};
+pub use lines::{answer_lines, bars, newlines, spell_out, spelled_lines};
 pub use piecewise_reader::PiecewiseReader;
 pub use reply_runs::ReplyRuns;
 pub use stopping_writer::{Stop, StoppingWriter};

@@ -47,6 +47,12 @@ pub fn spell_out(alloc: Global, text: &str) -> Result<String, Fail> {
     Ok(long)
 }
 
+/// The lines that a text spells: `~3~ab~` is `ababab`, and a bar ends a line.
+pub fn spelled_lines(alloc: Global, text: &str) -> Result<String, Fail> {
+    let long = spell_out(alloc, text)?;
+    Ok(newlines(alloc, long.as_str())?)
+}
+
 fn push_repeated(text: &mut String, part: &str, times: usize) -> Result<(), Fail> {
     for _ in 0..times {
         text.push_str(part)?;
