@@ -12,15 +12,17 @@ mod pipe;
 mod reading;
 mod writers;
 
-use by_workers::read_by_workers;
+use by_workers::push_workers;
 use case::Case;
+use pn_line::InMemory;
 use pn_record::{Image, ImageFault};
 use pn_stream::{StreamFault, read_message};
-use reading::{read_by_lines, read_in_pieces, read_in_two, read_whole, read_with_a_failing_look};
+use reading::{push_by_lines, push_cuts, push_looks, push_read, push_sizes};
 use std::alloc::Global;
 use std::test::Fail;
 use std::thread::Threads;
-use writers::read_by_writers;
+use test_kit::ReplyRuns;
+use writers::push_writers;
 
 /// The answer to a case.
 pub(crate) fn answer<R: Threads>(rt: &R, alloc: Global, line: &str) -> Result<String, Fail> {
@@ -28,8 +30,7 @@ pub(crate) fn answer<R: Threads>(rt: &R, alloc: Global, line: &str) -> Result<St
     match what {
         "message" => message(alloc, text),
         "memory" => Ok(format!(in alloc; "{}", StreamFault::Memory)?),
-        "workers" => read_by_workers(rt, alloc, &Case::read(alloc, text)?),
-        _ => read_stream(alloc, what, &Case::read(alloc, text)?),
+        _ => read_stream(rt, alloc, what, &Case::read(alloc, text)?),
     }
 }
 
@@ -50,13 +51,49 @@ fn message_text(alloc: Global, at: u64, image: &Image) -> Result<String, Fail> {
 }
 
 // What readers give of the stream, which comes in the way that is named.
-fn read_stream(alloc: Global, how: &str, case: &Case) -> Result<String, Fail> {
+fn read_stream<R: Threads>(
+    rt: &R,
+    alloc: Global,
+    how: &str,
+    case: &Case,
+) -> Result<String, Fail> {
     match how {
-        "whole" => read_whole(alloc, case),
-        "pieces" => read_in_pieces(alloc, case),
-        "cuts" => read_in_two(alloc, case),
-        "looks" => read_with_a_failing_look(alloc, case),
-        "writers" => read_by_writers(alloc, case),
-        _ => read_by_lines(alloc, case),
+        "pieces" | "cuts" | "looks" | "workers" => read_often(rt, alloc, how, case),
+        _ => read_once(alloc, how, case),
+    }
+}
+
+fn read_once(alloc: Global, how: &str, case: &Case) -> Result<String, Fail> {
+    let mut text = String::new(alloc);
+    push_once(&mut text, how, case)?;
+    Ok(text)
+}
+
+fn push_once(text: &mut String, how: &str, case: &Case) -> Result<(), Fail> {
+    match how {
+        "whole" => push_read(text, case, InMemory::new(case.text.as_bytes())),
+        "writers" => push_writers(text, case),
+        _ => push_by_lines(text, case),
+    }
+}
+
+fn read_often<R: Threads>(rt: &R, alloc: Global, how: &str, case: &Case) -> Result<String, Fail> {
+    let mut runs = ReplyRuns::new(alloc);
+    push_often(rt, alloc, how, case, &mut runs)?;
+    runs.text()
+}
+
+fn push_often<R: Threads>(
+    rt: &R,
+    alloc: Global,
+    how: &str,
+    case: &Case,
+    runs: &mut ReplyRuns,
+) -> Result<(), Fail> {
+    match how {
+        "pieces" => push_sizes(alloc, case, runs),
+        "cuts" => push_cuts(alloc, case, runs),
+        "looks" => push_looks(alloc, case, runs),
+        _ => push_workers(rt, alloc, case, runs),
     }
 }

@@ -4,7 +4,6 @@ ghost use Rattle.std.specs.Prelude.{◌≤◌};
 ghost use Rattle.pn_stream.specs.declared.reader.TheConstants.{MAX_MESSAGES};
 
 use crate::streams::case::Case;
-use crate::streams::reading::{most_of, new_reader};
 use pn_line::{InMemory, Source};
 use pn_stream::{Delivery, ReaderMemory, StreamFault, StreamReader};
 use std::alloc::Global;
@@ -35,44 +34,52 @@ impl ReaderMemory for AskedAgain {
     fn give_up(&self) {}
 }
 
-/// What readers give of a stream in memory, for each number of workers: how many images, and how many of these have the key
-/// of their position.
-pub(crate) fn read_by_workers<R: Threads>(
+/// Adds what readers give of a stream in memory, for each number of workers: how many images, and how many of these have the
+/// key of their position.
+pub(crate) fn push_workers<R: Threads>(
     rt: &R,
     alloc: Global,
     case: &Case,
-) -> Result<String, Fail> {
-    let mut runs = ReplyRuns::new(alloc);
+    runs: &mut ReplyRuns,
+) -> Result<(), Fail> {
     for workers in 1..=MOST_WORKERS {
-        let text = read_all(rt, alloc, case, workers)?;
-        runs.push(text)?;
+        push_run(rt, alloc, case, runs, workers)?;
     }
-    runs.text()
+    Ok(())
 }
 
-fn read_all<R: Threads>(
+fn push_run<R: Threads>(
     rt: &R,
     alloc: Global,
     case: &Case,
+    runs: &mut ReplyRuns,
     workers: usize,
-) -> Result<String, Fail> {
-    let mut reader = new_reader(alloc, case, InMemory::new(case.text.as_bytes()))?;
+) -> Result<(), Fail> {
     let mut text = String::new(alloc);
-    push_all(rt, alloc, &mut text, case, &mut reader, workers)?;
-    Ok(text)
+    push_read(rt, &mut text, case, workers)?;
+    runs.push(text)
+}
+
+fn push_read<R: Threads>(
+    rt: &R,
+    text: &mut String,
+    case: &Case,
+    workers: usize,
+) -> Result<(), Fail> {
+    let mut reader = case.reader(*text.allocator(), InMemory::new(case.text.as_bytes()));
+    push_all(rt, text, case, &mut reader, workers)
 }
 
 // Adds what all calls give, and where the reader is then.
 fn push_all<R: Threads, S: Source + Drop>(
     rt: &R,
-    alloc: Global,
     text: &mut String,
     case: &Case,
     reader: &mut StreamReader<S>,
     workers: usize,
 ) -> Result<(), Fail> {
     for _ in 0..case.calls {
-        push_answer(rt, alloc, text, case, reader, workers)?;
+        push_answer(rt, text, case, reader, workers)?;
     }
     Ok(write!(text, "at {}", reader.position())?)
 }
@@ -80,15 +87,20 @@ fn push_all<R: Threads, S: Source + Drop>(
 // Adds what one call gives.
 fn push_answer<R: Threads, S: Source + Drop>(
     rt: &R,
-    alloc: Global,
     text: &mut String,
     case: &Case,
     reader: &mut StreamReader<S>,
     workers: usize,
 ) -> Result<(), Fail> {
-    let most = most_of(case)?;
-    match next_by(rt, &AskedAgain { alloc }, reader, workers, most) {
-        Ok(delivery) => push_counts(alloc, text, &delivery),
+    let memory = AskedAgain {
+        alloc: *text.allocator(),
+    };
+    push_given(text, &next_by(rt, &memory, reader, workers, case.most()))
+}
+
+fn push_given(text: &mut String, given: &Result<Delivery, StreamFault>) -> Result<(), Fail> {
+    match given {
+        Ok(delivery) => push_counts(text, delivery),
         Err(fault) => Ok(write!(text, "{fault}; ")?),
     }
 }
@@ -101,7 +113,8 @@ fn next_by<R: Threads, S: Source + Drop>(
     workers: usize,
     most: usize,
 ) -> Result<Delivery, StreamFault>
-    requires { (1 ≤ most) × (most ≤ MAX_MESSAGES) }
+    requires some { 1 ≤ most }
+    requires few { most ≤ MAX_MESSAGES }
 {
     reader.next_ready_by(rt, memory, workers, most)
 }
@@ -119,8 +132,8 @@ fn count_in_place(alloc: Global, delivery: &Delivery) -> Result<usize, Fail> {
     Ok(in_place)
 }
 
-fn push_counts(alloc: Global, text: &mut String, delivery: &Delivery) -> Result<(), Fail> {
-    let in_place = count_in_place(alloc, delivery)?;
+fn push_counts(text: &mut String, delivery: &Delivery) -> Result<(), Fail> {
+    let in_place = count_in_place(*text.allocator(), delivery)?;
     write!(
         text,
         "{} {}: {in_place} of {}; ",

@@ -1,9 +1,15 @@
 //! A stream, and how it is read.
 
-use crate::words::{next_number, next_word};
+ghost use Rattle.std.specs.Prelude.{◌≤◌};
+ghost use Rattle.pn_stream.specs.declared.reader.TheConstants.{MAX_MESSAGES};
+
+use crate::words::{next_count, next_number, next_word};
+use pn_join::{LAST_POSITION, StreamName};
+use pn_line::Source;
+use pn_stream::{MAX_MESSAGES, StreamReader};
 use std::alloc::Global;
 use std::test::Fail;
-use test_kit::{newlines, spell_out};
+use test_kit::spelled_lines;
 
 /// A stream's text, after which position it is read, whether that begins with the first message of a writer, and by how
 /// many calls of which kind.
@@ -11,10 +17,11 @@ use test_kit::{newlines, spell_out};
 pub(crate) struct Case {
     pub(crate) is_resumed: bool,
     pub(crate) is_ready: bool,
-    pub(crate) after: u64,
     pub(crate) calls: u64,
-    pub(crate) most: u64,
     pub(crate) text: String,
+    name: StreamName,
+    after: u64,
+    most: usize,
 }
 
 impl Case {
@@ -24,16 +31,31 @@ impl Case {
         let kind = next_word(&mut words);
         let after = next_number(&mut words)?;
         let calls = next_number(&mut words)?;
-        let most = next_number(&mut words)?;
+        let most = next_count(&mut words)?;
+        let name = StreamName::read(b"east")?;
         let text = stream(alloc, words)?;
         Ok(Case {
             is_resumed: kind == "resume",
             is_ready: kind != "batch",
-            after,
             calls,
-            most,
             text,
+            name,
+            after,
+            most,
         })
+    }
+
+    /// The most messages of a call.
+    pub(crate) fn most(&self) -> usize
+        ensures some { 1 ≤ result }
+        ensures few { result ≤ MAX_MESSAGES }
+    {
+        self.most.max(1).min(MAX_MESSAGES)
+    }
+
+    /// A reader that begins after the position.
+    pub(crate) fn reader<S: Source + Drop>(&self, alloc: Global, source: S) -> StreamReader<S> {
+        StreamReader::new(alloc, self.name, self.after.min(LAST_POSITION), source)
     }
 }
 
@@ -44,7 +66,7 @@ fn stream(alloc: Global, words: &str) -> Result<String, Fail> {
     let last = next_number(&mut words)?;
     let mut text = String::new(alloc);
     push_messages(&mut text, first, last)?;
-    push_more(&mut text, words)?;
+    text.push_str(spelled_lines(alloc, words)?.as_str())?;
     Ok(text)
 }
 
@@ -53,13 +75,6 @@ fn push_messages(text: &mut String, first: u64, last: u64) -> Result<(), Fail> {
         push_message(text, at)?;
     }
     Ok(())
-}
-
-// Adds what a text spells out.
-fn push_more(text: &mut String, more: &str) -> Result<(), Fail> {
-    let more = spell_out(*text.allocator(), more)?;
-    let more = newlines(*text.allocator(), more.as_str())?;
-    Ok(text.push_str(more.as_str())?)
 }
 
 // A message of one digit has 78 bytes.

@@ -1,28 +1,16 @@
 //! What readers give of a stream that comes in many ways, in words.
 
-ghost use Rattle.std.specs.Prelude.{◌≤◌, IfOk};
+ghost use Rattle.std.specs.Prelude.{◌≤◌};
 ghost use Rattle.pn_stream.specs.declared.reader.TheConstants.{MAX_MESSAGES};
 
 use crate::streams::case::Case;
 use crate::streams::pipe::{Pipe, PipeBuffer};
-use pn_join::{LAST_POSITION, Name};
-use pn_line::{InMemory, Source};
+use pn_line::Source;
 use pn_record::Image;
-use pn_stream::{Delivery, MAX_MESSAGES, NoWait, StreamFault, StreamReader};
+use pn_stream::{Delivery, NoWait, ResumeFault, StreamFault, StreamReader};
 use std::alloc::Global;
 use std::test::Fail;
 use test_kit::{PiecewiseReader, ReplyRuns};
-
-pub(crate) fn new_reader<S: Source + Drop>(
-    alloc: Global,
-    case: &Case,
-    source: S,
-) -> Result<StreamReader<S>, Fail> {
-    if case.after > LAST_POSITION {
-        return Err(Fail::new("no position"));
-    }
-    Ok(StreamReader::new(alloc, Name::read(b"east")?, case.after, source))
-}
 
 fn push_delivery(text: &mut String, delivery: &Delivery) -> Result<(), Fail> {
     write!(text, "{} {}:", delivery.stream().as_str(), delivery.first())?;
@@ -37,24 +25,14 @@ fn push_keys(text: &mut String, images: &[Image]) -> Result<(), Fail> {
     Ok(())
 }
 
-/// The most messages of a call.
-pub(crate) fn most_of(case: &Case) -> Result<usize, Fail>
-    ensures { IfOk result (λ most. (1 ≤ most) × (most ≤ MAX_MESSAGES)) }
-{
-    let most = usize::try_from(case.most)?;
-    if most < 1 || most > MAX_MESSAGES {
-        return Err(Fail::new("no number of messages"));
-    }
-    Ok(most)
-}
-
 // What one call gives.
 fn next<S: Source + Drop>(
     reader: &mut StreamReader<S>,
     is_ready: bool,
     most: usize,
 ) -> Result<Delivery, StreamFault>
-    requires { (1 ≤ most) × (most ≤ MAX_MESSAGES) }
+    requires some { 1 ≤ most }
+    requires few { most ≤ MAX_MESSAGES }
 {
     if is_ready {
         reader.next_ready(most)
@@ -69,9 +47,12 @@ fn push_answer<S: Source + Drop>(
     case: &Case,
     reader: &mut StreamReader<S>,
 ) -> Result<(), Fail> {
-    let most = most_of(case)?;
-    match next(reader, case.is_ready, most) {
-        Ok(delivery) => push_delivery(text, &delivery),
+    push_given(text, &next(reader, case.is_ready, case.most()))
+}
+
+fn push_given(text: &mut String, given: &Result<Delivery, StreamFault>) -> Result<(), Fail> {
+    match given {
+        Ok(delivery) => push_delivery(text, delivery),
         Err(fault) => Ok(write!(text, "{fault}; ")?),
     }
 }
@@ -81,8 +62,23 @@ pub(crate) fn push_first<S: Source + Drop>(
     text: &mut String,
     reader: &mut StreamReader<S>,
 ) -> Result<(), Fail> {
-    match reader.resume(&NoWait::new(*text.allocator())) {
-        Ok(Some(delivery)) => push_delivery(text, &delivery),
+    push_begun(text, &resume(*text.allocator(), reader))
+}
+
+// What the call for a writer's first message gives.
+fn resume<S: Source + Drop>(
+    alloc: Global,
+    reader: &mut StreamReader<S>,
+) -> Result<Option<Delivery>, ResumeFault> {
+    reader.resume(&NoWait::new(alloc))
+}
+
+fn push_begun(
+    text: &mut String,
+    given: &Result<Option<Delivery>, ResumeFault>,
+) -> Result<(), Fail> {
+    match given {
+        Ok(Some(delivery)) => push_delivery(text, delivery),
         Ok(None) => Ok(text.push_str("none; ")?),
         Err(fault) => Ok(write!(text, "{fault}; ")?),
     }
@@ -124,26 +120,31 @@ fn push_all<S: Source + Drop>(
     Ok(write!(text, "at {}", reader.position())?)
 }
 
-// What all calls give, and where the reader is then.
-fn read_all<S: Source + Drop>(alloc: Global, case: &Case, source: S) -> Result<String, Fail> {
-    let mut reader = new_reader(alloc, case, source)?;
-    let mut text = String::new(alloc);
-    push_all(&mut text, case, &mut reader)?;
-    Ok(text)
+/// Adds what all calls give of a stream from a source, and where the reader is then.
+pub(crate) fn push_read<S: Source + Drop>(
+    text: &mut String,
+    case: &Case,
+    source: S,
+) -> Result<(), Fail> {
+    let mut reader = case.reader(*text.allocator(), source);
+    push_all(text, case, &mut reader)
 }
 
-/// What a reader gives of a stream in memory.
-pub(crate) fn read_whole(alloc: Global, case: &Case) -> Result<String, Fail> {
-    read_all(alloc, case, InMemory::new(case.text.as_bytes()))
-}
-
-/// What readers give of a stream that comes in pieces, for pieces of each size.
-pub(crate) fn read_in_pieces(alloc: Global, case: &Case) -> Result<String, Fail> {
-    let mut runs = ReplyRuns::new(alloc);
+/// Adds what readers give of a stream that comes in pieces, for pieces of each size.
+pub(crate) fn push_sizes(alloc: Global, case: &Case, runs: &mut ReplyRuns) -> Result<(), Fail> {
     for size in 1..=case.text.len() {
-        push_pieces(alloc, case, &mut runs, size, 0)?;
+        push_pieces(alloc, case, runs, size, 0)?;
     }
-    runs.text()
+    Ok(())
+}
+
+/// Adds what readers give of a stream in pieces of 30 bytes, of whose first 16 looks one fails, each in turn. A message takes
+/// three looks.
+pub(crate) fn push_looks(alloc: Global, case: &Case, runs: &mut ReplyRuns) -> Result<(), Fail> {
+    for look in 1..17 {
+        push_pieces(alloc, case, runs, 30, look)?;
+    }
+    Ok(())
 }
 
 // Adds what a reader gives of a stream in pieces of a size, of whose looks one fails.
@@ -155,47 +156,38 @@ fn push_pieces(
     fails_at: usize,
 ) -> Result<(), Fail> {
     let pieces = PiecewiseReader::failing(case.text.as_bytes(), size, fails_at);
-    runs.push(read_all(alloc, case, pieces)?)
+    let mut text = String::new(alloc);
+    push_read(&mut text, case, pieces)?;
+    runs.push(text)
 }
 
-/// What readers give of a stream in pieces of 30 bytes, of whose first 16 looks one fails, each in turn. A message takes
-/// three looks.
-pub(crate) fn read_with_a_failing_look(alloc: Global, case: &Case) -> Result<String, Fail> {
-    let mut runs = ReplyRuns::new(alloc);
-    for look in 1..17 {
-        push_pieces(alloc, case, &mut runs, 30, look)?;
-    }
-    runs.text()
-}
-
-/// What readers give of a stream that is cut in two, at each byte in turn. The first call comes before the second part is
+/// Adds what readers give of a stream that is cut in two, at each byte in turn. The first call comes before the second part is
 /// written.
-pub(crate) fn read_in_two(alloc: Global, case: &Case) -> Result<String, Fail> {
+pub(crate) fn push_cuts(alloc: Global, case: &Case, runs: &mut ReplyRuns) -> Result<(), Fail> {
     let text = case.text.as_bytes();
-    let mut runs = ReplyRuns::new(alloc);
     for cut in 0..=text.len() {
         let (first, second) = text.split_at(cut);
-        push_parts(alloc, case, &mut runs, first, second)?;
+        push_cut(alloc, case, runs, first, second)?;
     }
-    runs.text()
+    Ok(())
 }
 
-fn push_parts(
+fn push_cut(
     alloc: Global,
     case: &Case,
     runs: &mut ReplyRuns,
     first: &[u8],
     second: &[u8],
 ) -> Result<(), Fail> {
-    runs.push(read_parts(alloc, case, first, second)?)
+    let mut text = String::new(alloc);
+    push_parts(&mut text, case, first, second)?;
+    runs.push(text)
 }
 
-fn read_parts(alloc: Global, case: &Case, first: &[u8], second: &[u8]) -> Result<String, Fail> {
+fn push_parts(text: &mut String, case: &Case, first: &[u8], second: &[u8]) -> Result<(), Fail> {
     let buffer = PipeBuffer::new(first);
-    let mut reader = new_reader(alloc, case, new_pipe(&buffer, false))?;
-    let mut text = String::new(alloc);
-    push_halves(&mut text, case, &mut reader, &buffer, second)?;
-    Ok(text)
+    let mut reader = case.reader(*text.allocator(), new_pipe(&buffer, false));
+    push_halves(text, case, &mut reader, &buffer, second)
 }
 
 // Adds what two calls give, of which the second comes after the rest is written.
@@ -220,13 +212,11 @@ fn new_pipe<'c, 'a>(buffer: &'c PipeBuffer<'a>, waits: bool) -> Pipe<'c, 'a> {
     }
 }
 
-/// What a reader gives of a stream that comes a line at a time, each written after the call that gave the one before.
-pub(crate) fn read_by_lines(alloc: Global, case: &Case) -> Result<String, Fail> {
+/// Adds what a reader gives of a stream that comes a line at a time, each written after the call that gave the one before.
+pub(crate) fn push_by_lines(text: &mut String, case: &Case) -> Result<(), Fail> {
     let buffer = PipeBuffer::new(&[]);
-    let mut reader = new_reader(alloc, case, new_pipe(&buffer, true))?;
-    let mut text = String::new(alloc);
-    push_lines(&mut text, case, &mut reader, &buffer)?;
-    Ok(text)
+    let mut reader = case.reader(*text.allocator(), new_pipe(&buffer, true));
+    push_lines(text, case, &mut reader, &buffer)
 }
 
 // Adds what each call gives, before which the next line is written.

@@ -1,21 +1,21 @@
 //! Writers of one stream, one after another.
 
 use crate::streams::case::Case;
-use crate::streams::reading::{new_reader, push_first};
+use crate::streams::reading::push_first;
 use pn_line::{InMemory, Source};
 use pn_stream::StreamReader;
 use std::alloc::Global;
 use std::test::Fail;
 
-/// What readers give, each of which gives its source to the next one after the first message.
-pub(crate) fn read_by_writers(alloc: Global, case: &Case) -> Result<String, Fail> {
-    let mut reader = new_reader(alloc, case, InMemory::new(case.text.as_bytes()))?;
-    let mut text = String::new(alloc);
+/// Adds what readers give, each of which gives its source to the next one after the first message.
+pub(crate) fn push_writers(text: &mut String, case: &Case) -> Result<(), Fail> {
+    let alloc = *text.allocator();
+    let mut reader = case.reader(alloc, InMemory::new(case.text.as_bytes()));
     for _ in 0..case.calls {
-        push_first(&mut text, &mut reader)?;
+        push_first(text, &mut reader)?;
         reader = next_reader(alloc, reader);
     }
-    Ok(text)
+    Ok(())
 }
 
 // A reader that goes on where another one is, from its source.

@@ -4,7 +4,7 @@ use pn_tablet::{TabletCopy, read_copy_by, write_copy};
 use std::alloc::Global;
 use std::test::Fail;
 use std::thread::Threads;
-use test_kit::{ReplyRuns, newlines, spell_out};
+use test_kit::{ReplyRuns, spelled_lines};
 
 /// The most workers that are tried.
 const MOST_WORKERS: usize = 9;
@@ -15,8 +15,7 @@ pub(crate) fn read_by_workers<R: Threads>(
     alloc: Global,
     bars: &str,
 ) -> Result<String, Fail> {
-    let bars = spell_out(alloc, bars)?;
-    let text = newlines(alloc, bars.as_str())?;
+    let text = spelled_lines(alloc, bars)?;
     let mut runs = ReplyRuns::new(alloc);
     for workers in 1..=MOST_WORKERS {
         let reply = read(rt, alloc, text.as_bytes(), workers)?;

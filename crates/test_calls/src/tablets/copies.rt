@@ -4,12 +4,11 @@ use pn_join::NoMemory;
 use pn_tablet::{CopyCount, CopyStep, CopyText, TabletCopy, read_copy, write_copy};
 use std::alloc::Global;
 use std::test::Fail;
-use test_kit::{newlines, spell_out};
+use test_kit::spelled_lines;
 
 /// Whether the text is a copy that is written as it was read, or its fault.
 pub(crate) fn copy(alloc: Global, bars: &str) -> Result<String, Fail> {
-    let bars = spell_out(alloc, bars)?;
-    let text = newlines(alloc, bars.as_str())?;
+    let text = spelled_lines(alloc, bars)?;
     match read_copy(alloc, text.as_bytes()) {
         Ok(copy) => kept_and_made(alloc, copy, text.as_str()),
         Err(fault) => Ok(format!(in alloc; "{fault}")?),
