@@ -1,6 +1,6 @@
 //! Cases of `pn_serve`.
 //!
-//! `plan` and `says` read words; `run`, `blocks`, `writes` and `sessions` meet slow and failing readers and writers; `session` and
+//! `plan` and `says` read words; `blocks` counts the writes of replies, and `writes` names the faults of writers; `session` and
 //! `serve` answer sessions, `kinds` counts lines of one, and `control` answers a control session; `start` opens a region from
 //! copies, and `endless` names the fault of a text of copies without end; `read` reads streams, and `writers` one whose writers
 //! come one after another. A bar is a newline.
@@ -13,7 +13,6 @@ mod plans;
 mod rounds;
 mod scripts;
 mod sessions;
-mod talk;
 mod writers;
 
 use control::answer_control;
@@ -22,8 +21,8 @@ use kinds::count_kinds;
 use loopback::serve_stream;
 use plans::{plan_reply, says};
 use rounds::few_rounds;
-use scripts::{blocks, run_over, write_three_bytes};
-use sessions::{answer_session, fail_sessions};
+use scripts::{blocks, write_three_bytes};
+use sessions::answer_session;
 use std::alloc::Global;
 use std::net::{Net, TcpListener, TcpStream};
 use std::sync::Wait;
@@ -49,10 +48,8 @@ where
     match word {
         "plan" => plan_reply(alloc, rest),
         "says" => says(alloc, rest),
-        "run" => run_over(rt, alloc, rest),
         "blocks" => blocks(rt, alloc, rest),
         "session" => answer_session(rt, alloc, rest),
-        "sessions" => fail_sessions(rt, alloc, rest),
         "control" => answer_control(rt, alloc, rest),
         "kinds" => count_kinds(rt, alloc, rest),
         "serve" => serve_stream(rt, alloc, rest),

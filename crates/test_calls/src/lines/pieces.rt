@@ -8,6 +8,7 @@ use std::alloc::{AllocError, Global};
 const MAX_CALLS: u32 = 100_000;
 
 /// An input, what is at hand of it, and how many bytes come next.
+#[derive(Drop)]
 pub(crate) struct Pieces<'a> {
     input: &'a [u8],
     from: usize,

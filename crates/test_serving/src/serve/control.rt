@@ -18,7 +18,7 @@ use std::test::Fail;
 use std::thread;
 use std::thread::Threads;
 use std::time::Clock;
-use test_kit::{bars, layout, newlines, spell_out};
+use test_kit::{bars, layout, spelled_lines};
 
 /// How many workers read the lines of a copy.
 const WORKERS: usize = 4;
@@ -167,8 +167,7 @@ where
 {
     let (count, text) = line.split_once(' ').ok_or(NoMemory)?;
     let count = count.parse::<u64>()?;
-    let text = spell_out(alloc, text)?;
-    let lines = newlines(alloc, text.as_str())?;
+    let lines = spelled_lines(alloc, text)?;
     let written = answer_after(rt, alloc, count, lines).ok_or(NoMemory)?;
     bars(alloc, &written)
 }

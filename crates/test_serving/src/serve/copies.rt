@@ -14,7 +14,7 @@ use std::alloc::{AllocError, Global};
 use std::sync::Wait;
 use std::test::Fail;
 use std::thread::Threads;
-use test_kit::{newlines, spell_out};
+use test_kit::spelled_lines;
 
 /// How many times a reader is asked at most.
 const TURNS: usize = 100;
@@ -54,9 +54,7 @@ pub(crate) fn start_endless<R: Threads + Sync>(
 fn parse_case(alloc: Global, line: &str) -> Result<(usize, String), Fail> {
     let (workers, bars) = line.split_once(' ').ok_or(NoMemory)?;
     let workers = workers.parse::<usize>()?;
-    let bars = spell_out(alloc, bars)?;
-    let text = newlines(alloc, bars.as_str())?;
-    Ok((workers, text))
+    Ok((workers, spelled_lines(alloc, bars)?))
 }
 
 fn start_by<R: Threads + Wait + Sync>(
