@@ -26,11 +26,7 @@ fn checked(alloc: Global, source: &mut FailingSource<'_>, call: usize) -> Result
     end_text(alloc, sink.contents(), ended)
 }
 
-fn end_text(
-    alloc: Global,
-    told: &[u8],
-    ended: Result<bool, CheckFault>,
-) -> Result<String, Fail> {
+fn end_text(alloc: Global, told: &[u8], ended: Result<bool, CheckFault>) -> Result<String, Fail> {
     let mut text = bars(alloc, told)?;
     match ended {
         Ok(true) => text.push_str("all are taken")?,

@@ -48,7 +48,12 @@ fn driver(alloc: Global, words: &str) -> Result<String, Fail> {
     let look = next_count(&mut words)?;
     let call = next_count(&mut words)?;
     let text = spelled_lines(alloc, words)?;
-    drive(alloc, most, &mut FailingSource::new(text.as_bytes(), look), call)
+    drive(
+        alloc,
+        most,
+        &mut FailingSource::new(text.as_bytes(), look),
+        call,
+    )
 }
 
 // The replies of a driver that waits, by a sink that takes few bytes at once.
@@ -77,11 +82,7 @@ fn answer_all(
     }
 }
 
-fn end_text(
-    alloc: Global,
-    written: &[u8],
-    ended: Result<u64, LinesFault>,
-) -> Result<String, Fail> {
+fn end_text(alloc: Global, written: &[u8], ended: Result<u64, LinesFault>) -> Result<String, Fail> {
     let mut text = bars(alloc, written)?;
     match ended {
         Ok(lines) => write!(text, " {lines} lines")?,

@@ -1,4 +1,4 @@
-//! Cases of the crates from `pn_lines` to `pn_region`: a line names the crate and what is tried, and `stdout` has what must be answered.
+//! Cases of the crates from `pn_line` to `pn_region`: a line names the crate and what is tried, and `stdout` has what must be answered.
 //!
 //! One program has them all, since to read the libraries below costs more than to prove most cases.
 #![tactic(auto)]
@@ -12,6 +12,7 @@ mod scans;
 mod streams;
 mod tablets;
 mod words;
+mod writes;
 
 use std::alloc::Global;
 use std::test::Fail;
@@ -25,6 +26,7 @@ fn main(rt: HostRuntime) -> Result<(), Fail> {
 fn answer<R: Threads + Sync>(rt: &R, alloc: Global, line: &str) -> Result<String, Fail> {
     let (name, case) = line.split_once(' ').unwrap_or((line, ""));
     match name {
+        "pn_line" => writes::answer(alloc),
         "pn_lines" => lines::answer(alloc, case),
         "pn_check" => checks::answer(alloc, case),
         "pn_join" => joins::answer(alloc, case),

@@ -51,12 +51,7 @@ fn message_text(alloc: Global, at: u64, image: &Image) -> Result<String, Fail> {
 }
 
 // What readers give of the stream, which comes in the way that is named.
-fn read_stream<R: Threads>(
-    rt: &R,
-    alloc: Global,
-    how: &str,
-    case: &Case,
-) -> Result<String, Fail> {
+fn read_stream<R: Threads>(rt: &R, alloc: Global, how: &str, case: &Case) -> Result<String, Fail> {
     match how {
         "pieces" | "cuts" | "looks" | "workers" => read_often(rt, alloc, how, case),
         _ => read_once(alloc, how, case),

@@ -1,9 +1,8 @@
 //! Cases of `pn_serve`.
 //!
-//! `plan` and `says` read words; `blocks` counts the writes of replies, and `writes` names the faults of writers; `session` and
-//! `serve` answer sessions, `kinds` counts lines of one, and `control` answers a control session; `start` opens a region from
-//! copies, and `endless` names the fault of a text of copies without end; `read` reads streams, and `writers` one whose writers
-//! come one after another. A bar is a newline.
+//! `plan` and `says` read words; `blocks` counts the writes of replies; `session` and `serve` answer sessions, `kinds` counts lines of
+//! one, and `control` answers a control session; `start` opens a region from copies, and `endless` names the fault of a text of copies
+//! without end; `read` reads streams, and `writers` one whose writers come one after another. A bar is a newline.
 
 mod control;
 mod copies;
@@ -21,7 +20,7 @@ use kinds::count_kinds;
 use loopback::serve_stream;
 use plans::{plan_reply, says};
 use rounds::few_rounds;
-use scripts::{blocks, write_three_bytes};
+use scripts::blocks;
 use sessions::answer_session;
 use std::alloc::Global;
 use std::net::{Net, TcpListener, TcpStream};
@@ -56,7 +55,6 @@ where
         "start" => start(rt, alloc, rest),
         "endless" => start_endless(rt, alloc, rest),
         "read" => few_rounds(rt, alloc),
-        "writers" => read_writers(rt, alloc, rest),
-        _ => write_three_bytes(alloc),
+        _ => read_writers(rt, alloc, rest),
     }
 }

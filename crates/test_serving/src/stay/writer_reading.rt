@@ -4,7 +4,7 @@ use pn_join::{LAST_POSITION, Marks, raise_at};
 use pn_line::Source;
 use pn_serve::{NextWriter, Origin, Stream, WriterEnd};
 use pn_stay::{StreamOrigin, StreamSource};
-use pn_stream::{NoWait, ResumeFault, StreamFault, StreamReader};
+use pn_stream::{Delivery, NoWait, ResumeFault, StreamFault, StreamReader};
 use std::alloc::Global;
 use std::fs::{File, Files};
 use std::net::Net;
@@ -69,12 +69,29 @@ fn read_to_end<R>(
 where
     R: Files<File = File> + Net + Wait + Clock + Copy + Drop,
 {
-    match reader.resume(&NoWait::new(alloc)) {
-        Ok(Some(_)) => note(alloc, stream, reader.position())?,
-        Ok(None) => return Some(WriterEnd::End),
-        Err(fault) => return Some(end_of(fault, reader.position(), 1)),
+    match has_begun(alloc, reader) {
+        Ok(true) => {
+            note(alloc, stream, reader.position())?;
+            read_rest(alloc, stream, reader)
+        }
+        Ok(false) => Some(WriterEnd::End),
+        Err(fault) => Some(end_of(fault, reader.position(), 1)),
     }
-    read_rest(alloc, stream, reader)
+}
+
+// Reads the first message. Whether there was one.
+fn has_begun<S: Source + Drop>(
+    alloc: Global,
+    reader: &mut StreamReader<S>,
+) -> Result<bool, ResumeFault> {
+    is_first(&reader.resume(&NoWait::new(alloc)))
+}
+
+fn is_first(given: &Result<Option<Delivery>, ResumeFault>) -> Result<bool, ResumeFault> {
+    match given {
+        Ok(first) => Ok(first.is_some()),
+        Err(fault) => Err(*fault),
+    }
 }
 
 fn read_rest<R>(
@@ -86,22 +103,32 @@ where
     R: Files<File = File> + Net + Wait + Clock + Copy + Drop,
 {
     for line in 2..CALLS {
-        match has_read(reader) {
-            Ok(true) => note(alloc, stream, reader.position())?,
-            Ok(false) => break,
-            Err(fault) => {
-                let fault = ResumeFault::Stream(fault);
-                return Some(end_of(fault, reader.position(), line as u64));
-            }
+        let more = has_read(reader);
+        if more != Ok(true) {
+            return Some(end_of_rest(more, reader.position(), line as u64));
         }
+        note(alloc, stream, reader.position())?;
     }
     Some(WriterEnd::End)
 }
 
 // Reads what is there. Whether there was a message.
 fn has_read<S: Source + Drop>(reader: &mut StreamReader<S>) -> Result<bool, StreamFault> {
-    let delivery = reader.next_ready(MOST)?;
-    Ok(!delivery.images().is_empty())
+    has_messages(&reader.next_ready(MOST))
+}
+
+fn has_messages(given: &Result<Delivery, StreamFault>) -> Result<bool, StreamFault> {
+    match given {
+        Ok(delivery) => Ok(!delivery.images().is_empty()),
+        Err(fault) => Err(*fault),
+    }
+}
+
+fn end_of_rest(more: Result<bool, StreamFault>, last: u64, line: u64) -> WriterEnd {
+    match more {
+        Ok(_) => WriterEnd::End,
+        Err(fault) => end_of(ResumeFault::Stream(fault), last, line),
+    }
 }
 
 fn end_of(fault: ResumeFault, last: u64, line: u64) -> WriterEnd {
