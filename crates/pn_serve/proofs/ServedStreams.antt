@@ -81,9 +81,9 @@ module _ (P : DeliveryValue → Type 0) {S : Type 0} (left : S → Option (List 
   at_fault old new Write ends = absurd ends
 
   -- all was read: the number of sessions was written, or not
-  written : (old new : LiveRegionValue) (result : Result (Unit {0}) ServeFault) → EndsReading P left streams old new (Ok tt) → IfErr result (λ fault. fault ≡ Write) → EndsServing P left old streams result
-  written old new (Ok done) ends write = record { closed = new; ends = ends }
-  written old new (Err fault) ends write = subst (λ (f : ServeFault). EndsServing P left old streams (Err f)) (sym write) (record { closed = new; ends = ends })
+  all_written : (old new : LiveRegionValue) (result : Result (Unit {0}) ServeFault) → EndsReading P left streams old new (Ok tt) → IfErr result (λ fault. fault ≡ Write) → EndsServing P left old streams result
+  all_written old new (Ok done) ends write = record { closed = new; ends = ends }
+  all_written old new (Err fault) ends write = subst (λ (f : ServeFault). EndsServing P left old streams (Err f)) (sym write) (record { closed = new; ends = ends })
 
   -- serving ends as reading, closing and writing do, the first fault of which is answered
   pub serving_ends : {A B : Type 0} (old new : LiveRegionValue) (count : ℕ) (reading : Result (Unit {0}) ServeFault) (closing : Result A B) (served : Result ℕ ServeFault) (result : Result (Unit {0}) ServeFault)
@@ -93,7 +93,7 @@ module _ (P : DeliveryValue → Type 0) {S : Type 0} (left : S → Option (List 
       let is : result ≡ Err fault = subst (λ (r : Result ℕ ServeFault). IfErr r (λ f. result ≡ Err f)) first told in
       subst (EndsServing P left old streams) (sym is) (at_fault old new fault ends)
   serving_ends old new count (Ok done) (Ok region) served result ends first closes told write =
-      written old new result ends (subst (λ (r : Result ℕ ServeFault). OnOk r (IfErr result (λ fault. fault ≡ Write))) closes write)
+      all_written old new result ends (subst (λ (r : Result ℕ ServeFault). OnOk r (IfErr result (λ fault. fault ≡ Write))) closes write)
   serving_ends old new count (Ok done) (Err fault) served result ends first closes told write =
       let is : result ≡ Err Close = subst (λ (r : Result ℕ ServeFault). IfErr r (λ f. result ≡ Err f)) closes told in
       subst (EndsServing P left old streams) (sym is) (record { closed = new; ends = ends })

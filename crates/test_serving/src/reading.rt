@@ -156,7 +156,8 @@ pub(crate) fn settings(alloc: Global) -> Option<Settings> {
 pub(crate) fn open_new<R: Wait>(rt: &R, alloc: Global) -> Option<OpenedRegion>
     ensures { IfSome result (λ opened. AllRead (tablets_in opened.live) opened.readers.items) }
 {
-    open_region(rt, alloc, layout(alloc, "")?, 1).ok()
+    let layout = layout(alloc, "")?;
+    open_region(rt, alloc, layout, 1).ok()
 }
 
 /// Adds a message at a position: an image of a key, of the version of a number.
@@ -204,7 +205,8 @@ pub(crate) fn read_into_region<R>(
 where
     R: Threads + Wait + Clock + Sync + Copy + Send + Drop + 'static,
 {
-    read_into_opened(rt, alloc, open_new(rt, alloc)?, streams, rounds)
+    let opened = open_new(rt, alloc)?;
+    read_into_opened(rt, alloc, opened, streams, rounds)
 }
 
 /// Reads streams into a live region. Whether they were read to their ends, and the region that is closed then.

@@ -4,5 +4,5 @@ use Rattle.std.proofs.Crossing.{crosses}
 use Rattle.pn_stay.proofs.Crossing.{acceptor_send}
 use Rattle.pnuts.proofs.sessions.serve_streams.Goals as goal
 
-pub serve-requires-send-L : goal.serve-requires-send-L
-serve-requires-send-L g c κs within = search (sendable, crosses, acceptor_send) depth 40 fits 20000
+pub serve-served-requires-send-L : goal.serve-served-requires-send-L
+serve-served-requires-send-L g c κs within = search (sendable, crosses, acceptor_send) depth 40 fits 20000
