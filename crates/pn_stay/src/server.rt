@@ -31,8 +31,8 @@ use crate::server::threads::start_answering;
 use pn_line::Source;
 use pn_live::{LiveReader, LiveRegion};
 use pn_serve::{
-    Acceptor, Counter, MAX_CONTROLS, OpenedRegion, Origin, ReadingEnd, Sending, ServeFault,
-    SessionThread, Settings, Stream, TimeCounters, Watchers, open_region, read_streams,
+    MAX_CONTROLS, OpenedRegion, Origin, ReadingEnd, Sending, ServeFault, SessionThread, Settings,
+    Stream, Watchers, open_region, read_streams,
 };
 use pn_tablet::Layout;
 use std::alloc::{AllocError, Global};
@@ -169,15 +169,11 @@ where
     let control = acceptor.control.take();
     let controls = start_controls(rt, alloc, control, &kept.counters, beside, sizes.workers)?;
     let answering = start_answering(rt, alloc, acceptor, sizes.connections, live, readers)?;
+    let mut watchers = kept.watchers;
+    watchers.controls = controls.mailboxes;
     Ok(Started {
         running: answering.running,
-        watchers: Watchers {
-            rounds: kept.rounds,
-            times: kept.times,
-            shortage: kept.shortage,
-            waiting: kept.waiting,
-            controls: controls.mailboxes,
-        },
+        watchers,
         stopping: Stopping {
             listener: kept.listener,
             control: controls.listener,
@@ -191,28 +187,34 @@ where
 // What a server keeps of its acceptor.
 #[derive(Drop)]
 struct KeptHandles {
-    rounds: Option<Arc<Counter>>,
-    times: Option<Arc<TimeCounters>>,
-    shortage: Option<Arc<Counter>>,
-    waiting: Option<Arc<Counter>>,
+    watchers: Watchers,
     listener: Listener,
     counters: Arc<Counters>,
 }
 
 fn keep_handles(acceptor: &SocketAcceptor) -> io::Result<KeptHandles> {
-    let rounds = acceptor.round_counter();
-    let times = Some(Arc::try_clone(&acceptor.counters.round_times)?);
-    let shortage = Some(Arc::try_clone(&acceptor.counters.shortage)?);
-    let waiting = Some(Arc::try_clone(&acceptor.counters.waiting)?);
+    let watchers = watch_rounds(&acceptor.counters)?;
     let listener = acceptor.listener.try_clone()?;
     let counters = Arc::try_clone(&acceptor.counters)?;
     Ok(KeptHandles {
-        rounds,
-        times,
-        shortage,
-        waiting,
+        watchers,
         listener,
         counters,
+    })
+}
+
+// Those who look at the rounds. No control session is among them so far.
+fn watch_rounds(counters: &Counters) -> Result<Watchers, AllocError> {
+    let rounds = Arc::try_clone(&counters.rounds)?;
+    let times = Arc::try_clone(&counters.round_times)?;
+    let shortage = Arc::try_clone(&counters.shortage)?;
+    let waiting = Arc::try_clone(&counters.waiting)?;
+    Ok(Watchers {
+        rounds: Some(rounds),
+        times: Some(times),
+        shortage: Some(shortage),
+        waiting: Some(waiting),
+        controls: None,
     })
 }
 
