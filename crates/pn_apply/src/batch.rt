@@ -4,7 +4,6 @@ ghost use Rattle.std.specs.Prelude.{◌≡◌, length, IsTrue};
 ghost use Rattle.pn_stream.specs.Positions.{are_positions};
 ghost use Rattle.pn_stream.specs.Prelude.{DeliveryValue};
 
-use crate::Share;
 use pn_join::StreamName;
 use pn_stream::Delivery;
 
@@ -40,21 +39,5 @@ impl Batch for Delivery {
 
     fn count(&self) -> usize {
         self.images().len()
-    }
-}
-
-impl Batch for Share {
-    ghost delivery = { λ share. share };
-
-    fn stream(&self) -> &StreamName {
-        Share::stream(self)
-    }
-
-    fn first(&self) -> u64 {
-        Share::first(self)
-    }
-
-    fn count(&self) -> usize {
-        Share::count(self)
     }
 }

@@ -14,7 +14,7 @@ ghost use Rattle.pn_apply.specs.Reducing.{all_images, images_in, joins_of, range
 
 use crate::gate::GatePass;
 use crate::working::{TabletWork, Task, work_all};
-use crate::{Gate, Share};
+use crate::{Batch, Gate, Share};
 use pn_join::{Dup, Marks, NoMemory};
 use pn_record::{Records, join_records};
 use pn_tablet::{Layout, Range, TabletOp, cells_within};

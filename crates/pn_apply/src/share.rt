@@ -1,13 +1,13 @@
 //! Shares: what deliveries bring to a round, as tables of cells.
 
-ghost use Rattle.std.specs.Prelude.{◌≡◌, length, IfOk, IfSome, IsTrue};
+ghost use Rattle.std.specs.Prelude.{◌≡◌, IfOk, IfSome};
 ghost use Rattle.pn_record.specs.Prelude.{table_of};
-ghost use Rattle.pn_stream.specs.Positions.{are_positions};
 ghost use Rattle.pn_apply.specs.Shares.{AreMade};
 
 mod entries;
 mod tables;
 
+use crate::Batch;
 use entries::make_entries;
 use pn_join::{NoMemory, StreamName};
 use pn_record::{Cell, Image, Key, Records};
@@ -49,6 +49,22 @@ impl Model for Share {
         (λ cells. cells ≡ table_of share.delivery.value.images) };
 }
 
+impl Batch for Share {
+    ghost delivery = { λ share. share };
+
+    fn stream(&self) -> &StreamName {
+        &self.stream
+    }
+
+    fn first(&self) -> u64 {
+        self.first
+    }
+
+    fn count(&self) -> usize {
+        self.count
+    }
+}
+
 impl Share {
     /// What a delivery brings. No cell is made yet, and no memory taken.
     pub fn of(alloc: Global, delivery: Delivery) -> Share
@@ -68,28 +84,6 @@ impl Share {
             cells: None,
             delivery: value,
         }
-    }
-
-    /// The name of the stream.
-    pub fn stream(&self) -> &StreamName
-        ensures { result.now ≡ self.now.stream }
-    {
-        &self.stream
-    }
-
-    /// The position of the first image, from 1 to 10^15.
-    pub fn first(&self) -> u64
-        ensures position { result ≡ self.now.first }
-        ensures in_range { IsTrue (are_positions self.now.first (length self.now.images)) }
-    {
-        self.first
-    }
-
-    /// How many images there are.
-    pub fn count(&self) -> usize
-        ensures { result ≡ length self.now.images }
-    {
-        self.count
     }
 
     /// The table of the cells of all images, once it is finished.

@@ -1,8 +1,8 @@
 //! The laws of reads of regions, as contracts. A call does nothing.
 
 ghost use Rattle.std.specs.Prelude.{◌≡◌, ◌≢◌, ℕ, ◌<◌, List, map, Option, Some, None, Ok, Err, IsTrue};
-ghost use Rattle.std.specs.FinMap.{find, is_sorted};
 ghost use Rattle.std.specs.List.{AllByRecursion};
+ghost use Rattle.std.specs.FinMap.{find, is_sorted};
 ghost use Rattle.pn_join.specs.Prelude.{Positions};
 ghost use Rattle.pn_record.specs.Prelude.{Entries, bytes_cmp, Stamp};
 ghost use Rattle.pn_stream.specs.Prelude.{DeliveryValue};

@@ -48,11 +48,10 @@ pub struct Round {
 
 impl Model for Region {
     ghost use Rattle.pn_region.specs.Logged.{LoggedRegion};
+    ghost use Rattle.pn_region.specs.Proofs.Coding.{logged_code};
     ghost use Rattle.pn_region.specs.Regions.{IsLawfulRegion};
 
     ghost Value = { LoggedRegion };
-
-    ghost use Rattle.pn_region.specs.Proofs.Coding.{logged_code};
 
     ghost coded = { logged_code };
 

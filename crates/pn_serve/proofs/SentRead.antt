@@ -15,7 +15,7 @@ use Rattle.pn_stream.specs.Streams.{InStep, Run}
 use Rattle.pn_stream.proofs.Runs.{Run-none, on_rest}
 use Rattle.pn_tablet.specs.Proofs.DraftCoding.{image_code}
 use Rattle.pn_serve.specs.declared.server.messages.RoundMessages.{RoundMessages}
-use Rattle.pn_serve.specs.declared.server.messages.TheConstants.{MAX_MESSAGES}
+use Rattle.pn_stream.specs.declared.reader.TheConstants.{MAX_MESSAGES}
 use Rattle.pn_serve.specs.declared.server.reporting.StreamEnd.{StreamEnd}
 use Rattle.pn_serve.specs.declared.server.reports.Report.{Report}
 use Rattle.pn_serve.specs.declared.server.reports.Report.TheVariants as reports

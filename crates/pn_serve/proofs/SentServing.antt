@@ -3,10 +3,8 @@ use Rattle.std.proofs.Common.{ℕ, List, Option, inl, inr}
 use Rattle.std.specs.Prelude.{Result, Ok, Err}
 use Rattle.pn_stream.specs.Batches as batches
 use Rattle.pn_stream.specs.Positions.{DeliveryValue}
-use Rattle.pn_tablet.specs.Layouts.{Bounds}
 use Rattle.pn_live.specs.LiveRegions.{LiveRegionValue}
 use Rattle.pn_serve.specs.Server.Faults.{names_of}
-use Rattle.pn_serve.specs.Server.Opened.{EndsOpened, ServesFrom}
 use Rattle.pn_serve.specs.Server.Served.{EndsReading, EndsServing, Serves}
 use Rattle.pn_serve.specs.declared.server.fault.ServeFault.{ServeFault}
 use Rattle.pn_serve.specs.declared.server.fault.ServeFault.TheVariants.{Start, Stream, Round, Close, Write}
@@ -28,26 +26,13 @@ module _ (P Q : DeliveryValue → Type 0) (each : (delivery : DeliveryValue) →
   reading_on old new (Err Close) ends = absurd ends
   reading_on old new (Err Write) ends = absurd ends
 
-  serves_on : (layout : Bounds) (reading : Result (Unit {0}) ServeFault) → Serves P left layout streams reading → Serves Q left layout streams reading
-  serves_on layout reading serves = record { opened = serves.opened; closed = serves.closed; is_new = serves.is_new; ends = reading_on serves.opened serves.closed reading serves.ends }
+  serves_on : (opened : LiveRegionValue) (reading : Result (Unit {0}) ServeFault) → Serves P left opened streams reading → Serves Q left opened streams reading
+  serves_on opened reading serves = record { closed = serves.closed; ends = reading_on opened serves.closed reading serves.ends }
 
-  -- over a new live region
-  pub serving_on : (layout : Bounds) (result : Result (Unit {0}) ServeFault) → EndsServing P left layout streams result → EndsServing Q left layout streams result
-  serving_on layout (Ok done) serves = serves_on layout (Ok tt) serves
-  serving_on layout (Err Close) serves = serves_on layout (Ok tt) serves
-  serving_on layout (Err Write) serves = serves_on layout (Ok tt) serves
-  serving_on layout (Err Start) none = tt
-  serving_on layout (Err (Stream name)) serves = serves_on layout (Err (Stream name)) serves
-  serving_on layout (Err Round) serves = serves_on layout (Err Round) serves
-
-  from_on : (opened : LiveRegionValue) (reading : Result (Unit {0}) ServeFault) → ServesFrom P left opened streams reading → ServesFrom Q left opened streams reading
-  from_on opened reading serves = record { closed = serves.closed; ends = reading_on opened serves.closed reading serves.ends }
-
-  -- over one that was open
-  pub opened_on : (opened : LiveRegionValue) (result : Result (Unit {0}) ServeFault) → EndsOpened P left opened streams result → EndsOpened Q left opened streams result
-  opened_on opened (Ok done) serves = from_on opened (Ok tt) serves
-  opened_on opened (Err Close) serves = from_on opened (Ok tt) serves
-  opened_on opened (Err Write) serves = from_on opened (Ok tt) serves
-  opened_on opened (Err Start) serves = from_on opened (Err Start) serves
-  opened_on opened (Err (Stream name)) serves = from_on opened (Err (Stream name)) serves
-  opened_on opened (Err Round) serves = from_on opened (Err Round) serves
+  pub serving_on : (opened : LiveRegionValue) (result : Result (Unit {0}) ServeFault) → EndsServing P left opened streams result → EndsServing Q left opened streams result
+  serving_on opened (Ok done) serves = serves_on opened (Ok tt) serves
+  serving_on opened (Err Close) serves = serves_on opened (Ok tt) serves
+  serving_on opened (Err Write) serves = serves_on opened (Ok tt) serves
+  serving_on opened (Err Start) serves = serves_on opened (Err Start) serves
+  serving_on opened (Err (Stream name)) serves = serves_on opened (Err (Stream name)) serves
+  serving_on opened (Err Round) serves = serves_on opened (Err Round) serves

@@ -5,14 +5,13 @@ use Rattle.std.proofs.lemmas.Result.{err_from_is_err_and}
 use Rattle.pn_join.specs.Marks.{Positions}
 use Rattle.pn_stream.specs.Batches as batches
 use Rattle.pn_stream.specs.Positions.{DeliveryValue}
-use Rattle.pn_tablet.specs.Layouts.{Bounds}
 use Rattle.pn_live.specs.LiveRegions.{LiveRegionValue}
 use Rattle.pn_serve.specs.Server.Faults.{names_of, NamesOne, IsOfRounds}
 use Rattle.pn_serve.specs.Server.Reading.{ReadToEnds, ReadUpTo, RunsRounds}
 use Rattle.pn_serve.specs.declared.server.mailboxes.AtFault.{AtFault}
 use Rattle.pn_serve.specs.declared.server.mailboxes.AtFault.TheVariants.{Stop}
 use Rattle.pn_serve.proofs.RoundsRead.{of_rounds}
-use Rattle.pn_serve.specs.Server.Served.{EndsReading, EndsRegion, EndsServing}
+use Rattle.pn_serve.specs.Server.Served.{EndsReading, EndsServing}
 use Rattle.pn_serve.specs.Server.Whole.{IsTakenWhole}
 use Rattle.pn_serve.specs.declared.server.fault.ServeFault.{ServeFault}
 use Rattle.pn_serve.specs.declared.server.fault.ServeFault.TheVariants.{Start, Stream, Round, Close, Write}
@@ -63,40 +62,48 @@ module _ (P : DeliveryValue → Type 0) {S : Type 0} (left : S → Option (List 
       (subst (λ (ss : List (batches.Stream S)). OnOk result (All (IsTakenWhole left new.marks) ss)) are (subst (λ (m : Positions). OnOk result (All (IsTakenWhole left m) read_by)) same taken))
       (subst (λ (ss : List (batches.Stream S)). IfErr result (NamesOne (names_of ss))) are rest)
 
-  -- no live region was opened
-  pub not_opened : (layout : Bounds) (fault : ServeFault) (result : Result ℕ ServeFault) → IsErrAnd result (λ other. other ≡ fault) → fault ≡ Start → EndsRegion P left layout streams result
-  not_opened layout fault result answered start =
-      let (other, is, same) = err_from_is_err_and result answered in
-      subst (EndsRegion P left layout streams) (sym is) (subst (λ (f : ServeFault). EndsRegion P left layout streams (Err f)) (sym (same ∙ start)) tt)
+  -- no write fails before the region is closed
+  pub no_write : {A B : Type 0} (old new : LiveRegionValue) (count : ℕ) (reading : Result (Unit {0}) ServeFault) (closing : Result A B) (served : Result ℕ ServeFault) → EndsReading P left streams old new reading
+      → IfErr reading (λ fault. served ≡ Err fault) → OnOk reading (MatchResult closing (λ _. served ≡ Ok count) (λ _. served ≡ Err Close)) → IfErr served (λ fault. fault ≢ Write)
+  no_write old new count (Ok done) (Ok region) served ends first closes = subst (λ (r : Result ℕ ServeFault). IfErr r (λ fault. fault ≢ Write)) (sym closes) tt
+  no_write old new count (Ok done) (Err fault) served ends first closes = subst (λ (r : Result ℕ ServeFault). IfErr r (λ fault. fault ≢ Write)) (sym closes) (λ is. cc)
+  no_write old new count (Err (Stream name)) closing served ends first closes = subst (λ (r : Result ℕ ServeFault). IfErr r (λ fault. fault ≢ Write)) (sym first) (λ is. cc)
+  no_write old new count (Err Round) closing served ends first closes = subst (λ (r : Result ℕ ServeFault). IfErr r (λ fault. fault ≢ Write)) (sym first) (λ is. cc)
+  no_write old new count (Err Start) closing served ends first closes = subst (λ (r : Result ℕ ServeFault). IfErr r (λ fault. fault ≢ Write)) (sym first) (λ is. cc)
+  no_write old new count (Err Close) closing served ends first closes = absurd ends
+  no_write old new count (Err Write) closing served ends first closes = absurd ends
 
-  pub no_write : (layout : Bounds) (result : Result ℕ ServeFault) → EndsRegion P left layout streams result → IfErr result (λ fault. fault ≢ Write)
-  no_write layout (Ok count) ends = tt
-  no_write layout (Err (Stream name)) ends = λ is. cc
-  no_write layout (Err Start) ends = λ is. cc
-  no_write layout (Err Round) ends = λ is. cc
-  no_write layout (Err Close) ends = λ is. cc
-  no_write layout (Err Write) ends = absurd ends
+  at_fault : (old new : LiveRegionValue) (fault : ServeFault) → EndsReading P left streams old new (Err fault) → EndsServing P left old streams (Err fault)
+  at_fault old new (Stream name) ends = record { closed = new; ends = ends }
+  at_fault old new Round ends = record { closed = new; ends = ends }
+  at_fault old new Start ends = record { closed = new; ends = ends }
+  at_fault old new Close ends = absurd ends
+  at_fault old new Write ends = absurd ends
 
-  at_fault : (layout : Bounds) (fault : ServeFault) → EndsRegion P left layout streams (Err fault) → EndsServing P left layout streams (Err fault)
-  at_fault layout (Stream name) ends = ends
-  at_fault layout Round ends = ends
-  at_fault layout Start ends = tt
-  at_fault layout Close ends = ends
-  at_fault layout Write ends = absurd ends
+  -- all was read: the number of sessions was written, or not
+  all_written : (old new : LiveRegionValue) (result : Result (Unit {0}) ServeFault) → EndsReading P left streams old new (Ok tt) → IfErr result (λ fault. fault ≡ Write) → EndsServing P left old streams result
+  all_written old new (Ok done) ends write = record { closed = new; ends = ends }
+  all_written old new (Err fault) ends write = subst (λ (f : ServeFault). EndsServing P left old streams (Err f)) (sym write) (record { closed = new; ends = ends })
 
-  -- the number of sessions was written, or not
-  pub serving_ends : (layout : Bounds) (served : Result ℕ ServeFault) (result : Result (Unit {0}) ServeFault) → EndsRegion P left layout streams served → IfErr served (λ fault. result ≡ Err fault)
-      → OnOk served (IfErr result (λ fault. fault ≡ Write)) → EndsServing P left layout streams result
-  serving_ends layout (Err fault) result ends first write = subst (EndsServing P left layout streams) (sym first) (at_fault layout fault ends)
-  serving_ends layout (Ok count) (Ok done) ends first write = ends
-  serving_ends layout (Ok count) (Err fault) ends first write = subst (λ (f : ServeFault). EndsServing P left layout streams (Err f)) (sym write) ends
+  -- serving ends as reading, closing and writing do, the first fault of which is answered
+  pub serving_ends : {A B : Type 0} (old new : LiveRegionValue) (count : ℕ) (reading : Result (Unit {0}) ServeFault) (closing : Result A B) (served : Result ℕ ServeFault) (result : Result (Unit {0}) ServeFault)
+      → EndsReading P left streams old new reading → IfErr reading (λ fault. served ≡ Err fault) → OnOk reading (MatchResult closing (λ _. served ≡ Ok count) (λ _. served ≡ Err Close))
+      → IfErr served (λ fault. result ≡ Err fault) → OnOk served (IfErr result (λ fault. fault ≡ Write)) → EndsServing P left old streams result
+  serving_ends old new count (Err fault) closing served result ends first closes told write =
+      let is : result ≡ Err fault = subst (λ (r : Result ℕ ServeFault). IfErr r (λ f. result ≡ Err f)) first told in
+      subst (EndsServing P left old streams) (sym is) (at_fault old new fault ends)
+  serving_ends old new count (Ok done) (Ok region) served result ends first closes told write =
+      all_written old new result ends (subst (λ (r : Result ℕ ServeFault). OnOk r (IfErr result (λ fault. fault ≡ Write))) closes write)
+  serving_ends old new count (Ok done) (Err fault) served result ends first closes told write =
+      let is : result ≡ Err Close = subst (λ (r : Result ℕ ServeFault). IfErr r (λ f. result ≡ Err f)) closes told in
+      subst (EndsServing P left old streams) (sym is) (record { closed = new; ends = ends })
 
 -- as many readers came back as there were
-pub all_back : {A B : Type 0} (count now was sessions : ℕ) (reading : Result (Unit {0}) ServeFault) (closing : Result A B) (result : Result ℕ ServeFault) → IfErr reading (λ fault. result ≡ Err fault)
-    → OnOk reading (MatchResult closing (λ _. result ≡ Ok count) (λ _. result ≡ Err Close)) → count ≡ now → OnOk reading (now ≡ was) → was ≡ sessions → IfOk result (λ n. n ≡ sessions)
-all_back count now was sessions (Err fault) closing result first closes counted all same = subst (λ (r : Result ℕ ServeFault). IfOk r (λ n. n ≡ sessions)) (sym first) tt
-all_back count now was sessions (Ok done) (Ok region) result first closes counted all same = subst (λ (r : Result ℕ ServeFault). IfOk r (λ n. n ≡ sessions)) (sym closes) (counted ∙ all ∙ same)
-all_back count now was sessions (Ok done) (Err fault) result first closes counted all same = subst (λ (r : Result ℕ ServeFault). IfOk r (λ n. n ≡ sessions)) (sym closes) tt
+pub all_back : {A B : Type 0} (count now was : ℕ) (reading : Result (Unit {0}) ServeFault) (closing : Result A B) (result : Result ℕ ServeFault) → IfErr reading (λ fault. result ≡ Err fault)
+    → OnOk reading (MatchResult closing (λ _. result ≡ Ok count) (λ _. result ≡ Err Close)) → count ≡ now → OnOk reading (now ≡ was) → IfOk result (λ n. n ≡ was)
+all_back count now was (Err fault) closing result first closes counted all = subst (λ (r : Result ℕ ServeFault). IfOk r (λ n. n ≡ was)) (sym first) tt
+all_back count now was (Ok done) (Ok region) result first closes counted all = subst (λ (r : Result ℕ ServeFault). IfOk r (λ n. n ≡ was)) (sym closes) (counted ∙ all)
+all_back count now was (Ok done) (Err fault) result first closes counted all = subst (λ (r : Result ℕ ServeFault). IfOk r (λ n. n ≡ was)) (sym closes) tt
 
 -- what is written of their number
 pub of_sessions : {T : Type 0} (sessions : ℕ) (P : ℕ → Type 0) (served : Result ℕ ServeFault) (result : Result T ServeFault) → IfOk served (λ n. n ≡ sessions) → OnOk result (IsOk served) → IfOk served (λ n. OnOk result (P n)) → OnOk result (P sessions)
@@ -110,6 +117,13 @@ pub of_sessions_in_part : {T : Type 0} (sessions : ℕ) (P : ℕ → Type 0) (se
 of_sessions_in_part sessions P (Ok n) (Err fault) is not first written failed = subst P is written
 of_sessions_in_part sessions P (Ok n) (Ok done) is not first written failed = absurd (cc)
 of_sessions_in_part sessions P (Err fault) result is not first written failed = absurd (not (let same = sym first ∙ failed in cc))
+
+-- a write fault is the sink's own
+pub fails_by_writing : {T : Type 0} (A : Type 0) (served : Result ℕ ServeFault) (result : Result T ServeFault) → IfErr served (λ fault. fault ≢ Write) → IfErr served (λ fault. result ≡ Err fault)
+    → OnOk served (IfErr result (λ fault. (fault ≡ Write) × A)) → IsErrOf result Write → A
+fails_by_writing A (Ok n) (Err fault) not first write failed = write.1
+fails_by_writing A (Ok n) (Ok done) not first write failed = absurd (cc)
+fails_by_writing A (Err fault) result not first write failed = absurd (not (let same = sym first ∙ failed in cc))
 
 pub err_first : {T E : Type 0} (result : Result T E) (P : E → Type 0) (A : Type 0) → IfErr result (λ e. P e × A) → IfErr result P
 err_first (Ok done) P A both = tt

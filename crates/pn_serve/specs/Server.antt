@@ -6,7 +6,6 @@ pub mod Honest
 pub mod HonestEvents
 pub mod Mailboxes
 pub mod Messages
-pub mod Opened
 pub mod Reading
 pub mod Reports
 pub mod Rounds

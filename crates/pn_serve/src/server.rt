@@ -10,12 +10,11 @@ ghost use Rattle.pn_live.specs.Closing.{AllKnowPublished};
 ghost use Rattle.pn_live.specs.LiveRegions.{core};
 ghost use Rattle.pn_live.specs.Prelude.{IsNewLive, tablets_in};
 ghost use Rattle.pn_live.specs.declared.region.opening.TheConstants.{MAX_READERS};
-ghost use Rattle.pn_serve.specs.declared.server.limits.TheConstants.{MAX_SESSIONS};
 ghost use Rattle.pn_serve.specs.Server.Faults.{NamesOne, names_of};
 ghost use Rattle.pn_serve.specs.Server.Honest.{AreHonestWriters};
 ghost use Rattle.pn_serve.specs.Server.Reading.{RunsRounds};
 ghost use Rattle.pn_serve.specs.Server.Sent.{IsOfWriter, IsSent};
-ghost use Rattle.pn_serve.specs.Server.Served.{EndsReading, EndsRegion, EndsServing};
+ghost use Rattle.pn_serve.specs.Server.Served.{EndsReading, EndsServing};
 ghost use Rattle.pn_serve.specs.Server.Sessions.{AllRead};
 ghost use Rattle.pn_serve.specs.Server.Whole.{IsTakenWhole};
 ghost use Rattle.pn_stream.specs.Brokers.{IsHonest};
@@ -32,7 +31,6 @@ mod kept_report;
 mod limits;
 pub(crate) mod mailboxes;
 mod messages;
-mod opened;
 mod reporter;
 mod reporting;
 mod reports;
@@ -49,7 +47,6 @@ pub(crate) mod wakeup;
 mod writer_input;
 mod writers;
 
-use crate::Settings;
 use crate::server::ending_line::tell_served;
 use crate::server::events::run_rounds;
 use crate::server::mailboxes::StreamMailboxes;
@@ -60,9 +57,7 @@ pub use counter::Counter;
 pub use events::{ReadingEnd, take_commands, take_commands_for};
 pub use fault::ServeFault;
 pub use fault_log::{FaultLog, StreamFailure};
-pub use limits::MAX_SESSIONS;
-pub use opened::serve_from;
-use opened::serve_opened;
+pub use limits::{MAX_CONTROLS, MAX_SESSIONS, SESSION_CAPACITY};
 use pn_join::{Marks, NoMemory};
 use pn_line::{Sink, Source};
 use pn_live::{LiveReader, LiveRegion};
@@ -87,8 +82,8 @@ pub struct OpenedRegion {
     pub readers: Vec<LiveReader>,
 }
 
-/// Reads streams into a new live region, at most 1,000 messages of each a round, while it answers 1 to 16 sessions.
-/// Then it writes `served N`.
+/// Reads streams into a live region that is open, at most 1,000 messages of each a round, while it answers one session with
+/// each of its readers. Then it closes the region, and writes `served N`.
 ///
 /// After a fault of a stream or a round, the sessions are still served. A session's fault ends that session alone.
 /// Faults come in the order of `ServeFault`.
@@ -96,8 +91,8 @@ pub fn serve<R, L, S, W, M>(
     rt: &R,
     alloc: Global,
     listener: &L,
-    settings: Settings,
-    sessions: usize,
+    opened: OpenedRegion,
+    workers: usize,
     streams: Vec<StreamReader<S>>,
     out: &mut W,
 ) -> Result<(), ServeFault>
@@ -107,45 +102,25 @@ where
     S: Source + Drop + Send + 'static,
     W: Sink,
     M: Sending + Send + 'static,
-    requires sessions { (1 ≤ sessions) × (sessions ≤ MAX_SESSIONS) }
+    requires workers { (1 ≤ workers) × (workers ≤ MAX_WORKERS) }
+    requires own { AllRead (tablets_in opened.live) opened.readers.items }
     requires sent { M.known → All (IsOfWriter M.sends S.left) streams.items }
-    ensures ends { EndsServing (IsSent M.known M.sends) S.left settings.layout streams.items result }
+    ensures ends { EndsServing (IsSent M.known M.sends) S.left opened.live streams.items result }
     ensures honest { (broker : BrokerRecord) → M.known → AreHonestWriters broker M.sends
-        → EndsServing (IsHonest broker) S.left settings.layout streams.items result }
-    ensures served { OnOk result (Appends (W.contents out.old) (W.contents out.new) (served_line sessions)) }
+        → EndsServing (IsHonest broker) S.left opened.live streams.items result }
+    ensures served { OnOk result (Appends (W.contents out.old) (W.contents out.new) (served_line (vec_len opened.readers))) }
     ensures silent { IfErr result (λ fault. fault ≢ ServeFault.Write → Keeps (W.contents out.old) (W.contents out.new)) }
-    ensures part { IsErrOf result ServeFault.Write → AppendsPrefix (W.contents out.old) (W.contents out.new) (served_line sessions) }
+    ensures part { IsErrOf result ServeFault.Write → AppendsPrefix (W.contents out.old) (W.contents out.new) (served_line (vec_len opened.readers)) }
     ensures write { IsErrOf result ServeFault.Write → W.may_fail }
     ensures handed_on { OnOk result (W.is_handed_on out.new) }
 {
-    let served = serve_region::<R, L, S, M>(rt, alloc, settings, listener, sessions, streams);
+    let mut region = opened;
+    let read = serve_streams::<R, L, S, M>(rt, alloc, listener, &mut region, workers, streams);
+    let OpenedRegion { live, readers } = region;
+    let count = readers.len();
+    let closed = close_region(rt, live, readers);
+    let served = conclude(read, closed, count);
     tell_served(served, out)
-}
-
-// Serves over a new live region, and closes it. Answers how many readers came back.
-fn serve_region<R, L, S, M>(
-    rt: &R,
-    alloc: Global,
-    settings: Settings,
-    listener: &L,
-    sessions: usize,
-    streams: Vec<StreamReader<S>>,
-) -> Result<usize, ServeFault>
-where
-    R: Threads + Wait + Clock + Sync + Copy + Send + 'static,
-    L: Acceptor + Drop + Send + 'static,
-    S: Source + Drop + Send + 'static,
-    M: Sending + Send + 'static,
-    requires sessions { (1 ≤ sessions) × (sessions ≤ MAX_SESSIONS) }
-    requires sent { M.known → All (IsOfWriter M.sends S.left) streams.items }
-    ensures ends { EndsRegion (IsSent M.known M.sends) S.left settings.layout streams.items result }
-    ensures fault { IfErr result (λ fault. fault ≢ ServeFault.Write) }
-    ensures count { IfOk result (λ count. count ≡ sessions) }
-{
-    let Settings { layout, workers } = settings;
-    let (live, readers) = open_region(rt, alloc, layout, sessions)?;
-    let opened = OpenedRegion { live, readers };
-    serve_opened::<R, L, S, M>(rt, alloc, listener, opened, workers, streams)
 }
 
 /// Opens a live region with this many readers.
@@ -154,15 +129,15 @@ pub fn open_region<R: Wait>(
     alloc: Global,
     layout: Layout,
     readers: usize,
-) -> Result<(LiveRegion, Vec<LiveReader>), ServeFault>
+) -> Result<OpenedRegion, ServeFault>
     requires { (1 ≤ readers) × (readers ≤ MAX_READERS) }
-    ensures is_new { IfOk result (λ opened. IsNewLive layout opened.0) }
-    ensures own { IfOk result (λ opened. AllRead (tablets_in opened.0) opened.1.items) }
-    ensures count { IfOk result (λ opened. vec_len opened.1 ≡ readers) }
+    ensures is_new { IfOk result (λ opened. IsNewLive layout opened.live) }
+    ensures own { IfOk result (λ opened. AllRead (tablets_in opened.live) opened.readers.items) }
+    ensures count { IfOk result (λ opened. vec_len opened.readers ≡ readers) }
     ensures fault { IfErr result (λ fault. fault ≡ ServeFault.Start) }
 {
     match LiveRegion::open(rt, alloc, layout, readers) {
-        Ok(opened) => Ok(opened),
+        Ok((live, readers)) => Ok(OpenedRegion { live, readers }),
         Err(_) => Err(ServeFault::Start),
     }
 }

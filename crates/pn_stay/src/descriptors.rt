@@ -1,7 +1,7 @@
 //! How many descriptors a server that stays needs.
 
 ghost use Rattle.std.specs.Prelude.{◌≡◌, ◌+◌, ◌*◌, ◌<◌, if◌then◌else◌};
-ghost use Rattle.pn_serve.specs.declared.control.mailboxes.TheConstants.{MAX_CONTROLS};
+ghost use Rattle.pn_serve.specs.declared.server.limits.TheConstants.{MAX_CONTROLS};
 ghost use Rattle.pn_stay.specs.declared.descriptors.TheConstants.{CLIENTS, CONTROL, CONTROL_SESSION, FILE, LISTENED, PROCESS, SPARE, THREAD};
 
 use libc::types::rlimit;

@@ -98,8 +98,7 @@ impl StayingServer {
         } else {
             0
         };
-        let (live, readers) = open_for(rt, alloc, layout, threads + controls)?;
-        let opened = OpenedRegion { live, readers };
+        let opened = open_for(rt, alloc, layout, threads + controls)?;
         let sizes = ServerSizes {
             threads,
             connections,
@@ -246,11 +245,11 @@ fn open_for<R: Wait>(
     alloc: Global,
     layout: Layout,
     threads: usize,
-) -> io::Result<(LiveRegion, Vec<LiveReader>)>
+) -> io::Result<OpenedRegion>
     requires { (1 ≤ threads) × (threads ≤ MAX_READERS) }
-    ensures is_new { IfOk result (λ opened. IsNewLive layout opened.0) }
-    ensures own { IfOk result (λ opened. AllRead (tablets_in opened.0) opened.1.items) }
-    ensures count { IfOk result (λ opened. vec_len opened.1 ≡ threads) }
+    ensures is_new { IfOk result (λ opened. IsNewLive layout opened.live) }
+    ensures own { IfOk result (λ opened. AllRead (tablets_in opened.live) opened.readers.items) }
+    ensures count { IfOk result (λ opened. vec_len opened.readers ≡ threads) }
 {
     match open_region(rt, alloc, layout, threads) {
         Ok(opened) => Ok(opened),

@@ -1,15 +1,17 @@
 //! A server that ends with its sessions.
 
-ghost use Rattle.std.specs.Prelude.{◌≤◌, IfSome};
+ghost use Rattle.std.specs.Prelude.{◌≤◌, IfOk, IfSome};
 ghost use Rattle.pn_live.specs.Prelude.{tablets_in};
 ghost use Rattle.pn_serve.specs.declared.server.limits.TheConstants.{MAX_SESSIONS};
 ghost use Rattle.pn_serve.specs.Server.Sessions.{AllRead};
 
 use crate::failures::fail_noted;
 use pn_arguments::Service;
-use pn_serve::{AnyWriters, OpenedRegion, Settings, serve, serve_from};
+use pn_serve::{AnyWriters, OpenedRegion, ServeFault, Settings, open_region, serve};
 use pn_stay::{FileSource, SocketAcceptor, message_prefix};
 use pn_stream::StreamReader;
+use pn_tablet::Layout;
+use std::alloc::Global;
 use std::fs::File;
 use std::io;
 use std::process::ExitCode;
@@ -42,30 +44,40 @@ where
     requires sessions { (1 ≤ service.now.sessions) × (service.now.sessions ≤ MAX_SESSIONS) }
     requires own { IfSome opened (λ region. AllRead (tablets_in region.live) region.readers.items) }
 {
-    let mut out = io::writer(rt);
-    let served = match opened {
-        None => serve::<_, _, _, _, AnyWriters>(
+    let (layout, workers) = settings.into_parts();
+    let served = match opened_or_new(rt, rt.alloc(), opened, layout, service.sessions) {
+        Ok(region) => serve::<_, _, _, _, AnyWriters>(
             rt,
             rt.alloc(),
             acceptor,
-            settings,
-            service.sessions,
+            region,
+            workers,
             readers,
-            &mut out,
+            &mut io::writer(rt),
         ),
-        Some(opened) => serve_from::<_, _, _, _, AnyWriters>(
-            rt,
-            rt.alloc(),
-            acceptor,
-            opened,
-            settings.workers(),
-            readers,
-            &mut out,
-        ),
+        Err(fault) => Err(fault),
     };
     let _ = eprint!(rt; "{}", message_prefix(service.is_progress_told));
     match served {
         Ok(()) => ExitCode::SUCCESS,
         Err(fault) => fail_noted(rt, fault, &acceptor.faults),
+    }
+}
+
+// The region that is open, or else a new one.
+fn opened_or_new<R: Wait>(
+    rt: &R,
+    alloc: Global,
+    opened: Option<OpenedRegion>,
+    layout: Layout,
+    sessions: usize,
+) -> Result<OpenedRegion, ServeFault>
+    requires sessions { (1 ≤ sessions) × (sessions ≤ MAX_SESSIONS) }
+    requires own { IfSome opened (λ region. AllRead (tablets_in region.live) region.readers.items) }
+    ensures { IfOk result (λ region. AllRead (tablets_in region.live) region.readers.items) }
+{
+    match opened {
+        Some(opened) => Ok(opened),
+        None => open_region(rt, alloc, layout, sessions),
     }
 }

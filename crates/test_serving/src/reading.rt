@@ -1,6 +1,6 @@
 //! Streams that are read into a live region, from one writer after another, and the settings of regions that serve.
 
-ghost use Rattle.std.specs.Prelude.{◌≡◌};
+ghost use Rattle.std.specs.Prelude.{◌≡◌, IfSome};
 ghost use Rattle.pn_live.specs.LiveRegions.{tablets_in};
 ghost use Rattle.pn_serve.specs.Server.Sessions.{AllRead};
 
@@ -152,6 +152,14 @@ pub(crate) fn settings(alloc: Global) -> Option<Settings> {
     Settings::new(layout, 1)
 }
 
+/// Opens a new region of one tablet, with one reader.
+pub(crate) fn open_new<R: Wait>(rt: &R, alloc: Global) -> Option<OpenedRegion>
+    ensures { IfSome result (λ opened. AllRead (tablets_in opened.live) opened.readers.items) }
+{
+    let layout = layout(alloc, "")?;
+    open_region(rt, alloc, layout, 1).ok()
+}
+
 /// Adds a message at a position: an image of a key, of the version of a number.
 pub(crate) fn push_message(
     text: &mut String,
@@ -197,9 +205,7 @@ pub(crate) fn read_into_region<R>(
 where
     R: Threads + Wait + Clock + Sync + Copy + Send + Drop + 'static,
 {
-    let layout = layout(alloc, "")?;
-    let (live, readers) = open_region(rt, alloc, layout, 1).ok()?;
-    let opened = OpenedRegion { live, readers };
+    let opened = open_new(rt, alloc)?;
     read_into_opened(rt, alloc, opened, streams, rounds)
 }
 

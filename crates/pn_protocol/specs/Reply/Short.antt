@@ -46,31 +46,31 @@ refusal_data (OutOfRange part) = error_data (codes "out-of-range") (about_part p
 refusal_data Memory = error_data (codes "memory") no_members
 
 -- a number, as the one member of an object
-abbrev pub number_data : List ℕ → ℕ → Data
+unfoldable pub number_data : List ℕ → ℕ → Data
 number_data name count = object (member name (number (unsigned count)) no_members)
 
 -- the reply to a delivery: how many records it changed
-unfoldable pub changed_data : ℕ → Data
+abbrev pub changed_data : ℕ → Data
 changed_data count = number_data (codes "changed") count
 
 -- the reply to an adoption: the tablet that took the copy
-unfoldable pub adopted_data : ℕ → Data
+abbrev pub adopted_data : ℕ → Data
 adopted_data tablet = number_data (codes "adopted") tablet
 
 -- the reply to a loss: the tablet
-unfoldable pub lost_data : ℕ → Data
+abbrev pub lost_data : ℕ → Data
 lost_data tablet = number_data (codes "lost") tablet
 
 -- the line before a copy: how many lines follow
-unfoldable pub lines_data : ℕ → Data
+abbrev pub lines_data : ℕ → Data
 lines_data count = number_data (codes "lines") count
 
 -- the reply to a change of layout: how many tablets there are
-unfoldable pub relaid_data : ℕ → Data
+abbrev pub relaid_data : ℕ → Data
 relaid_data count = number_data (codes "tablets") count
 
 -- the reply to a stop: after how many seconds at most the server ends
-unfoldable pub stopping_data : ℕ → Data
+abbrev pub stopping_data : ℕ → Data
 stopping_data seconds = number_data (codes "stopping") seconds
 
 -- the reply of one number

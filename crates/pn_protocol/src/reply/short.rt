@@ -109,7 +109,7 @@ pub enum NumberName {
 }
 
 /// The reply of one number, as `{"changed":3}`.
-#[tactic(auto, unfolding(pn_json::specs::Lines::line_of, crate::specs::Reply::Short::adopted_data, crate::specs::Reply::Short::changed_data, crate::specs::Reply::Short::lines_data, crate::specs::Reply::Short::lost_data, crate::specs::Reply::Short::relaid_data, crate::specs::Reply::Short::stopping_data, serde_json::proofs::OnLiterals::serde_json_on_literals))]
+#[tactic(auto, unfolding(pn_json::specs::Lines::line_of, crate::specs::Reply::Short::number_data, serde_json::proofs::OnLiterals::serde_json_on_literals))]
 pub fn number_reply(name: NumberName, number: u64) -> ShortReply
     ensures { result ≡ line_of (number_reply_data name number) }
 {

@@ -11,8 +11,7 @@ ghost use Rattle.pn_tablet.specs.Prelude.{Refuses};
 
 use super::{Region, Round, count_changes};
 use crate::{RoundFault, check_marks};
-use pn_apply::{Gate, Share, shares_of};
-use pn_join::NoMemory;
+use pn_apply::{Gate, shares_of};
 use pn_stream::Delivery;
 use std::alloc::Global;
 use std::marker::Sync;
@@ -40,12 +39,21 @@ impl Region {
         ensures broken { IfErr result (λ fault. self.new.log ≡ refused_log self.old.log fault) }
     {
         self.check(&deliveries)?;
-        match shares_of(self.alloc(), deliveries) {
-            Ok(shares) => self.join_shares(rt, &shares, workers, gate),
-            Err(NoMemory) => {
-                self.break_off();
+        let Ok(shares) = shares_of(self.alloc(), deliveries) else {
+            self.break_off();
+            return Err(RoundFault::Memory);
+        };
+        match self.take(rt, &shares, workers, gate) {
+            Ok(lists) => {
+                let changed = count_changes(&lists) as u64;
+                self.log.add(lists);
+                Ok(Round { changed })
+            }
+            Err(RoundFault::Memory) => {
+                self.log.cut();
                 Err(RoundFault::Memory)
             }
+            Err(fault) => Err(fault),
         }
     }
 
@@ -72,36 +80,5 @@ impl Region {
         ensures err { (deliveries : List DeliveryValue) → Leaves RoundFault.Memory self.old.state deliveries self.new.state }
     {
         self.log.cut();
-    }
-
-    // Takes what deliveries bring, as `round` takes deliveries.
-    fn join_shares<R: Threads + Sync, G: Gate + Sync>(
-        &mut self,
-        rt: &R,
-        shares: &[Share],
-        workers: usize,
-        gate: &G,
-    ) -> Result<Round, RoundFault>
-        requires workers { (1 ≤ workers) × (workers ≤ MAX_WORKERS) }
-        ensures ok { OnOk result (round self.old.state shares.now ≡ Ok self.new.state) }
-        ensures changed { IfOk result (λ done. done.changed ≡ changed_count self.old.state self.new.state) }
-        ensures noted { OnOk result (self.new.log ≡ with_notices self.old.log self.old.state self.new.state) }
-        ensures refused { IfErr result (λ fault. Refuses is_memory fault (round self.old.state shares.now)) }
-        ensures err { IfErr result (λ fault. Leaves fault self.old.state shares.now self.new.state) }
-        ensures left { OnErr result (IsSomeOld self.old.state.tablets self.new.state.tablets) }
-        ensures broken { IfErr result (λ fault. self.new.log ≡ refused_log self.old.log fault) }
-    {
-        match self.take(rt, shares, workers, gate) {
-            Ok(lists) => {
-                let changed = count_changes(&lists) as u64;
-                self.log.add(lists);
-                Ok(Round { changed })
-            }
-            Err(RoundFault::Memory) => {
-                self.log.cut();
-                Err(RoundFault::Memory)
-            }
-            Err(fault) => Err(fault),
-        }
     }
 }

@@ -9,7 +9,7 @@ use Rattle.pn_stream.specs.declared.fault.ResumeFault.TheVariants.{Stream as OfS
 use Rattle.pn_stream.specs.declared.fault.StreamFault.{StreamFault}
 use Rattle.pn_stream.specs.declared.fault.StreamFault.TheVariants.{Failed}
 use Rattle.pn_serve.specs.Server.Whole.{IsAllMessages}
-use Rattle.pn_serve.specs.declared.server.messages.TheConstants.{MAX_MESSAGES}
+use Rattle.pn_stream.specs.declared.reader.TheConstants.{MAX_MESSAGES}
 use Rattle.pn_serve.specs.declared.server.reports.Report.{Report}
 use Rattle.pn_serve.specs.declared.server.reports.Report.TheVariants.{Messages as Brought, End as AtEnd, Fault as AtFault}
 use Rattle.pn_serve.specs.declared.server.writer_input.Given.{Given}

@@ -10,9 +10,9 @@ use crate::control::session::{ControlSession, StatsSource};
 use crate::control::steps::ControlStep;
 use crate::control::stop::StopSaid;
 use crate::machine::adoption::{AnnouncedText, GatherOutcome};
-use crate::machine::line_answers::{Answer, ReplyPieces, answered};
+use crate::machine::line_answers::{Answer, LineAnswer, ReplyPieces, answered};
 use crate::sessions::going::Going;
-use pn_lines::{Answered, EndedBy, LineHandler};
+use pn_lines::{EndedBy, LineHandler};
 use pn_live::LiveReader;
 use pn_protocol::Reply;
 use std::alloc::Global;
@@ -192,10 +192,6 @@ impl<'a, R: Threads + Wait + Clock, C: StatsSource + Drop> LineHandler
     ghost use Rattle.pn_serve.specs.Session.Looking.{going_left};
     ghost use Rattle.std.specs.Prelude.{⊤};
 
-    type Going = Going;
-
-    type Text = ReplyPieces;
-
     ghost ready = { ⊤ };
 
     ghost handling = { controls };
@@ -204,22 +200,16 @@ impl<'a, R: Threads + Wait + Clock, C: StatsSource + Drop> LineHandler
 
     ghost keeps = { KeepsKnowing };
 
-    fn answer(
-        &mut self,
-        alloc: Global,
-        line: &[u8],
-        ended: EndedBy,
-    ) -> Answered<Going, ReplyPieces> {
+    type Going = Going;
+
+    type Text = ReplyPieces;
+
+    fn answer(&mut self, alloc: Global, line: &[u8], ended: EndedBy) -> LineAnswer {
         answered(Answer::Done(self.reply_to(alloc, line, ended)), 1)
     }
 
     // No line is resumed.
-    fn go_on(
-        &mut self,
-        _alloc: Global,
-        _going: Going,
-        _units: u32,
-    ) -> Answered<Going, ReplyPieces> {
+    fn go_on(&mut self, _alloc: Global, _going: Going, _units: u32) -> LineAnswer {
         answered(Answer::Done(Reply::Silent), 0)
     }
 

@@ -21,8 +21,13 @@ use std::alloc::{AllocError, Global};
 use std::sync::{Arc, Condvar, Mutex, Wait};
 use std::time::{Clock, Instant};
 
-/// The most control sessions at once.
-pub const MAX_CONTROLS: usize = 16;
+/// Shows that a line asked for a stop, and that commands are still taken.
+#[derive(Drop)]
+pub struct StopAsked(StopSaid);
+
+/// Shows that no command is taken any more, since a line asked for a stop.
+#[derive(Drop)]
+pub struct ControlsClosed(StopSaid);
 
 /// What control sessions and the writer share: a mailbox for each session, and what wakes the writer.
 #[derive(Drop)]
@@ -34,14 +39,6 @@ pub struct ControlMailboxes {
     // When it was made, if the clock said so.
     began: Option<Instant>,
 }
-
-/// Shows that a line asked for a stop, and that commands are still taken.
-#[derive(Drop)]
-pub struct StopAsked(StopSaid);
-
-/// Shows that no command is taken any more, since a line asked for a stop.
-#[derive(Drop)]
-pub struct ControlsClosed(StopSaid);
 
 /// Where a control session leaves its command, and where the writer leaves the answer.
 #[derive(Drop)]

@@ -4,8 +4,7 @@ ghost use Rattle.std.specs.Prelude.{IfOk, IfErr, OnOk};
 ghost use Rattle.pn_tablet.specs.Prelude.{Refuses};
 ghost use Rattle.pn_tablet.specs.Steps.{is_memory};
 ghost use Rattle.pn_region.specs.Events.{AllLeadTo, IsAdoption};
-ghost use Rattle.pn_region.specs.Prelude.{after_adoption};
-ghost use Rattle.pn_region.specs.Regions.{new_region};
+ghost use Rattle.pn_region.specs.Prelude.{after_adoption, new_region};
 ghost use Rattle.pn_region.specs.Starting.{start_events};
 ghost use Rattle.pn_live.specs.Starting.{StopsAt, StopsStart};
 

@@ -18,6 +18,9 @@ pub(crate) enum Answer {
     Going(Going),
 }
 
+/// The answer to a line, as the engine for lines takes it.
+pub type LineAnswer = Answered<Going, ReplyPieces>;
+
 /// The text of a reply, of which some is made.
 #[derive(Drop)]
 pub struct ReplyPieces(pub ReplyText);
@@ -40,7 +43,7 @@ impl PieceText for ReplyPieces {
 }
 
 /// An answer that took this number of units of work.
-pub(crate) fn answered(answer: Answer, units: u32) -> Answered<Going, ReplyPieces>
+pub(crate) fn answered(answer: Answer, units: u32) -> LineAnswer
     ensures answer { answer_of pieces_left result.answer ≡ given_by answer }
     ensures units { result.units ≡ units }
 {

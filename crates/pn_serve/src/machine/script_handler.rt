@@ -11,11 +11,11 @@ ghost use Rattle.std.specs.Thread.{IsSync};
 use crate::Settings;
 use crate::machine::adoption::AnnouncedText;
 use crate::machine::command_reader::Json;
-use crate::machine::line_answers::{Answer, ReplyPieces, answered};
+use crate::machine::line_answers::{Answer, LineAnswer, ReplyPieces, answered};
 use crate::machine::{answer_end, answer_line};
 use crate::sessions::going::Going;
 use pn_join::NoMemory;
-use pn_lines::{Answered, EndedBy, LineHandler};
+use pn_lines::{EndedBy, LineHandler};
 use pn_protocol::Reply;
 use pn_region::Region;
 use std::alloc::Global;
@@ -65,6 +65,20 @@ impl<'a, R: Threads + Sync> ScriptHandler<'a, R> {
             workers,
             announced: None,
         })
+    }
+
+    /// The region, with its log.
+    pub(crate) fn into_region(self) -> Region
+        ensures state { result.state ≡ self.region }
+        ensures log { result.log ≡ self.log }
+    {
+        let ScriptHandler {
+            rt: _rt,
+            region,
+            workers: _workers,
+            announced: _announced,
+        } = self;
+        region
     }
 
     // Answers a line, or the end of the input, by its first bytes.
@@ -130,22 +144,12 @@ impl<'a, R: Threads + Sync> LineHandler for ScriptHandler<'a, R> {
 
     ghost keeps = { λ _ _. Unit {0} };
 
-    fn answer(
-        &mut self,
-        alloc: Global,
-        line: &[u8],
-        ended: EndedBy,
-    ) -> Answered<Going, ReplyPieces> {
+    fn answer(&mut self, alloc: Global, line: &[u8], ended: EndedBy) -> LineAnswer {
         answered(Answer::Done(self.reply_to(alloc, line, ended)), 1)
     }
 
     // No line is resumed.
-    fn go_on(
-        &mut self,
-        _alloc: Global,
-        _going: Going,
-        _units: u32,
-    ) -> Answered<Going, ReplyPieces> {
+    fn go_on(&mut self, _alloc: Global, _going: Going, _units: u32) -> LineAnswer {
         answered(Answer::Done(Reply::Silent), 0)
     }
 

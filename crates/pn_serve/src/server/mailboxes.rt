@@ -13,6 +13,7 @@ use crate::server::shown_mark::ShownMark;
 use crate::server::texts::Sending;
 use crate::server::times::TimeCounters;
 use crate::server::wakeup::{Waited, Wakeup};
+use crate::shared::share;
 use pn_join::{Marks, StreamName};
 use std::alloc::{AllocError, Global};
 use std::sync::{Arc, Condvar, CondvarTimeouts, Mutex, Wait};
@@ -181,14 +182,6 @@ impl<M: Sending> StreamMailboxes<M> {
 pub(crate) fn show_marks<M: Sending>(streams: &[StreamMailbox<M>], marks: &Marks) {
     for stream in streams.iter() {
         stream.show(marks);
-    }
-}
-
-/// The same counter, where there is one.
-pub(crate) fn share<T: Drop>(counter: &Option<Arc<T>>) -> Result<Option<Arc<T>>, AllocError> {
-    match counter {
-        Some(counter) => Ok(Some(Arc::try_clone(counter)?)),
-        None => Ok(None),
     }
 }
 

@@ -4,6 +4,7 @@ ghost use Rattle.std.specs.Prelude.{◌≡◌, IsTrue};
 ghost use Rattle.pn_serve.specs.Server.Reports.{name_in};
 
 use crate::server::messages::RoundShare;
+use pn_apply::Batch;
 use pn_join::StreamName;
 
 /// What the thread of a stream reports for the next round.

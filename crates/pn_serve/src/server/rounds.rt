@@ -17,7 +17,7 @@ use crate::server::messages::RoundShare;
 use crate::server::reports::Report;
 use crate::server::texts::Sending;
 use crate::server::tries::run_input;
-use pn_apply::Share;
+use pn_apply::{Batch, Share};
 use pn_join::{Marks, StreamName};
 use pn_live::LiveRegion;
 use std::alloc::{AllocError, Global};

@@ -7,6 +7,7 @@ ghost use Rattle.pn_serve.specs.Session.Knowing.{KnowsNoLess};
 
 use crate::server::counter::Counter;
 use crate::server::fault_log::FaultLog;
+use crate::server::limits::SESSION_CAPACITY;
 use crate::session;
 use pn_live::{LiveReader, LiveRegion};
 use std::alloc::Global;
@@ -16,9 +17,6 @@ use std::snapshot::Snapshot;
 use std::sync::Arc;
 use std::thread::{Promise, PromisedHandle, Threads};
 use std::{io, thread};
-
-/// How many bytes of a session are read at a time.
-const SESSION_CAPACITY: usize = 65_536;
 
 /// Where the clients of sessions come from.
 pub trait Acceptor: Drop {

@@ -16,6 +16,7 @@ use crate::server::reporting::{StreamEnd, report_stream};
 use crate::server::texts::Sending;
 use crate::server::wakeup::Wakeup;
 use crate::server::writer_input::WriterInput;
+use crate::shared::share;
 use pn_join::{Marks, StreamName};
 use pn_line::Source;
 use pn_stream::StreamReader;
@@ -165,14 +166,6 @@ where
         { report_to_end::<R, S, M>(&host, alloc, stream, workers, origin, reporter.reporter()) },
     )?;
     Ok(thread)
-}
-
-// Another handle of the log, if there is one.
-fn share(faults: &Option<Arc<FaultLog>>) -> Result<Option<Arc<FaultLog>>, AllocError> {
-    match faults {
-        Some(log) => Ok(Some(Arc::try_clone(log)?)),
-        None => Ok(None),
-    }
 }
 
 // Reports a stream to its end, or until the mailbox is closed. The error is the stream's name.

@@ -15,7 +15,7 @@ use crate::ServeFault;
 use crate::control::mailboxes::ControlMailboxes;
 use crate::server::counter::Counter;
 use crate::server::events::{ReadingEnd, run_rounds};
-use crate::server::mailboxes::{AtFault, StreamMailboxes, share};
+use crate::server::mailboxes::{AtFault, StreamMailboxes};
 use crate::server::reporter::Reporter;
 use crate::server::reporting::{next_input, report_stream};
 use crate::server::reports::Report;
@@ -25,6 +25,7 @@ use crate::server::times::TimeCounters;
 use crate::server::wakeup::Wakeup;
 use crate::server::writer_input::{WriterInput, workers_of_each};
 use crate::server::writers::{Origin, Stream};
+use crate::shared::share;
 use pn_join::{Marks, StreamName};
 use pn_line::Source;
 use pn_live::LiveRegion;
@@ -64,9 +65,9 @@ pub fn read_streams<R, S, O, M>(
 ) -> Result<ReadingEnd, ServeFault>
 where
     R: Threads + Wait + Clock + Sync + Copy + Send + 'static,
-    S: Source + Drop + Send + 'static,
-    O: Origin<S, M> + Drop + Send + 'static,
     M: Sending + Send + 'static,
+    O: Origin<S, M> + Drop + Send + 'static,
+    S: Source + Drop + Send + 'static,
     requires workers { (1 ≤ workers) × (workers ≤ MAX_WORKERS) }
     ensures alone { watchers.now.controls ≡ None → ReadsStreams (IsSent M.known M.sends) (map (λ stream. stream.name) streams.items) live.old live.new result }
     ensures reads { ReadsBesides (IsSent M.known M.sends) (map (λ stream. stream.name) streams.items) live.old live.new result }

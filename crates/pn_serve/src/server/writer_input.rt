@@ -5,11 +5,11 @@ ghost use Rattle.pn_join.specs.declared.marks.TheConstants.{LAST_POSITION};
 ghost use Rattle.pn_serve.specs.Server.Writers.{Gives, HasUpTo, IsReaderFrom, line_after};
 
 use crate::server::held_report::LeftReport;
-use crate::server::messages::{MAX_MESSAGES, RoundMessages};
+use crate::server::messages::RoundMessages;
 use crate::server::writers::{NextWriter, WriterEnd};
 use pn_join::{LAST_POSITION, StreamName};
 use pn_line::Source;
-use pn_stream::{ReaderMemory, ResumeFault, StreamReader};
+use pn_stream::{MAX_MESSAGES, ReaderMemory, ResumeFault, StreamReader};
 use std::alloc::Global;
 use std::thread::Threads;
 

@@ -2,10 +2,10 @@
 
 ghost use Rattle.std.specs.Prelude.{◌≡◌};
 
-use crate::machine::line_answers::{Answer, ReplyPieces, answered, is_no_line};
+use crate::machine::line_answers::{Answer, LineAnswer, ReplyPieces, answered, is_no_line};
 use crate::sessions::going::Going;
 use crate::sessions::lookups::answer_line;
-use pn_lines::{Answered, EndedBy, LineHandler};
+use pn_lines::{EndedBy, LineHandler};
 use pn_live::LiveReader;
 use pn_protocol::Reply;
 use std::alloc::Global;
@@ -26,36 +26,33 @@ impl<'a> AloneReader<'a> {
 }
 
 impl LineHandler for AloneReader<'_> {
+    ghost use Rattle.std.specs.Prelude.{⊤};
+
+    ghost ready = { ⊤ };
+
     ghost use Rattle.pn_serve.specs.Proofs.Steady.{alone_reads_steadily};
     ghost use Rattle.pn_serve.specs.Session.Alone.{KeepsReader, alone_reads};
-    ghost use Rattle.pn_serve.specs.Session.Looking.{going_left};
-    ghost use Rattle.std.specs.Prelude.{⊤};
+
+    ghost handling = { alone_reads };
 
     type Going = Going;
 
     type Text = ReplyPieces;
 
-    ghost ready = { ⊤ };
-
-    ghost handling = { alone_reads };
+    ghost use Rattle.pn_serve.specs.Session.Looking.{going_left};
 
     ghost left = { going_left };
 
     ghost keeps = { KeepsReader };
 
-    fn answer(
-        &mut self,
-        alloc: Global,
-        line: &[u8],
-        ended: EndedBy,
-    ) -> Answered<Going, ReplyPieces> {
+    fn answer(&mut self, alloc: Global, line: &[u8], ended: EndedBy) -> LineAnswer {
         if is_no_line(line, ended) {
             return answered(Answer::Done(Reply::Silent), 0);
         }
         answered(answer_line(alloc, self.reader, line), 1)
     }
 
-    fn go_on(&mut self, alloc: Global, going: Going, units: u32) -> Answered<Going, ReplyPieces> {
+    fn go_on(&mut self, alloc: Global, going: Going, units: u32) -> LineAnswer {
         let (answer, used) = going.go_on(alloc, self.reader, units);
         answered(answer, used)
     }

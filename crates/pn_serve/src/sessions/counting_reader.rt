@@ -12,12 +12,12 @@ ghost use Rattle.pn_serve.specs.Session.Lines.{AnswersLine};
 ghost use Rattle.pn_serve.specs.Session.Looking.{LooksFor, going_left, most_left};
 
 use crate::machine::line_answers::{
-    Answer, ReplyPieces, answered, is_no_line, is_refusal, line_reply,
+    Answer, LineAnswer, ReplyPieces, answered, is_no_line, is_refusal, line_reply,
 };
 use crate::sessions::going::Going;
 use crate::sessions::kinds::{NO_LINES, count_line, take_line_back};
 use crate::sessions::lookups::answer_with_kind;
-use pn_lines::{Answered, EndedBy, LineHandler, LineReply, RefusesLong};
+use pn_lines::{EndedBy, LineHandler, LineReply, RefusesLong};
 use pn_live::LiveReader;
 use pn_protocol::{LineKind, LineKinds, Refusal, Reply};
 use std::alloc::Global;
@@ -32,11 +32,10 @@ pub struct CountingReader {
 }
 
 impl Model for CountingReader {
+    ghost use Rattle.pn_live.specs.Proofs.Coding.{reader_code};
     ghost use Rattle.pn_live.specs.Readers.{LiveReaderValue};
 
     ghost Value = { LiveReaderValue };
-
-    ghost use Rattle.pn_live.specs.Proofs.Coding.{reader_code};
 
     ghost coded = { reader_code };
 
@@ -80,12 +79,7 @@ impl CountingReader {
     }
 
     /// Answers a line, or begins to. How much is left of it then is bounded.
-    pub fn begin_line(
-        &mut self,
-        alloc: Global,
-        line: &[u8],
-        ended: EndedBy,
-    ) -> Answered<Going, ReplyPieces>
+    pub fn begin_line(&mut self, alloc: Global, line: &[u8], ended: EndedBy) -> LineAnswer
         ensures answers { (text : List ℕ) → line.now ≡ kept_bytes text
             → AnswersBy (reads_lines KnowsNoLess) self.old ended text self.new (answer_of pieces_left result.answer) }
         ensures bounded { engine_left going_left (answer_of pieces_left result.answer) ≤ most_left }
@@ -139,16 +133,11 @@ impl LineHandler for CountingReader {
 
     ghost keeps = { KnowsNoLess };
 
-    fn answer(
-        &mut self,
-        alloc: Global,
-        line: &[u8],
-        ended: EndedBy,
-    ) -> Answered<Going, ReplyPieces> {
+    fn answer(&mut self, alloc: Global, line: &[u8], ended: EndedBy) -> LineAnswer {
         self.begin_line(alloc, line, ended)
     }
 
-    fn go_on(&mut self, alloc: Global, going: Going, units: u32) -> Answered<Going, ReplyPieces> {
+    fn go_on(&mut self, alloc: Global, going: Going, units: u32) -> LineAnswer {
         let kind = going.kind();
         let (answer, used) = going.go_on(alloc, &mut self.reader, units);
         answered(self.count(kind, answer), used)

@@ -10,7 +10,8 @@ use pn_protocol::{
     StreamStats, TabletStats, TimeBucket, TimeCounts, TimeStats, UnreadStats,
 };
 use pn_serve::{
-    ControlMailboxes, ControlSession, StatsSource, Stream, close_region, open_region, take_commands,
+    ControlMailboxes, ControlSession, OpenedRegion, StatsSource, Stream, close_region, open_region,
+    take_commands,
 };
 use std::alloc::{AllocError, Global};
 use std::sync::{Arc, Wait};
@@ -179,8 +180,10 @@ where
 {
     let streams = streams_of(rt, alloc, count)?;
     let layout = layout(alloc, "h")?;
-    let (live, readers) = open_region(rt, alloc, layout, 1).ok()?;
-    let (mut live, mut readers) = (live, readers);
+    let OpenedRegion {
+        mut live,
+        mut readers,
+    } = open_region(rt, alloc, layout, 1).ok()?;
     let is_read = read_all(rt, alloc, &mut live, streams, None);
     let told = answer_by(rt, alloc, &mut live, readers.pop(), lines);
     let is_closed = close_region(rt, live, Vec::new(alloc)).is_ok();

@@ -44,7 +44,7 @@ fn run_script<R: Threads + Sync, S: Source, W: Sink>(
     output: &mut W,
 ) -> Result<Counts, RunFault> {
     match settings(alloc) {
-        Some(settings) => run(rt, alloc, input, output, settings),
+        Some(settings) => run(rt, alloc, input, output, settings).ended,
         None => Err(RunFault::Memory),
     }
 }

@@ -10,7 +10,7 @@ use Rattle.pn_serve.proofs.Ending.{never_closed, run_begun, run_end, run_few, ru
 use Rattle.pn_serve.proofs.script.answer_lines.Goals as goal
 
 pub returns-clause-ends : goal.returns-clause-ends
-returns-clause-ends g c = record { ended = c.answer_lines.result; has_ended = c.answer_lines.ensures.ends; unclosed = never_closed _ _ _ _ c.answer_lines.result c.answer_lines.ensures.can (c.requires.unclosed _); is = c.end_run.ensures }
+returns-clause-ends g c = record { ended = c.answer_lines.result; has_ended = c.answer_lines.ensures.ends; unclosed = never_closed _ _ _ _ c.answer_lines.result c.answer_lines.ensures.can (c.requires.1 _); is = c.end_run.ensures }
 
 pub returns-clause-faults : goal.returns-clause-faults
 returns-clause-faults g c = (

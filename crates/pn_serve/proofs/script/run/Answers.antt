@@ -5,4 +5,4 @@ use Rattle.pn_serve.proofs.Scripts.{as_script}
 use Rattle.pn_serve.proofs.script.run.Goals as goal
 
 pub returns-clause-ends : goal.returns-clause-ends
-returns-clause-ends g c = as_script _ _ _ _ _ _ _ _ c.in_ok-buffers.ensures.machine (run_ends (λ machine. machine) Answers Concludes _ _ _ _ _ _ _ c.answer_lines.ensures.ends)
+returns-clause-ends g c = as_script _ _ _ _ _ _ _ _ c.in-Ok.ensures (run_ends (λ machine. machine) Answers Concludes _ _ _ _ _ _ _ c.answer_lines-ended.ensures.ends)

@@ -6,6 +6,3 @@ use Rattle.pnuts.proofs.sessions.serve_streams.Goals as goal
 
 pub serve-served-requires-send-L : goal.serve-served-requires-send-L
 serve-served-requires-send-L g c κs within = search (sendable, crosses, acceptor_send) depth 40 fits 20000
-
-pub serve_from-served-requires-send-L : goal.serve_from-served-requires-send-L
-serve_from-served-requires-send-L g c κs within = search (sendable, crosses, acceptor_send) depth 40 fits 20000
