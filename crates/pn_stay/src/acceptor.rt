@@ -9,19 +9,15 @@ use crate::messages::Messages;
 use crate::quarter_clock::QUARTER;
 use crate::reasons::describe_error;
 use crate::seldom::Seldom;
-use crate::shared::share;
 use crate::socket::{Socket, TrackedSocket};
 use crate::socket_mailbox::{Refusal, SocketMailbox, have_ended};
 use pn_live::LiveReader;
-use pn_serve::{Acceptor, Counter, FaultLog, session};
+use pn_serve::{Acceptor, Counter, FaultLog, SESSION_CAPACITY, session, share};
 use std::alloc::{AllocError, Global};
 use std::io::BufReader;
 use std::sync::{Arc, Wait};
 use std::time::{Clock, Duration};
 use std::{io, thread};
-
-/// How many bytes of a session are read at a time.
-const SESSION_READ_SIZE: usize = 65_536;
 
 /// For how many milliseconds nobody is accepted after the system refused a socket, as where no descriptor is left.
 const RETRY: u64 = 10;
@@ -56,7 +52,7 @@ impl SocketAcceptor {
     fn answer(&self, alloc: Global, reader: &mut LiveReader, socket: &Socket) -> io::Result<()>
         ensures { KnowsNoLess reader.old reader.new }
     {
-        let input = BufReader::with_capacity(alloc, SESSION_READ_SIZE, TrackedSocket::new(socket))?;
+        let input = BufReader::with_capacity(alloc, SESSION_CAPACITY, TrackedSocket::new(socket))?;
         let counters = Arc::try_clone(&self.counters.clients)?;
         let mut input = CountingSource::new(input, Some(counters));
         let _ = session(alloc, reader, &mut input, &mut TrackedSocket::new(socket));

@@ -4,10 +4,10 @@ ghost use Rattle.std.specs.Io.{ReadsAtMost};
 
 use crate::counters::{CountingSource, InputCounters};
 use crate::interrupts::is_interrupted;
-use crate::shared::share;
 use crate::streams::broker::BrokerListener;
 use crate::streams::message_input::{MessageInput, READ_SIZE};
 use crate::streams::writer::WriterSocket;
+use pn_serve::share;
 use std::alloc::Global;
 use std::fs::{File, Files};
 use std::io;

@@ -4,7 +4,6 @@ ghost use Rattle.std.specs.Prelude.{◌≡◌, [], ◌∷◌, ◌++◌, map, IfO
 
 use crate::counters::StreamCounters;
 use crate::messages::Messages;
-use crate::shared::share;
 use crate::socket_file::{ListenFault, SocketFile, format_lock, remove_sockets};
 use crate::streams::fifo::FifoWriters;
 use crate::streams::fifo_poll::FifoPoll;
@@ -17,7 +16,7 @@ use crate::streams::sockets::SocketWriters;
 use crate::streams::status::StreamStatus;
 use crate::streams::writer::StreamPositions;
 use pn_join::Name;
-use pn_serve::{Counter, ShownMark, Stream, StreamPath};
+use pn_serve::{Counter, ShownMark, Stream, StreamPath, share};
 use std::alloc::{AllocError, Global};
 use std::fs::{File, Files};
 use std::net::Net;

@@ -4,7 +4,6 @@ ghost use Rattle.std.specs.Prelude.{◌≡◌, ◌≤◌, true, IfOk, IfSome};
 ghost use Rattle.pn_stay.specs.Positions.{GoesOn};
 
 use crate::seldom::Seldom;
-use crate::shared::share;
 use crate::streams::broker::BrokerListener;
 use crate::streams::identity::{Admitted, StreamIdentity};
 use crate::streams::input::{
@@ -17,7 +16,7 @@ use crate::streams::remarks::format_other_stream;
 use crate::streams::turns::Turns;
 use crate::streams::writer::WriterSocket;
 use pn_line::Source;
-use pn_serve::{NextWriter, WriterEnd};
+use pn_serve::{NextWriter, WriterEnd, share};
 use std::fs::{File, Files};
 use std::net::Net;
 use std::os::unix::net::UnixStream;
