@@ -104,7 +104,7 @@ where
 {
     for line in 2..CALLS {
         let more = has_read(reader);
-        if more != Ok(true) {
+        if !matches!(more, Ok(true)) {
             return Some(end_of_rest(more, reader.position(), line as u64));
         }
         note(alloc, stream, reader.position())?;

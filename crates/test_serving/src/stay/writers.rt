@@ -116,11 +116,19 @@ fn connect_twice<R: Net>(rt: &R) -> io::Result<(UnixStream, UnixStream)> {
 
 // Two writers: what both have read.
 fn write_twice(alloc: Global, writers: (UnixStream, UnixStream)) -> io::Result<String> {
-    let (first, second) = writers;
     let mut told = String::new(alloc);
-    write_once(alloc, first, &mut told, (1, 5))?;
-    write_once(alloc, second, &mut told, (9, 9))?;
+    write_both(alloc, writers, &mut told)?;
     Ok(told)
+}
+
+fn write_both(
+    alloc: Global,
+    writers: (UnixStream, UnixStream),
+    told: &mut String,
+) -> io::Result<()> {
+    let (first, second) = writers;
+    write_once(alloc, first, told, (1, 5))?;
+    write_once(alloc, second, told, (9, 9))
 }
 
 // Writes a message, and another one once something has come back.
@@ -130,9 +138,24 @@ fn write_once(
     told: &mut String,
     positions: (u64, u64),
 ) -> io::Result<()> {
+    write_by(alloc, &stream, told, lines_of(alloc, &stream), positions)
+}
+
+// What comes back to a writer.
+fn lines_of(alloc: Global, stream: &UnixStream) -> io::Result<BufReader<UnixStream>> {
     let other = stream.try_clone()?;
-    let mut lines = BufReader::new(alloc, other)?;
-    write_between(alloc, &stream, told, &mut lines, positions)
+    BufReader::new(alloc, other)
+}
+
+fn write_by(
+    alloc: Global,
+    stream: &UnixStream,
+    told: &mut String,
+    lines: io::Result<BufReader<UnixStream>>,
+    positions: (u64, u64),
+) -> io::Result<()> {
+    let mut lines = lines?;
+    write_between(alloc, stream, told, &mut lines, positions)
 }
 
 fn write_between(
