@@ -12,8 +12,7 @@ from collections.abc import Iterator, Sequence
 from contextlib import AbstractContextManager, ExitStack, contextmanager
 from pathlib import Path
 
-from .program import ProgramRegion
-from .region import Region
+from .region import ProgramRegion, Region
 from .support import FEEDS, image, wait_until
 
 # How many images a feed is killed and begun anew among.
