@@ -69,8 +69,8 @@ impl<'a, R: Threads + Sync> ScriptHandler<'a, R> {
 
     /// The region, with its log.
     pub(crate) fn into_region(self) -> Region
-        ensures state { result.state ≡ self.region }
-        ensures log { result.log ≡ self.log }
+        ensures state { result.state ≡ self.entry.region }
+        ensures log { result.log ≡ self.entry.log }
     {
         let ScriptHandler {
             rt: _rt,
