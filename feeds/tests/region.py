@@ -19,7 +19,7 @@ TOLD_EVERY = 0.1
 
 
 class Region:
-    """Takes one writer after another. What comes has to be the image of its position."""
+    """Takes one publisher after another. What comes has to be the image of its position."""
 
     def __init__(self, path: Path, has: int = 0, *, refuses: int = 0, slow: bool = False) -> None:
         self.path = path
@@ -27,8 +27,8 @@ class Region:
         self.has = has
         self.again = 0
         self.faults: list[str] = []
-        self.writers = 0
-        # Whose stream writers said they give, and the newest positions that they told, with the times.
+        self.publishers = 0
+        # Whose stream publishers said they give, and the newest positions that they told, with the times.
         self.streams: list[str] = []
         self.newest: list[tuple[float, int]] = []
         self._refuses = refuses
@@ -47,7 +47,7 @@ class Region:
         self._thread.start()
 
     def stop(self) -> None:
-        """Goes, without a reason and wherever the writer is."""
+        """Goes, without a reason and wherever the publisher is."""
         self._stops = True
         self.path.unlink(missing_ok=True)
         for one in (self._listener, self._connection):
@@ -66,19 +66,19 @@ class Region:
             except OSError:
                 return
             with self._connection:
-                self.writers += 1
+                self.publishers += 1
                 try:
                     self._take_all(self._connection)
                 except OSError:
                     pass
 
-    def _take_all(self, writer: socket.socket) -> None:
-        """Takes a writer's lines until it goes or is refused."""
+    def _take_all(self, publisher: socket.socket) -> None:
+        """Takes a publisher's lines until it goes or is refused."""
         last, rest, told, is_first = 0, b"", time.monotonic(), True
-        writer.sendall(b'{"after":%d}\n' % self.has)
+        publisher.sendall(b'{"after":%d}\n' % self.has)
         while not self._stops:
-            if select.select([writer], [], [], TOLD_EVERY)[0]:
-                if not (part := writer.recv(1_000 if self._slow else 65_536)):
+            if select.select([publisher], [], [], TOLD_EVERY)[0]:
+                if not (part := publisher.recv(1_000 if self._slow else 65_536)):
                     return
                 *lines, rest = (rest + part).split(b"\n")
                 for line in lines:
@@ -87,16 +87,16 @@ class Region:
                         continue
                     last, reason = self._take(line, last)
                     if reason:
-                        writer.sendall(json.dumps(reason, separators=(",", ":")).encode() + b"\n")
+                        publisher.sendall(json.dumps(reason, separators=(",", ":")).encode() + b"\n")
                         return
             if self._slow:
                 time.sleep(0.002)
             if time.monotonic() - told >= TOLD_EVERY and self._told != self.has:
                 self._told, told = self.has, time.monotonic()
-                writer.sendall(b'{"taken":%d}\n' % self.has)
+                publisher.sendall(b'{"taken":%d}\n' % self.has)
 
     def _hear(self, line: bytes, is_first: bool) -> bool:
-        """Whether a line is what a writer says of its stream."""
+        """Whether a line is what a publisher says of its stream."""
         if line.startswith(b'{"stream":'):
             self.streams.append(json.loads(line)["stream"])
             if not is_first:

@@ -152,7 +152,7 @@ class KafkaResuming(resuming.Resuming):
                 self.server.fill(self.topic, first, 10_000, packed=False)
                 self.wait_for(region, program, first + 9_999 - WAITING)
             self.wait_for(region, program, MANY)
-            self.assertEqual((region.again, region.writers, program.said()), (0, 1, ""))
+            self.assertEqual((region.again, region.publishers, program.said()), (0, 1, ""))
         self.assertGreater(self.server.range(self.topic)[0], WAITING)
 
     def test_a_topic_that_expired_behind_the_region(self) -> None:

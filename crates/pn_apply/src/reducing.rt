@@ -4,14 +4,14 @@ ghost use Rattle.std.specs.Prelude.{◌≡◌, ◌++◌, ◌≤◌, List, length
 ghost use Rattle.std.specs.FinMap.{is_sorted};
 ghost use Rattle.pn_join.specs.Prelude.{are_positions};
 ghost use Rattle.pn_record.specs.Cells.{Holds};
-ghost use Rattle.pn_record.specs.declared.image.Image.{Image};
-ghost use Rattle.pn_record.specs.Order.{bytes_cmp};
+ghost use Rattle.pn_record.specs.declared.records.Image.{Image};
+ghost use Rattle.pn_record.specs.Sets.{bytes_cmp};
 ghost use Rattle.pn_record.specs.Prelude.{table_of};
 ghost use Rattle.pn_tablet.specs.declared.state.TabletOp.TheVariants.{Join};
 ghost use Rattle.pn_apply.specs.declared.reducing.TheConstants.{MAX_WORKERS};
 ghost use Rattle.pn_apply.specs.Reducing.{all_images, images_in, joins_of, ranges};
 
-use crate::gate::GatePass;
+use crate::apply::GatePass;
 use crate::working::{TabletWork, Task, work_all};
 use crate::{Batch, Gate, Share};
 use pn_join::{Dup, Marks, NoMemory};

@@ -1,6 +1,5 @@
 -- What `clap` takes has a command, and what a command says is a plan or a fault.
-use Rattle.std.proofs.Common.{◌≡◌, ◌⊎◌, inl, inr, ℕ, Bool, true, false, cond, List, [], ◌∷◌, Option, Some, None, Result, Ok, Err, codes}
-use Rattle.std.proofs.Common.{refl, subst, is_some, arith}
+use Rattle.std.proofs.Common.{◌≡◌, ◌⊎◌, inl, inr, ℕ, Bool, true, false, cond, List, [], ◌∷◌, Option, Some, None, Result, Ok, Err, codes, refl, subst, is_some, arith}
 use Rattle.std.specs.Prelude.{◌≤◌, IfOk, IsSome, max, min}
 use Rattle.std.specs.Option.{ok_or}
 use Rattle.std.specs.declared.net.ip_addr.IpAddr.{IpAddr}
@@ -11,16 +10,13 @@ use Rattle.clap.specs.declared.error.kind.ErrorKind.{ErrorKind}
 use Rattle.clap.specs.declared.error.kind.ErrorKind.TheVariants as error
 use Rattle.clap.specs.declared.parser.matches.ArgMatches.{ArgMatches}
 use Rattle.clap.specs.Walk.{Row, Text, Walk, finished, nothing_held, settled, walk, walk_from}
-use Rattle.pn_json.proofs.Inverses.{bind_ok}
+use Rattle.pn_json.proofs.LookUps.{bind_ok}
 use Rattle.pn_arguments.specs.Options.{program}
-use Rattle.pn_arguments.specs.Plans.{Answers, HasSessions, IsTold, Plans, Says, Tells}
-use Rattle.pn_arguments.specs.Commands.{address_in, control_in, number_at, plan_in, replay_in, script_in, serve_in, service_in, settings_in, text_at}
-use Rattle.pn_arguments.specs.Faults.{FaultValue, told_fault}
-use Rattle.pn_arguments.specs.Faults as faults
-use Rattle.pn_arguments.specs.Permissions.{permissions_in}
-use Rattle.pn_arguments.specs.PlanValues.{PlanValue, ServiceValue, check, help, plan_value, replay, serve, version}
-use Rattle.pn_arguments.specs.Streams.{streams_in}
-use Rattle.pn_serve.specs.declared.server.limits.TheConstants.{MAX_SESSIONS}
+use Rattle.pn_arguments.specs.Plans.{Answers, HasSessions, IsTold, Plans, Says, Tells, FaultValue, told_fault}
+use Rattle.pn_arguments.specs.Commands.{address_in, control_in, number_at, plan_in, replay_in, script_in, serve_in, service_in, settings_in, text_at, PlanValue, ServiceValue, check, help, plan_value, replay, serve, version}
+use Rattle.pn_arguments.specs.Plans as faults
+use Rattle.pn_arguments.specs.OptionTexts.{permissions_in, streams_in}
+use Rattle.pn_serve.specs.declared.server.session_threads.TheConstants.{MAX_SESSIONS}
 use Rattle.pn_arguments.specs.declared.plans.Plan.{Plan}
 use Rattle.pn_arguments.specs.declared.plans.Plan.TheVariants as plan
 use Rattle.pn_arguments.specs.declared.faults.OptionFault.{OptionFault}

@@ -6,8 +6,8 @@ use Rattle.std.specs.Char.{digit_value}
 use Rattle.std.specs.List.{list_all}
 use Rattle.std.specs.Str.Parse.{AllDigits, IsNumeral, digits_value, without_leading_plus}
 use Rattle.clap.proofs.WalkLemmas.{both}
-use Rattle.pn_arguments.specs.Permissions.{are_permissions, permissions_in}
-use Rattle.pn_arguments.specs.declared.permissions.TheConstants.{MAX_PERMISSIONS, OCTAL}
+use Rattle.pn_arguments.specs.OptionTexts.{are_permissions, permissions_in}
+use Rattle.pn_arguments.specs.declared.bounds.TheConstants.{MAX_PERMISSIONS, OCTAL}
 use Rattle.pn_arguments.specs.declared.faults.OptionFault.{OptionFault}
 use Rattle.pn_arguments.specs.declared.faults.OptionFault.TheVariants as fault
 

@@ -6,7 +6,7 @@ use Rattle.clap.specs.declared.builder.value_parser.ValueParser.{ValueParser}
 use Rattle.clap.specs.declared.builder.value_parser.ValueParser.TheVariants as values
 use Rattle.pn_apply.specs.declared.reducing.TheConstants.{MAX_WORKERS}
 use Rattle.pn_arguments.specs.declared.options.TheConstants.{MAX_CONNECTIONS, MAX_IDLE, MAX_PORT, MAX_UNREAD}
-use Rattle.pn_serve.specs.declared.server.limits.TheConstants.{MAX_SESSIONS}
+use Rattle.pn_serve.specs.declared.server.session_threads.TheConstants.{MAX_SESSIONS}
 
 -- an option with one value, and its default
 abbrev pub option_of : Text → Text → Rule

@@ -5,17 +5,14 @@ ghost use Rattle.std.specs.declared.net.ip_addr.IpAddr.{IpAddr};
 ghost use Rattle.clap.specs.Words.{found_of, kind_of, rows_of, subcommand_rows_of};
 ghost use Rattle.pn_json.specs.Prelude.{IsUnless, ShowsUnless};
 ghost use Rattle.pn_arguments.specs.Plans.{Answers, Gives, HasSessions, Plans, Tells};
-ghost use Rattle.pn_arguments.specs.Commands.{control_in, copies_in, idle_in, listens_at, address_in};
-ghost use Rattle.pn_arguments.specs.Commands.{replay_in, script_in, serve_in, service_in, settings_in, stay_in, Spells};
-ghost use Rattle.pn_arguments.specs.PlanValues.{address_value, optional_bytes, plan_value, service_value};
+ghost use Rattle.pn_arguments.specs.Commands.{control_in, copies_in, idle_in, listens_at, address_in, replay_in, script_in, serve_in, service_in, settings_in};
+ghost use Rattle.pn_arguments.specs.Commands.{stay_in, Spells, address_value, optional_bytes, plan_value, service_value};
 
-use crate::bounds::layout_of;
-use crate::faults::{OptionFault, Why};
+use crate::bounds::{layout_of, permissions_of};
+use crate::faults::{OptionFault, Why, told_fault};
 use crate::options::{
     MAX_CONNECTIONS, MAX_IDLE, MAX_PORT, MAX_UNREAD, command, is_given, option_number, option_text,
 };
-use crate::permissions::permissions_of;
-use crate::refusing::told_fault;
 use crate::streams::{MAX_SOCKET_BYTES, named_streams};
 use crate::{Address, Plan, PlanFault, Service};
 use clap::error::ErrorKind;

@@ -4,8 +4,8 @@ ghost use Rattle.std.specs.Prelude.{◌≡◌, [], codes, map, unwrap_or};
 ghost use Rattle.clap.specs.Words.{all_of, found_of, rows_of};
 ghost use Rattle.std.specs.Str.{bytes_eq};
 ghost use Rattle.pn_json.specs.Prelude.{ShowsUnless, texts};
-ghost use Rattle.pn_arguments.specs.Streams.{each_stream, file_in, has_name as name_among, path_in, path_value};
-ghost use Rattle.pn_arguments.specs.Streams.{repeated_from, socket_in, stream_in, stream_value, streams_in};
+ghost use Rattle.pn_arguments.specs.OptionTexts.{each_stream, file_in, has_name as name_among, path_in, path_value, repeated_from, socket_in, stream_in};
+ghost use Rattle.pn_arguments.specs.OptionTexts.{stream_value, streams_in};
 
 use crate::faults::{OptionFault, Why};
 use clap::ArgMatches;
@@ -32,7 +32,7 @@ pub(crate) fn named_streams(
     }
 }
 
-#[tactic(auto, unfolding(crate::specs::Streams::streams_in))]
+#[tactic(auto, unfolding(crate::specs::OptionTexts::streams_in))]
 fn streams_of(
     alloc: Global,
     stays: bool,

@@ -1,10 +1,9 @@
 //! Where lines are read from: any buffered reader, or bytes in memory, whose reads never fail.
 ghost use Rattle.std.specs.Prelude.{◌≡◌, ◌≢◌, ◌+◌, ◌<◌, ◌≤◌, ℕ, List, [], true, false, IfOk, OnErr, IfSome, Option};
 ghost use Rattle.std.specs.Io.KnownBytes.{Keeps};
-ghost use Rattle.pn_line.specs.Reads.{TakesPiece};
+ghost use Rattle.pn_line.specs.Line.{TakesPiece};
 
-use crate::line_buffer::{ENDLESS, LineBuffer};
-use crate::piece::{Piece, take_piece};
+use crate::line_buffer::{ENDLESS, LineBuffer, Piece, take_piece};
 use std::io;
 use std::io::BufRead;
 
@@ -19,8 +18,8 @@ pub trait Source {
     // False for a type that is never at its end.
     ghost may_end: { Type 0 };
 
-    // How many looks at its bytes were made, where the type counts them.
-    ghost looks: { Self → ℕ };
+    // How many polls of its bytes were made, where the type counts them.
+    ghost polls: { Self → ℕ };
 
     /// Looks at some of the bytes that are left, waiting for them if need be, and moves those of the line
     /// into it.
@@ -30,7 +29,7 @@ pub trait Source {
         requires { line.old.count < ENDLESS }
         ensures takes { IfOk result (λ piece. TakesPiece piece line.old line.new (left self.old) (left self.new)) }
         ensures end_comes { result ≡ Ok Piece.NoMore → may_end }
-        ensures looks { looks self.new ≤ looks self.old + 1 }
+        ensures polls { polls self.new ≤ polls self.old + 1 }
         ensures fault { OnErr result may_fail }
         ensures kept { OnErr result (Keeps (left self.old) (left self.new)) }
         ensures line_kept { OnErr result (line.new ≡ line.old) };
@@ -40,7 +39,7 @@ pub trait Source {
         ensures more { result ≡ Ok true → IfSome (left self.old) (λ rest. rest ≢ []) }
         ensures end { result ≡ Ok false → IfSome (left self.old) (λ rest. rest ≡ []) }
         ensures end_comes { result ≡ Ok false → may_end }
-        ensures looks { looks self.new ≤ looks self.old + 1 }
+        ensures polls { polls self.new ≤ polls self.old + 1 }
         ensures fault { OnErr result may_fail }
         ensures kept { Keeps (left self.old) (left self.new) };
 }
@@ -52,7 +51,7 @@ impl<R: BufRead> Source for R {
 
     ghost may_end = { Unit {0} };
 
-    ghost looks = { λ _. 0 };
+    ghost polls = { λ _. 0 };
 
     fn take_some(&mut self, line: &mut LineBuffer) -> io::Result<Piece> {
         let shown = self.fill_buf()?;

@@ -3,8 +3,7 @@ use Rattle.std.proofs.Common.{◌≡◌, ◌≢◌, ◌⊎◌, ◌+◌, ◌-◌,
 use Rattle.pn_lines.specs.Engines.{EngineValue}
 use Rattle.pn_lines.specs.Handling.{Handling}
 use Rattle.pn_lines.specs.Standing.{StandsStill}
-use Rattle.pn_lines.specs.TurnStates.{IsKept, IsStored, Rests, TakesFirst, TurnValue, Works, is_last, outcome_of}
-use Rattle.pn_lines.specs.Turns.{Moment, Turned, WorkedIn, at}
+use Rattle.pn_lines.specs.Turns.{IsKept, IsStored, Rests, TakesFirst, TurnValue, Works, is_last, outcome_of, Moment, Turned, WorkedIn, at}
 use Rattle.pn_lines.specs.declared.engine.TheConstants.{MAX_STEP_UNITS}
 use Rattle.pn_lines.specs.declared.turns.Pause.TheVariants as pause
 use Rattle.pn_lines.specs.declared.turns.TurnFault.TheVariants as fault

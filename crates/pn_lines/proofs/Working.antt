@@ -2,17 +2,15 @@
 use Rattle.std.proofs.Common.{◌≡◌, ◌≢◌, ◌⊎◌, ◌+◌, ◌-◌, ◌*◌, ◌<◌, ◌≤◌, ℕ, zero, suc, Bool, true≢false, Option, None, Some, OnSome, List, [], ◌++◌, length, take, drop, Vec, vec_capacity, min, inl, inr, refl, sym, ap, ◌∙◌, subst, arith, append-nil, length-append, length-take-le, ⊎_elim}
 use Rattle.std.specs.Io.KnownBytes.{IsAtEnd}
 use Rattle.std.specs.declared.alloc.Global.{Global}
-use Rattle.pn_lines.specs.Engines.{EngineValue}
+use Rattle.pn_lines.specs.Engines.{EngineValue, Advances, Costs, IsNearer, IsPartAt, NextIs}
 use Rattle.pn_lines.specs.Giving.{Adds}
-use Rattle.pn_lines.specs.Progress.{Advances, Costs, IsNearer, IsPartAt, NextIs}
 use Rattle.pn_lines.specs.Handling.{Handling}
 use Rattle.pn_lines.specs.Standing.{Stands}
-use Rattle.pn_lines.specs.TurnStates.{BufferValue, Comes, Works, held_in, is_last, next_work}
-use Rattle.pn_lines.specs.Turns.{Moment, Worked, WorkedIn, at}
+use Rattle.pn_lines.specs.Turns.{BufferValue, Comes, Works, held_in, is_last, next_work, Moment, Worked, WorkedIn, at}
 use Rattle.pn_lines.specs.declared.engine.Next.{Next}
 use Rattle.pn_lines.specs.declared.engine.Next.TheVariants as next
 use Rattle.pn_lines.specs.declared.engine.TheConstants.{MAX_STEP_UNITS, UNIT_BYTES}
-use Rattle.pn_lines.specs.declared.piece_text.TheConstants.{MAX_PIECE_BYTES}
+use Rattle.pn_lines.specs.declared.finding.TheConstants.{MAX_PIECE_BYTES}
 use Rattle.pn_lines.specs.declared.turns.SourceState.{SourceState}
 use Rattle.pn_lines.specs.declared.turns.SourceState.TheVariants as source
 use Rattle.pn_lines.specs.declared.turns.buffers.Came.{Came}

@@ -4,23 +4,18 @@
 #![tactic(auto)]
 
 mod attempt;
-pub mod event_laws;
 mod fault;
 mod front;
 mod get_walk;
-pub mod honest_laws;
 pub mod laws;
 mod live_tablet;
 mod publication_order;
-mod publish_order;
-mod publish_position;
 mod published_state;
 mod published_tablet;
 mod read_guard;
 mod reader;
 mod reader_handle;
 mod region;
-pub mod start_laws;
 mod tablet_reader;
 
 pub use fault::{OpenFault, StartFault};

@@ -3,11 +3,9 @@
 ghost use Rattle.std.specs.Prelude.{◌≡◌, ◌+◌, ◌≤◌, ◌<◌, List, map, max, Option, IsErrOf, length};
 ghost use Rattle.pn_tablet.specs.Prelude.{tablet_of, TabletStateValue};
 ghost use Rattle.pn_scan.specs.Prelude.{Look, first_page, IsRead, IsGet, IsScan};
-ghost use Rattle.pn_scan.specs.declared.work.TheConstants.{MAX_PART_WORK};
-ghost use Rattle.pn_live.specs.Copying.{IsCopied};
-ghost use Rattle.pn_live.specs.Counting.{IsCounted};
-ghost use Rattle.pn_live.specs.Readers.{LooksLive, IsFrontFor, AreTabletReadersOf, tablets_of};
-ghost use Rattle.pn_live.specs.TabletReaders.{AllLearn};
+ghost use Rattle.pn_scan.specs.declared.walk.TheConstants.{MAX_PART_WORK};
+ghost use Rattle.pn_live.specs.Lookups.{IsCopied, IsCounted};
+ghost use Rattle.pn_live.specs.Readers.{LooksLive, IsFrontFor, AreTabletReadersOf, tablets_of, AllLearn};
 
 use crate::front::{Front, TabletNote};
 use crate::tablet_reader::TabletReader;
@@ -31,7 +29,7 @@ impl Model for LiveReader {
 
     ghost Value = { LiveReaderValue };
 
-    ghost use Rattle.pn_live.specs.Proofs.Coding.{reader_code};
+    ghost use Rattle.pn_live.specs.Proofs.{reader_code};
 
     ghost coded = { reader_code };
 
@@ -70,7 +68,7 @@ impl LiveReader {
     /// Learns a front of its live region: from then on it finds no less of any tablet.
     pub fn learn(&mut self, front: Front)
         requires { IsFrontFor self.old front }
-        ensures told { AllLearn self.old.tablet_readers front self.new.tablet_readers }
+        ensures learnt { AllLearn self.old.tablet_readers front self.new.tablet_readers }
         ensures same { tablets_of self.new ≡ tablets_of self.old }
     {
         learn_all(self.tablet_readers.as_mut_slice(), front.into_notes());

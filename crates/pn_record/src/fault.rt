@@ -1,7 +1,7 @@
 //! Why a text or a value is no image.
 
 ghost use Rattle.std.specs.Prelude.{◌≡◌, Some};
-ghost use Rattle.pn_record.specs.Words.{word_of, word_of_fault};
+ghost use Rattle.pn_record.specs.Grammar.{word_of, word_of_fault};
 ghost use Rattle.pn_record.specs.declared.fault.ImageFault.TheVariants.{Memory};
 
 use pn_join::NoMemory;

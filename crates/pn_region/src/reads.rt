@@ -3,7 +3,7 @@
 ghost use Rattle.std.specs.Prelude.{◌≡◌, ◌-◌, ◌^◌, Err, IsOk, IsErrOf};
 ghost use Rattle.pn_json.specs.Prelude.{ShowsUnless};
 ghost use Rattle.pn_scan.specs.Prelude.{AnswersAfter, cell_at};
-ghost use Rattle.pn_scan.specs.declared.fault.ScanFault.TheVariants.{Memory, NoEntry};
+ghost use Rattle.pn_scan.specs.declared.view.ScanFault.TheVariants.{Memory, NoEntry};
 ghost use Rattle.pn_region.specs.Reads.{IsThere, BeginsToRead, look_for, read_in, get_in, page_in};
 
 use crate::Region;

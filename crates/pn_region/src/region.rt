@@ -8,23 +8,20 @@ ghost use Rattle.pn_apply.specs.Prelude.{AreJoinsIn, HavePositions, all_stepped,
 ghost use Rattle.pn_apply.specs.declared.reducing.TheConstants.{MAX_WORKERS};
 ghost use Rattle.pn_scan.specs.Prelude.{IsStateOf};
 ghost use Rattle.pn_region.specs.declared.marking.TheConstants.{MAX_STREAMS};
-ghost use Rattle.pn_region.specs.Logged.{new_logged};
-ghost use Rattle.pn_region.specs.Marking.{is_memory};
+ghost use Rattle.pn_region.specs.Log.{new_logged, IsSince};
+ghost use Rattle.pn_region.specs.Rounds.{is_memory, round, Leaves};
 ghost use Rattle.pn_region.specs.Regions.{IsRegion, all_cells};
-ghost use Rattle.pn_region.specs.Rounds.{round, Leaves};
-ghost use Rattle.pn_region.specs.Since.{IsSince};
 
 mod advance;
-mod parts;
 mod recovery;
 mod relayout;
 mod rounds;
 
 use crate::{Log, RoundFault, Since, next_marks};
-pub use parts::recall_soundness;
 use pn_apply::{Gate, Share, apply_all, reduce};
 use pn_join::{Dup, Marks, NoMemory};
 use pn_tablet::{Change, Layout, TabletOp, TabletState};
+pub use rounds::recall_soundness;
 use std::alloc::Global;
 use std::marker::Model;
 use std::thread::Threads;
@@ -47,8 +44,8 @@ pub struct Round {
 }
 
 impl Model for Region {
-    ghost use Rattle.pn_region.specs.Logged.{LoggedRegion};
-    ghost use Rattle.pn_region.specs.Proofs.Coding.{logged_code};
+    ghost use Rattle.pn_region.specs.Log.{LoggedRegion};
+    ghost use Rattle.pn_region.specs.Proofs.{logged_code};
     ghost use Rattle.pn_region.specs.Regions.{IsLawfulRegion};
 
     ghost Value = { LoggedRegion };
@@ -119,7 +116,7 @@ impl Region {
     }
 
     // Takes shares into the tablets and the marks, and returns the changes of each tablet. The log stays.
-    fn take<R: Threads + Sync, G: Gate + Sync>(
+    fn take_round<R: Threads + Sync, G: Gate + Sync>(
         &mut self,
         rt: &R,
         shares: &[Share],

@@ -1,18 +1,16 @@
 -- A page that goes on from its first step to its last.
 use Rattle.std.proofs.Common.{◌≡◌, ℕ, ◌+◌, ◌-◌, ◌*◌, ◌^◌, ◌<◌, ◌≤◌, List, [], ◌∷◌, ◌++◌, inl, inr, Result, Ok, Err, refl, sym, subst, arith}
 use Rattle.pn_tablet.specs.Layouts.{Bounds}
-use Rattle.pn_scan.specs.Candidates.{Look}
-use Rattle.pn_scan.specs.Pages.{PageValue, first_page}
+use Rattle.pn_scan.specs.Pages.{Look, PageValue, first_page}
 use Rattle.pn_scan.specs.Paging.{AreMade, EndsPage, Follows, IsNearer, IsNewWalk, IsOnPage, LookMade, PagesTo, looks_in, steps_left}
 use Rattle.pn_scan.specs.Queries.{QueryValue}
-use Rattle.pn_scan.specs.Views.{Looks}
-use Rattle.pn_scan.specs.Visits.{IsScan}
+use Rattle.pn_scan.specs.Views.{Looks, IsScan}
 use Rattle.pn_scan.specs.WalkValues.{PageWalkValue}
-use Rattle.pn_scan.specs.declared.fault.ScanFault.{ScanFault}
+use Rattle.pn_scan.specs.declared.view.ScanFault.{ScanFault}
 use Rattle.pn_scan.specs.declared.page_walk.PageStep.{PageStep}
 use Rattle.pn_scan.specs.declared.page_walk.PageStep.TheVariants.{Done, Next}
 use Rattle.pn_scan.specs.declared.view.Page.{Page}
-use Rattle.pn_scan.proofs.PageBegins.{new_page}
+use Rattle.pn_scan.proofs.Scans.{new_page}
 use Rattle.pn_scan.proofs.Paging.{begun_too}
 
 abbrev page_value : Page → PageValue

@@ -1,22 +1,59 @@
--- The looks of a page, one after another.
-use Rattle.std.proofs.Common.{◌≡◌, ℕ, zero, suc, ◌+◌, ◌-◌, ◌<◌, ◌≤◌, Bool, true, false, List, [], ◌∷◌, ◌++◌, length, take, drop, Option, Some, None, Ok, refl, sym, ap, ◌∙◌, subst, arith, append-nil, length-append}
-use Rattle.std.specs.List.{AllByRecursion, flat_map}
+-- A page that looks into one tablet after another, from its beginning to its last row.
+use Rattle.std.proofs.Common.{◌≡◌, ℕ, zero, suc, ◌+◌, ◌<◌, [], ◌++◌, take, Option, refl, sym, ◌∙◌, subst, arith, ◌-◌, List, ◌∷◌, length, slice_get, Some, None, ap, ◌≤◌, Bool, true, false, drop, Ok, append-nil, length-append}
+use Rattle.std.specs.Prelude.{IfSome}
+use Rattle.std.specs.List.{last_or, AllByRecursion, flat_map}
 use Rattle.std.specs.Option.{option_or}
 use Rattle.std.proofs.Math.Seq.{take-append-add}
 use Rattle.std.proofs.lemmas.List.{take_all, take-append-le, take-append-drop, length-take}
 use Rattle.std.proofs.lemmas.List.Elements.{filter-append}
 use Rattle.std.proofs.lemmas.Grind.{flat_map-append}
-use Rattle.pn_record.specs.CellMap.{Entries}
+use Rattle.pn_record.specs.Cells.{Entries}
 use Rattle.pn_tablet.specs.Layouts.{Bounds}
-use Rattle.pn_tablet.specs.Refusals.{IsRight}
+use Rattle.pn_tablet.specs.Steps.{IsRight}
+use Rattle.pn_scan.specs.Pages.{Look, cells_in, rows_in, refusal, first_refusal, unless}
+use Rattle.pn_scan.specs.Paging.{IsNewWalk, IsOnPage, rows_to_come}
 use Rattle.pn_scan.specs.Queries.{QueryValue}
+use Rattle.pn_scan.specs.WalkValues.{PageWalkValue, PartWalkValue}
 use Rattle.pn_scan.specs.Shown.{is_shown, shown_rows}
-use Rattle.pn_scan.specs.Candidates.{Look, cells_in, rows_in}
-use Rattle.pn_scan.specs.Pages.{refusal, first_refusal, unless}
-use Rattle.pn_scan.specs.Views.{IsFoundIn, Looks}
-use Rattle.pn_scan.specs.Visits.{GoesOn}
-use Rattle.pn_scan.specs.declared.fault.ScanFault.{ScanFault}
-use Rattle.pn_scan.proofs.Numbers.{AllFew}
+use Rattle.pn_scan.specs.Views.{IsFoundIn, Looks, GoesOn}
+use Rattle.pn_scan.specs.declared.view.ScanFault.{ScanFault}
+use Rattle.pn_scan.proofs.Continuing.{AllFew}
+
+-- A page of which nothing was looked for is as far as no look leads.
+
+abbrev no_rows : Entries
+no_rows = []
+
+none_taken : (n : ℕ) → take n no_rows ≡ []
+none_taken zero = refl
+none_taken (suc n) = refl
+
+pub new_page : {V : Type 0} (looks : V → Look → V → Type 0) (bounds : Bounds) (query : QueryValue) (walk : PageWalkValue) → IsNewWalk bounds query walk → IsOnPage looks bounds query walk []
+new_page looks bounds query walk new = record {
+  made = tt;
+  visit = record {
+    found = tt;
+    order = refl;
+    only = λ n inside. absurd (omega (arith, inside));
+  };
+  none_refused = refl;
+  to_come = new.2;
+  rows_are = (λ i. new.0 i ++ rows_to_come query (new.1 i)) ∙ sym (none_taken (query.limit + 1));
+  begun = subst (λ (o : Option PartWalkValue). IfSome o (λ part. 0 < 0)) (sym new.1) tt;
+}
+
+-- The last of the rows of a page.
+
+last_at : {A : Type 0} (o : Option A) (x : A) (xs : List A) → last_or o (x ∷ xs) ≡ slice_get (x ∷ xs) (length xs)
+last_at o x [] = refl
+last_at o x (y ∷ ys) = last_at (Some x) y ys
+
+-- the last item is that at the last index
+pub last_index : {A : Type 0} (xs : List A) → last_or None xs ≡ slice_get xs (length xs - 1)
+last_index [] = refl
+last_index (x ∷ xs) = let e : length xs ≡ suc (length xs) - 1 = omega arith in last_at None x xs ∙ ap (slice_get (x ∷ xs)) e
+
+-- The looks of a page, one after another.
 
 -- one look more
 pub looks_more : {V : Type 0} (looks : V → Look → V → Type 0) (old between new : V) (seen : List Look) (look : Look) → Looks looks old seen between → looks between look new → Looks looks old (seen ++ look ∷ []) new

@@ -2,15 +2,15 @@
 
 ghost use Rattle.std.specs.Prelude.{◌≡◌, ◌<◌, ◌≤◌, ◌+◌, ◌-◌, ◌*◌, ◌^◌, ◌++◌, ◌⊎◌, true, false, List, length, max, None, IfOk, IfSome};
 ghost use Rattle.pn_tablet.specs.Prelude.{IsLayout};
-ghost use Rattle.pn_scan.specs.Paging.{CountsWork, going_in, rows_to_come, steps_left, IsNearer, IsNewWalk, IsOnPage, LookMade, OnlyLooks, PagesTo};
-ghost use Rattle.pn_scan.specs.Parts.{looked_in, part_at};
+ghost use Rattle.pn_scan.specs.Paging.{CountsWork, going_in, rows_to_come, steps_left, IsNearer, IsNewWalk, IsOnPage, LookMade, OnlyLooks, PagesTo, spent_in};
+ghost use Rattle.pn_scan.specs.Paging.{part_at};
 ghost use Rattle.pn_scan.specs.Queries.{QueryValue};
-ghost use Rattle.pn_scan.specs.Works.{units_in};
+ghost use Rattle.pn_scan.specs.Shown.{units_in};
 ghost use Rattle.pn_scan.specs.declared.page_walk.TheConstants.{LOOK_UNITS};
-ghost use Rattle.pn_scan.specs.declared.work.TheConstants.{MAX_PART_WORK, UNIT_WORK};
+ghost use Rattle.pn_scan.specs.declared.walk.TheConstants.{MAX_PART_WORK, UNIT_WORK};
 
 use crate::pages::{candidates, page_of, put_after};
-use crate::work::{MAX_PART_WORK, units_of, work_of};
+use crate::walk::{MAX_PART_WORK, units_of, work_of};
 use crate::{Budget, Page, PartWalk, Query, Row, ScanFault, TabletRows, View};
 use pn_join::NoMemory;
 use pn_tablet::Layout;
@@ -48,7 +48,7 @@ impl Model for PageWalk {
 
     ghost Value = { PageWalkValue };
 
-    ghost use Rattle.pn_scan.specs.Coding.{page_walk_code};
+    ghost use Rattle.pn_scan.specs.WalkValues.{page_walk_code};
 
     ghost coded = { page_walk_code };
 
@@ -179,7 +179,7 @@ impl PageWalk {
         ensures rows { IfOk result (λ walk. (query : QueryValue) → walk.rows ++ rows_to_come query walk.part ≡ self.rows ++ (part_at query part).0) }
         ensures part { IfOk result (λ walk. walk.part ≡ going_in part) }
         ensures ends { IfOk result (λ walk. (walk.next ≡ self.next) × (walk.end ≡ self.end)) }
-        ensures units { IfOk result (λ walk. walk.units ≡ units_in (looked_in most part)) }
+        ensures units { IfOk result (λ walk. walk.units ≡ units_in (spent_in most part)) }
     {
         let PageWalk {
             rows,
@@ -188,12 +188,12 @@ impl PageWalk {
             ..
         } = self;
         match part {
-            TabletRows::Done(more, _, looked) => Ok(PageWalk {
+            TabletRows::Done(more, _, spent) => Ok(PageWalk {
                 rows: put_after(rows, more)?,
                 part: None,
                 tablet,
                 end,
-                units: units_of(looked),
+                units: units_of(spent),
             }),
             TabletRows::Rest(part) => Ok(PageWalk {
                 rows,

@@ -6,9 +6,8 @@ ghost use Rattle.std.specs.Option.{option_copied};
 ghost use Rattle.pn_record.specs.Prelude.{Entries};
 ghost use Rattle.pn_tablet.specs.Prelude.{tablet_ends};
 ghost use Rattle.pn_scan.specs.Queries.{query_after};
-ghost use Rattle.pn_scan.specs.Candidates.{Look, candidates as all_candidates, first_tablet as named_tablet, begins_before as bound_before};
-ghost use Rattle.pn_scan.specs.Pages.{first_page};
-ghost use Rattle.pn_scan.specs.Visits.{IsScan};
+ghost use Rattle.pn_scan.specs.Pages.{Look, candidates as all_candidates, first_tablet as named_tablet, begins_before as bound_before, first_page};
+ghost use Rattle.pn_scan.specs.Views.{IsScan};
 
 use crate::{Page, PageStep, PageWalk, Query, Row, ScanFault, View};
 use pn_join::NoMemory;

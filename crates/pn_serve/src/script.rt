@@ -1,12 +1,11 @@
 //! Scripts: each line is read and answered, and its reply is written.
 
 ghost use Rattle.std.specs.Prelude.{◌≡◌, ◌≢◌, ◌+◌, ◌≤◌, IfOk, IfErr, OnOk, IsErrOf};
-ghost use Rattle.pn_lines.specs.Ends.{start_at};
+ghost use Rattle.pn_lines.specs.Driving.{start_at};
 ghost use Rattle.pn_region.specs.Prelude.{new_region};
-ghost use Rattle.pn_serve.specs.Lines.Running.{HasRun, run_ended};
-ghost use Rattle.pn_serve.specs.Lines.Waiting.{HandsOn, looks_of_input};
+ghost use Rattle.pn_serve.specs.Lines.{HasRun, run_ended, Flushes, polls_of_input};
 ghost use Rattle.pn_serve.specs.Machine.Outcomes.{new_machine};
-ghost use Rattle.pn_serve.specs.Runs.Ends.{Ends, run_start};
+ghost use Rattle.pn_serve.specs.Runs.{Ends, run_start};
 
 use crate::Settings;
 use crate::machine::script_handler::ScriptHandler;
@@ -78,10 +77,10 @@ pub fn run<R: Threads + Sync, S: Source, W: Sink>(
     ensures read { IsErrOf result.ended RunFault.Read → S.may_fail }
     ensures write { IsErrOf result.ended RunFault.Write → W.may_fail }
     ensures few { IfOk result.ended (λ counts. counts.lines ≤ MAX_LINES) }
-    ensures out { HandsOn result.ended (W.is_handed_on output.new) }
-    ensures looks { S.looks input.new ≤ S.looks input.old + looks_of_input }
+    ensures out { Flushes result.ended (W.is_flushed output.new) }
+    ensures polls { S.polls input.new ≤ S.polls input.old + polls_of_input }
     ensures end { OnOk result.ended S.may_end }
-    ensures unread { IsErrOf result.ended RunFault.Memory → S.looks input.new ≡ S.looks input.old }
+    ensures unread { IsErrOf result.ended RunFault.Memory → S.polls input.new ≡ S.polls input.old }
 {
     let Ok((mut buffers, mut machine)) = start_script(rt, alloc, settings) else {
         return FinishedRun {
@@ -124,8 +123,8 @@ pub(crate) fn answer_lines<M: LineHandler, S: Source, W: Sink>(
     ensures faults { (IsErrOf result RunFault.Read → S.may_fail) × (IsErrOf result RunFault.Write → W.may_fail) }
     ensures kept { M.keeps machine.old machine.new }
     ensures few { IfOk result (λ counts. counts.lines ≤ MAX_LINES) }
-    ensures out { HandsOn result (W.is_handed_on output.new) }
-    ensures looks { S.looks input.new ≤ S.looks input.old + looks_of_input }
+    ensures out { Flushes result (W.is_flushed output.new) }
+    ensures polls { S.polls input.new ≤ S.polls input.old + polls_of_input }
     ensures end { OnOk result S.may_end }
     ensures begun { IfErr result (λ fault. fault ≢ RunFault.Memory) }
 {

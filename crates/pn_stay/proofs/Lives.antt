@@ -3,39 +3,32 @@ use Rattle.std.proofs.Common.{◌≡◌, List, [], ◌∷◌, ◌++◌, Option, 
 use Rattle.std.specs.Prelude.{Contains}
 use Rattle.std.specs.List.{AllByRecursion}
 use Rattle.std.proofs.lemmas.List.Elements.{Contains-append_right}
-use Rattle.pn_record.specs.CellMap.{table_of}
-use Rattle.pn_record.specs.Cells.{SameImages}
-use Rattle.pn_record.specs.declared.image.Image.{Image}
-use Rattle.pn_stream.specs.Brokers.{BrokerRecord, IsHonest, up_to}
-use Rattle.pn_stream.specs.Positions.{DeliveryValue}
+use Rattle.pn_record.specs.Cells.{table_of, SameImages}
+use Rattle.pn_record.specs.declared.records.Image.{Image}
+use Rattle.pn_stream.specs.Brokers.{BrokerRecord, IsHonest, up_to, DeliveryValue}
 use Rattle.pn_tablet.specs.Copies.{TabletCopyValue}
 use Rattle.pn_apply.specs.Reducing.{images_in}
-use Rattle.pn_region.specs.Events.{RegionEvent, round, AllLeadTo, AreHonestEvents}
-use Rattle.pn_region.specs.Faith.{AreFaithful}
-use Rattle.pn_region.specs.Laws.{AreIn}
+use Rattle.pn_region.specs.Events.{RegionEvent, round, AllLeadTo, AreHonestEvents, start_events, all_left, all_taken}
+use Rattle.pn_region.specs.Laws.{AreFaithful, AreIn}
 use Rattle.pn_region.specs.Regions.{IsRegion, all_cells, new_region}
-use Rattle.pn_region.specs.Serving.{AllServe}
-use Rattle.pn_region.specs.Starting.{start_events}
-use Rattle.pn_region.specs.Taken.{all_left, all_taken}
+use Rattle.pn_region.specs.Reads.{AllServe}
 use Rattle.pn_region.proofs.EventImages.{alike, taken_together}
 use Rattle.pn_region.proofs.EventSteps.{events_are}
 use Rattle.pn_region.proofs.Faith.{new_faithful}
 use Rattle.pn_region.proofs.FaithfulEvents.{events_faithful}
 use Rattle.pn_region.proofs.Starting.{has_what_it_took, later_faithful, lead_on}
-use Rattle.pn_live.specs.Honest.{AreHonestTablets}
+use Rattle.pn_live.specs.PublishedTablets.{AreHonestTablets}
 use Rattle.pn_live.specs.LiveRegions.{LiveRegionValue, core}
-use Rattle.pn_live.proofs.Events.{new_core}
-use Rattle.pn_live.proofs.Starting.{starts_from}
+use Rattle.pn_live.proofs.Events.{new_core, starts_from}
 use Rattle.pn_serve.specs.Control.Commands.{event_by, with_event}
-use Rattle.pn_serve.specs.Script.Taken.{Settled}
-use Rattle.pn_serve.specs.Script.Told.{Told, images_of, machine_of, records_of}
-use Rattle.pn_serve.specs.Server.Events.{BringAll, IsCommand, WriterEvent, gathered, tried, taken, told}
-use Rattle.pn_serve.specs.Server.HonestEvents.{region_events}
+use Rattle.pn_serve.specs.Script.Events.{Settled}
+use Rattle.pn_serve.specs.Script.Laws.{Told, images_of, machine_of, records_of}
+use Rattle.pn_serve.specs.Server.Events.{BringAll, IsCommand, WriterEvent, gathered, tried, taken, told, region_events}
 use Rattle.pn_serve.proofs.EventsDone.{done_leads, left_taken}
-use Rattle.pn_serve.proofs.HonestLists.{did_honest, kept_honest}
+use Rattle.pn_serve.proofs.HonestStreams.{did_honest, kept_honest}
 use Rattle.pn_serve.proofs.ScriptLaws.{held_records, new_one}
 use Rattle.pn_serve.proofs.SentEvents.{did_honestly, honest_events}
-use Rattle.pn_stay.specs.Lives.{Begins, LivedHonestly, deeds, first_events, images_lived}
+use Rattle.pn_stay.specs.Servers.{Begins, LivedHonestly, deeds, first_events, images_lived}
 
 -- ---- events one after another
 

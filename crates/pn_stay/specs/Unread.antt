@@ -1,7 +1,23 @@
--- What a client has not taken of its replies, and which clients are ended for it.
-use Rattle.std.specs.Prelude.{◌≡◌, ◌==◌, ◌⊎◌, ◌≤◌, ℕ, Bool, ◌||◌, if◌then◌else◌, nat_le, true, Option, None, Some}
-use Rattle.pn_stay.specs.IdleTimeouts.{IdleTimeoutValue, after_quarter, new_idle_timeout}
+-- For how long a client was idle, what it has not taken of its replies, and which clients are ended for it.
+use Rattle.std.specs.Prelude.{ℕ, ◌+◌, Bool, true, false, min, if◌then◌else◌, ◌≡◌, ◌==◌, ◌⊎◌, ◌≤◌, ◌||◌, nat_le, Option, None, Some}
 use Rattle.pn_stay.specs.declared.unread.TheConstants.{DEAF_QUARTERS, QUIET_QUARTERS}
+
+-- For how many quarters of a second a client was idle.
+
+-- how many quarters, and whether the client was active in the one that is not over
+pub record IdleTimeoutValue : Type 0 where
+  pub quarters : ℕ
+  pub has_moved : Bool
+
+-- the timeout of a client that has just come
+abbrev pub new_idle_timeout : IdleTimeoutValue
+new_idle_timeout = record { quarters = 0; has_moved = true }
+
+-- the timeout once the quarter is over
+abbrev pub after_quarter : IdleTimeoutValue → IdleTimeoutValue
+after_quarter timeout = record { quarters = if timeout.has_moved then 0 else min (timeout.quarters + 1) 4294967295; has_moved = false }
+
+-- What a client has not taken of its replies, and which clients are ended for it.
 
 -- for how long the client takes no byte, and what the records weigh that its reply keeps
 pub record UnreadValue : Type 0 where

@@ -46,8 +46,8 @@ pub struct StreamCounters {
     pub input: Arc<InputCounters>,
     /// The position up to which rounds have taken the stream, where they note that.
     pub taken: Option<Arc<ShownMark>>,
-    /// The position that its writer was sent last, if its writers are sent positions.
-    pub told: Option<Arc<Counter>>,
+    /// The position that its publisher was sent last, if its publishers are sent positions.
+    pub sent: Option<Arc<Counter>>,
     /// The status of the stream, where it is noted.
     pub status: Option<Arc<StreamStatus>>,
     /// How many bytes the stream's file has, if it is one that ends.
@@ -231,7 +231,7 @@ impl<S: Source + Drop> Source for CountingSource<S> {
 
     ghost may_end = { S.may_end };
 
-    ghost looks = { λ counting. S.looks counting.source };
+    ghost polls = { λ counting. S.polls counting.source };
 
     fn take_some(&mut self, line: &mut LineBuffer) -> io::Result<Piece> {
         let before = line.len();

@@ -4,16 +4,12 @@ ghost use Rattle.std.specs.Prelude.{◌≡◌, ◌+◌, ◌≤◌, false, map, i
 ghost use Rattle.pn_live.specs.Prelude.{tablets_in, tablets_of, IsNewLive};
 ghost use Rattle.pn_stream.specs.Brokers.{IsHonest};
 ghost use Rattle.pn_stream.specs.Prelude.{BrokerRecord};
-ghost use Rattle.pn_serve.specs.declared.server.limits.TheConstants.{MAX_SESSIONS};
+ghost use Rattle.pn_serve.specs.declared.server.session_threads.TheConstants.{MAX_SESSIONS};
 ghost use Rattle.pn_live.specs.declared.region.opening.TheConstants.{MAX_READERS};
-ghost use Rattle.pn_serve.specs.Server.Events.{ReadsBesides};
-ghost use Rattle.pn_serve.specs.Server.Honest.{AreHonestWriters};
-ghost use Rattle.pn_serve.specs.Server.Reading.{ReadsStreams};
-ghost use Rattle.pn_serve.specs.Server.Sent.{IsSent};
-ghost use Rattle.pn_serve.specs.Server.Sessions.{AllRead};
+ghost use Rattle.pn_serve.specs.Server.Events.{ReadsBesides, ReadsStreams, AllRead};
+ghost use Rattle.pn_serve.specs.Server.Publishers.{AreHonestPublishers, IsSent};
 
 mod accepting;
-mod control_buffers;
 mod control_client;
 mod control_threads;
 pub(crate) mod ending;
@@ -59,7 +55,7 @@ impl Model for StayingServer {
     ghost use Rattle.std.specs.Prelude.{◌≡◌, ◌+◌, ◌≤◌, is_some, vec_len, vec_capacity, All};
     ghost use Rattle.pn_apply.specs.declared.reducing.TheConstants.{MAX_WORKERS};
     ghost use Rattle.pn_live.specs.Prelude.{tablets_in, tablets_of};
-    ghost use Rattle.pn_serve.specs.Server.Sessions.{AllRead};
+    ghost use Rattle.pn_serve.specs.Server.Events.{AllRead};
     ghost use Rattle.pn_stay.specs.Servers.{ServerValue, server_code};
 
     ghost Value = { ServerValue };
@@ -123,9 +119,9 @@ impl StayingServer {
         ensures alone { self.old.controlled ≡ false → ReadsStreams (IsSent M.known M.sends) (map (λ stream. stream.name) streams.items)
             self.old.live self.new.live result }
         ensures reads { ReadsBesides (IsSent M.known M.sends) (map (λ stream. stream.name) streams.items) self.old.live self.new.live result }
-        ensures honest { (broker : BrokerRecord) → M.known → AreHonestWriters broker M.sends
+        ensures honest { (broker : BrokerRecord) → M.known → AreHonestPublishers broker M.sends
             → ReadsBesides (IsHonest broker) (map (λ stream. stream.name) streams.items) self.old.live self.new.live result }
-        ensures honest_alone { self.old.controlled ≡ false → (broker : BrokerRecord) → M.known → AreHonestWriters broker M.sends
+        ensures honest_alone { self.old.controlled ≡ false → (broker : BrokerRecord) → M.known → AreHonestPublishers broker M.sends
             → ReadsStreams (IsHonest broker) (map (λ stream. stream.name) streams.items) self.old.live self.new.live result }
         ensures threads { self.new.threads ≡ self.old.threads }
         ensures controlled { self.new.controlled ≡ self.old.controlled }

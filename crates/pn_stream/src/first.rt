@@ -1,9 +1,9 @@
-//! The first message of a writer, which may come again.
+//! The first message of a publisher, which may come again.
 
 ghost use Rattle.std.specs.Prelude.{◌≡◌, ◌+◌, ◌<◌, ◌≤◌, [], ◌∷◌, ◌++◌, IfOk, IfErr, IfSome, OnOk, OnErr, IsErrOf};
 ghost use Rattle.pn_join.specs.declared.marks.TheConstants.{LAST_POSITION};
 ghost use Rattle.pn_stream.specs.Batches.{IsPart, part_of};
-ghost use Rattle.pn_stream.specs.Resuming.{IsFirst, StandsFirst};
+ghost use Rattle.pn_stream.specs.Calls.{IsFirst, StandsFirst};
 ghost use Rattle.pn_stream.specs.Streams.{NoLine, IsLeft};
 
 use crate::fault::{ResumeFault, StreamFault};

@@ -2,9 +2,8 @@
 
 ghost use Rattle.std.specs.Prelude.{◌≡◌, ◌≢◌, ℕ, ◌+◌, ◌<◌, ◌≤◌, false, [], ◌++◌, length, IfOk, IfErr, IfSome, OnOk, OnErr, IsErrOf, IsTrue};
 ghost use Rattle.pn_join.specs.declared.marks.TheConstants.{LAST_POSITION};
-ghost use Rattle.pn_stream.specs.Steps.{line_ended, message_due};
-ghost use Rattle.pn_stream.specs.MessageLines.{IsMessageLine};
-ghost use Rattle.pn_stream.specs.Faults.{Refuses, Stands};
+ghost use Rattle.pn_stream.specs.Streams.{line_ended, message_due, Refuses, Stands};
+ghost use Rattle.pn_stream.specs.Messages.{IsMessageLine};
 ghost use Rattle.pn_stream.specs.Batches.{Batch, IsPart, IsNext, IsTaken, part_of};
 
 use crate::fault::StreamFault;

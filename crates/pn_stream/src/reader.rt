@@ -2,15 +2,14 @@
 
 ghost use Rattle.std.specs.Prelude.{◌≡◌, ◌+◌, ◌≤◌, [], ◌++◌, length, min, IfOk, IfErr, IfSome, OnOk, IsErrOf, IsTrue};
 ghost use Rattle.pn_record.specs.Prelude.{max_line_bytes};
-ghost use Rattle.pn_stream.specs.Calls.{GivesUp, IsCall, Takes};
-ghost use Rattle.pn_stream.specs.Positions.{are_positions};
-ghost use Rattle.pn_stream.specs.Resuming.{IsFirst, IsResumed, StandsFirst};
+ghost use Rattle.pn_stream.specs.Calls.{GivesUp, IsCall, Takes, IsFirst, IsResumed, StandsFirst};
+ghost use Rattle.pn_stream.specs.Brokers.{are_positions};
 ghost use Rattle.pn_stream.specs.Streams.{NoLine, IsLeft};
 
-use crate::delivery::Delivery;
 use crate::fault::{ResumeFault, StreamFault};
 use crate::first::first_message;
 use crate::memory::{NoWait, ReaderMemory};
+use crate::message::Delivery;
 use crate::next::{BatchSize, next_images};
 use pn_join::{LAST_POSITION, StreamName};
 use pn_line::{LineBuffer, Source};
@@ -116,7 +115,7 @@ impl<S: Source + Drop> StreamReader<S> {
         self.next_of_size(&NoWait::new(self.alloc), size)
     }
 
-    /// The first message of a writer, for which it waits. It may have any position from 1 to one past `position`, and
+    /// The first message of a publisher, for which it waits. It may have any position from 1 to one past `position`, and
     /// the reader goes on after it. Without a whole line there is none, and the part of one is kept.
     ///
     /// Faults come as from `next_batch`, but that a message of a greater position is a gap. A message that memory runs out

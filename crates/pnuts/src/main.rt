@@ -3,8 +3,8 @@
 
 ghost use Rattle.std.specs.Prelude.{◌≤◌, vec_len, IfOk, IfSome};
 ghost use Rattle.pn_live.specs.Prelude.{tablets_in};
-ghost use Rattle.pn_serve.specs.declared.server.limits.TheConstants.{MAX_SESSIONS};
-ghost use Rattle.pn_serve.specs.Server.Sessions.{AllRead};
+ghost use Rattle.pn_serve.specs.declared.server.session_threads.TheConstants.{MAX_SESSIONS};
+ghost use Rattle.pn_serve.specs.Server.Events.{AllRead};
 
 mod addresses;
 mod copies;
@@ -12,22 +12,20 @@ mod descriptors;
 mod failures;
 mod inputs;
 mod scripts;
-mod sessions;
-mod staying;
+mod servers;
 
 use crate::copies::{close_copies, start_from_copies};
 use crate::descriptors::check_descriptors;
 use crate::failures::fail;
 use crate::inputs::{Notes, Streams, open_acceptor, open_streams, refuse_start};
 use crate::scripts::{check_input, replay};
-use crate::sessions::serve_streams;
-use crate::staying::{answer_on, fail_to_stay, start_server};
+use crate::servers::{answer_on, fail_to_stay, serve_streams, start_server};
 use pn_arguments::{Plan, PlanFault, Service, plan};
 use pn_join::Name;
 use pn_serve::{OpenedRegion, Settings, StreamPath};
 use pn_stay::{
     Counters, MessagePrinter, Messages, Shortages, SocketAcceptor, SocketFile, message_prefix,
-    remove_sockets, tell_progress,
+    print_progress, remove_sockets,
 };
 use std::alloc::AllocError;
 use std::env::Env;
@@ -90,7 +88,7 @@ where
         return true;
     }
     let host = *rt;
-    thread::spawn(rt, move || tell_progress(&host, host.alloc(), &counters)).is_ok()
+    thread::spawn(rt, move || print_progress(&host, host.alloc(), &counters)).is_ok()
 }
 
 // Starts the thread that prints messages about streams, where there are any. Whether the system gave it.

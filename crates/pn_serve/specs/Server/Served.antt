@@ -1,14 +1,14 @@
 -- How serving ends.
 use Rattle.std.specs.Prelude.{◌≡◌, ◌⊎◌, ℕ, List, All, Contains, Option, Result, Ok, Err}
 use Rattle.pn_stream.specs.Batches.{Stream}
-use Rattle.pn_stream.specs.Positions.{DeliveryValue}
+use Rattle.pn_stream.specs.Brokers.{DeliveryValue}
 use Rattle.pn_live.specs.LiveRegions.{LiveRegionValue}
-use Rattle.pn_serve.specs.Server.Faults.{names_of}
-use Rattle.pn_serve.specs.Server.Reading.{ReadToEnds, ReadUpTo}
-use Rattle.pn_serve.specs.Server.Whole.{IsTakenWhole}
-use Rattle.pn_serve.specs.declared.server.fault.ServeFault.{ServeFault}
+use Rattle.pn_serve.specs.Server.Reports.{names_of}
+use Rattle.pn_serve.specs.Server.Events.{ReadToEnds, ReadUpTo}
+use Rattle.pn_serve.specs.Server.Publishers.{IsTakenWhole}
+use Rattle.pn_serve.specs.declared.server.fault_log.ServeFault.{ServeFault}
 use Rattle.pn_serve.specs.declared.server.mailboxes.AtFault.TheVariants.{Stop}
-use Rattle.pn_serve.specs.declared.server.fault.ServeFault.TheVariants.{Start, Stream as of_stream, Round, Close, Write}
+use Rattle.pn_serve.specs.declared.server.fault_log.ServeFault.TheVariants.{Start, Stream as of_stream, Round, Close, Write}
 
 -- where all deliveries are such
 module _ (P : DeliveryValue → Type 0) {S : Type 0} (left : S → Option (List ℕ)) where

@@ -2,8 +2,7 @@
 
 ghost use Rattle.std.specs.Prelude.{◌≡◌, ℕ, List, Option, length, IfOk, IfSome};
 ghost use Rattle.pn_live.specs.Prelude.{tablets_in};
-ghost use Rattle.pn_serve.specs.Control.Answers.{IsGiven, question_of};
-ghost use Rattle.pn_serve.specs.Control.Commands.{answer_of};
+ghost use Rattle.pn_serve.specs.Control.Commands.{IsGiven, question_of, answer_of};
 ghost use Rattle.pn_serve.specs.Server.Events.{ToldAll};
 ghost use Rattle.pn_serve.specs.Server.Rounds.{RoundInputValue};
 ghost use Rattle.pn_serve.specs.declared.server.mailboxes.AtFault.{AtFault};
@@ -14,7 +13,7 @@ use crate::control::held_command::HeldCommand;
 use crate::control::log_watch::LogWatch;
 use crate::control::stop::{StopRequest, StopSaid, StopTime};
 use crate::server::mailboxes::{StreamMailbox, show_marks};
-use crate::server::texts::Sending;
+use crate::server::publishers::Sending;
 use crate::server::wakeup::Wakeup;
 use pn_live::LiveRegion;
 use std::alloc::{AllocError, Global};
@@ -135,7 +134,7 @@ impl ControlMailboxes {
     }
 
     /// Does one command of each session that asks, and notes the log. The marks of these streams are shown before a session is
-    /// answered, so that a writer that comes after the reply begins after them.
+    /// answered, so that a publisher that comes after the reply begins after them.
     pub(crate) fn obey_all<R: Wait, M: Sending>(
         &self,
         rt: &R,

@@ -2,16 +2,13 @@
 
 ghost use Rattle.std.specs.Prelude.{◌≡◌, [], ◌∷◌, ◌++◌, map, vec_len, IfOk, IfSome, OnOk};
 ghost use Rattle.pn_serve.specs.Server.Reports.{name_in};
-ghost use Rattle.pn_serve.specs.Server.SentReports.{IsSentReport};
+ghost use Rattle.pn_serve.specs.Server.Publishers.{IsSentReport};
 
-use crate::server::counter::Counter;
-use crate::server::held_report::{ClosedMailbox, LeftReport};
-use crate::server::kept_report::KeptReport;
-use crate::server::reporter::Reporter;
-use crate::server::reports::Report;
+use crate::server::held_report::{ClosedMailbox, KeptReport, LeftReport};
+use crate::server::publishers::Sending;
+use crate::server::reports::{Report, Reporter};
 use crate::server::shown_mark::ShownMark;
-use crate::server::texts::Sending;
-use crate::server::times::TimeCounters;
+use crate::server::times::{Counter, TimeCounters};
 use crate::server::wakeup::{Waited, Wakeup};
 use crate::shared::share;
 use pn_join::{Marks, StreamName};

@@ -18,7 +18,7 @@ use std::time::{Clock, Duration, Instant};
 /// How many milliseconds the writer waits for a command before it looks at the threads again.
 const STEP: u64 = 10;
 
-/// For how many milliseconds at most a stop goes on until each writer of a stream was sent the position that was taken.
+/// For how many milliseconds at most a stop goes on until each publisher of a stream was sent the position that was taken.
 const TELLING: u64 = 200;
 
 /// For how many milliseconds control sessions may end also where no time is left.
@@ -60,7 +60,7 @@ impl Stage {
 }
 
 impl Stopping {
-    /// Accepts no connection from now on. Waits until the lines that have come are answered and each writer was sent the position
+    /// Accepts no connection from now on. Waits until the lines that have come are answered and each publisher was sent the position
     /// that was taken, or the time is over, and ends control sessions then. What they ask for is done meanwhile.
     pub(super) fn run<R: Wait + Clock>(
         &self,
@@ -81,7 +81,7 @@ impl Stopping {
     // The threads learn of the stop first. Otherwise the one that accepts would take the end of its socket for a fault.
     fn end_connections<R: Wait>(&self, rt: &R) {
         for mailbox in self.mailboxes.iter() {
-            let _ = mailbox.tell_stop(rt);
+            let _ = mailbox.wake_to_stop(rt);
         }
         self.listener.stop();
     }
@@ -143,13 +143,13 @@ impl Stopping {
         }
     }
 
-    // Whether all threads that answer connections have ended, and each writer was sent the position that was taken, or has had its
+    // Whether all threads that answer connections have ended, and each publisher was sent the position that was taken, or has had its
     // time for that.
     fn have_connections_ended<R: Wait + Clock>(&self, rt: &R, began: &Option<Instant>) -> bool {
         have_ended(rt, &self.mailboxes) && (self.are_told(rt) || has_passed(rt, began, TELLING))
     }
 
-    // Whether each writer was sent the position that was taken of its stream.
+    // Whether each publisher was sent the position that was taken of its stream.
     fn are_told<R: Wait>(&self, rt: &R) -> bool {
         for stream in self.counters.streams.iter() {
             if is_behind(rt, stream) {
@@ -175,7 +175,7 @@ impl Stopping {
             client.cut(rt);
         }
         for mailbox in self.mailboxes.iter() {
-            let _ = mailbox.tell_cut(rt);
+            let _ = mailbox.wake_to_cut(rt);
         }
         for _ in 0..CUTTING / CUT_STEP {
             if are_silent(rt, &self.mailboxes) {
@@ -186,10 +186,10 @@ impl Stopping {
     }
 }
 
-// Whether the writer of a stream was not yet sent the position that was taken.
+// Whether the publisher of a stream was not yet sent the position that was taken.
 fn is_behind<R: Wait>(rt: &R, stream: &StreamCounters) -> bool {
-    match (&stream.taken, &stream.told, &stream.status) {
-        (Some(taken), Some(told), Some(status)) => told.get() < taken.get() && status.is_open(rt),
+    match (&stream.taken, &stream.sent, &stream.status) {
+        (Some(taken), Some(sent), Some(status)) => sent.get() < taken.get() && status.is_open(rt),
         _ => false,
     }
 }

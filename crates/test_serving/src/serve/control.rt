@@ -120,7 +120,7 @@ fn two_streams(alloc: Global) -> Result<Vec<StreamStats>, NoMemory> {
     Ok(streams)
 }
 
-// A stream whose last writer had a fault.
+// A stream whose last publisher had a fault.
 fn failed_stream(alloc: Global) -> Result<StreamStats, NoMemory> {
     let name = Name::read(b"east").ok().ok_or(NoMemory)?;
     let path = String::from_str(alloc, "./east")?;
@@ -141,7 +141,7 @@ fn failed_stream(alloc: Global) -> Result<StreamStats, NoMemory> {
     })
 }
 
-// A stream to which no writer has come.
+// A stream to which no publisher has come.
 fn new_stream(alloc: Global) -> Result<StreamStats, NoMemory> {
     let name = Name::read(b"west").ok().ok_or(NoMemory)?;
     let path = String::from_str(alloc, "./west")?;

@@ -4,7 +4,7 @@ use crate::reading::{first_message, open_new, readers_of};
 use crate::serve::copies::open_text;
 use pn_join::NoMemory;
 use pn_live::LiveReader;
-use pn_serve::{Acceptor, AnyWriters, Counter, FaultLog, ServeFault, WriterEnd, serve};
+use pn_serve::{Acceptor, AnyPublishers, Counter, FaultLog, PublisherEnd, ServeFault, serve};
 use std::alloc::{AllocError, Global};
 use std::io::BufReader;
 use std::net::{Net, SocketAddr, TcpListener, TcpStream};
@@ -206,7 +206,7 @@ where
 {
     let streams = readers_of(alloc, messages)?;
     let opened = open_new(rt, alloc)?;
-    Some(serve::<_, _, _, _, AnyWriters>(rt, alloc, listener, opened, 1, streams, written))
+    Some(serve::<_, _, _, _, AnyPublishers>(rt, alloc, listener, opened, 1, streams, written))
 }
 
 fn second_message() -> &'static str {
@@ -229,7 +229,7 @@ where
 {
     let streams = readers_of(alloc, first_message())?;
     let opened = open_text(rt, alloc, 1, first_copy(), 1).ok()?;
-    Some(serve::<_, _, _, _, AnyWriters>(rt, alloc, listener, opened, 1, streams, written))
+    Some(serve::<_, _, _, _, AnyPublishers>(rt, alloc, listener, opened, 1, streams, written))
 }
 
 fn add_faults<R: Wait>(rt: &R, text: &mut String, faults: &FaultLog) -> Result<(), AllocError> {
@@ -239,10 +239,10 @@ fn add_faults<R: Wait>(rt: &R, text: &mut String, faults: &FaultLog) -> Result<(
     Ok(())
 }
 
-fn add_fault(text: &mut String, end: &WriterEnd) -> Result<(), AllocError> {
+fn add_fault(text: &mut String, end: &PublisherEnd) -> Result<(), AllocError> {
     match end {
-        WriterEnd::End => Ok(()),
-        WriterEnd::Fault {
+        PublisherEnd::End => Ok(()),
+        PublisherEnd::Fault {
             fault,
             position,
             line,

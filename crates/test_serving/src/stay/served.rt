@@ -3,7 +3,7 @@
 use crate::reading::{Script, first_message, open_new, readers_of, settings, stream_of};
 use crate::serve::loopback::{Served, outcome};
 use crate::stay::talks::{At, Told, flood, talk};
-use pn_serve::{AnyWriters, Counter, Stream, serve};
+use pn_serve::{AnyPublishers, Counter, Stream, serve};
 use pn_stay::{Counters, Listener, MemoryMeter, OWNER_ALONE, SocketAcceptor, StayingServer};
 use std::alloc::{AllocError, Global};
 use std::fs::{File, Files};
@@ -141,7 +141,7 @@ where
     let readers = readers_of(alloc, first_message())?;
     let opened = open_new(rt, alloc)?;
     let mut written = Vec::new(alloc);
-    let ended = serve::<_, _, _, _, AnyWriters>(
+    let ended = serve::<_, _, _, _, AnyPublishers>(
         rt,
         alloc,
         acceptor,

@@ -3,8 +3,8 @@ use Rattle.std.proofs.Common.{◌≡◌, Bor, Bool, ℕ, List, [], ◌∷◌, �
 use Rattle.std.proofs.lemmas.List.{append_assoc, at_drop_more, map-append}
 use Rattle.pn_json.specs.Members.{texts}
 use Rattle.pn_json.specs.Answers.{◌>>=◌}
-use Rattle.pn_protocol.proofs.Walks.{onto}
-use Rattle.pn_arguments.specs.Streams.{StreamValue, each_stream, stream_in, stream_value}
+use Rattle.pn_protocol.proofs.CommandLimits.{onto}
+use Rattle.pn_arguments.specs.OptionTexts.{StreamValue, each_stream, stream_in, stream_value}
 use Rattle.pn_arguments.specs.declared.faults.OptionFault.{OptionFault}
 use Rattle.pn_arguments.proofs.streams.each_of.Goals as goal
 

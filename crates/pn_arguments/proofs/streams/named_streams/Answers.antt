@@ -4,9 +4,9 @@ use Rattle.std.specs.Prelude.{unwrap_or}
 use Rattle.clap.proofs.WalkLemmas.{raw_values-rows}
 use Rattle.clap.specs.Matches.{found_of}
 use Rattle.pn_json.specs.Answers.{ShowsUnless}
-use Rattle.pn_arguments.specs.Streams.{stream_value, streams_in}
+use Rattle.pn_arguments.specs.OptionTexts.{stream_value, streams_in}
 use Rattle.pn_arguments.specs.declared.faults.OptionFault.TheVariants as fault
-use Rattle.pn_serve.specs.declared.server.stream_path.StreamPath.{StreamPath}
+use Rattle.pn_serve.specs.declared.server.publishers.StreamPath.{StreamPath}
 use Rattle.pn_arguments.proofs.streams.named_streams.Goals as goal
 
 pub returns-in-Some : goal.returns-in-Some

@@ -1,9 +1,9 @@
--- The members of what is told follow one another.
+-- The members of a report follow one another.
 use Rattle.std.proofs.Common.{ℕ, List, Option, codes}
 use Rattle.serde_json.specs.Data.{Data, number, object, string, unsigned, member, no_members}
 use Rattle.pn_json.specs.Members.{seen_text}
 use Rattle.pn_json.specs.Tokens.{value_tokens}
-use Rattle.pn_json.proofs.TokenLists.{appends_token, appends_both, appends_as}
+use Rattle.pn_json.proofs.AppendedTexts.{appends_token, appends_both, appends_as}
 use Rattle.pn_check.specs.Told.{text_or_null, told_data}
 use Rattle.pn_check.proofs.told.write_fault.Goals as goal
 

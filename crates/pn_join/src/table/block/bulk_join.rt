@@ -4,8 +4,7 @@ ghost use Rattle.std.specs.Prelude.{◌≡◌, ◌≢◌, Some, None, option_map
 ghost use Rattle.std.specs.Option.{option_copied};
 ghost use Rattle.pn_join.specs.Edits.{FitLeaves, IsAimed};
 ghost use Rattle.pn_join.specs.Leaves.{all_entries, IsLeafList};
-ghost use Rattle.pn_join.specs.TableChanges.{Changes};
-ghost use Rattle.pn_join.specs.Tables.{optional_joined};
+ghost use Rattle.pn_join.specs.Tables.{Changes, optional_joined};
 
 use super::Block;
 use crate::table::change::{TableChange, dup_optional};

@@ -1,10 +1,9 @@
 //! Takes blocks out of a list to be edited, and puts them back: all with their edits, or all as they were.
 
 ghost use Rattle.std.specs.Prelude.{◌≡◌, ◌+◌, ◌<◌, ◌≤◌, [], false, length, get_or, vec_len, vec_capacity, IsTrue, IfOk, OnErr};
-ghost use Rattle.pn_join.specs.BlockEdits.{changes_in_blocks, AreAimedAtBlocks};
+ghost use Rattle.pn_join.specs.Edits.{changes_in_blocks, AreAimedAtBlocks, changes_in, AreAimed};
 ghost use Rattle.pn_join.specs.Blocks.{in_blocks, AreBlocks};
-ghost use Rattle.pn_join.specs.Edits.{changes_in, AreAimed};
-ghost use Rattle.pn_join.specs.TableChanges.{AreValid, puts};
+ghost use Rattle.pn_join.specs.Tables.{AreValid, puts};
 ghost use Rattle.pn_join.specs.TakenBlocks.{filled, was, becomes, ArePut, AreWithin, IsTaken, StayTaken};
 
 use crate::table::block::{OpenBlock, Opening};

@@ -1,6 +1,6 @@
 use Rattle.std.proofs.Common.{◌≤◌, ◌<◌, rules, arith}
 use Rattle.pn_line.specs.declared.line_buffer.TheConstants.{MAX_LINE_BYTES}
-use Rattle.pn_line.proofs.ReadLaws.{Takes-trans, known_before}
+use Rattle.pn_line.proofs.LineLaws.{Takes-trans, known_before}
 use Rattle.pn_line.proofs.reading.read_bounded_line.Goals as goal
 
 pub pieces-preserved : goal.pieces-preserved

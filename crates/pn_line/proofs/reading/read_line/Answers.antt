@@ -1,6 +1,6 @@
 use Rattle.std.proofs.Common.{◌≡◌, ◌<◌, refl, rules, arith}
 use Rattle.pn_line.specs.declared.line_buffer.TheConstants.{ENDLESS}
-use Rattle.pn_line.proofs.ReadLaws.{Takes-trans, known_before, on_any}
+use Rattle.pn_line.proofs.LineLaws.{Takes-trans, known_before, on_any}
 use Rattle.pn_line.proofs.reading.read_line.Goals as goal
 
 pub pieces-preserved : goal.pieces-preserved
@@ -8,7 +8,7 @@ pieces-preserved g c =
     let more = c.in_ok-take_some.ensures.takes.grows c.in-Part.is in record {
       takes = Takes-trans c.pieces.invariant.takes (rw c.in-Part.is at c.in_ok-take_some.ensures.takes.takes);
       grows = omega arith;
-      looks = omega (arith, c.in_ok-take_some.ensures.looks);
+      polls = omega (arith, c.in_ok-take_some.ensures.polls);
     }
 
 pub returns-in-Ended-clause-reads : goal.returns-in-Ended-clause-reads

@@ -1,7 +1,7 @@
 -- A run ends as the engine for lines does.
 use Rattle.std.proofs.Common.{subst, sym, ◌∙◌}
 use Rattle.std.specs.Prelude.{Result, IfErr, IfOk, OnOk, ◌≢◌, ◌≤◌}
-use Rattle.pn_serve.specs.Lines.Waiting.{HandsOn}
+use Rattle.pn_serve.specs.Lines.{Flushes}
 use Rattle.pn_serve.specs.declared.script.Counts.{Counts}
 use Rattle.pn_serve.specs.declared.script.RunFault.{RunFault}
 use Rattle.pn_serve.specs.declared.script.RunFault.TheVariants.{Memory}
@@ -22,7 +22,7 @@ pub returns-clause-few : goal.returns-clause-few
 returns-clause-few g c = subst (λ (r : Result Counts RunFault). IfOk r (λ counts. counts.lines ≤ MAX_LINES)) (sym c.end_run.ensures) (run_few c.answer_lines.result c.answer_lines.ensures.few)
 
 pub returns-clause-out : goal.returns-clause-out
-returns-clause-out g c = subst (λ (r : Result Counts RunFault). HandsOn r (g.W.Sink.is_handed_on c.answer_lines.new.output)) (sym c.end_run.ensures) (run_out _ c.answer_lines.result c.answer_lines.ensures.out)
+returns-clause-out g c = subst (λ (r : Result Counts RunFault). Flushes r (g.W.Sink.is_flushed c.answer_lines.new.output)) (sym c.end_run.ensures) (run_out _ c.answer_lines.result c.answer_lines.ensures.out)
 
 pub returns-clause-end : goal.returns-clause-end
 returns-clause-end g c = subst (λ (r : Result Counts RunFault). OnOk r g.S.Source.may_end) (sym c.end_run.ensures) (run_end _ _ _ _ c.answer_lines.result c.answer_lines.ensures.can)

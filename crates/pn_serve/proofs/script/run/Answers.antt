@@ -1,5 +1,5 @@
 -- A run from a new region on.
-use Rattle.pn_serve.specs.Machine.Answers.{Answers, Concludes}
+use Rattle.pn_serve.specs.Machine.Turns.{Answers, Concludes}
 use Rattle.pn_serve.proofs.Ending.{run_ends}
 use Rattle.pn_serve.proofs.Scripts.{as_script}
 use Rattle.pn_serve.proofs.script.run.Goals as goal

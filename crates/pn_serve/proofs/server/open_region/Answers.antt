@@ -1,5 +1,5 @@
 -- New readers of a live region are its own.
-use Rattle.pn_serve.proofs.Owned.{own_new}
+use Rattle.pn_serve.proofs.Knowing.{own_new}
 use Rattle.pn_serve.proofs.server.open_region.Goals as goal
 
 pub returns-in-Ok-clause-own : goal.returns-in-Ok-clause-own

@@ -1,6 +1,6 @@
 -- The message that was read alone is a batch of one.
 use Rattle.std.proofs.Common.{refl, sym}
-use Rattle.pn_stream.proofs.FirstMessage.{Batch-first}
+use Rattle.pn_stream.proofs.Runs.{Batch-first}
 use Rattle.pn_stream.proofs.first.first_message.Goals as goal
 
 pub returns-clause-first : goal.returns-clause-first

@@ -1,9 +1,9 @@
 -- The tablet was looked into.
 use Rattle.std.proofs.Common.{length, ◌≤◌, ap, arith}
-use Rattle.pn_scan.specs.Parts.{part_at}
+use Rattle.pn_scan.specs.Paging.{part_at}
 use Rattle.pn_scan.specs.Views.{rows_at}
 use Rattle.pn_live.specs.Readers.{LiveReaderValue}
-use Rattle.pn_live.proofs.Entering.{reader_within, still_tablet_readers, looked_once}
+use Rattle.pn_live.proofs.Knowing.{reader_within, still_tablet_readers, looked_once}
 use Rattle.pn_live.proofs.reader.LiveReaderView.part.Goals as goal
 
 pub index_mut-requires : goal.index_mut-requires

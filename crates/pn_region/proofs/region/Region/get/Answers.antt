@@ -2,10 +2,10 @@
 use Rattle.std.proofs.Common.{ap, subst}
 use Rattle.std.specs.Borrow.{Bor}
 use Rattle.pn_json.specs.Answers.{ShowsUnless}
-use Rattle.pn_scan.specs.declared.fault.ScanFault.TheVariants as fault
+use Rattle.pn_scan.specs.declared.view.ScanFault.TheVariants as fault
 use Rattle.pn_region.proofs.Common.{LoggedRegion, IsRegion, get_in}
 use Rattle.pn_region.proofs.ReadLaws.{get_entered}
-use Rattle.pn_region.proofs.Reading.{get_tells, get_read}
+use Rattle.pn_region.proofs.Standing.{get_tells, get_read}
 use Rattle.pn_region.proofs.region.Region.get.Goals as goal
 
 pub returns-clause-get : goal.returns-clause-get

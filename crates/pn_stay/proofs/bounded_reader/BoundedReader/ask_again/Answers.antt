@@ -1,13 +1,13 @@
 -- The line waits on, or is asked again.
 use Rattle.std.proofs.Common.{sym, subst, ◌∙◌, arith}
 use Rattle.pn_lines.specs.Answers.{answer_of}
-use Rattle.pn_lines.specs.declared.handler.Answer.TheVariants.{Going as GoesOn}
+use Rattle.pn_lines.specs.declared.handler.LineOutcome.TheVariants.{Pending as GoesOn}
 use Rattle.pn_live.specs.Readers.{LiveReaderValue}
-use Rattle.pn_serve.specs.Lines.Handled.{pieces_left}
-use Rattle.pn_serve.specs.Proofs.Steady.{knows_itself}
-use Rattle.pn_serve.specs.Session.Knowing.{KnowsNoLess}
+use Rattle.pn_serve.specs.Lines.{pieces_left}
+use Rattle.pn_serve.specs.Proofs.{knows_itself}
+use Rattle.pn_serve.specs.Session.Resuming.{KnowsNoLess}
 use Rattle.pn_stay.specs.Looks.{AsksAgain}
-use Rattle.pn_stay.specs.declared.bounded_reader.Look.TheVariants.{PutOff}
+use Rattle.pn_stay.specs.declared.bounded_reader.BoundedLookup.TheVariants.{PutOff}
 use Rattle.pn_stay.proofs.Looks.{asks_under, left_begun, waits_on}
 use Rattle.pn_stay.proofs.bounded_reader.BoundedReader.ask_again.Goals as goal
 

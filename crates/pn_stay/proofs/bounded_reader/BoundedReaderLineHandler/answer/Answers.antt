@@ -2,8 +2,8 @@
 use Rattle.std.proofs.Common.{subst}
 use Rattle.pn_lines.specs.Answers.{AnswersBy, answer_of}
 use Rattle.pn_live.specs.Readers.{LiveReaderValue}
-use Rattle.pn_serve.specs.Lines.Handled.{pieces_left}
-use Rattle.pn_serve.specs.Session.Knowing.{KnowsNoLess}
+use Rattle.pn_serve.specs.Lines.{pieces_left}
+use Rattle.pn_serve.specs.Session.Resuming.{KnowsNoLess}
 use Rattle.pn_stay.specs.Looks.{bounded_reads}
 use Rattle.pn_stay.proofs.Looks.{begins_under}
 use Rattle.pn_stay.proofs.bounded_reader.BoundedReaderLineHandler.answer.Goals as goal

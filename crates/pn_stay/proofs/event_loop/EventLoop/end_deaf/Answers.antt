@@ -2,9 +2,8 @@
 use Rattle.std.proofs.Common.{◌≤◌, length, ⊎_elim, arith}
 use Rattle.std.proofs.lemmas.Bool.{cases_lt}
 use Rattle.pn_stay.specs.Unread.{EndsDeaf}
-use Rattle.pn_stay.specs.UnreadClients.{unread_at}
-use Rattle.pn_stay.proofs.Keys.{done_more, rest_less}
-use Rattle.pn_stay.proofs.UnreadClients.{deaf_none, unread_past}
+use Rattle.pn_stay.specs.Loops.{unread_at}
+use Rattle.pn_stay.proofs.Keys.{done_more, rest_less, deaf_none, unread_past}
 use Rattle.pn_stay.proofs.event_loop.EventLoop.end_deaf.Goals as goal
 
 pub clients-preserved : goal.clients-preserved

@@ -1,6 +1,6 @@
 -- The client is ended, is to try again, or is not there.
 use Rattle.std.proofs.Common.{◌∙◌, None, Some, refl}
-use Rattle.pn_stay.proofs.UnreadClients.{deaf_by, same_told}
+use Rattle.pn_stay.proofs.Keys.{deaf_by, same_told}
 use Rattle.pn_stay.proofs.event_loop.EventLoop.end_deaf_at.Goals as goal
 
 pub returns-in-Some-clause-here : goal.returns-in-Some-clause-here

@@ -2,7 +2,7 @@
 use Rattle.std.proofs.Common.{inl, ⊎_elim, arith}
 use Rattle.std.proofs.lemmas.Bool.{cases_lt}
 use Rattle.pn_stay.specs.Unread.{EndsAt}
-use Rattle.pn_stay.specs.UnreadClients.{unread_at}
+use Rattle.pn_stay.specs.Loops.{unread_at}
 use Rattle.pn_stay.proofs.Keys.{done_more, rest_less}
 use Rattle.pn_stay.proofs.event_loop.EventLoop.end_longest.Goals as goal
 

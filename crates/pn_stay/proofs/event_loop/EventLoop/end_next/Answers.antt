@@ -1,6 +1,6 @@
 -- Those are ended that took nothing for longest, or none.
-use Rattle.pn_stay.specs.UnreadClients.{unread_at}
-use Rattle.pn_stay.proofs.EndsLongest.{ends_longest}
+use Rattle.pn_stay.specs.Loops.{unread_at}
+use Rattle.pn_stay.proofs.Keys.{ends_longest}
 use Rattle.pn_stay.proofs.event_loop.EventLoop.end_next.Goals as goal
 
 pub returns : goal.returns

@@ -1,6 +1,6 @@
 -- One round after another.
-use Rattle.pn_stay.specs.UnreadClients.{unread_at}
-use Rattle.pn_stay.proofs.EndsLongest.{ends_none, ends_on}
+use Rattle.pn_stay.specs.Loops.{unread_at}
+use Rattle.pn_stay.proofs.Keys.{ends_none, ends_on}
 use Rattle.pn_stay.proofs.event_loop.EventLoop.end_past.Goals as goal
 
 pub rounds-init : goal.rounds-init

@@ -2,7 +2,7 @@
 use Rattle.std.proofs.Common.{◌≤◌, length, ⊎_elim, arith}
 use Rattle.std.proofs.lemmas.Bool.{cases_lt}
 use Rattle.pn_stay.specs.Loops.{idle_at}
-use Rattle.pn_stay.proofs.Quarters.{idle_past, ends_none, ended_more, rest_less}
+use Rattle.pn_stay.proofs.Keys.{idle_past, none_in_quarter as ends_none, ended_more, quarters_left as rest_less}
 use Rattle.pn_stay.proofs.event_loop.EventLoop.end_quarter.Goals as goal
 
 pub quarters-preserved : goal.quarters-preserved

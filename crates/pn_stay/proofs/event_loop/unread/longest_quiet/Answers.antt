@@ -2,8 +2,8 @@
 use Rattle.std.proofs.Common.{◌≤◌, length, ap, ⊎_elim, arith}
 use Rattle.std.proofs.lemmas.Bool.{cases_lt}
 use Rattle.pn_stay.specs.Unread.{quiet_in}
-use Rattle.pn_stay.specs.UnreadClients.{quiet_at}
-use Rattle.pn_stay.proofs.UnreadClients.{most_more, some_more, unread_past}
+use Rattle.pn_stay.specs.Loops.{quiet_at}
+use Rattle.pn_stay.proofs.Keys.{most_more, some_more, unread_past}
 use Rattle.pn_stay.proofs.event_loop.unread.longest_quiet.Goals as goal
 
 pub clients-preserved : goal.clients-preserved

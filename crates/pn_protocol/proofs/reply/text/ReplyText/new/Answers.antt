@@ -1,6 +1,6 @@
 -- What each reply begins with, and what comes after that.
 use Rattle.std.proofs.Common.{◌++◌, ℕ, List, [], ◌∷◌, codes, zip, false, ap, ◌∙◌, append-nil}
-use Rattle.pn_json.specs.Lines.{line_of}
+use Rattle.pn_json.specs.Tokens.{line_of}
 use Rattle.pn_protocol.specs.Reply.Making.{rows_text}
 use Rattle.pn_protocol.specs.Reply.Short.{lines_data}
 use Rattle.pn_protocol.proofs.MadeReplies.{get_made, read_made}
