@@ -1,5 +1,5 @@
 -- The entries of a table, divided into leaves.
-use Rattle.std.specs.Prelude.{◌≡◌, ℕ, suc, ◌+◌, ◌^◌, ◌<◌, ◌≤◌, Bool, false, cond, List, [], ◌∷◌, length}
+use Rattle.std.specs.Prelude.{◌≡◌, ℕ, suc, ◌+◌, ◌-◌, ◌^◌, ◌<◌, ◌≤◌, Bool, false, cond, List, [], ◌∷◌, Option, length, slice_get}
 use Rattle.std.specs.declared.cmp.Ordering.{Ordering}
 use Rattle.std.specs.Ordering.{is_lt}
 use Rattle.std.specs.List.{AllByRecursion, flat_map}
@@ -13,6 +13,10 @@ all_entries leaves = flat_map (λ leaf. leaf) leaves
 -- at least one entry, and at most as many as a leaf may have
 abbrev pub IsLeaf : {A : Type 0} → List A → Type 0
 IsLeaf leaf = (0 < length leaf) × (length leaf ≤ MAX_LEAF_ENTRIES)
+
+-- the last element, if there is one
+abbrev pub last_of : {A : Type 0} → List A → Option A
+last_of elements = slice_get elements (length elements - 1)
 
 -- the leaves of a table
 pub record IsLeafList {K C : Type 0} (cmp : K → K → Ordering) (valid : C → Type 0) (leaves : List (List (K × C))) : Type 0 where

@@ -1,10 +1,10 @@
-pub mod BlockJoins
-pub mod BlockLeaves
+pub mod Counts
+pub mod Nodes
 pub mod Blocks
-pub mod BlockEdits
+pub mod PutAt
 pub mod Edits
 pub mod Laws
-pub mod LeafEntries
+pub mod Rows
 pub mod Openings
 pub mod Leaves
 pub mod Marks
@@ -13,7 +13,5 @@ pub mod Indices
 pub mod Prelude
 pub mod Proofs
 pub mod PutInLeaves
-pub mod LeafListChanges
 pub mod TableChanges
 pub mod Tables
-pub mod TakenBlocks

@@ -1,14 +1,34 @@
--- What opening a block for changes gives.
-use Rattle.std.specs.Prelude.{◌≡◌, List}
-use Rattle.std.specs.declared.cmp.Ordering.{Ordering}
-use Rattle.pn_join.specs.declared.table.block.opening.Opening.{Opening}
-use Rattle.pn_join.specs.declared.table.block.opening.Opening.TheVariants.{Open, Full, NoMemory}
-use Rattle.pn_join.specs.declared.table.change.TableChange.{TableChange}
+-- What opening a node for edits gives.
+use Rattle.std.specs.Prelude.{◌≡◌, ℕ, List, ◌++◌, reverse}
+use Rattle.pn_join.specs.declared.table.edit.Edit.{Edit}
+use Rattle.pn_join.specs.declared.table.node.Opening.{Opening}
+use Rattle.pn_join.specs.declared.table.node.Opening.TheVariants.{Open, Full, NoMemory}
+use Rattle.pn_join.specs.Edits.{put_in_turn, StopsBefore}
 use Rattle.pn_join.specs.Leaves.{all_entries}
-use Rattle.pn_join.specs.TableChanges.{puts}
 
--- the open block has these entries, and those with all changes; one that is not open has the same entries
-abbrev pub IsOpening : {K C : Type 0} → (K → K → Ordering) → List (K × C) → List (TableChange K C) → Opening K C → Type 0
-IsOpening cmp entries changes (Open block) = (block.0 ≡ entries) × (block.1 ≡ puts cmp entries changes)
-IsOpening cmp entries changes (Full block) = all_entries block ≡ entries
-IsOpening cmp entries changes (NoMemory block) = all_entries block ≡ entries
+-- a node is open for the last edits, down to the index of its first entry
+pub record IsOpened {K C O : Type 0} (was : O → List (List (K × C))) (becomes : O → List (K × C)) (start : ℕ) (node : List (List (K × C))) (edits left : List (Edit K C)) (open : O) : Type 0 where
+  pub mine : List (Edit K C)
+  pub parted : edits ≡ left ++ reverse mine
+  pub stops : StopsBefore start left
+  pub had : was open ≡ node
+  pub has : becomes open ≡ put_in_turn start (all_entries node) mine
+
+-- the last edits, down to an index, are put among entries of which the first has that index
+pub record AreOpened {K C : Type 0} (start : ℕ) (entries : List (K × C)) (edits left : List (Edit K C)) (now : List (K × C)) : Type 0 where
+  pub mine : List (Edit K C)
+  pub parted : edits ≡ left ++ reverse mine
+  pub stops : StopsBefore start left
+  pub has : now ≡ put_in_turn start entries mine
+
+-- the node is open for the last edits, or has the same leaves
+abbrev pub IsOpening : {K C T O : Type 0} → (T → List (List (K × C))) → (O → List (List (K × C))) → (O → List (K × C)) → ℕ → List (List (K × C)) → List (Edit K C) → List (Edit K C) → Opening T O → Type 0
+IsOpening leaves was becomes start node edits left (Open open) = IsOpened was becomes start node edits left open
+IsOpening leaves was becomes start node edits left (Full same) = leaves same ≡ node
+IsOpening leaves was becomes start node edits left (NoMemory same) = leaves same ≡ node
+
+-- the node is open for these edits, or has the same leaves
+abbrev pub IsOpeningFor : {K C T O : Type 0} → (T → List (List (K × C))) → (O → List (List (K × C))) → (O → List (K × C)) → ℕ → List (List (K × C)) → List (Edit K C) → Opening T O → Type 0
+IsOpeningFor leaves was becomes start node edits (Open open) = (was open ≡ node) × (becomes open ≡ put_in_turn start (all_entries node) edits)
+IsOpeningFor leaves was becomes start node edits (Full same) = leaves same ≡ node
+IsOpeningFor leaves was becomes start node edits (NoMemory same) = leaves same ≡ node

@@ -9,19 +9,18 @@ ghost use Rattle.pn_join.specs.Leaves.{all_entries, AreLeavesOf};
 ghost use Rattle.pn_join.specs.PutInLeaves.{ChangesOneLeaf};
 ghost use Rattle.pn_join.specs.TableChanges.{AreChanges};
 
-mod block;
-mod block_edits;
-mod block_entries;
-mod block_list;
-mod block_ref;
+mod bulk_join;
 mod change;
+mod counts;
 mod edit;
 mod entries;
-mod entry_counts;
 mod leaf;
 mod leaf_join;
 mod leaf_list;
+mod node;
+mod open_leaf;
 mod rising;
+mod row;
 
 use crate::{Dup, Join, NoMemory};
 pub use change::{TableChange, dup_optional};
