@@ -160,7 +160,7 @@ pub fn is_last_below<K: Ord, C>(entries: &[(K, C)], key: &K) -> bool
 }
 
 /// The leaf, if it has entries.
-fn if_some<T>(leaf: Vec<T>) -> Option<Vec<T>>
+fn if_some<T: Drop>(leaf: Vec<T>) -> Option<Vec<T>>
     ensures leaf { unwrap_or (option_map (λ l. leaf_of l.items) result) [] ≡ leaf_of leaf.items }
     ensures some { IfSome result (λ l. 0 < length l.items) }
 {

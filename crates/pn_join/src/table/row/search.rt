@@ -6,13 +6,12 @@ ghost use Rattle.std.specs.Option.{option_copied};
 ghost use Rattle.std.specs.Ordering.{is_lt};
 ghost use Rattle.pn_join.specs.Blocks.{in_blocks, entries_in, AreBlocks};
 ghost use Rattle.pn_join.specs.Indices.{index_of};
-ghost use Rattle.pn_join.specs.Leaves.{all_entries, ends_below, leaf_for, IsLeafList};
-ghost use Rattle.pn_join.specs.Nodes.{node_of};
+ghost use Rattle.pn_join.specs.Leaves.{all_entries, ends_below, leaf_for};
 ghost use Rattle.pn_join.specs.PutAt.{moved_by, place};
 
 use super::Row;
 use crate::table::edit::moved_by;
-use crate::table::node::{Node, NodeRef};
+use crate::table::node::Node;
 use crate::{Dup, Join};
 
 impl<K: Ord + Dup, C: Join, T: Node<K, C>> Row<K, C, T> {
@@ -69,10 +68,17 @@ impl<K: Ord + Dup, C: Join, T: Node<K, C>> Row<K, C, T> {
         ensures node { result ≡ leaf_for K.cmp key.now (in_blocks self.now) }
         ensures row { AreBlocks K.cmp C.valid self.now }
     {
-        let last = self.children.len().saturating_sub(1);
-        self.children
-            .partition_point(|child| is_below(child, key))
-            .min(last)
+        let mut low = 0_usize;
+        let mut high = self.children.len().saturating_sub(1);
+        while low < high {
+            let middle = low + (high - low) / 2;
+            if self.ends_below(middle, key) {
+                low = middle + 1;
+            } else {
+                high = middle;
+            }
+        }
+        low
     }
 
     /// Whether a key surely belongs into this node, where it has this index. It does if it is there, or between two
@@ -140,14 +146,6 @@ impl<K: Ord + Dup, C: Join, T: Node<K, C>> Row<K, C, T> {
             None => false,
         }
     }
-}
-
-/// Whether the last key of a node is less than this one.
-fn is_below<K: Ord + Dup, C: Join, T: Node<K, C>>(node: &NodeRef<T>, key: &K) -> bool
-    requires { IsLeafList K.cmp C.valid (T.leaves (node_of node.now)) }
-    ensures { result ≡ ends_below K.cmp key.now (all_entries (T.leaves (node_of node.now))) }
-{
-    is_less(node.node().last_key(), key)
 }
 
 /// Whether the one key, if there is one, is less than the other.
