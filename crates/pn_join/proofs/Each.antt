@@ -1,5 +1,5 @@
 -- What holds of each element of a list, by recursion on it.
-use Rattle.std.proofs.Common.{List, [], ◌∷◌, ◌++◌}
+use Rattle.std.proofs.Common.{ℕ, zero, suc, ◌<◌, List, [], ◌∷◌, ◌++◌, length, get_or, set, arith}
 use Rattle.std.specs.List.{AllByRecursion}
 
 module _ {A : Type 0} (P : A → Type 0) where
@@ -29,3 +29,13 @@ module _ {A : Type 0} (P : A → Type 0) where
 
   pub each_last : (xs : List A) (y : A) → AllByRecursion P (xs ++ y ∷ []) → P y
   each_last xs y h = (each_back xs (y ∷ []) h).0
+
+  pub each_set : (xs : List A) (i : ℕ) (x : A) → AllByRecursion P xs → P x → AllByRecursion P (set xs i x)
+  each_set [] i x h is = tt
+  each_set (y ∷ ys) zero x h is = (is, h.1)
+  each_set (y ∷ ys) (suc i) x h is = (h.0, each_set ys i x h.1 is)
+
+  pub each_at : (xs : List A) (i : ℕ) (d : A) → AllByRecursion P xs → i < length xs → P (get_or xs i d)
+  each_at [] i d h lt = absurd (omega (arith, lt))
+  each_at (x ∷ xs) zero d h lt = h.0
+  each_at (x ∷ xs) (suc i) d h lt = each_at xs i d h.1 (omega (arith, lt))

@@ -18,3 +18,16 @@ pub mod LeafListIndices
 pub mod LeafListSearch
 pub mod Singles
 pub mod TableFacts
+pub mod LeafListFacts
+pub mod LeafListGrowth
+pub mod SliceFacts
+pub mod BlockGrowth
+pub mod Building
+pub mod RowFacts
+pub mod PutAtFacts
+pub mod Recounts
+pub mod PutBack
+pub mod NodeAt
+pub mod Lasts
+pub mod Opened
+pub mod IndexPuts

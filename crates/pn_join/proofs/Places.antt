@@ -32,7 +32,7 @@ module _ {K X : Type 0} (cmp : K → K → Ordering) (key : K) where
       ap (λ (n : ℕ). option_map (λ (x : K × X). x.1) (slice_get (e ∷ es) n)) at ∙ has j refl ∙ sym (first_found e es Greater p)
   content_later e es p (Err j) has i is = cc
 
-  content_at_tie : (es : List (K × X)) (i : ℕ) → Ok i ≡ index_of cmp key es → option_map (λ (e : K × X). e.1) (slice_get es i) ≡ find cmp key es
+  pub content_at_tie : (es : List (K × X)) (i : ℕ) → Ok i ≡ index_of cmp key es → option_map (λ (e : K × X). e.1) (slice_get es i) ≡ find cmp key es
   content_at_tie es = by_index cmp key HasContent (λ i is. cc) (λ e es p i is. cc) content_first content_later es
 
   -- the content read at the index of a key is that at the key

@@ -1,15 +1,18 @@
 -- What opening a node for edits gives.
-use Rattle.std.specs.Prelude.{◌≡◌, ℕ, List, ◌++◌, reverse}
+use Rattle.std.specs.Prelude.{◌≡◌, ℕ, ◌≤◌, List, ◌++◌, reverse}
+use Rattle.std.specs.List.{AllByRecursion}
 use Rattle.pn_join.specs.declared.table.edit.Edit.{Edit}
 use Rattle.pn_join.specs.declared.table.node.Opening.{Opening}
 use Rattle.pn_join.specs.declared.table.node.Opening.TheVariants.{Open, Full, NoMemory}
 use Rattle.pn_join.specs.Edits.{put_in_turn, StopsBefore}
 use Rattle.pn_join.specs.Leaves.{all_entries}
+use Rattle.pn_join.specs.PutAt.{place}
 
 -- a node is open for the last edits, down to the index of its first entry
 pub record IsOpened {K C O : Type 0} (was : O → List (List (K × C))) (becomes : O → List (K × C)) (start : ℕ) (node : List (List (K × C))) (edits left : List (Edit K C)) (open : O) : Type 0 where
   pub mine : List (Edit K C)
   pub parted : edits ≡ left ++ reverse mine
+  pub from : AllByRecursion (λ edit. start ≤ place edit.index) mine
   pub stops : StopsBefore start left
   pub had : was open ≡ node
   pub has : becomes open ≡ put_in_turn start (all_entries node) mine
@@ -18,6 +21,7 @@ pub record IsOpened {K C O : Type 0} (was : O → List (List (K × C))) (becomes
 pub record AreOpened {K C : Type 0} (start : ℕ) (entries : List (K × C)) (edits left : List (Edit K C)) (now : List (K × C)) : Type 0 where
   pub mine : List (Edit K C)
   pub parted : edits ≡ left ++ reverse mine
+  pub from : AllByRecursion (λ edit. start ≤ place edit.index) mine
   pub stops : StopsBefore start left
   pub has : now ≡ put_in_turn start entries mine
 

@@ -1,7 +1,7 @@
 -- What joining entries changes in a table.
-use Rattle.std.specs.Prelude.{◌≡◌, ◌≢◌, List, Option, None, Some, option_map}
+use Rattle.std.specs.Prelude.{◌≡◌, ◌≢◌, List, [], ◌∷◌, Option, None, Some, option_map}
 use Rattle.std.specs.declared.cmp.Ordering.{Ordering}
-use Rattle.std.specs.List.{AllByRecursion, AllZip, filter_map, fold}
+use Rattle.std.specs.List.{AllByRecursion, AllZip, filter_map}
 use Rattle.std.specs.FinMap.{find, put}
 use Rattle.pn_join.specs.declared.table.change.TableChange.{TableChange}
 use Rattle.pn_join.specs.Tables.{optional_joined}
@@ -33,6 +33,7 @@ pub record AreChanges {K C M : Type 0} (cmp : K → K → Ordering) (meaning : C
 abbrev pub AreValid : {K C : Type 0} → (C → Type 0) → List (TableChange K C) → Type 0
 AreValid valid changes = AllByRecursion (λ change. valid change.after) changes
 
--- the entries after all new contents are put at their keys
+-- the entries after all new contents are put at their keys, the last first
 abbrev pub puts : {K C : Type 0} → (K → K → Ordering) → List (K × C) → List (TableChange K C) → List (K × C)
-puts cmp entries changes = fold (λ now change. put cmp change.key change.after now) entries changes
+puts cmp entries [] = entries
+puts cmp entries (change ∷ changes) = put cmp change.key change.after (puts cmp entries changes)

@@ -1,7 +1,8 @@
 //! How many entries and leaves there are in a row of nodes, up to the end of each.
 
-ghost use Rattle.std.specs.Prelude.{◌≡◌, ◌+◌, ◌-◌, ◌^◌, ◌<◌, ◌≤◌, leb, length, map, vec_len, vec_capacity, IfOk};
+ghost use Rattle.std.specs.Prelude.{◌≡◌, ◌≤◌, leb, length, vec_len, vec_capacity, IfOk};
 ghost use Rattle.std.specs.List.{prefix_len};
+ghost use Rattle.std.specs.List.Sorted.{IsNonDecreasingBy};
 ghost use Rattle.pn_join.specs.Counts.{entry_ends, leaf_ends, end_before, moved_from, CanMove};
 
 use crate::NoMemory;
@@ -31,6 +32,7 @@ pub fn start_of(ends: &[Sizes], index: usize) -> Sizes
 
 /// The node with the entry at an index.
 pub fn node_of_entry(ends: &[Sizes], index: usize) -> usize
+    requires { IsNonDecreasingBy (λ end. end.entries) ends.now }
     ensures { result ≡ prefix_len (λ end. leb end index) (entry_ends ends.now) }
 {
     ends.partition_point(|end| end.entries <= index)
@@ -38,6 +40,7 @@ pub fn node_of_entry(ends: &[Sizes], index: usize) -> usize
 
 /// The node with the leaf at an index.
 pub fn node_of_leaf(ends: &[Sizes], index: usize) -> usize
+    requires { IsNonDecreasingBy (λ end. end.leaves) ends.now }
     ensures { result ≡ prefix_len (λ end. leb end index) (leaf_ends ends.now) }
 {
     ends.partition_point(|end| end.leaves <= index)

@@ -1,0 +1,85 @@
+-- A node that is put back into its row, with one after it, if anything no longer fitted.
+use Rattle.std.proofs.Common.{◌≡◌, ℕ, zero, suc, ◌+◌, ◌^◌, ◌<◌, ◌≤◌, List, [], ◌∷◌, ◌++◌, length, get_or, set, take, drop, Option, Some, None, unwrap_or, option_map, Ordering, refl, sym, ap, ◌∙◌, arith, append-nil, append_assoc}
+use Rattle.std.specs.List.{AllByRecursion}
+use Rattle.std.specs.Option.{option_to_list}
+use Rattle.std.proofs.lemmas.List.{length-append}
+use Rattle.pn_join.specs.Blocks.{in_blocks, entries_in, AreBlocks}
+use Rattle.pn_join.specs.Leaves.{all_entries, IsLeaf}
+use Rattle.pn_join.specs.Nodes.{both, AreParts}
+use Rattle.pn_join.specs.Rows.{inserted_at}
+use Rattle.pn_join.specs.Tables.{IsTable}
+use Rattle.pn_join.proofs.BlockFacts.{all_in_blocks, at_block, length-in_blocks}
+use Rattle.pn_join.proofs.BlockGrowth.{all_append}
+use Rattle.pn_join.proofs.Each.{each_append, each_prefix, each_back, each_set}
+use Rattle.pn_join.proofs.Recounts.{all_inserted, in_blocks-inserted}
+use Rattle.pn_join.proofs.RowFacts.{all_around, all_with}
+
+-- as many leaves as entries at most
+pub leaves_few : {A : Type 0} (leaves : List (List A)) → AllByRecursion (λ leaf. IsLeaf leaf) leaves → length leaves ≤ length (all_entries leaves)
+leaves_few [] h = omega arith
+leaves_few (l ∷ ls) h = omega (arith, h.0.0, leaves_few ls h.1, length-append l (all_entries ls))
+
+module _ {A : Type 0} where
+  none_after : (lists : List (List A)) (j : ℕ) → inserted_at j [] lists ≡ lists
+  none_after [] zero = refl
+  none_after [] (suc j) = refl
+  none_after (l ∷ ls) zero = refl
+  none_after (l ∷ ls) (suc j) = ap (λ rest. l ∷ rest) (none_after ls j)
+
+  -- all items, with one list put back and one after it
+  pub all_put_back : (lists : List (List A)) (i : ℕ) (front : List A) (back : Option (List A)) → i < length lists → all_entries (inserted_at (i + 1) (option_to_list back) (set lists i front)) ≡ all_entries (take i lists) ++ ((front ++ unwrap_or back []) ++ all_entries (drop (suc i) lists))
+  all_put_back lists i front None lt =
+      ap all_entries (none_after (set lists i front) (i + 1)) ∙ all_with lists i front lt
+      ∙ ap (λ es. all_entries (take i lists) ++ (es ++ all_entries (drop (suc i) lists))) (sym (append-nil front))
+  all_put_back lists i front (Some back) lt =
+      let next : i + 1 ≡ suc i = omega arith in
+      all_inserted lists i (i + 1) front back lt next ∙ all_with lists i (front ++ back) lt
+
+  whole_back : (front : List (List A)) (back : Option (List (List A))) → all_entries front ++ unwrap_or (option_map all_entries back) [] ≡ all_entries (both front back)
+  whole_back front None = sym (all_append front [])
+  whole_back front (Some back) = sym (all_append front back)
+
+  -- the entries of a row, with a node put back and one after it
+  pub entries_put_back : (nodes : List (List (List A))) (i : ℕ) (front : List (List A)) (back : Option (List (List A))) → i < length nodes → all_entries (in_blocks (inserted_at (i + 1) (option_to_list back) (set nodes i front))) ≡ all_entries (take i (in_blocks nodes)) ++ (all_entries (both front back) ++ all_entries (drop (suc i) (in_blocks nodes)))
+  entries_put_back nodes i front back lt =
+      ap all_entries (in_blocks-inserted nodes i front back)
+      ∙ all_put_back (in_blocks nodes) i (all_entries front) (option_map all_entries back) (omega (arith, lt, length-in_blocks nodes))
+      ∙ ap (λ es. all_entries (take i (in_blocks nodes)) ++ (es ++ all_entries (drop (suc i) (in_blocks nodes)))) (whole_back front back)
+
+  -- the entries of a row round one node
+  pub entries_around : (nodes : List (List (List A))) (i : ℕ) → i < length nodes → entries_in nodes ≡ all_entries (take i (in_blocks nodes)) ++ (all_entries (get_or nodes i []) ++ all_entries (drop (suc i) (in_blocks nodes)))
+  entries_around nodes i lt =
+      sym (all_in_blocks nodes) ∙ all_around (in_blocks nodes) i (omega (arith, lt, length-in_blocks nodes))
+      ∙ ap (λ es. all_entries (take i (in_blocks nodes)) ++ (es ++ all_entries (drop (suc i) (in_blocks nodes)))) (at_block nodes i)
+
+  pub entries_in-put_back : (nodes : List (List (List A))) (i : ℕ) (front : List (List A)) (back : Option (List (List A))) → i < length nodes → entries_in (inserted_at (i + 1) (option_to_list back) (set nodes i front)) ≡ all_entries (take i (in_blocks nodes)) ++ (all_entries (both front back) ++ all_entries (drop (suc i) (in_blocks nodes)))
+  entries_in-put_back nodes i front back lt = sym (all_in_blocks (inserted_at (i + 1) (option_to_list back) (set nodes i front))) ∙ entries_put_back nodes i front back lt
+
+  each_inserted : (P : List (List A) → Type 0) (nodes : List (List (List A))) (j : ℕ) (more : List (List (List A))) → AllByRecursion P nodes → AllByRecursion P more → AllByRecursion P (inserted_at j more nodes)
+  each_inserted P [] zero more h g = each_append P more [] g tt
+  each_inserted P [] (suc j) more h g = each_append P more [] g tt
+  each_inserted P (n ∷ ns) zero more h g = each_append P more (n ∷ ns) g h
+  each_inserted P (n ∷ ns) (suc j) more h g = (h.0, each_inserted P ns j more h.1 g)
+
+  more_has : (front : List (List A)) (back : Option (List (List A))) → AreParts front back → AllByRecursion (λ node. 0 < length node) (option_to_list back)
+  more_has front None parts = tt
+  more_has front (Some back) parts = (parts.more, tt)
+
+  -- a row with a node put back, and one after it
+  pub put_back_row : {K C : Type 0} (cmp : K → K → Ordering) (valid : C → Type 0) (nodes : List (List (List (K × C)))) (i : ℕ) (front : List (List (K × C))) (back : Option (List (List (K × C)))) → i < length nodes → AreBlocks cmp valid nodes → AreParts front back → IsTable cmp valid (entries_in (inserted_at (i + 1) (option_to_list back) (set nodes i front))) → AreBlocks cmp valid (inserted_at (i + 1) (option_to_list back) (set nodes i front))
+  put_back_row cmp valid nodes i front back lt are parts table = record {
+    some = some_now;
+    leaf_list = record { sizes = rw (all_put_back nodes i front back lt) sizes_now; table = table };
+  } where
+    some_now : AllByRecursion (λ node. 0 < length node) (inserted_at (i + 1) (option_to_list back) (set nodes i front))
+    some_now = each_inserted (λ node. 0 < length node) (set nodes i front) (i + 1) (option_to_list back) (each_set (λ node. 0 < length node) nodes i front are.some parts.some) (more_has front back parts)
+
+    had : AllByRecursion (λ leaf. IsLeaf leaf) (all_entries (take i nodes) ++ (get_or nodes i [] ++ all_entries (drop (suc i) nodes)))
+    had = rw (all_around nodes i lt) at are.leaf_list.sizes
+
+    sizes_now : AllByRecursion (λ leaf. IsLeaf leaf) (all_entries (take i nodes) ++ (both front back ++ all_entries (drop (suc i) nodes)))
+    sizes_now =
+        each_append (λ leaf. IsLeaf leaf) (all_entries (take i nodes)) (both front back ++ all_entries (drop (suc i) nodes))
+        (each_prefix (λ leaf. IsLeaf leaf) (all_entries (take i nodes)) (get_or nodes i [] ++ all_entries (drop (suc i) nodes)) had)
+        (each_append (λ leaf. IsLeaf leaf) (both front back) (all_entries (drop (suc i) nodes)) parts.sizes
+        (each_back (λ leaf. IsLeaf leaf) (get_or nodes i []) (all_entries (drop (suc i) nodes)) (each_back (λ leaf. IsLeaf leaf) (all_entries (take i nodes)) (get_or nodes i [] ++ all_entries (drop (suc i) nodes)) had)))
