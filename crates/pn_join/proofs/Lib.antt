@@ -30,4 +30,5 @@ pub mod PutBack
 pub mod NodeAt
 pub mod Lasts
 pub mod Opened
+pub mod Finished
 pub mod IndexPuts

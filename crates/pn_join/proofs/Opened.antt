@@ -7,14 +7,14 @@ use Rattle.pn_join.specs.Edits.{put_in_turn, AreEditsWithin, InOrder, StopsBefor
 use Rattle.pn_join.specs.Leaves.{all_entries, last_of}
 use Rattle.pn_join.specs.Openings.{AreOpened, IsOpened}
 use Rattle.pn_join.specs.PutAt.{place, from_start, IsAmong}
-use Rattle.pn_join.specs.Rows.{filled, AreTaken, GoDown, IsTaken}
+use Rattle.pn_join.specs.Rows.{filled, AreTaken, GoDown, IsTaken, NoneShrinks}
 use Rattle.pn_join.specs.declared.table.edit.Edit.{Edit}
 use Rattle.pn_join.specs.declared.table.row.opening.Taken.{Taken}
 use Rattle.pn_join.proofs.BlockFacts.{all_in_blocks, at_block, length-in_blocks}
 use Rattle.pn_join.proofs.Each.{each_back, each_prefix, each_append}
 use Rattle.pn_join.proofs.Lasts.{last_one, last_next, last_push, set_same, set_twice, set_apart, get_before_set, take_before_set, get_taken, length-set}
 use Rattle.pn_join.proofs.NodeAt.{ComesInto}
-use Rattle.pn_join.proofs.PutAtFacts.{ComeInto, put_in_turn-inside, put_in_turn-append}
+use Rattle.pn_join.proofs.PutAtFacts.{ComeInto, put_in_turn-inside, put_in_turn-append, put_in_turn-grows}
 use Rattle.pn_join.proofs.RowFacts.{all_around, all_with, in_blocks-set}
 
 -- the taken nodes stand at this index or after it
@@ -127,3 +127,179 @@ module _ {K C : Type 0} where
         before : (last : Edit K C) → Place last < first → ⊥
         before last lt = omega (arith, le, lt)
   fewer first edits left (m ∷ mine) last parted is le stops = omega (arith, ap length parted, length-append left (reverse (m ∷ mine)), length-reverse (m ∷ mine))
+
+  -- edits put into one of several lists are put into all
+  step_entries : (lists : List (List (K × C))) (i : ℕ) (start first : ℕ) (es x : List (K × C)) (mine : List (Edit K C)) → i < length lists → es ≡ get_or lists i [] → first ≡ start + length (all_entries (take i lists)) → AllByRecursion (ComeInto first (length es)) mine → x ≡ put_in_turn first es mine → all_entries (set lists i x) ≡ put_in_turn start (all_entries lists) mine
+  step_entries lists i start first es x mine lt here at come is =
+      let before = all_entries (take i lists) in
+      let after = all_entries (drop (suc i) lists) in
+      all_with lists i x lt
+      ∙ ap (λ y. before ++ (y ++ after)) (is ∙ ap (λ n. put_in_turn n es mine) at)
+      ∙ sym (put_in_turn-inside mine start before es after (rw (← at) come))
+      ∙ ap (λ all. put_in_turn start all mine) (ap (λ y. before ++ (y ++ after)) here ∙ sym (all_around lists i lt))
+
+  place_from : (start : ℕ) (index : Result ℕ ℕ) → place (from_start start index) ≡ place index - start
+  place_from start (Ok i) = refl
+  place_from start (Err i) = refl
+
+module _ {K C O : Type 0} (was : O → List (List (K × C))) (becomes : O → List (K × C)) (start : ℕ) (nodes : List (List (List (K × C)))) (edits : List (Edit K C)) where
+  -- the nodes opened so far, the last first, and the edits that are left
+  pub record OpenedSoFar (now : List (List (List (K × C)))) (taken : List (Taken O)) (left : List (Edit K C)) : Type 0 where
+    pub limit : ℕ
+    pub inside : limit ≤ length nodes
+    pub same : filled was taken now ≡ nodes
+    pub down : GoDown (length now) taken
+    pub above : NotBelow limit taken
+    pub grow : NoneShrinks was becomes taken
+    pub mine : List (Edit K C)
+    pub parted : edits ≡ left ++ reverse mine
+    pub from : AllByRecursion (λ edit. start ≤ place edit.index) mine
+    pub has : all_entries (filled becomes taken (in_blocks now)) ≡ put_in_turn start (entries_in nodes) mine
+    pub untouched : (i : ℕ) → i ≤ limit → take i (filled becomes taken (in_blocks now)) ≡ take i (in_blocks nodes)
+    pub stops : (last : Edit K C) → last_of left ≡ Some last → (i : ℕ) → i < length nodes → start + length (all_entries (take i (in_blocks nodes))) ≤ place last.index → i < limit
+
+  pub none_opened : OpenedSoFar nodes [] edits
+  none_opened = record {
+    limit = length nodes;
+    inside = omega arith;
+    same = refl;
+    down = tt;
+    above = tt;
+    grow = tt;
+    mine = [];
+    parted = sym (nothing edits);
+    from = tt;
+    has = all_in_blocks nodes;
+    untouched = λ i le. refl;
+    stops = λ last is i lt le. lt;
+  } where
+    nothing : (es : List (Edit K C)) → es ++ [] ≡ es
+    nothing [] = refl
+    nothing (e ∷ es) = ap (λ ds. e ∷ ds) (nothing es)
+
+  pub are_taken : (now : List (List (List (K × C)))) (taken : List (Taken O)) (left : List (Edit K C)) → OpenedSoFar now taken left → AreTaken was becomes nodes now taken
+  are_taken now taken left h = record { same = h.same; down = h.down; grow = h.grow }
+
+  -- the edits that are left lie among the entries
+  pub left_within : (count : ℕ) (now : List (List (List (K × C)))) (taken : List (Taken O)) (left : List (Edit K C)) → AreEditsWithin count edits → OpenedSoFar now taken left → AreEditsWithin count left
+  left_within count now taken left are h = first_within count left (reverse h.mine) (rw h.parted at are)
+
+  pub all_opened : (now : List (List (List (K × C)))) (taken : List (Taken O)) (left : List (Edit K C)) → OpenedSoFar now taken left → StopsBefore start left → AreOpened start (entries_in nodes) edits left (all_entries (filled becomes taken (in_blocks now)))
+  all_opened now taken left h stops = record { mine = h.mine; parted = h.parted; from = h.from; stops = stops; has = h.has }
+
+  module _ (now : List (List (List (K × C)))) (taken : List (Taken O)) (left : List (Edit K C)) (h : OpenedSoFar now taken left) (last : Edit K C) (is : last_of left ≡ Some last) (from : start ≤ place last.index) (i : ℕ) (come : ComesInto (in_blocks nodes) i (from_start start last.index)) where
+    pub node_within : i < length nodes
+    node_within = omega (arith, come.within, length-in_blocks nodes)
+
+    starts : start + length (all_entries (take i (in_blocks nodes))) ≤ place last.index
+    starts = omega (arith, come.starts, place_from start last.index, from)
+
+    below : i < h.limit
+    below = h.stops last is i node_within starts
+
+    apart : NotBelow (suc i) taken
+    apart = not_below_less taken (suc i) h.limit (omega (arith, below)) h.above
+
+    -- the node has the leaves that it had
+    pub node_is : get_or now i [] ≡ get_or nodes i []
+    node_is = sym (filled_get was taken i [] now apart) ∙ ap (λ ns. get_or ns i []) h.same
+
+    pub now_long : length now ≡ length nodes
+    now_long = sym (length-filled was taken now) ∙ ap length h.same
+
+    -- its edits lie among its entries
+    pub node_edits : (end : ℕ) → end ≡ start + length (all_entries (in_blocks nodes)) → AreEditsWithin end left → AreEditsWithin ((start + length (all_entries (take i (in_blocks nodes)))) + length (all_entries (get_or now i []))) left
+    node_edits end at are =
+        let first = start + length (all_entries (take i (in_blocks nodes))) in
+        let entries : get_or (in_blocks nodes) i [] ≡ all_entries (get_or now i []) = at_block nodes i ∙ ap all_entries (sym node_is) in
+        let most : place last.index ≤ first + length (all_entries (get_or now i [])) = omega (arith, come.before_end, place_from start last.index, from, ap length entries) in
+        let end_at : place last.index ≡ first + length (all_entries (get_or now i [])) → place last.index ≡ end = λ e. omega (arith, come.at_end (omega (arith, e, ap length entries, place_from start last.index)), place_from start last.index, from, at) in
+        fit_node first (length (all_entries (get_or now i []))) end left last is most end_at are
+
+    module _ (left_now : List (Edit K C)) (new : List (List (List (K × C)))) (new_taken : List (Taken O)) (step : IsTaken was becomes i (start + length (all_entries (take i (in_blocks nodes)))) left left_now now new taken new_taken) (are : AreEditsWithin ((start + length (all_entries (take i (in_blocks nodes)))) + length (all_entries (get_or now i []))) left) where
+      first : ℕ
+      first = start + length (all_entries (take i (in_blocks nodes)))
+
+      in_now : i < length now
+      in_now = omega (arith, node_within, now_long)
+
+      now_same : filled was new_taken new ≡ nodes
+      now_same =
+          ap (λ ts. filled was ts new) step.added ∙ filled_push was taken step.one new
+          ∙ ap (filled was taken) (
+              ap (λ ns. set ns step.one.index (was step.one.node)) step.replaced
+              ∙ ap (λ j. set (set now i step.hole) j (was step.one.node)) step.at
+              ∙ set_twice now i step.hole (was step.one.node)
+              ∙ ap (set now i) step.opened.had
+              ∙ set_same now i [] in_now)
+          ∙ h.same
+
+      now_becomes : filled becomes new_taken (in_blocks new) ≡ set (filled becomes taken (in_blocks now)) i (becomes step.one.node)
+      now_becomes =
+          ap (λ ts. filled becomes ts (in_blocks new)) step.added ∙ filled_push becomes taken step.one (in_blocks new)
+          ∙ ap (filled becomes taken) (
+              ap (λ ns. set (in_blocks ns) step.one.index (becomes step.one.node)) step.replaced
+              ∙ ap (λ j. set (in_blocks (set now i step.hole)) j (becomes step.one.node)) step.at
+              ∙ ap (λ ns. set ns i (becomes step.one.node)) (in_blocks-set now i step.hole)
+              ∙ set_twice (in_blocks now) i (all_entries step.hole) (becomes step.one.node))
+          ∙ filled_set becomes taken i (becomes step.one.node) (in_blocks now) apart
+
+      now_has : all_entries (filled becomes new_taken (in_blocks new)) ≡ put_in_turn start (entries_in nodes) (h.mine ++ step.opened.mine)
+      now_has =
+          let lists = filled becomes taken (in_blocks now) in
+          let long : i < length lists = omega (arith, length-filled becomes taken (in_blocks now), length-in_blocks now, in_now) in
+          let here : all_entries (get_or now i []) ≡ get_or lists i [] =
+          ap all_entries node_is ∙ sym (at_block nodes i) ∙ sym (get_taken (in_blocks nodes) i []) ∙ ap (λ ls. get_or ls i []) (sym (h.untouched (suc i) (omega (arith, below)))) ∙ get_taken lists i [] in
+          let at : (start + length (all_entries (take i (in_blocks nodes)))) ≡ start + length (all_entries (take i lists)) = ap (λ ls. start + length (all_entries ls)) (sym (h.untouched i (omega (arith, below)))) in
+          ap all_entries now_becomes
+          ∙ step_entries lists i start (start + length (all_entries (take i (in_blocks nodes)))) (all_entries (get_or now i [])) (becomes step.one.node) step.opened.mine long here at
+          (all_into (start + length (all_entries (take i (in_blocks nodes)))) (length (all_entries (get_or now i []))) left left_now step.opened.mine are step.opened.parted step.opened.from)
+          step.opened.has
+          ∙ ap (λ all. put_in_turn start all step.opened.mine) h.has
+          ∙ sym (put_in_turn-append start (entries_in nodes) h.mine step.opened.mine)
+
+      now_untouched : (j : ℕ) → j ≤ i → take j (filled becomes new_taken (in_blocks new)) ≡ take j (in_blocks nodes)
+      now_untouched j le =
+          ap (take j) now_becomes ∙ take_before_set (filled becomes taken (in_blocks now)) j i (becomes step.one.node) le ∙ h.untouched j (omega (arith, le, below))
+
+      now_parted : edits ≡ left_now ++ reverse (h.mine ++ step.opened.mine)
+      now_parted =
+          h.parted ∙ ap (λ l. l ++ reverse h.mine) step.opened.parted ∙ append_assoc left_now (reverse step.opened.mine) (reverse h.mine)
+          ∙ ap (λ r. left_now ++ r) (sym (reverse-append h.mine step.opened.mine))
+
+      later : (edits : List (Edit K C)) → AllByRecursion (λ edit. start + length (all_entries (take i (in_blocks nodes))) ≤ place edit.index) edits → AllByRecursion (λ edit. start ≤ place edit.index) edits
+      later [] from = tt
+      later (e ∷ es) from = (omega (arith, from.0), later es from.1)
+
+      now_stops : (end : Edit K C) → last_of left_now ≡ Some end → (j : ℕ) → j < length nodes → start + length (all_entries (take j (in_blocks nodes))) ≤ place end.index → j < i
+      now_stops end at j lt le =
+          let before : place end.index < start + length (all_entries (take i (in_blocks nodes))) = subst (λ o. IfSome o (λ edit. place edit.index < start + length (all_entries (take i (in_blocks nodes))))) at step.opened.stops in
+          less (in_blocks nodes) i j (omega (arith, le, before)) where
+            less : (lists : List (List (K × C))) (i j : ℕ) → length (all_entries (take j lists)) < length (all_entries (take i lists)) → j < i
+            less lists zero zero lt = absurd (omega (arith, lt))
+            less lists zero (suc j) lt = absurd (omega (arith, lt))
+            less [] (suc i) zero lt = omega arith
+            less [] (suc i) (suc j) lt = absurd (omega (arith, lt))
+            less (l ∷ ls) (suc i) zero lt = omega arith
+            less (l ∷ ls) (suc i) (suc j) lt = omega (arith, less ls i j (omega (arith, lt, length-append l (all_entries (take i ls)), length-append l (all_entries (take j ls)))))
+
+      no_less : length (all_entries (was step.one.node)) ≤ length (becomes step.one.node)
+      no_less =
+          omega (arith, ap (λ n. length (all_entries n)) step.opened.had, ap length step.opened.has, (put_in_turn-grows step.opened.mine (start + length (all_entries (take i (in_blocks nodes)))) (all_entries (get_or now i []))).0)
+
+      pub one_opened : OpenedSoFar new new_taken left_now
+      one_opened = record {
+        limit = i;
+        inside = omega (arith, node_within);
+        same = now_same;
+        down = subst (GoDown (length new)) (sym step.added) (
+            rw (ap length step.replaced ∙ length-set now i step.hole) (go_down_push taken (length now) step.one h.down (omega (arith, step.at, in_now)) (rw step.at apart)));
+        above = subst (NotBelow i) (sym step.added) (not_below_push taken i h.limit step.one (omega (arith, below)) h.above (sym step.at));
+        grow = subst (NoneShrinks was becomes) (sym step.added) (each_append (λ one. length (all_entries (was one.node)) ≤ length (becomes one.node)) taken (step.one ∷ []) h.grow (no_less, tt));
+        mine = h.mine ++ step.opened.mine;
+        parted = now_parted;
+        from = each_append (λ edit. start ≤ place edit.index) h.mine step.opened.mine h.from (later step.opened.mine step.opened.from);
+        has = now_has;
+        untouched = now_untouched;
+        stops = now_stops;
+      }

@@ -35,7 +35,7 @@ module _ {A : Type 0} where
       let next : i + 1 ≡ suc i = omega arith in
       all_inserted lists i (i + 1) front back lt next ∙ all_with lists i (front ++ back) lt
 
-  whole_back : (front : List (List A)) (back : Option (List (List A))) → all_entries front ++ unwrap_or (option_map all_entries back) [] ≡ all_entries (both front back)
+  pub whole_back : (front : List (List A)) (back : Option (List (List A))) → all_entries front ++ unwrap_or (option_map all_entries back) [] ≡ all_entries (both front back)
   whole_back front None = sym (all_append front [])
   whole_back front (Some back) = sym (all_append front back)
 
@@ -65,21 +65,29 @@ module _ {A : Type 0} where
   more_has front None parts = tt
   more_has front (Some back) parts = (parts.more, tt)
 
-  -- a row with a node put back, and one after it
-  pub put_back_row : {K C : Type 0} (cmp : K → K → Ordering) (valid : C → Type 0) (nodes : List (List (List (K × C)))) (i : ℕ) (front : List (List (K × C))) (back : Option (List (List (K × C)))) → i < length nodes → AreBlocks cmp valid nodes → AreParts front back → IsTable cmp valid (entries_in (inserted_at (i + 1) (option_to_list back) (set nodes i front))) → AreBlocks cmp valid (inserted_at (i + 1) (option_to_list back) (set nodes i front))
-  put_back_row cmp valid nodes i front back lt are parts table = record {
-    some = some_now;
-    leaf_list = record { sizes = rw (all_put_back nodes i front back lt) sizes_now; table = table };
-  } where
-    some_now : AllByRecursion (λ node. 0 < length node) (inserted_at (i + 1) (option_to_list back) (set nodes i front))
-    some_now = each_inserted (λ node. 0 < length node) (set nodes i front) (i + 1) (option_to_list back) (each_set (λ node. 0 < length node) nodes i front are.some parts.some) (more_has front back parts)
+  -- each node of the row has leaves
+  pub put_back_some : (nodes : List (List (List A))) (i : ℕ) (front : List (List A)) (back : Option (List (List A))) → AllByRecursion (λ node. 0 < length node) nodes → AreParts front back → AllByRecursion (λ node. 0 < length node) (inserted_at (i + 1) (option_to_list back) (set nodes i front))
+  put_back_some nodes i front back some parts =
+      each_inserted (λ node. 0 < length node) (set nodes i front) (i + 1) (option_to_list back) (each_set (λ node. 0 < length node) nodes i front some parts.some) (more_has front back parts)
 
-    had : AllByRecursion (λ leaf. IsLeaf leaf) (all_entries (take i nodes) ++ (get_or nodes i [] ++ all_entries (drop (suc i) nodes)))
-    had = rw (all_around nodes i lt) at are.leaf_list.sizes
+  -- each leaf has entries, and not too many
+  sizes_around : (nodes : List (List (List A))) (i : ℕ) (new : List (List A)) → i < length nodes → AllByRecursion (λ leaf. IsLeaf leaf) (all_entries nodes) → AllByRecursion (λ leaf. IsLeaf leaf) new → AllByRecursion (λ leaf. IsLeaf leaf) (all_entries (take i nodes) ++ (new ++ all_entries (drop (suc i) nodes)))
+  sizes_around nodes i new lt sizes is =
+      let had = rw (all_around nodes i lt) at sizes in
+      each_append (λ leaf. IsLeaf leaf) (all_entries (take i nodes)) (new ++ all_entries (drop (suc i) nodes))
+      (each_prefix (λ leaf. IsLeaf leaf) (all_entries (take i nodes)) (get_or nodes i [] ++ all_entries (drop (suc i) nodes)) had)
+      (each_append (λ leaf. IsLeaf leaf) new (all_entries (drop (suc i) nodes)) is
+      (each_back (λ leaf. IsLeaf leaf) (get_or nodes i []) (all_entries (drop (suc i) nodes)) (each_back (λ leaf. IsLeaf leaf) (all_entries (take i nodes)) (get_or nodes i [] ++ all_entries (drop (suc i) nodes)) had)))
 
-    sizes_now : AllByRecursion (λ leaf. IsLeaf leaf) (all_entries (take i nodes) ++ (both front back ++ all_entries (drop (suc i) nodes)))
-    sizes_now =
-        each_append (λ leaf. IsLeaf leaf) (all_entries (take i nodes)) (both front back ++ all_entries (drop (suc i) nodes))
-        (each_prefix (λ leaf. IsLeaf leaf) (all_entries (take i nodes)) (get_or nodes i [] ++ all_entries (drop (suc i) nodes)) had)
-        (each_append (λ leaf. IsLeaf leaf) (both front back) (all_entries (drop (suc i) nodes)) parts.sizes
-        (each_back (λ leaf. IsLeaf leaf) (get_or nodes i []) (all_entries (drop (suc i) nodes)) (each_back (λ leaf. IsLeaf leaf) (all_entries (take i nodes)) (get_or nodes i [] ++ all_entries (drop (suc i) nodes)) had)))
+  pub put_back_sizes : (nodes : List (List (List A))) (i : ℕ) (front : List (List A)) (back : Option (List (List A))) → i < length nodes → AllByRecursion (λ leaf. IsLeaf leaf) (all_entries nodes) → AreParts front back → AllByRecursion (λ leaf. IsLeaf leaf) (all_entries (inserted_at (i + 1) (option_to_list back) (set nodes i front)))
+  put_back_sizes nodes i front back lt sizes parts = rw (all_put_back nodes i front back lt) (sizes_around nodes i (both front back) lt sizes parts.sizes)
+
+  pub set_sizes : (nodes : List (List (List A))) (i : ℕ) (new : List (List A)) → i < length nodes → AllByRecursion (λ leaf. IsLeaf leaf) (all_entries nodes) → AllByRecursion (λ leaf. IsLeaf leaf) new → AllByRecursion (λ leaf. IsLeaf leaf) (all_entries (set nodes i new))
+  set_sizes nodes i new lt sizes is = rw (all_with nodes i new lt) (sizes_around nodes i new lt sizes is)
+
+-- a row with a node put back, and one after it
+pub put_back_row : {K C : Type 0} (cmp : K → K → Ordering) (valid : C → Type 0) (nodes : List (List (List (K × C)))) (i : ℕ) (front : List (List (K × C))) (back : Option (List (List (K × C)))) → i < length nodes → AreBlocks cmp valid nodes → AreParts front back → IsTable cmp valid (entries_in (inserted_at (i + 1) (option_to_list back) (set nodes i front))) → AreBlocks cmp valid (inserted_at (i + 1) (option_to_list back) (set nodes i front))
+put_back_row cmp valid nodes i front back lt are parts table = record {
+  some = put_back_some nodes i front back are.some parts;
+  leaf_list = record { sizes = put_back_sizes nodes i front back lt are.leaf_list.sizes parts; table = table };
+}

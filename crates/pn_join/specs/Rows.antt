@@ -1,5 +1,6 @@
 -- Rows of nodes, and what a change of one of them makes of the row.
-use Rattle.std.specs.Prelude.{◌≡◌, ℕ, ◌+◌, ◌<◌, List, [], ◌∷◌, ◌++◌, Option, Result, length, get_or, take, drop, set}
+use Rattle.std.specs.Prelude.{◌≡◌, ℕ, ◌+◌, ◌<◌, ◌≤◌, List, [], ◌∷◌, ◌++◌, Option, Result, length, get_or, take, drop, set}
+use Rattle.std.specs.List.{AllByRecursion}
 use Rattle.std.specs.Option.{option_to_list}
 use Rattle.pn_join.specs.Counts.{AreRecounted, CanRecount}
 use Rattle.pn_join.specs.Leaves.{all_entries}
@@ -25,6 +26,10 @@ abbrev pub GoDown : {O : Type 0} → ℕ → List (Taken O) → Type 0
 GoDown index [] = Unit {0}
 GoDown index (one ∷ taken) = (one.index < index) × GoDown one.index taken
 
+-- no taken node loses entries
+abbrev pub NoneShrinks : {K C O : Type 0} → (O → List (List (K × C))) → (O → List (K × C)) → List (Taken O) → Type 0
+NoneShrinks was becomes taken = AllByRecursion (λ one. length (all_entries (was one.node)) ≤ length (becomes one.node)) taken
+
 -- a content is joined into one node, of which the back no longer fits, and all others stay
 pub record IsJoinedIn {K C M : Type 0} (meaning : C → M) (joined : M → M → M) (valid : C → Type 0) (node : ℕ) (index : Result ℕ ℕ) (key : K) (content : C) (back : Option (List (List (K × C)))) (old new : List (List (List (K × C)))) : Type 0 where
   pub front : List (List (K × C))
@@ -34,9 +39,10 @@ pub record IsJoinedIn {K C M : Type 0} (meaning : C → M) (joined : M → M →
   pub parts : AreParts front back
 
 -- the nodes as they were, where the taken ones were taken out last first
-pub record AreTaken {A O : Type 0} (was : O → A) (old new : List A) (taken : List (Taken O)) : Type 0 where
+pub record AreTaken {K C O : Type 0} (was : O → List (List (K × C))) (becomes : O → List (K × C)) (old new : List (List (List (K × C)))) (taken : List (Taken O)) : Type 0 where
   pub same : filled was taken new ≡ old
   pub down : GoDown (length new) taken
+  pub grow : NoneShrinks was becomes taken
 
 -- a node is taken out and open for the last edits
 pub record IsTaken {K C O : Type 0} (was : O → List (List (K × C))) (becomes : O → List (K × C)) (index start : ℕ) (edits left : List (Edit K C)) (nodes new_nodes : List (List (List (K × C)))) (taken new_taken : List (Taken O)) : Type 0 where

@@ -47,7 +47,7 @@ impl<K: Ord + Dup, C: Join, T: Node<K, C>> Model for OpenRow<K, C, T> {
     ghost use Rattle.pn_join.specs.Counts.{AreCounts};
     ghost use Rattle.pn_join.specs.Leaves.{all_entries};
     ghost use Rattle.pn_join.specs.Nodes.{each_child};
-    ghost use Rattle.pn_join.specs.Rows.{filled, GoDown};
+    ghost use Rattle.pn_join.specs.Rows.{filled, GoDown, NoneShrinks};
 
     // The nodes as they were, and all entries once the edits are put.
     ghost view = { λ row. (
@@ -58,6 +58,7 @@ impl<K: Ord + Dup, C: Join, T: Node<K, C>> Model for OpenRow<K, C, T> {
     ghost invariant = { λ row. AreBlocks K.cmp C.valid (filled T.was row.taken.items (each_child T.leaves row.children.items))
         × AreCounts (filled T.was row.taken.items (each_child T.leaves row.children.items)) row.ends.items
         × GoDown (length row.children.items) row.taken.items
+        × NoneShrinks T.was T.becomes row.taken.items
         × (length row.children.items + length row.taken.items ≤ vec_capacity row.children)
         × (length row.ends.items + length row.taken.items ≤ vec_capacity row.ends) };
 }
@@ -158,7 +159,7 @@ fn open_children<K: Ord + Dup, C: Join, T: Node<K, C>>(
     requires counts { AreCounts (each_child T.leaves children.old.items) ends.old.items }
     requires none { taken.old.items ≡ [] }
     requires edits { AreEditsWithin (start + length (entries_in (each_child T.leaves children.old.items))) edits.old.items }
-    ensures same { AreTaken T.was (each_child T.leaves children.old.items) (each_child T.leaves children.new.items) taken.new.items }
+    ensures same { AreTaken T.was T.becomes (each_child T.leaves children.old.items) (each_child T.leaves children.new.items) taken.new.items }
     ensures done { IfOk result (λ done. IsTrue done → AreOpened start (entries_in (each_child T.leaves children.old.items)) edits.old.items edits.new.items
         (all_entries (filled T.becomes taken.new.items (in_blocks (each_child T.leaves children.new.items))))) }
     ensures ends { ends.new.items ≡ ends.old.items }
