@@ -87,7 +87,7 @@ module _ {K C : Type 0} where
   fit_one : (first count end : ℕ) (last index : Result ℕ ℕ) → place index ≤ place last → place last ≤ first + count → (place last ≡ first + count → place last ≡ end) → IsAmong end index → IsAmong (first + count) index
   fit_one first count end last (Ok i) le most at among = fit i le among where
     fit : (i : ℕ) → i ≤ place last → i < end → i < first + count
-    fit i le among = less i (place last) (first + count) le most (λ e. omega (arith, among, e, at e, le))  where
+    fit i le among = less i (place last) (first + count) le most (λ e. omega (arith, among, e, at e, le)) where
       less : (i l n : ℕ) → i ≤ l → l ≤ n → (l ≡ n → i < n) → i < n
       less i l n le most at = grind (arith, le, most, at)
   fit_one first count end last (Err i) le most at among = omega (arith, le, most)
@@ -227,21 +227,21 @@ module _ {K C O : Type 0} (was : O → List (List (K × C))) (becomes : O → Li
       now_same =
           ap (λ ts. filled was ts new) step.added ∙ filled_push was taken step.one new
           ∙ ap (filled was taken) (
-              ap (λ ns. set ns step.one.index (was step.one.node)) step.replaced
-              ∙ ap (λ j. set (set now i step.hole) j (was step.one.node)) step.at
-              ∙ set_twice now i step.hole (was step.one.node)
-              ∙ ap (set now i) step.opened.had
-              ∙ set_same now i [] in_now)
+          ap (λ ns. set ns step.one.index (was step.one.node)) step.replaced
+          ∙ ap (λ j. set (set now i step.hole) j (was step.one.node)) step.at
+          ∙ set_twice now i step.hole (was step.one.node)
+          ∙ ap (set now i) step.opened.had
+          ∙ set_same now i [] in_now)
           ∙ h.same
 
       now_becomes : filled becomes new_taken (in_blocks new) ≡ set (filled becomes taken (in_blocks now)) i (becomes step.one.node)
       now_becomes =
           ap (λ ts. filled becomes ts (in_blocks new)) step.added ∙ filled_push becomes taken step.one (in_blocks new)
           ∙ ap (filled becomes taken) (
-              ap (λ ns. set (in_blocks ns) step.one.index (becomes step.one.node)) step.replaced
-              ∙ ap (λ j. set (in_blocks (set now i step.hole)) j (becomes step.one.node)) step.at
-              ∙ ap (λ ns. set ns i (becomes step.one.node)) (in_blocks-set now i step.hole)
-              ∙ set_twice (in_blocks now) i (all_entries step.hole) (becomes step.one.node))
+          ap (λ ns. set (in_blocks ns) step.one.index (becomes step.one.node)) step.replaced
+          ∙ ap (λ j. set (in_blocks (set now i step.hole)) j (becomes step.one.node)) step.at
+          ∙ ap (λ ns. set ns i (becomes step.one.node)) (in_blocks-set now i step.hole)
+          ∙ set_twice (in_blocks now) i (all_entries step.hole) (becomes step.one.node))
           ∙ filled_set becomes taken i (becomes step.one.node) (in_blocks now) apart
 
       now_has : all_entries (filled becomes new_taken (in_blocks new)) ≡ put_in_turn start (entries_in nodes) (h.mine ++ step.opened.mine)

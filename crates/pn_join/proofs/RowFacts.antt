@@ -79,4 +79,3 @@ module _ {A : Type 0} where
         length-between [] [] zs = omega arith
         length-between [] (y ∷ ys) zs = omega (arith, length-between [] ys zs)
         length-between (x ∷ xs) ys zs = omega (arith, length-between xs ys zs)
-

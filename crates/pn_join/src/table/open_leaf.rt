@@ -7,10 +7,10 @@ ghost use Rattle.pn_join.specs.Nodes.{leaf_of};
 ghost use Rattle.pn_join.specs.Openings.{IsOpening, IsOpeningFor};
 ghost use Rattle.pn_join.specs.PutAt.{from_start, IsAmong};
 
+use crate::Dup;
 use crate::table::edit::{Edit, from_start, pop_from};
 use crate::table::leaf_join::{MAX_LEAF_ENTRIES, halve_if_long};
 use crate::table::node::Opening;
-use crate::Dup;
 use std::marker::Model;
 
 /// A leaf with the capacity for edits, of which most leaves get one.
@@ -141,6 +141,8 @@ fn put_change<K: Ord + Dup, C: Dup>(entries: &mut Vec<(K, C)>, start: usize, edi
 {
     match from_start(&edit.index, start) {
         Ok(index) => entries[index].1 = edit.change.after,
-        Err(index) => entries.insert(index, (edit.change.key, edit.change.after)).unwrap(),
+        Err(index) => entries
+            .insert(index, (edit.change.key, edit.change.after))
+            .unwrap(),
     }
 }

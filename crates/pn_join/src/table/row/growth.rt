@@ -66,11 +66,7 @@ impl<K: Ord + Dup, C: Join, T: Node<K, C>> Row<K, C, T> {
     }
 
     /// Adds the entries of two nodes after all others, as one node if the first has room.
-    fn push_both(
-        &mut self,
-        mut first: NodeRef<T>,
-        mut second: NodeRef<T>,
-    ) -> Result<(), NoMemory>
+    fn push_both(&mut self, mut first: NodeRef<T>, mut second: NodeRef<T>) -> Result<(), NoMemory>
         requires table { IsTable K.cmp C.valid (entries_in self.old ++ (all_entries (T.leaves (node_of first)) ++ all_entries (T.leaves (node_of second)))) }
         requires some { (0 < length (T.leaves (node_of first))) × (0 < length (T.leaves (node_of second))) }
         requires sizes { AllByRecursion (λ leaf. IsLeaf leaf) (T.leaves (node_of first)) × AllByRecursion (λ leaf. IsLeaf leaf) (T.leaves (node_of second)) }
