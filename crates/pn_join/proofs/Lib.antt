@@ -25,6 +25,9 @@ pub mod BlockGrowth
 pub mod Building
 pub mod RowFacts
 pub mod PutAtFacts
+pub mod CountsFacts
+pub mod Counting
+pub mod EditsFrom
 pub mod Recounts
 pub mod PutBack
 pub mod NodeAt

@@ -101,14 +101,10 @@ impl<K: Ord + Dup, C: Join, T: Node<K, C>> Row<K, C, T> {
         ensures ok { IfOk result (λ back. (self.new ≡ take index self.old) × (back ≡ drop index self.old)) }
         ensures err { OnErr result (self.new ≡ self.old) }
     {
-        let alloc = self.alloc();
-        let ends = ends_of(alloc, &self.children[index..])?;
-        let mut hints = Vec::with_capacity(alloc, self.hints.len().saturating_sub(index))?;
+        let ends = ends_of(self.alloc(), &self.children[index..])?;
+        let known = index.min(self.hints.len());
+        let hints = self.hints.split_off(known)?;
         let children = self.children.split_off(index)?;
-        while self.hints.len() > index {
-            hints.push_reserved(self.hints.take_last());
-        }
-        hints.reverse();
         self.hints.truncate(index.saturating_sub(1));
         self.ends.truncate(index);
         Ok(Row {
