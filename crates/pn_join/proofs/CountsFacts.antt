@@ -1,12 +1,13 @@
 -- Counts up to the end of each node: how they rise, and how they move.
-use Rattle.std.proofs.Common.{◌≡◌, ℕ, zero, suc, ◌+◌, ◌-◌, ◌^◌, ◌<◌, ◌≤◌, List, [], ◌∷◌, length, map, get_or, set, refl, sym, ap, ◌∙◌, arith}
+use Rattle.std.proofs.Common.{◌≡◌, ℕ, zero, suc, ◌+◌, ◌-◌, ◌^◌, ◌<◌, ◌≤◌, List, [], ◌∷◌, length, map, get_or, set, take, refl, sym, ap, ◌∙◌, arith}
 use Rattle.std.specs.List.Sorted.{IsNonDecreasingBy}
 use Rattle.pn_join.specs.Counts.{entry_ends, leaf_ends, end_before, moved_from, CanMove, AreCounts}
 use Rattle.pn_join.specs.Blocks.{in_blocks}
 use Rattle.pn_join.specs.declared.table.counts.Sizes.{Sizes}
 use Rattle.pn_join.proofs.BlockFacts.{length-in_blocks}
 use Rattle.pn_join.proofs.Lasts.{get-mapped, length-mapped}
-use Rattle.pn_join.proofs.LeafListIndices.{counts_rise, length-counts}
+use Rattle.pn_join.specs.Leaves.{all_entries, AreEntryCounts}
+use Rattle.pn_join.proofs.LeafListIndices.{counts_rise, end_at, length-counts}
 
 -- the count before a node, but the first
 pub end_before_at : (f : Sizes → ℕ) (ends : List Sizes) (i : ℕ) (d : Sizes) → (i ≡ 0 → ⊥) → i ≤ length ends → f (get_or ends (i - 1) d) ≡ end_before i (map f ends)
@@ -18,6 +19,13 @@ end_before_at f ends (suc i) d some le =
 pub no_end_before : (i : ℕ) (ns : List ℕ) → i ≡ 0 → end_before i ns ≡ 0
 no_end_before zero ns is = refl
 no_end_before (suc i) ns is = absurd (omega (arith, is))
+
+-- the count before a node is that of the items before it
+pub counted_before : {A : Type 0} (lists : List (List A)) (ends : List ℕ) → AreEntryCounts lists ends → (i : ℕ) → i ≤ length lists → end_before i ends ≡ length (all_entries (take i lists))
+counted_before lists ends are zero le = refl
+counted_before lists ends are (suc i) le =
+    let none : 0 + length (all_entries (take (suc i) lists)) ≡ length (all_entries (take (suc i) lists)) = omega arith in
+    ap (λ es. get_or es i 0) are.each ∙ end_at 0 lists i (omega (arith, le)) 0 ∙ none
 
 -- what rises by its counts
 pub rises : (f : Sizes → ℕ) (ends : List Sizes) (ns : List ℕ) → map f ends ≡ ns → IsNonDecreasingBy (λ n. n) ns → IsNonDecreasingBy f ends

@@ -39,6 +39,10 @@ module _ {K X : Type 0} (cmp : K → K → Ordering) (key : K) where
   among_of es (Ok i) is = tie_within cmp key es i is
   among_of es (Err i) is = gap_within cmp key es i is
 
+  pub place_within : (es : List (K × X)) (r : Result ℕ ℕ) → r ≡ index_of cmp key es → place r ≤ length es
+  place_within es (Ok i) is = omega (arith, tie_within cmp key es i is)
+  place_within es (Err i) is = gap_within cmp key es i is
+
   module _ (o : IsTotalOrder cmp) where
     content_found : (es : List (K × X)) → Rising cmp es → (r : Result ℕ ℕ) → r ≡ index_of cmp key es → content_at r es ≡ find cmp key es
     content_found es h (Ok i) is = content_at_tie cmp key es i is

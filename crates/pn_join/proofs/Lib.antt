@@ -28,6 +28,7 @@ pub mod PutAtFacts
 pub mod CountsFacts
 pub mod Counting
 pub mod EditsFrom
+pub mod Searching
 pub mod Recounts
 pub mod PutBack
 pub mod NodeAt

@@ -31,9 +31,9 @@ impl<K: Ord + Dup, C: Join> Node<K, C> for Vec<(K, C)> {
 
     ghost leaves = { λ leaf. leaf_of leaf.items };
 
-    ghost was = { λ open. leaf_of open.0 };
+    ghost was = { λ opened. leaf_of opened.0 };
 
-    ghost becomes = { λ open. open.1 };
+    ghost becomes = { λ opened. opened.1 };
 
     ghost has_room = { λ leaf other. length (all_entries leaf) + length (all_entries other) ≤ MAX_LEAF_ENTRIES };
 
@@ -115,13 +115,13 @@ impl<K: Ord + Dup, C: Join> Node<K, C> for Vec<(K, C)> {
         open_leaf(self, edits, start)
     }
 
-    fn finish(open: OpenLeaf<K, C>) -> (Self, Option<Self>) {
-        let (front, back) = open.finish();
+    fn finish(opened: OpenLeaf<K, C>) -> (Self, Option<Self>) {
+        let (front, back) = opened.finish();
         (front, if_some(back))
     }
 
-    fn cancel(open: OpenLeaf<K, C>) -> Self {
-        open.cancel()
+    fn cancel(opened: OpenLeaf<K, C>) -> Self {
+        opened.cancel()
     }
 }
 

@@ -153,15 +153,15 @@ pub trait Node<K: Ord + Dup, C: Join>: Sized + Drop {
         ensures { IsOpening leaves was becomes start (leaves self) edits.old.items edits.new.items result };
 
     /// The node with all contents put, and what no longer fits, if anything.
-    fn finish(open: Self::Open) -> (Self, Option<Self>)
-        requires table { IsTable K.cmp C.valid (becomes open) }
-        requires fits { length (becomes open) < 2 ^ 64 }
-        ensures put { all_entries (both (leaves result.0) (option_map leaves result.1)) ≡ becomes open }
+    fn finish(opened: Self::Open) -> (Self, Option<Self>)
+        requires table { IsTable K.cmp C.valid (becomes opened) }
+        requires fits { length (becomes opened) < 2 ^ 64 }
+        ensures put { all_entries (both (leaves result.0) (option_map leaves result.1)) ≡ becomes opened }
         ensures parts { AreParts (leaves result.0) (option_map leaves result.1) };
 
     /// The node as it was.
-    fn cancel(open: Self::Open) -> Self
-        ensures { leaves result ≡ was open };
+    fn cancel(opened: Self::Open) -> Self
+        ensures { leaves result ≡ was opened };
 
     /// Makes it shareable, unless it is short or memory runs out.
     final fn seal(self, alloc: Global) -> NodeRef<Self>

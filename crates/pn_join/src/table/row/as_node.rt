@@ -14,9 +14,9 @@ impl<K: Ord + Dup, C: Join, T: Node<K, C>> Node<K, C> for Row<K, C, T> {
 
     ghost leaves = { λ row. all_entries row };
 
-    ghost was = { λ open. all_entries open.0 };
+    ghost was = { λ opened. all_entries opened.0 };
 
-    ghost becomes = { λ open. open.1 };
+    ghost becomes = { λ opened. opened.1 };
 
     ghost has_room = { λ row other. Unit {0} };
 
@@ -91,13 +91,13 @@ impl<K: Ord + Dup, C: Join, T: Node<K, C>> Node<K, C> for Row<K, C, T> {
         self.open_row(edits, start)
     }
 
-    fn finish(open: OpenRow<K, C, T>) -> (Self, Option<Self>) {
-        let mut row = open.finish_row();
+    fn finish(opened: OpenRow<K, C, T>) -> (Self, Option<Self>) {
+        let mut row = opened.finish_row();
         let back = row.split_if_long();
         (row, back)
     }
 
-    fn cancel(open: OpenRow<K, C, T>) -> Self {
-        open.cancel()
+    fn cancel(opened: OpenRow<K, C, T>) -> Self {
+        opened.cancel()
     }
 }

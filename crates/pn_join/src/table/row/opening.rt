@@ -72,7 +72,7 @@ impl<K: Ord + Dup, C: Join, T: Node<K, C>> Row<K, C, T> {
     ) -> Opening<Self, OpenRow<K, C, T>>
         requires some { 0 < length self }
         requires edits { AreEditsWithin (start + length (entries_in self)) edits.old.items }
-        ensures { IsOpening (λ row. row) (λ open. open.0) (λ open. open.1) start self edits.old.items edits.new.items result }
+        ensures { IsOpening (λ row. all_entries row) (λ opened. all_entries opened.0) (λ opened. opened.1) start (all_entries self) edits.old.items edits.new.items result }
     {
         let Row {
             mut children,
@@ -81,18 +81,18 @@ impl<K: Ord + Dup, C: Join, T: Node<K, C>> Row<K, C, T> {
             contents,
         } = self;
         let mut taken = Vec::new(*children.allocator());
-        let opened = open_children(&mut children, &mut ends, &mut taken, edits, start);
-        let open = OpenRow {
+        let is_open = open_children(&mut children, &mut ends, &mut taken, edits, start);
+        let row = OpenRow {
             children,
             ends,
             hints,
             taken,
             contents,
         };
-        match opened {
-            Ok(true) => Opening::Open(open),
-            Ok(false) => Opening::Full(open.cancel()),
-            Err(NoMemory) => Opening::NoMemory(open.cancel()),
+        match is_open {
+            Ok(true) => Opening::Open(row),
+            Ok(false) => Opening::Full(row.cancel()),
+            Err(NoMemory) => Opening::NoMemory(row.cancel()),
         }
     }
 }

@@ -1,6 +1,6 @@
 //! Searches for a key: for its node, and within it.
 
-ghost use Rattle.std.specs.Prelude.{◌≡◌, ◌+◌, ◌-◌, ◌^◌, ◌<◌, ◌≤◌, true, false, [], Err, get_or, length, take, IsTrue, MatchOption};
+ghost use Rattle.std.specs.Prelude.{◌≡◌, ◌+◌, ◌-◌, ◌<◌, ◌≤◌, true, false, [], Err, get_or, length, take, IsTrue, MatchOption};
 ghost use Rattle.std.specs.FinMap.{find};
 ghost use Rattle.std.specs.Option.{option_copied};
 ghost use Rattle.std.specs.Ordering.{is_lt};
@@ -39,7 +39,7 @@ impl<K: Ord + Dup, C: Join, T: Node<K, C>> Row<K, C, T> {
         content: Option<&'r C>,
     ) -> (Result<usize, usize>, Option<&'r C>)
         requires node { node ≤ length self.now }
-        requires fits { length (all_entries (take node (in_blocks self.now))) + place index < 2 ^ 64 }
+        requires place { place index ≤ length (get_or (in_blocks self.now) node []) }
         ensures index { result.0 ≡ moved_by (length (all_entries (take node (in_blocks self.now)))) index }
         ensures content { option_copied result.1 ≡ option_copied content.entry }
     {
