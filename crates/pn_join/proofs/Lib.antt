@@ -33,6 +33,7 @@ pub mod Recounts
 pub mod PutBack
 pub mod NodeAt
 pub mod Lasts
+pub mod RowJoins
 pub mod Opened
 pub mod Finished
 pub mod IndexPuts

@@ -1,10 +1,10 @@
 -- Nodes that are taken out of a row and opened for edits, the last first.
-use Rattle.std.proofs.Common.{◌≡◌, ℕ, zero, suc, ◌+◌, ◌-◌, ◌<◌, ◌≤◌, List, [], ◌∷◌, ◌++◌, length, reverse, get_or, set, take, drop, Option, Some, None, Result, Ok, Err, IfSome, Ordering, refl, sym, ap, ◌∙◌, subst, arith, append_assoc}
-use Rattle.std.specs.List.{AllByRecursion}
+use Rattle.std.proofs.Common.{◌≡◌, ℕ, zero, suc, ◌+◌, ◌-◌, ◌<◌, ◌≤◌, List, [], ◌∷◌, ◌++◌, length, reverse, get_or, set, take, drop, Option, Some, None, Result, Ok, Err, IfSome, leb, min, option_map, Ordering, refl, sym, ap, ◌∙◌, subst, arith, append_assoc}
+use Rattle.std.specs.List.{AllByRecursion, prefix_len}
 use Rattle.std.proofs.lemmas.List.{length-append, length-reverse, reverse-append}
 use Rattle.pn_join.specs.Blocks.{in_blocks, entries_in}
 use Rattle.pn_join.specs.Edits.{put_in_turn, AreEditsWithin, InOrder, StopsBefore}
-use Rattle.pn_join.specs.Leaves.{all_entries, last_of}
+use Rattle.pn_join.specs.Leaves.{all_entries, counts_after, last_of}
 use Rattle.pn_join.specs.Openings.{AreOpened, IsOpened}
 use Rattle.pn_join.specs.PutAt.{place, from_start, IsAmong}
 use Rattle.pn_join.specs.Rows.{filled, AreTaken, GoDown, IsTaken, NoneShrinks}
@@ -13,7 +13,7 @@ use Rattle.pn_join.specs.declared.table.row.opening.Taken.{Taken}
 use Rattle.pn_join.proofs.BlockFacts.{all_in_blocks, at_block, length-in_blocks}
 use Rattle.pn_join.proofs.Each.{each_back, each_prefix, each_append}
 use Rattle.pn_join.proofs.Lasts.{last_one, last_next, last_push, set_same, set_twice, set_apart, get_before_set, take_before_set, get_taken, length-set}
-use Rattle.pn_join.proofs.NodeAt.{ComesInto}
+use Rattle.pn_join.proofs.NodeAt.{ComesInto, comes_into}
 use Rattle.pn_join.proofs.PutAtFacts.{ComeInto, put_in_turn-inside, put_in_turn-append, put_in_turn-grows}
 use Rattle.pn_join.proofs.RowFacts.{all_around, all_with, in_blocks-set}
 
@@ -138,6 +138,22 @@ module _ {K C : Type 0} where
       ∙ sym (put_in_turn-inside mine start before es after (rw (← at) come))
       ∙ ap (λ all. put_in_turn start all mine) (ap (λ y. before ++ (y ++ after)) here ∙ sym (all_around lists i lt))
 
+  last_has : (P : Edit K C → Type 0) (edits : List (Edit K C)) (last : Edit K C) → last_of edits ≡ Some last → AllByRecursion P edits → P last
+  last_has P [] last is h = cc
+  last_has P (e ∷ []) last is h = let same : e ≡ last = some_is (sym (last_one e) ∙ is) in rw (sym same) h.0 where
+    some_is : {x y : Edit K C} → Some x ≡ Some y → x ≡ y
+    some_is p = cc
+  last_has P (e ∷ d ∷ edits) last is h = last_has P (d ∷ edits) last (sym (last_next e d edits) ∙ is) h.1
+
+  -- the last edit, by its place
+  pub last_there : (edits : List (Edit K C)) (index : ℕ) → option_map (λ edit. place edit.index) (last_of edits) ≡ Some index → (last : Edit K C) × (last_of edits ≡ Some last) × (place last.index ≡ index)
+  last_there edits index is = by (last_of edits) is refl where
+    by : (o : Option (Edit K C)) → option_map (λ edit. place edit.index) o ≡ Some index → last_of edits ≡ o → (last : Edit K C) × (last_of edits ≡ Some last) × (place last.index ≡ index)
+    by None is same = cc
+    by (Some last) is same = (last, same, same_index is) where
+      same_index : {x y : ℕ} → Some x ≡ Some y → x ≡ y
+      same_index p = cc
+
   place_from : (start : ℕ) (index : Result ℕ ℕ) → place (from_start start index) ≡ place index - start
   place_from start (Ok i) = refl
   place_from start (Err i) = refl
@@ -186,6 +202,18 @@ module _ {K C O : Type 0} (was : O → List (List (K × C))) (becomes : O → Li
 
   pub all_opened : (now : List (List (List (K × C)))) (taken : List (Taken O)) (left : List (Edit K C)) → OpenedSoFar now taken left → StopsBefore start left → AreOpened start (entries_in nodes) edits left (all_entries (filled becomes taken (in_blocks now)))
   all_opened now taken left h stops = record { mine = h.mine; parted = h.parted; from = h.from; stops = stops; has = h.has }
+
+  -- the node that the last edit comes into
+  pub last_comes : (now : List (List (List (K × C)))) (taken : List (Taken O)) (left : List (Edit K C)) → OpenedSoFar now taken left → AreEditsWithin (start + length (entries_in nodes)) edits → 0 < length nodes → (last : Edit K C) → last_of left ≡ Some last → start ≤ place last.index → (i at : ℕ) → at ≡ prefix_len (λ end. leb end (place last.index - start)) (counts_after 0 (in_blocks nodes)) → i ≡ min at (length nodes - 1) → ComesInto (in_blocks nodes) i (from_start start last.index)
+  last_comes now taken left h are some last is from i at found most =
+      let entries : length (entries_in nodes) ≡ length (all_entries (in_blocks nodes)) = ap length (sym (all_in_blocks nodes)) in
+      let among = local last.index from (last_has (λ edit. IsAmong (start + length (entries_in nodes)) edit.index) left last is (left_within (start + length (entries_in nodes)) now taken left are h).among) in
+      comes_into (in_blocks nodes) (omega (arith, some, length-in_blocks nodes)) i at (from_start start last.index) (rw entries at among)
+      (found ∙ ap (λ n. prefix_len (λ end. leb end n) (counts_after 0 (in_blocks nodes))) (sym (place_from start last.index)))
+      (omega (arith, most, length-in_blocks nodes)) where
+        local : (index : Result ℕ ℕ) → start ≤ place index → IsAmong (start + length (entries_in nodes)) index → IsAmong (length (entries_in nodes)) (from_start start index)
+        local (Ok j) le lt = omega (arith, le, lt)
+        local (Err j) le lt = omega (arith, le, lt)
 
   module _ (now : List (List (List (K × C)))) (taken : List (Taken O)) (left : List (Edit K C)) (h : OpenedSoFar now taken left) (last : Edit K C) (is : last_of left ≡ Some last) (from : start ≤ place last.index) (i : ℕ) (come : ComesInto (in_blocks nodes) i (from_start start last.index)) where
     pub node_within : i < length nodes

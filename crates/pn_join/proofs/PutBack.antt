@@ -1,16 +1,17 @@
 -- A node that is put back into its row, with one after it, if anything no longer fitted.
-use Rattle.std.proofs.Common.{◌≡◌, ℕ, zero, suc, ◌+◌, ◌^◌, ◌<◌, ◌≤◌, List, [], ◌∷◌, ◌++◌, length, get_or, set, take, drop, Option, Some, None, unwrap_or, option_map, Ordering, refl, sym, ap, ◌∙◌, arith, append-nil, append_assoc}
+use Rattle.std.proofs.Common.{◌≡◌, ℕ, zero, suc, ◌+◌, ◌^◌, ◌<◌, ◌≤◌, List, [], ◌∷◌, ◌++◌, length, get_or, set, slice_get, take, drop, Option, Some, None, unwrap_or, option_map, Ordering, refl, sym, ap, ◌∙◌, arith, append-nil, append_assoc}
 use Rattle.std.specs.List.{AllByRecursion}
 use Rattle.std.specs.Option.{option_to_list}
 use Rattle.std.proofs.lemmas.List.{length-append}
 use Rattle.pn_join.specs.Blocks.{in_blocks, entries_in, AreBlocks}
-use Rattle.pn_join.specs.Leaves.{all_entries, IsLeaf}
+use Rattle.pn_join.specs.Leaves.{all_entries, IsLeaf, IsLeafList}
 use Rattle.pn_join.specs.Nodes.{both, AreParts}
 use Rattle.pn_join.specs.Rows.{inserted_at}
 use Rattle.pn_join.specs.Tables.{IsTable}
-use Rattle.pn_join.proofs.BlockFacts.{all_in_blocks, at_block, length-in_blocks}
+use Rattle.pn_join.proofs.BlockFacts.{all_in_blocks, at_block, block_there, length-in_blocks}
 use Rattle.pn_join.proofs.BlockGrowth.{all_append}
 use Rattle.pn_join.proofs.Each.{each_append, each_prefix, each_back, each_set}
+use Rattle.pn_join.proofs.PutAtFacts.{IsTable-inside}
 use Rattle.pn_join.proofs.Recounts.{all_inserted, in_blocks-inserted}
 use Rattle.pn_join.proofs.RowFacts.{all_around, all_with}
 
@@ -91,3 +92,20 @@ put_back_row cmp valid nodes i front back lt are parts table = record {
   some = put_back_some nodes i front back are.some parts;
   leaf_list = record { sizes = put_back_sizes nodes i front back lt are.leaf_list.sizes parts; table = table };
 }
+
+-- the leaves of one node of a row
+module _ {K C : Type 0} (cmp : K → K → Ordering) (valid : C → Type 0) (nodes : List (List (List (K × C)))) (are : AreBlocks cmp valid nodes) where
+  pub node_list : (i : ℕ) → i < length nodes → IsLeafList cmp valid (get_or nodes i [])
+  node_list i lt = record {
+    sizes = each_prefix (λ leaf. IsLeaf leaf) (get_or nodes i []) (all_entries (drop (suc i) nodes))
+        (each_back (λ leaf. IsLeaf leaf) (all_entries (take i nodes)) (get_or nodes i [] ++ all_entries (drop (suc i) nodes)) (rw (all_around nodes i lt) at are.leaf_list.sizes));
+    table = IsTable-inside cmp valid (all_entries (take i (in_blocks nodes))) (all_entries (get_or nodes i [])) (all_entries (drop (suc i) (in_blocks nodes))) (rw (entries_around nodes i lt) at are.leaf_list.table);
+  }
+
+  there : (ns : List (List (List (K × C)))) (i : ℕ) (node : List (List (K × C))) → Some node ≡ slice_get ns i → i < length ns
+  there [] i node is = cc
+  there (n ∷ ns) zero node is = omega arith
+  there (n ∷ ns) (suc i) node is = omega (arith, there ns i node is)
+
+  pub there_list : (i : ℕ) (node : List (List (K × C))) → Some node ≡ slice_get nodes i → IsLeafList cmp valid node
+  there_list i node is = rw (sym (block_there nodes i node is)) (node_list i (there nodes i node is))

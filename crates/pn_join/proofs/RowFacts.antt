@@ -23,11 +23,11 @@ module _ {A : Type 0} where
   in_blocks-set (b ∷ bs) (suc i) block = ap (λ es. all_entries b ∷ es) (in_blocks-set bs i block)
 
 module _ {A : Type 0} where
-  reindices : (old new : List (List A)) → 0 < length old → ChangesOneLeaf old new → ReindicesOneLeaf old new
+  pub reindices : (old new : List (List A)) → 0 < length old → ChangesOneLeaf old new → ReindicesOneLeaf old new
   reindices [] new some one = absurd (omega (arith, some))
   reindices (l ∷ ls) new some one = one
 
-  changes : (old new : List (List A)) → 0 < length old → ReindicesOneLeaf old new → ChangesOneLeaf old new
+  pub changes : (old new : List (List A)) → 0 < length old → ReindicesOneLeaf old new → ChangesOneLeaf old new
   changes [] new some one = absurd (omega (arith, some))
   changes (l ∷ ls) new some one = one
 
@@ -56,7 +56,7 @@ module _ {A : Type 0} where
         ∙ ap (λ ls. before ++ (one.before ++ ls)) (append_assoc one.is one.after after)
         ∙ sym (append_assoc before one.before (one.is ++ (one.after ++ after)))
 
-    reindices_between : ReindicesOneLeaf (before ++ (old ++ after)) (before ++ (new ++ after))
+    pub reindices_between : ReindicesOneLeaf (before ++ (old ++ after)) (before ++ (new ++ after))
     reindices_between = record {
       before = before ++ one.before;
       after = one.after ++ after;

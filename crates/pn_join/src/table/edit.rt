@@ -1,6 +1,6 @@
 //! Edits: what entries of another table change, and where.
 
-ghost use Rattle.std.specs.Prelude.{◌≡◌, ◌+◌, ◌^◌, ◌<◌, ◌≤◌, ◌++◌, None, IfOk, IfSome, OnOk};
+ghost use Rattle.std.specs.Prelude.{◌≡◌, ◌+◌, ◌^◌, ◌<◌, ◌≤◌, ◌++◌, None, Some, option_map, IfOk, IfSome, OnOk};
 ghost use Rattle.std.specs.Option.{option_to_list};
 ghost use Rattle.pn_join.specs.Edits.{changes_in, put_of, puts_in, StopsBefore};
 ghost use Rattle.pn_join.specs.Leaves.{last_of};
@@ -60,7 +60,7 @@ pub fn pop_from<K, C>(edits: &mut Vec<Edit<K, C>>, start: usize) -> Option<Edit<
 
 /// How many entries come before an index, where those before the last edit may be left out.
 pub fn last_place<K, C>(edits: &[Edit<K, C>], start: usize) -> Option<usize>
-    ensures some { IfSome result (λ index. (start ≤ index) × IfSome (last_of edits.now) (λ edit. place edit.index ≡ index)) }
+    ensures some { IfSome result (λ index. (start ≤ index) × (option_map (λ edit. place edit.index) (last_of edits.now) ≡ Some index)) }
     ensures stops { result ≡ None → StopsBefore start edits.now }
 {
     let last = edits.last()?;

@@ -7,10 +7,10 @@
 //! goes to the row above; the uppermost is not divided. A search takes a logarithm of the nodes of each row on its way; a join
 //! changes the counts of the nodes after its own.
 
-ghost use Rattle.std.specs.Prelude.{◌≡◌, ◌^◌, ◌<◌, ◌≤◌, leb, [], ◌++◌, length, take, drop, ◌+◌, ◌↔◌, option_map, slice_get, IsTrue, IfOk};
+ghost use Rattle.std.specs.Prelude.{◌≡◌, ◌^◌, ◌<◌, ◌≤◌, leb, [], ◌++◌, length, take, drop, ◌+◌, ◌↔◌, option_map, slice_get, IsTrue, IfOk, IfSome};
 ghost use Rattle.std.specs.List.{prefix_len};
 ghost use Rattle.pn_join.specs.Blocks.{in_blocks, entries_in, AreBlocks};
-ghost use Rattle.pn_join.specs.Leaves.{all_entries, counts_after};
+ghost use Rattle.pn_join.specs.Leaves.{all_entries, counts_after, IsLeafList};
 ghost use Rattle.pn_join.specs.Nodes.{each_child};
 
 mod as_node;
@@ -133,6 +133,7 @@ impl<K: Ord + Dup, C: Join, T: Node<K, C>> Row<K, C, T> {
     /// The node at an index. `None` past the last.
     fn child(&self, index: usize) -> Option<&T>
         ensures node { option_map (λ node. T.leaves node.now) result ≡ slice_get self.now index }
+        ensures leaf_list { IfSome result (λ node. IsLeafList K.cmp C.valid (T.leaves node.now)) }
         ensures row { AreBlocks K.cmp C.valid self.now }
     {
         let child = self.children.get(index)?;
