@@ -1,5 +1,5 @@
 -- The last of a list's elements, and lists of which one element is replaced.
-use Rattle.std.proofs.Common.{◌≡◌, ℕ, zero, suc, ◌+◌, ◌-◌, ◌<◌, ◌≤◌, List, [], ◌∷◌, ◌++◌, length, map, get_or, set, insert, take, drop, slice_get, Option, Some, None, refl, sym, ap, ◌∙◌, arith}
+use Rattle.std.proofs.Common.{◌≡◌, ℕ, zero, suc, ◌+◌, ◌-◌, ◌<◌, ◌≤◌, List, [], ◌∷◌, ◌++◌, length, map, get_or, set, insert, take, drop, slice_get, Option, Some, None, option_map, refl, sym, ap, ◌∙◌, arith}
 use Rattle.std.specs.List.{AllByRecursion}
 use Rattle.pn_join.specs.Leaves.{last_of}
 
@@ -96,3 +96,8 @@ module _ {A B : Type 0} (f : A → B) where
   get-mapped [] i d e lt = absurd (omega (arith, lt))
   get-mapped (x ∷ xs) zero d e lt = refl
   get-mapped (x ∷ xs) (suc i) d e lt = get-mapped xs i d e (omega (arith, lt))
+
+  pub slice-mapped : (xs : List A) (i : ℕ) → slice_get (map f xs) i ≡ option_map f (slice_get xs i)
+  slice-mapped [] i = refl
+  slice-mapped (x ∷ xs) zero = refl
+  slice-mapped (x ∷ xs) (suc i) = slice-mapped xs i

@@ -29,6 +29,7 @@ pub mod CountsFacts
 pub mod Counting
 pub mod EditsFrom
 pub mod Searching
+pub mod Slices
 pub mod Recounts
 pub mod PutBack
 pub mod NodeAt
@@ -36,4 +37,5 @@ pub mod Lasts
 pub mod RowJoins
 pub mod Opened
 pub mod Finished
+pub mod Restored
 pub mod IndexPuts

@@ -14,6 +14,14 @@ module _ {X : Type 0} (p : X → Bool) where
       one_more i ∙ ap (λ n. 1 + n) (prefix_at xs i (omega (arith, le)) ((λ k d ge lt. h.0 (suc k) d (omega (arith, ge)) (omega (arith, lt))), (λ k d ge lt. h.1 (suc k) d (omega (arith, ge)) (omega (arith, lt)))))
       ∙ sym (ap (λ b. cond b (1 + prefix_len p xs) 0) (h.0 0 x (omega arith) (omega arith)))
 
+  pub prefix_within : (xs : List X) → prefix_len p xs ≤ length xs
+  prefix_within [] = omega arith
+  prefix_within (x ∷ xs) =
+      elim (p x) as (λ b. cond b (1 + prefix_len p xs) 0 ≤ length (x ∷ xs)) [
+        | true ↦ omega (arith, prefix_within xs)
+        | false ↦ omega arith
+      ]
+
   pub prefix_len-map : {Y : Type 0} (f : Y → X) (ys : List Y) → prefix_len p (map f ys) ≡ prefix_len (λ y. p (f y)) ys
   prefix_len-map f [] = refl
   prefix_len-map f (y ∷ ys) = ap (λ n. cond (p (f y)) (1 + n) 0) (prefix_len-map f ys)
