@@ -30,6 +30,8 @@ pub mod Counting
 pub mod EditsFrom
 pub mod Searching
 pub mod Slices
+pub mod Growing
+pub mod RowLast
 pub mod Recounts
 pub mod PutBack
 pub mod NodeAt

@@ -1,6 +1,7 @@
 -- Nodes that are taken out of a row and opened for edits, the last first.
-use Rattle.std.proofs.Common.{◌≡◌, ℕ, zero, suc, ◌+◌, ◌-◌, ◌<◌, ◌≤◌, List, [], ◌∷◌, ◌++◌, length, reverse, get_or, set, take, drop, Option, Some, None, Result, Ok, Err, IfSome, leb, min, option_map, Ordering, refl, sym, ap, ◌∙◌, subst, arith, append_assoc}
+use Rattle.std.proofs.Common.{◌≡◌, ℕ, zero, suc, ◌+◌, ◌-◌, ◌<◌, ◌≤◌, List, [], ◌∷◌, ◌++◌, length, reverse, get_or, set, take, drop, Option, Some, None, Result, Ok, Err, IfSome, true, false, leb, min, option_map, Ordering, refl, sym, ap, ◌∙◌, subst, arith, append_assoc}
 use Rattle.std.specs.List.{AllByRecursion, prefix_len}
+use Rattle.std.proofs.lemmas.Bool.Decides.{nat_tests}
 use Rattle.std.proofs.lemmas.List.{length-append, length-reverse, reverse-append}
 use Rattle.pn_join.specs.Blocks.{in_blocks, entries_in}
 use Rattle.pn_join.specs.Edits.{put_in_turn, AreEditsWithin, InOrder, StopsBefore}
@@ -63,7 +64,7 @@ module _ {K C : Type 0} where
   up_to_last [] last order is = tt
   up_to_last (e ∷ []) last order is =
       let same : e ≡ last = some_is (sym (last_one e) ∙ is) in
-      (rw same (omega arith), tt) where
+      (subst (λ x. Place e ≤ Place x) same (omega arith), tt) where
         some_is : {x y : Edit K C} → Some x ≡ Some y → x ≡ y
         some_is p = cc
   up_to_last (e ∷ d ∷ edits) last order is =
@@ -87,9 +88,15 @@ module _ {K C : Type 0} where
   fit_one : (first count end : ℕ) (last index : Result ℕ ℕ) → place index ≤ place last → place last ≤ first + count → (place last ≡ first + count → place last ≡ end) → IsAmong end index → IsAmong (first + count) index
   fit_one first count end last (Ok i) le most at among = fit i le among where
     fit : (i : ℕ) → i ≤ place last → i < end → i < first + count
-    fit i le among = less i (place last) (first + count) le most (λ e. omega (arith, among, e, at e, le)) where
-      less : (i l n : ℕ) → i ≤ l → l ≤ n → (l ≡ n → i < n) → i < n
-      less i l n le most at = grind (arith, le, most, at)
+    fit i le among =
+        elim (leb (first + count) (place last)) as (λ b. leb (first + count) (place last) ≡ b → i < first + count) [
+          | true ↦ λ p.
+              let ge : first + count ≤ place last = grind (arith, nat_tests) in
+              omega (arith, among, at (omega (arith, ge, most)), ge, most)
+          | false ↦ λ p.
+              let lt : place last < first + count = grind (arith, nat_tests) in
+              omega (arith, lt, le)
+        ] refl
   fit_one first count end last (Err i) le most at among = omega (arith, le, most)
 
   fit_all : (first count end : ℕ) (last : Result ℕ ℕ) (edits : List (Edit K C)) → AllByRecursion (λ edit. Place edit ≤ place last) edits → place last ≤ first + count → (place last ≡ first + count → place last ≡ end) → AllByRecursion (λ edit. IsAmong end edit.index) edits → AllByRecursion (λ edit. IsAmong (first + count) edit.index) edits
@@ -140,7 +147,7 @@ module _ {K C : Type 0} where
 
   last_has : (P : Edit K C → Type 0) (edits : List (Edit K C)) (last : Edit K C) → last_of edits ≡ Some last → AllByRecursion P edits → P last
   last_has P [] last is h = cc
-  last_has P (e ∷ []) last is h = let same : e ≡ last = some_is (sym (last_one e) ∙ is) in rw (sym same) h.0 where
+  last_has P (e ∷ []) last is h = let same : e ≡ last = some_is (sym (last_one e) ∙ is) in subst P same h.0 where
     some_is : {x y : Edit K C} → Some x ≡ Some y → x ≡ y
     some_is p = cc
   last_has P (e ∷ d ∷ edits) last is h = last_has P (d ∷ edits) last (sym (last_next e d edits) ∙ is) h.1
@@ -245,9 +252,6 @@ module _ {K C O : Type 0} (was : O → List (List (K × C))) (becomes : O → Li
         fit_node first (length (all_entries (get_or now i []))) end left last is most end_at are
 
     module _ (left_now : List (Edit K C)) (new : List (List (List (K × C)))) (new_taken : List (Taken O)) (step : IsTaken was becomes i (start + length (all_entries (take i (in_blocks nodes)))) left left_now now new taken new_taken) (are : AreEditsWithin ((start + length (all_entries (take i (in_blocks nodes)))) + length (all_entries (get_or now i []))) left) where
-      first : ℕ
-      first = start + length (all_entries (take i (in_blocks nodes)))
-
       in_now : i < length now
       in_now = omega (arith, node_within, now_long)
 

@@ -13,7 +13,6 @@ use Rattle.pn_join.specs.Rows.{inserted_at, IsJoinedIn}
 use Rattle.pn_join.specs.Tables.{IsTable}
 use Rattle.pn_join.specs.declared.table.counts.Sizes.{Sizes}
 use Rattle.pn_join.proofs.BlockFacts.{all_in_blocks, at_block, length-in_blocks}
-use Rattle.pn_join.proofs.NodeAt.{ComesInto}
 use Rattle.pn_join.proofs.PutAtFacts.{joined-inside, may_put-inside, put_at-grows}
 use Rattle.pn_join.proofs.PutBack.{all_put_back, entries_around, entries_in-put_back, leaves_few, put_back_row, put_back_sizes, set_sizes}
 use Rattle.pn_join.proofs.Recounts.{can_recount, now_counted}
@@ -34,17 +33,14 @@ module _ {A : Type 0} where
       changes (all_entries nodes) (all_entries (inserted_at (i + 1) (option_to_list back) (set nodes i front))) long
       (rw (around, all_put_back nodes i front back lt) (reindices_between before old (both front back) after (reindices old (both front back) some one)))
 
-module _ {K C : Type 0} (cmp : K → K → Ordering) (valid : C → Type 0) (nodes : List (List (List (K × C)))) (i : ℕ) (index : Result ℕ ℕ) (come : ComesInto (in_blocks nodes) i index) where
-  pub node_within : i < length nodes
-  node_within = omega (arith, come.within, length-in_blocks nodes)
-
+module _ {K C : Type 0} (cmp : K → K → Ordering) (valid : C → Type 0) (nodes : List (List (List (K × C)))) (i : ℕ) (index : Result ℕ ℕ) (node_within : i < length nodes) (starts : length (all_entries (take i (in_blocks nodes))) ≤ place index) (among : IsAmong (length (get_or (in_blocks nodes) i [])) (from_start (length (all_entries (take i (in_blocks nodes)))) index)) where
   among_node : IsAmong (length (all_entries (get_or nodes i []))) (from_start (length (all_entries (take i (in_blocks nodes)))) index)
-  among_node = rw (ap length (sym (at_block nodes i))) come.among
+  among_node = rw (ap length (sym (at_block nodes i))) among
 
   -- the key may be put into the node
   pub node_may : (key : K) → MayPutAt cmp valid index key (entries_in nodes) → MayPutAt cmp valid (from_start (length (all_entries (take i (in_blocks nodes)))) index) key (all_entries (get_or nodes i []))
   node_may key may =
-      may_put-inside cmp valid (all_entries (take i (in_blocks nodes))) (all_entries (get_or nodes i [])) (all_entries (drop (suc i) (in_blocks nodes))) index key come.starts among_node (rw (entries_around nodes i node_within) at may)
+      may_put-inside cmp valid (all_entries (take i (in_blocks nodes))) (all_entries (get_or nodes i [])) (all_entries (drop (suc i) (in_blocks nodes))) index key starts among_node (rw (entries_around nodes i node_within) at may)
 
   module _ {M : Type 0} (meaning : C → M) (joined : M → M → M) (key : K) (content : C) (are : AreBlocks cmp valid nodes) (may : MayPutAt cmp valid index key (entries_in nodes)) (some : 0 < length (get_or nodes i [])) (back : Option (List (List (K × C)))) (mid : List (List (List (K × C)))) (is : IsJoinedIn meaning joined valid i (from_start (length (all_entries (take i (in_blocks nodes)))) index) key content back nodes mid) where
     after_is : inserted_at (i + 1) (option_to_list back) mid ≡ inserted_at (i + 1) (option_to_list back) (set nodes i is.front)
@@ -53,7 +49,7 @@ module _ {K C : Type 0} (cmp : K → K → Ordering) (valid : C → Type 0) (nod
     pub joined_row : IsJoinedAt meaning joined valid index key content (entries_in nodes) (entries_in (inserted_at (i + 1) (option_to_list back) mid))
     joined_row =
         rw (after_is, entries_in-put_back nodes i is.front back node_within, entries_around nodes i node_within)
-        (joined-inside meaning joined valid index key content (all_entries (take i (in_blocks nodes))) (all_entries (get_or nodes i [])) (all_entries (both is.front back)) (all_entries (drop (suc i) (in_blocks nodes))) come.starts among_node is.put)
+        (joined-inside meaning joined valid index key content (all_entries (take i (in_blocks nodes))) (all_entries (get_or nodes i [])) (all_entries (both is.front back)) (all_entries (drop (suc i) (in_blocks nodes))) starts among_node is.put)
 
     pub one_in_row : ChangesOneLeaf (all_entries nodes) (all_entries (inserted_at (i + 1) (option_to_list back) mid))
     one_in_row = rw after_is (one_put_back nodes i is.front back node_within some is.one)
@@ -76,7 +72,7 @@ module _ {K C : Type 0} (cmp : K → K → Ordering) (valid : C → Type 0) (nod
 
       entries_fit : length (all_entries (set (in_blocks nodes) i (all_entries (both is.front back)))) < 2 ^ 64
       entries_fit =
-          let within : i < length (in_blocks nodes) = come.within in
+          let within : i < length (in_blocks nodes) = omega (arith, node_within, length-in_blocks nodes) in
           omega (arith, fits, ap (λ ns. length (entries_in ns)) after_is, ap length (entries_in-put_back nodes i is.front back node_within), ap length (all_with (in_blocks nodes) i (all_entries (both is.front back)) within))
 
       leaves_fit : length (all_entries (set nodes i (both is.front back))) < 2 ^ 64

@@ -1,8 +1,8 @@
 //! Searches for a key: for its node, and within it.
 
-ghost use Rattle.std.specs.Prelude.{◌≡◌, ◌+◌, ◌-◌, ◌<◌, ◌≤◌, true, false, [], Err, get_or, length, take, IsTrue, MatchOption};
+ghost use Rattle.std.specs.Prelude.{◌≡◌, ◌+◌, ◌-◌, ◌<◌, ◌≤◌, true, false, [], Err, get_or, length, take, IsTrue};
 ghost use Rattle.std.specs.FinMap.{find};
-ghost use Rattle.std.specs.Option.{option_copied};
+ghost use Rattle.std.specs.Option.{option_copied, option_map_or};
 ghost use Rattle.std.specs.Ordering.{is_lt};
 ghost use Rattle.pn_join.specs.Blocks.{in_blocks, entries_in, AreBlocks};
 ghost use Rattle.pn_join.specs.Indices.{index_of};
@@ -150,7 +150,7 @@ impl<K: Ord + Dup, C: Join, T: Node<K, C>> Row<K, C, T> {
 
 /// Whether the one key, if there is one, is less than the other.
 fn is_less<K: Ord>(one: Option<&K>, key: &K) -> bool
-    ensures { result ≡ MatchOption (option_copied one.entry) false (λ k. is_lt (K.cmp k key.now)) }
+    ensures { result ≡ option_map_or (λ k. is_lt (K.cmp k key.now)) (option_copied one.entry) false }
 {
     match one {
         Some(one) => one.cmp(key).is_lt(),

@@ -1,0 +1,14 @@
+-- The next part and what is there are a table, since the whole is.
+use Rattle.std.proofs.Common.{◌+◌, length, slice_range}
+use Rattle.pn_join.specs.Blocks.{entries_in}
+use Rattle.pn_join.specs.Leaves.{all_entries}
+use Rattle.pn_join.specs.Nodes.{node_of}
+use Rattle.pn_join.proofs.SliceFacts.{next_table}
+use Rattle.pn_join.proofs.table.row.Row.push_parts.Goals as goal
+
+pub push-requires-clause-table : goal.push-requires-clause-table
+push-requires-clause-table g c =
+    let all = entries_in c.args.other.now in
+    let now = c.loop-taken in
+    let part = all_entries (g.T.Node.leaves (node_of c.in_ok-node.node)) in
+    next_table g.K.Ord.cmp g.C.Join.valid (entries_in now.self) (slice_range all now.taken c.args.to) part (slice_range all (now.taken + length part) c.args.to) c.in_ok-node.ensures.first (rw now.invariant.parted c.requires.table)
