@@ -32,6 +32,7 @@ pub mod Searching
 pub mod Slices
 pub mod Growing
 pub mod RowLast
+pub mod Sealing
 pub mod Recounts
 pub mod PutBack
 pub mod NodeAt
