@@ -144,3 +144,9 @@ module _ {K C : Type 0} (cmp : K → K → Ordering) (o : IsTotalOrder cmp) wher
     ordered : (edits : List (Edit K C)) → AreIndexed cmp es edits → Rising cmp (entries_of edits) → InOrder edits
     ordered [] at rising = tt
     ordered (e ∷ edits) at rising = (above e edits at.0 at.1 rising.0, ordered edits at.1 rising.1)
+
+  -- the same, counted from the first entry
+  pub edits_within_root : (es : List (K × C)) (edits : List (Edit K C)) → AreIndexed cmp es edits → RiseByKey cmp edits → AreEditsWithin (0 + length es) edits
+  edits_within_root es edits at rising =
+      let same : length es ≡ 0 + length es = omega arith in
+      rw (← same) (edits_within es edits at (Rising-from_sorted cmp (entries_of edits) rising))

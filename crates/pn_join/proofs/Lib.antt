@@ -33,6 +33,7 @@ pub mod Slices
 pub mod Growing
 pub mod RowLast
 pub mod Sealing
+pub mod SamePuts
 pub mod Recounts
 pub mod PutBack
 pub mod NodeAt
