@@ -5,13 +5,18 @@ use Rattle.std.specs.Option.{option_to_list}
 use Rattle.std.proofs.lemmas.List.{length-append}
 use Rattle.pn_join.specs.Blocks.{in_blocks, entries_in, AreBlocks}
 use Rattle.pn_join.specs.Counts.{AreCounts}
-use Rattle.pn_join.specs.Leaves.{all_entries, IsLeaf}
+use Rattle.pn_join.specs.Leaves.{all_entries, IsLeaf, IsLeafList}
 use Rattle.pn_join.specs.Nodes.{both, AreParts}
 use Rattle.pn_join.specs.Rows.{filled, inserted_at, GoDown, IsFinished, MayFinish, NoneShrinks}
 use Rattle.pn_join.specs.Tables.{IsTable}
 use Rattle.pn_join.specs.declared.table.counts.Sizes.{Sizes}
 use Rattle.pn_join.specs.declared.table.row.opening.Taken.{Taken}
 use Rattle.pn_join.proofs.BlockFacts.{all_in_blocks, length-in_blocks}
+use Rattle.pn_join.proofs.BlockGrowth.{all_append}
+use Rattle.pn_join.proofs.CountsFacts.{length-ends}
+use Rattle.pn_join.proofs.Each.{each_prefix}
+use Rattle.pn_join.proofs.PutAtFacts.{IsTable-inside}
+use Rattle.pn_join.proofs.SliceFacts.{IsTable-prefix}
 use Rattle.pn_join.proofs.Lasts.{set_twice, set_apart, length-set}
 use Rattle.pn_join.proofs.Opened.{length-filled}
 use Rattle.pn_join.proofs.PutBack.{all_put_back, whole_back, leaves_few, put_back_some, put_back_sizes, set_sizes}
@@ -174,3 +179,38 @@ module _ {K C O : Type 0} (was : O → List (List (K × C))) (becomes : O → Li
             grow = h.grow.1;
             whole = now_whole;
           }
+
+    -- its entries are part of a table
+    pub one_table : (cmp : K → K → Ordering) (valid : C → Type 0) → IsTable cmp valid total → IsTable cmp valid (becomes one.node)
+    one_table cmp valid table =
+        let lists = filled becomes rest (in_blocks now) in
+        let inside : one.index < length lists = omega (arith, within, length-in_blocks now, length-filled becomes rest (in_blocks now)) in
+        IsTable-inside cmp valid (all_entries (take one.index lists)) (becomes one.node) (all_entries (drop (suc one.index) lists))
+        (rw (sym (all_with lists one.index (becomes one.node) inside) ∙ h.whole) table)
+
+    pub one_fits : length (becomes one.node) < 2 ^ 64
+    one_fits =
+        let lists = filled becomes rest (in_blocks now) in
+        let inside : one.index < length lists = omega (arith, within, length-in_blocks now, length-filled becomes rest (in_blocks now)) in
+        let before = all_entries (take one.index lists) in
+        let after = all_entries (drop (suc one.index) lists) in
+        omega (arith, fits, ap length (sym (all_with lists one.index (becomes one.node) inside) ∙ h.whole), length-append before (becomes one.node ++ after), length-append (becomes one.node) after)
+
+    pub node_and_end : (one.index < length now) × (one.index < length ends)
+    node_and_end = (within, omega (arith, among, length-ends (filled was (one ∷ rest) now) ends h.counts))
+
+-- the front of a node that is put back is the leaves of a table
+module _ {K C : Type 0} (cmp : K → K → Ordering) (valid : C → Type 0) where
+  front_there : {A : Type 0} (nodes : List (List (List A))) (i j : ℕ) (front : List (List A)) (more : List (List (List A))) → i < length nodes → j ≡ suc i → get_or (inserted_at j more (set nodes i front)) i [] ≡ front
+  front_there [] i j front more lt at = absurd (omega (arith, lt))
+  front_there (n ∷ ns) zero j front more lt at = ap (λ k. get_or (inserted_at k more (front ∷ ns)) 0 []) at
+  front_there (n ∷ ns) (suc i) j front more lt at = ap (λ k. get_or (inserted_at k more (n ∷ set ns i front)) (suc i) []) at ∙ front_there ns i (suc i) front more (omega (arith, lt)) refl
+
+  pub front_list : (i : ℕ) (entries : List (K × C)) (nodes new : List (List (List (K × C)))) (ends new_ends : List Sizes) → i < length nodes → IsTable cmp valid entries → IsFinished i entries nodes new ends new_ends → IsLeafList cmp valid (get_or new i [])
+  front_list i entries nodes new ends new_ends lt table done =
+      let next : i + 1 ≡ suc i = omega arith in
+      let here : get_or new i [] ≡ done.front = ap (λ ns. get_or ns i []) done.inserted ∙ front_there nodes i (i + 1) done.front (option_to_list done.back) lt next in
+      rw here (record {
+        sizes = each_prefix (λ leaf. IsLeaf leaf) done.front (unwrap_or done.back []) done.parts.sizes;
+        table = IsTable-prefix cmp valid (all_entries done.front) (all_entries (unwrap_or done.back [])) (rw (← all_append done.front (unwrap_or done.back []), done.put) table);
+      })

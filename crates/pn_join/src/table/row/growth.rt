@@ -1,6 +1,6 @@
 //! Nodes that are added after all others, and taken off again.
 
-ghost use Rattle.std.specs.Prelude.{◌≡◌, ◌^◌, ◌<◌, ◌≤◌, ◌∷◌, [], ◌++◌, length, take, drop, option_map, unwrap_or, IfOk, IfSome, OnOk, OnErr};
+ghost use Rattle.std.specs.Prelude.{◌≡◌, ◌^◌, ◌<◌, ◌≤◌, ◌∷◌, [], ◌++◌, length, get_or, take, drop, option_map, unwrap_or, IfOk, IfSome, OnOk, OnErr};
 ghost use Rattle.std.specs.List.{AllByRecursion};
 ghost use Rattle.std.specs.Option.{option_to_list};
 ghost use Rattle.pn_join.specs.Blocks.{entries_in, AreBlocks};
@@ -118,7 +118,7 @@ impl<K: Ord + Dup, C: Join, T: Node<K, C>> Row<K, C, T> {
 
 /// Adds the last key of the node before the last to the hints, if there is memory for it.
 fn add_hint<K: Ord + Dup, C: Join, T: Node<K, C>>(hints: &mut Vec<K>, children: &[NodeRef<T>])
-    requires { AllByRecursion (λ node. IsLeafList K.cmp C.valid node) (each_child T.leaves children.now) }
+    requires { AreBlocks K.cmp C.valid (each_child T.leaves children.now) }
 {
     let known = hints.len();
     if known.saturating_add(2) == children.len() {
@@ -132,7 +132,7 @@ pub fn insert_hint<K: Ord + Dup, C: Join, T: Node<K, C>>(
     children: &[NodeRef<T>],
     index: usize,
 )
-    requires { AllByRecursion (λ node. IsLeafList K.cmp C.valid node) (each_child T.leaves children.now) }
+    requires { IsLeafList K.cmp C.valid (get_or (each_child T.leaves children.now) index []) }
 {
     if index > hints.len() {
         return;
@@ -147,7 +147,7 @@ fn copy_last_key<K: Ord + Dup, C: Join, T: Node<K, C>>(
     children: &[NodeRef<T>],
     index: usize,
 ) -> Option<Result<K, NoMemory>>
-    requires { AllByRecursion (λ node. IsLeafList K.cmp C.valid node) (each_child T.leaves children.now) }
+    requires { IsLeafList K.cmp C.valid (get_or (each_child T.leaves children.now) index []) }
 {
     let last = children.get(index)?.node().last_key()?;
     Some(last.dup())

@@ -221,7 +221,7 @@ fn finish_child<K: Ord + Dup, C: Join, T: Node<K, C>>(
 ) -> bool
     requires within { (one.index < length children.old.items) × (one.index < length ends.old.items) }
     requires capacity { (vec_len children.old < vec_capacity children.old) × (vec_len ends.old < vec_capacity ends.old) }
-    requires table { IsTable K.cmp C.valid (T.becomes one.node) }
+    requires table { IsTable K.cmp C.valid (T.becomes one.node) × (length (T.becomes one.node) < 2 ^ 64) }
     requires counts { MayFinish one.index (T.becomes one.node) ends.old.items }
     ensures finished { IsFinished one.index (T.becomes one.node) (each_child T.leaves children.old.items) (each_child T.leaves children.new.items) ends.old.items ends.new.items }
     ensures len { (vec_len children.new ≤ vec_len children.old + 1) × (vec_len ends.new ≤ vec_len ends.old + 1) }
