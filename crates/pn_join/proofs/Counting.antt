@@ -28,9 +28,10 @@ module _ {A : Type 0} (nodes : List (List (List A))) where
   within n =
       let whole = take-append-drop n nodes in
       let parts = ap (λ ns. length (all_entries ns)) (sym whole) ∙ ap length (all_append (take n nodes) (drop n nodes)) in
-      let entries = ap (λ ns. length (entries_in ns)) (sym whole) ∙ ap (λ ls. length (all_entries ls)) (all_append (take n nodes) (drop n nodes)) ∙ ap length (all_append (all_entries (take n nodes)) (all_entries (drop n nodes))) in
-      (omega (arith, parts, length-append (all_entries (take n nodes)) (all_entries (drop n nodes))),
-      omega (arith, entries, length-append (entries_in (take n nodes)) (entries_in (drop n nodes)), ap length (all_in_blocks (take n nodes))))
+      let entries = ap (λ ns. length (entries_in ns)) (sym whole) ∙ ap (λ ls. length (all_entries ls)) (all_append (take n nodes) (drop n nodes)) ∙ ap length (all_append (all_entries (take n nodes)) (all_entries (drop n nodes))) in (
+        omega (arith, parts, length-append (all_entries (take n nodes)) (all_entries (drop n nodes))),
+        omega (arith, entries, length-append (entries_in (take n nodes)) (entries_in (drop n nodes)), ap length (all_in_blocks (take n nodes))),
+      )
 
   module _ (count entries leaves : ℕ) (ends : List Sizes) (h : Counted count entries leaves ends) (node : List (List A)) (lt : count < length nodes) (at : node ≡ get_or nodes count node) (fits : length (entries_in nodes) < 2 ^ 64) (few : length (all_entries nodes) < 2 ^ 64) where
     next : take (count + 1) nodes ≡ take count nodes ++ node ∷ []

@@ -39,7 +39,8 @@ pub record MayPutAt {K C : Type 0} (cmp : K → K → Ordering) (valid : C → T
   pub table : (content : C) → valid content → IsTable cmp valid (put_at index key content entries)
 
 -- a valid content is put at the index, and means the join of the content before and the one given
-pub record IsJoinedAt {K C M : Type 0} (meaning : C → M) (joined : M → M → M) (valid : C → Type 0) (index : Result ℕ ℕ) (key : K) (content : C) (old new : List (K × C)) : Type 0 where
+pub record IsJoinedAt {K C M : Type 0} (meaning : C → M) (joined : M → M → M) (valid : C → Type 0) (index : Result ℕ ℕ) (key : K) (content : C)
+    (old new : List (K × C)) : Type 0 where
   pub value : C
   pub put : new ≡ put_at index key value old
   pub means : Some (meaning value) ≡ optional_joined joined (option_map meaning (content_at index old)) (Some (meaning content))

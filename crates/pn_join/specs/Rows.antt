@@ -31,7 +31,8 @@ abbrev pub NoneShrinks : {K C O : Type 0} → (O → List (List (K × C))) → (
 NoneShrinks was becomes taken = AllByRecursion (λ one. length (all_entries (was one.node)) ≤ length (becomes one.node)) taken
 
 -- a content is joined into one node, of which the back no longer fits, and all others stay
-pub record IsJoinedIn {K C M : Type 0} (meaning : C → M) (joined : M → M → M) (valid : C → Type 0) (node : ℕ) (index : Result ℕ ℕ) (key : K) (content : C) (back : Option (List (List (K × C)))) (old new : List (List (List (K × C)))) : Type 0 where
+pub record IsJoinedIn {K C M : Type 0} (meaning : C → M) (joined : M → M → M) (valid : C → Type 0) (node : ℕ) (index : Result ℕ ℕ) (key : K)
+    (content : C) (back : Option (List (List (K × C)))) (old new : List (List (List (K × C)))) : Type 0 where
   pub front : List (List (K × C))
   pub replaced : new ≡ set old node front
   pub put : IsJoinedAt meaning joined valid index key content (all_entries (get_or old node [])) (all_entries (both front back))
@@ -39,13 +40,15 @@ pub record IsJoinedIn {K C M : Type 0} (meaning : C → M) (joined : M → M →
   pub parts : AreParts front back
 
 -- the nodes as they were, where the taken ones were taken out last first
-pub record AreTaken {K C O : Type 0} (was : O → List (List (K × C))) (becomes : O → List (K × C)) (old new : List (List (List (K × C)))) (taken : List (Taken O)) : Type 0 where
+pub record AreTaken {K C O : Type 0} (was : O → List (List (K × C))) (becomes : O → List (K × C)) (old new : List (List (List (K × C))))
+    (taken : List (Taken O)) : Type 0 where
   pub same : filled was taken new ≡ old
   pub down : GoDown (length new) taken
   pub grow : NoneShrinks was becomes taken
 
 -- a node is taken out and open for the last edits
-pub record IsTaken {K C O : Type 0} (was : O → List (List (K × C))) (becomes : O → List (K × C)) (index start : ℕ) (edits left : List (Edit K C)) (nodes new_nodes : List (List (List (K × C)))) (taken new_taken : List (Taken O)) : Type 0 where
+pub record IsTaken {K C O : Type 0} (was : O → List (List (K × C))) (becomes : O → List (K × C)) (index start : ℕ) (edits left : List (Edit K C))
+    (nodes new_nodes : List (List (List (K × C)))) (taken new_taken : List (Taken O)) : Type 0 where
   pub one : Taken O
   pub added : new_taken ≡ taken ++ one ∷ []
   pub at : one.index ≡ index
@@ -60,7 +63,8 @@ pub record StayTaken {A O : Type 0} (nodes new_nodes : List A) (taken new_taken 
 
 -- however these entries are divided, the node that has them and the one after it may be counted
 abbrev pub MayFinish : {A : Type 0} → ℕ → List A → List Sizes → Type 0
-MayFinish index entries ends = (front : List (List _)) (back : Option (List (List _))) → all_entries (both front back) ≡ entries → AreParts front back → CanRecount index front back ends
+MayFinish index entries ends = (front : List (List _)) (back : Option (List (List _))) → all_entries (both front back) ≡ entries
+    → AreParts front back → CanRecount index front back ends
 
 -- a node has these entries now, with one after it if it has no room for all
 pub record IsFinished {A : Type 0} (index : ℕ) (entries : List A) (nodes new_nodes : List (List (List A))) (ends new_ends : List Sizes) : Type 0 where

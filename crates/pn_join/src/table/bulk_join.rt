@@ -49,7 +49,8 @@ fn edit_for<K: Ord + Dup, C: Join>(
     content: &C,
 ) -> Result<Option<Edit<K, C>>, NoMemory>
     requires { C.valid content.now }
-    ensures changes { IfOk result (λ edit. Changes K.cmp C.meaning C.joined C.valid (entries_in root.now) (key.now, content.now) (option_map (λ e. e.change) edit)) }
+    ensures changes { IfOk result (λ edit. Changes K.cmp C.meaning C.joined C.valid (entries_in root.now) (key.now, content.now)
+        (option_map (λ e. e.change) edit)) }
     ensures indexed { IfOk result (λ edit. IfSome edit (λ e. e.index ≡ index_of K.cmp e.change.key (entries_in root.now))) }
 {
     let (index, before) = root.find_key(key);

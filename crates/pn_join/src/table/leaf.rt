@@ -126,10 +126,7 @@ impl<K: Ord + Dup, C: Join> Node<K, C> for Vec<(K, C)> {
 }
 
 /// The index of a key in a leaf, and the content at the key.
-fn find_in<'l, K: Ord, C>(
-    entries: &'l [(K, C)],
-    key: &K,
-) -> (Result<usize, usize>, Option<&'l C>)
+fn find_in<'l, K: Ord, C>(entries: &'l [(K, C)], key: &K) -> (Result<usize, usize>, Option<&'l C>)
     requires { IsTrue (is_sorted K.cmp entries.now) }
     ensures index { result.0 ≡ index_of K.cmp key.now entries.now }
     ensures found { option_copied result.1 ≡ find K.cmp key.now entries.now }

@@ -1,6 +1,7 @@
 //! Nodes of a table: leaves, and rows of nodes.
 
-ghost use Rattle.std.specs.Prelude.{◌≡◌, ◌^◌, ◌+◌, ◌<◌, ◌≤◌, [], ◌++◌, List, Result, Option, length, reverse, drop, option_map, slice_get, slice_range, IsTrue, IfOk, OnOk, OnErr};
+ghost use Rattle.std.specs.Prelude.{◌≡◌, ◌^◌, ◌+◌, ◌<◌, ◌≤◌, [], ◌++◌, List, Result, Option, length, reverse, drop, option_map};
+ghost use Rattle.std.specs.Prelude.{slice_get, slice_range, IsTrue, IfOk, OnOk, OnErr};
 ghost use Rattle.std.specs.List.{AllByRecursion};
 ghost use Rattle.std.specs.Option.{option_copied};
 ghost use Rattle.std.specs.FinMap.{find};
@@ -140,7 +141,8 @@ pub trait Node<K: Ord + Dup, C: Join>: Sized + Drop {
         requires valid { C.valid content }
         requires node { IsLeafList K.cmp C.valid (leaves self.old) × (0 < length (leaves self.old)) }
         requires place { MayPutAt K.cmp C.valid index key (all_entries (leaves self.old)) }
-        ensures ok { IfOk result (λ back. IsJoinedAt C.meaning C.joined C.valid index key content (all_entries (leaves self.old)) (all_entries (both (leaves self.new) (option_map leaves back)))) }
+        ensures ok { IfOk result (λ back. IsJoinedAt C.meaning C.joined C.valid index key content
+            (all_entries (leaves self.old)) (all_entries (both (leaves self.new) (option_map leaves back)))) }
         ensures one { IfOk result (λ back. ChangesOneLeaf (leaves self.old) (both (leaves self.new) (option_map leaves back))) }
         ensures parts { IfOk result (λ back. AreParts (leaves self.new) (option_map leaves back)) }
         ensures err { OnErr result (leaves self.new ≡ leaves self.old) };

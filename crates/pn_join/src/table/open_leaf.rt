@@ -44,7 +44,8 @@ impl<K, C> Model for OpenLeaf<K, C> {
         × (0 < length leaf.entries.items)
         × (length leaf.entries.items + length (option_to_list leaf.first ++ leaf.more.items) ≤ vec_capacity leaf.entries)
         × (length leaf.entries.items + length (option_to_list leaf.first ++ leaf.more.items) ≤ 2 * MAX_LEAF_ENTRIES)
-        × (MAX_LEAF_ENTRIES < length leaf.entries.items + length (option_to_list leaf.first ++ leaf.more.items) → length leaf.entries.items + length (option_to_list leaf.first ++ leaf.more.items) ≤ 2 * vec_capacity leaf.back) };
+        × (MAX_LEAF_ENTRIES < length leaf.entries.items + length (option_to_list leaf.first ++ leaf.more.items) → length leaf.entries.items + length
+        (option_to_list leaf.first ++ leaf.more.items) ≤ 2 * vec_capacity leaf.back) };
 }
 
 /// Takes the edits from index `start` on off the end, and makes the leaf ready for them.

@@ -70,7 +70,8 @@ impl<K: Ord + Dup, C: Join, T: Node<K, C>> Row<K, C, T> {
         requires table { IsTable K.cmp C.valid (entries_in self.old ++ (all_entries (T.leaves (node_of first)) ++ all_entries (T.leaves (node_of second)))) }
         requires some { (0 < length (T.leaves (node_of first))) × (0 < length (T.leaves (node_of second))) }
         requires sizes { AllByRecursion (λ leaf. IsLeaf leaf) (T.leaves (node_of first)) × AllByRecursion (λ leaf. IsLeaf leaf) (T.leaves (node_of second)) }
-        ensures { OnOk result (entries_in self.new ≡ entries_in self.old ++ (all_entries (T.leaves (node_of first)) ++ all_entries (T.leaves (node_of second)))) }
+        ensures { OnOk result (entries_in self.new ≡ entries_in self.old ++ (all_entries (T.leaves (node_of first)) ++ all_entries (T.leaves
+            (node_of second)))) }
     {
         if !first.node().has_room_for(second.node()) {
             self.push(first)?;

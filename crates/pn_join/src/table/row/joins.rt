@@ -58,7 +58,8 @@ impl<K: Ord + Dup, C: Join, T: Node<K, C>> Row<K, C, T> {
         requires among { IsAmong (length (entries_in self.now)) index.now }
         ensures within { result < length self.now }
         ensures from { length (all_entries (take result (in_blocks self.now))) ≤ place index.now }
-        ensures among { IsAmong (length (get_or (in_blocks self.now) result [])) (from_start (length (all_entries (take result (in_blocks self.now)))) index.now) }
+        ensures among { IsAmong (length (get_or (in_blocks self.now) result [])) (from_start (length (all_entries (take result
+            (in_blocks self.now)))) index.now) }
     {
         let last = self.children.len() - 1;
         self.node_at(place_of(index)).min(last)
@@ -78,7 +79,8 @@ fn join_in_child<K: Ord + Dup, C: Join, T: Node<K, C>>(
     requires row { AreBlocks K.cmp C.valid (each_child T.leaves children.old.items) }
     requires within { node < length children.old.items }
     requires place { MayPutAt K.cmp C.valid index key (all_entries (get_or (each_child T.leaves children.old.items) node [])) }
-    ensures ok { IfOk result (λ back. IsJoinedIn C.meaning C.joined C.valid node index key content (option_map T.leaves back) (each_child T.leaves children.old.items) (each_child T.leaves children.new.items)) }
+    ensures ok { IfOk result (λ back. IsJoinedIn C.meaning C.joined C.valid node index key content (option_map T.leaves back)
+        (each_child T.leaves children.old.items) (each_child T.leaves children.new.items)) }
     ensures err { OnErr result (each_child T.leaves children.new.items ≡ each_child T.leaves children.old.items) }
     ensures len { vec_len children.new ≡ vec_len children.old }
     ensures capacity { vec_capacity children.new ≡ vec_capacity children.old }
@@ -99,9 +101,11 @@ pub fn count_anew<K: Ord + Dup, C: Join, T: Node<K, C>>(
 )
     requires within { (node < length children.old.items) × (node < length ends.old.items) }
     requires capacity { (vec_len children.old < vec_capacity children.old) × (vec_len ends.old < vec_capacity ends.old) }
-    requires leaf_lists { IsLeafList K.cmp C.valid (get_or (each_child T.leaves children.old.items) node []) × IsLeafList K.cmp C.valid (unwrap_or (option_map T.leaves back) []) }
+    requires leaf_lists { IsLeafList K.cmp C.valid (get_or (each_child T.leaves children.old.items) node []) × IsLeafList K.cmp C.valid (unwrap_or
+        (option_map T.leaves back) []) }
     requires counts { CanRecount node (get_or (each_child T.leaves children.old.items) node []) (option_map T.leaves back) ends.old.items }
-    ensures nodes { each_child T.leaves children.new.items ≡ inserted_at (node + 1) (option_to_list (option_map T.leaves back)) (each_child T.leaves children.old.items) }
+    ensures nodes { each_child T.leaves children.new.items ≡ inserted_at (node + 1) (option_to_list (option_map T.leaves back))
+        (each_child T.leaves children.old.items) }
     ensures counts { AreRecounted node (get_or (each_child T.leaves children.old.items) node []) (option_map T.leaves back) ends.old.items ends.new.items }
     ensures len { (vec_len children.new ≤ vec_len children.old + 1) × (vec_len ends.new ≤ vec_len ends.old + 1) }
     ensures capacity { (vec_capacity children.old ≤ vec_capacity children.new) × (vec_capacity ends.old ≤ vec_capacity ends.new) }

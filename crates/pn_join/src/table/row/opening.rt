@@ -72,7 +72,8 @@ impl<K: Ord + Dup, C: Join, T: Node<K, C>> Row<K, C, T> {
     ) -> Opening<Self, OpenRow<K, C, T>>
         requires some { 0 < length self }
         requires edits { AreEditsWithin (start + length (entries_in self)) edits.old.items }
-        ensures { IsOpening (λ row. all_entries row) (λ opened. all_entries opened.0) (λ opened. opened.1) start (all_entries self) edits.old.items edits.new.items result }
+        ensures { IsOpening (λ row. all_entries row) (λ opened. all_entries opened.0) (λ opened. opened.1) start
+            (all_entries self) edits.old.items edits.new.items result }
     {
         let Row {
             mut children,
@@ -186,10 +187,13 @@ fn open_child<K: Ord + Dup, C: Join, T: Node<K, C>>(
     start: usize,
 ) -> Result<bool, NoMemory>
     requires within { index < length children.old.items }
-    requires node { IsLeafList K.cmp C.valid (get_or (each_child T.leaves children.old.items) index []) × (0 < length (get_or (each_child T.leaves children.old.items) index [])) }
+    requires node { IsLeafList K.cmp C.valid (get_or (each_child T.leaves children.old.items) index []) × (0 < length (get_or
+        (each_child T.leaves children.old.items) index [])) }
     requires edits { AreEditsWithin (start + length (all_entries (get_or (each_child T.leaves children.old.items) index []))) edits.old.items }
-    ensures taken { IfOk result (λ done. IsTrue done → IsTaken T.was T.becomes index start edits.old.items edits.new.items (each_child T.leaves children.old.items) (each_child T.leaves children.new.items) taken.old.items taken.new.items) }
-    ensures full { IfOk result (λ done. done ≡ false → StayTaken (each_child T.leaves children.old.items) (each_child T.leaves children.new.items) taken.old.items taken.new.items) }
+    ensures taken { IfOk result (λ done. IsTrue done → IsTaken T.was T.becomes index start edits.old.items edits.new.items
+        (each_child T.leaves children.old.items) (each_child T.leaves children.new.items) taken.old.items taken.new.items) }
+    ensures full { IfOk result (λ done. done ≡ false → StayTaken (each_child T.leaves children.old.items)
+        (each_child T.leaves children.new.items) taken.old.items taken.new.items) }
     ensures err { OnErr result (StayTaken (each_child T.leaves children.old.items) (each_child T.leaves children.new.items) taken.old.items taken.new.items) }
     ensures len { (vec_len children.new ≡ vec_len children.old) × (vec_len taken.new ≤ vec_len taken.old + 1) }
     ensures capacity { vec_capacity children.new ≡ vec_capacity children.old }
@@ -223,7 +227,8 @@ fn finish_child<K: Ord + Dup, C: Join, T: Node<K, C>>(
     requires capacity { (vec_len children.old < vec_capacity children.old) × (vec_len ends.old < vec_capacity ends.old) }
     requires table { IsTable K.cmp C.valid (T.becomes one.node) × (length (T.becomes one.node) < 2 ^ 64) }
     requires counts { MayFinish one.index (T.becomes one.node) ends.old.items }
-    ensures finished { IsFinished one.index (T.becomes one.node) (each_child T.leaves children.old.items) (each_child T.leaves children.new.items) ends.old.items ends.new.items }
+    ensures finished { IsFinished one.index (T.becomes one.node) (each_child T.leaves children.old.items)
+        (each_child T.leaves children.new.items) ends.old.items ends.new.items }
     ensures len { (vec_len children.new ≤ vec_len children.old + 1) × (vec_len ends.new ≤ vec_len ends.old + 1) }
     ensures capacity { (vec_capacity children.old ≤ vec_capacity children.new) × (vec_capacity ends.old ≤ vec_capacity ends.new) }
 {

@@ -42,8 +42,7 @@ pub finish_child-requires-clause-table : goal.finish_child-requires-clause-table
 finish_child-requires-clause-table g c =
     let now = c.loop-one in
     let nodes = each_child g.T.Node.leaves now.children.items in
-    let h = rw c.in-Some.ensures.steps.0 at now.invariant.finishing in
-    (
+    let h = rw c.in-Some.ensures.steps.0 at now.invariant.finishing in (
       one_table g.T.Node.was g.T.Node.becomes _ c.requires.fits c.in-Some.one (into_iter_items c.next.new.self) nodes now.ends.items h g.K.Ord.cmp g.C.Join.valid c.requires.table,
       one_fits g.T.Node.was g.T.Node.becomes _ c.requires.fits c.in-Some.one (into_iter_items c.next.new.self) nodes now.ends.items h,
     )
@@ -62,8 +61,8 @@ insert_hint-requires g c =
     let h = rw c.in-Some.ensures.steps.0 at now.invariant.finishing in
     let both = node_and_end g.T.Node.was g.T.Node.becomes _ c.requires.fits c.in-Some.one (into_iter_items c.next.new.self) nodes now.ends.items h in
     rw c.deref.ensures.value (
-      front_list g.K.Ord.cmp g.C.Join.valid c.in-Some.one.index (g.T.Node.becomes c.in-Some.one.node) nodes (each_child leaves c.finish_child.new.children.items) now.ends.items c.finish_child.new.ends.items both.0
-      (one_table g.T.Node.was g.T.Node.becomes _ c.requires.fits c.in-Some.one (into_iter_items c.next.new.self) nodes now.ends.items h g.K.Ord.cmp g.C.Join.valid c.requires.table) c.finish_child.ensures.finished)
+    front_list g.K.Ord.cmp g.C.Join.valid c.in-Some.one.index (g.T.Node.becomes c.in-Some.one.node) nodes (each_child leaves c.finish_child.new.children.items) now.ends.items c.finish_child.new.ends.items both.0
+    (one_table g.T.Node.was g.T.Node.becomes _ c.requires.fits c.in-Some.one (into_iter_items c.next.new.self) nodes now.ends.items h g.K.Ord.cmp g.C.Join.valid c.requires.table) c.finish_child.ensures.finished)
 
 pub loop-one-preserved : goal.loop-one-preserved
 loop-one-preserved g c =
