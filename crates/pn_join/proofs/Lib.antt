@@ -34,6 +34,7 @@ pub mod Growing
 pub mod RowLast
 pub mod Sealing
 pub mod SamePuts
+pub mod LeafFacts
 pub mod Recounts
 pub mod PutBack
 pub mod NodeAt

@@ -3,8 +3,10 @@ use Rattle.std.proofs.Common.{◌≡◌, ℕ, zero, suc, ◌+◌, ◌-◌, ◌<�
 use Rattle.std.specs.List.{prefix_len}
 use Rattle.std.proofs.lemmas.Bool.Decides.{nat_tests}
 use Rattle.std.proofs.lemmas.List.{length-append}
+use Rattle.pn_join.specs.Blocks.{in_blocks, entries_in}
 use Rattle.pn_join.specs.Leaves.{all_entries, counts_after}
 use Rattle.pn_join.specs.PutAt.{place, from_start, IsAmong}
+use Rattle.pn_join.proofs.BlockFacts.{all_in_blocks, length-in_blocks}
 use Rattle.pn_join.proofs.LeafListIndices.{leaf_at, leaf_at-prefix}
 use Rattle.pn_join.proofs.SliceFacts.{StandsIn, stands}
 
@@ -61,3 +63,10 @@ module _ {A : Type 0} where
               let here = inside n lt found is in
               record { within = here.within; starts = here.starts; among = omega (arith, here.starts, here.ends); before_end = omega (arith, here.ends); at_end = λ e. absurd (omega (arith, here.ends, e)) }
         ] refl
+
+  -- the node of a row that an index comes into
+  pub node_found : (nodes : List (List (List A))) → 0 < length nodes → (index : Result ℕ ℕ) → IsAmong (length (entries_in nodes)) index → (i at last : ℕ) → at ≡ prefix_len (λ end. leb end (place index)) (counts_after 0 (in_blocks nodes)) → i ≡ min at last → last ≡ length nodes - 1 → ComesInto (in_blocks nodes) i index
+  node_found nodes some index among i at last found is end =
+      let long = length-in_blocks nodes in
+      let entries : length (entries_in nodes) ≡ length (all_entries (in_blocks nodes)) = ap length (sym (all_in_blocks nodes)) in
+      comes_into (in_blocks nodes) (omega (arith, some, long)) i at index (rw entries at among) found (omega (arith, is, end, long))

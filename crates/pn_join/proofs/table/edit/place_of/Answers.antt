@@ -13,6 +13,11 @@ use Rattle.pn_join.proofs.RowJoins.{joined_row}
 use Rattle.pn_join.proofs.Opened.{none_opened}
 use Rattle.pn_join.proofs.Finished.{one_finished}
 use Rattle.pn_join.proofs.Restored.{put_back}
+use Rattle.pn_join.proofs.LeafFacts.{one_leaf}
+use Rattle.pn_join.proofs.SamePuts.{same_puts}
+use Rattle.pn_join.proofs.Growing.{last_node}
+use Rattle.pn_join.proofs.RowLast.{last_of_row}
+use Rattle.pn_join.proofs.Sealing.{put_again}
 use Rattle.pn_join.proofs.table.edit.place_of.Goals as goal
 
 pub returns : goal.returns
