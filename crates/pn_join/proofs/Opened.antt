@@ -55,6 +55,26 @@ module _ {O : Type 0} where
   pub not_below_push : (taken : List (Taken O)) (i j : ℕ) (one : Taken O) → i ≤ j → NotBelow j taken → i ≡ one.index → NotBelow i (taken ++ one ∷ [])
   not_below_push taken i j one le h at = each_append (λ t. i ≤ t.index) taken (one ∷ []) (not_below_less taken i j le h) (omega (arith, at), tt)
 
+-- edits of a node lie among its entries
+fit_one : (first count end : ℕ) (last index : Result ℕ ℕ) → place index ≤ place last → place last ≤ first + count → (place last ≡ first + count → place last ≡ end) → IsAmong end index → IsAmong (first + count) index
+fit_one first count end last (Ok i) le most at among = fit i le among where
+  fit : (i : ℕ) → i ≤ place last → i < end → i < first + count
+  fit i le among =
+      elim (leb (first + count) (place last)) as (λ b. leb (first + count) (place last) ≡ b → i < first + count) [
+        | true ↦ λ p.
+            let ge : first + count ≤ place last = grind (arith, nat_tests) in
+            omega (arith, among, at (omega (arith, ge, most)), ge, most)
+        | false ↦ λ p.
+            let lt : place last < first + count = grind (arith, nat_tests) in
+            omega (arith, lt, le)
+      ] refl
+fit_one first count end last (Err i) le most at among = omega (arith, le, most)
+
+-- a place counted from a start
+place_from : (start : ℕ) (index : Result ℕ ℕ) → place (from_start start index) ≡ place index - start
+place_from start (Ok i) = refl
+place_from start (Err i) = refl
+
 module _ {K C : Type 0} where
   abbrev Place : Edit K C → ℕ
   Place edit = place edit.index
@@ -84,21 +104,6 @@ module _ {K C : Type 0} where
       let both = subst (AllByRecursion P) (reverse-append (e ∷ []) edits) h in
       ((each_back P (reverse edits) (e ∷ []) both).0, each_reversed P edits (each_prefix P (reverse edits) (e ∷ []) both))
 
-  -- edits of a node lie among its entries
-  fit_one : (first count end : ℕ) (last index : Result ℕ ℕ) → place index ≤ place last → place last ≤ first + count → (place last ≡ first + count → place last ≡ end) → IsAmong end index → IsAmong (first + count) index
-  fit_one first count end last (Ok i) le most at among = fit i le among where
-    fit : (i : ℕ) → i ≤ place last → i < end → i < first + count
-    fit i le among =
-        elim (leb (first + count) (place last)) as (λ b. leb (first + count) (place last) ≡ b → i < first + count) [
-          | true ↦ λ p.
-              let ge : first + count ≤ place last = grind (arith, nat_tests) in
-              omega (arith, among, at (omega (arith, ge, most)), ge, most)
-          | false ↦ λ p.
-              let lt : place last < first + count = grind (arith, nat_tests) in
-              omega (arith, lt, le)
-        ] refl
-  fit_one first count end last (Err i) le most at among = omega (arith, le, most)
-
   fit_all : (first count end : ℕ) (last : Result ℕ ℕ) (edits : List (Edit K C)) → AllByRecursion (λ edit. Place edit ≤ place last) edits → place last ≤ first + count → (place last ≡ first + count → place last ≡ end) → AllByRecursion (λ edit. IsAmong end edit.index) edits → AllByRecursion (λ edit. IsAmong (first + count) edit.index) edits
   fit_all first count end last [] les most at among = tt
   fit_all first count end last (e ∷ edits) les most at among = (fit_one first count end last e.index les.0 most at among.0, fit_all first count end last edits les.1 most at among.1)
@@ -126,13 +131,10 @@ module _ {K C : Type 0} where
   pub fewer : (first : ℕ) (edits left mine : List (Edit K C)) (last : Edit K C) → edits ≡ left ++ reverse mine → last_of edits ≡ Some last → first ≤ Place last → StopsBefore first left → length left < length edits
   fewer first edits left [] last parted is le stops =
       let same : left ≡ edits = sym (parted ∙ nothing left) in
-      absurd (before last (subst (λ o. IfSome o (λ edit. Place edit < first)) is (subst (StopsBefore first) same stops))) where
+      absurd (omega (arith, le, subst (λ o. IfSome o (λ edit. Place edit < first)) is (subst (StopsBefore first) same stops))) where
         nothing : (es : List (Edit K C)) → es ++ reverse [] ≡ es
         nothing [] = refl
         nothing (e ∷ es) = ap (λ ds. e ∷ ds) (nothing es)
-
-        before : (last : Edit K C) → Place last < first → ⊥
-        before last lt = omega (arith, le, lt)
   fewer first edits left (m ∷ mine) last parted is le stops = omega (arith, ap length parted, length-append left (reverse (m ∷ mine)), length-reverse (m ∷ mine))
 
   -- edits put into one of several lists are put into all
@@ -160,10 +162,6 @@ module _ {K C : Type 0} where
     by (Some last) is same = (last, same, same_index is) where
       same_index : {x y : ℕ} → Some x ≡ Some y → x ≡ y
       same_index p = cc
-
-  place_from : (start : ℕ) (index : Result ℕ ℕ) → place (from_start start index) ≡ place index - start
-  place_from start (Ok i) = refl
-  place_from start (Err i) = refl
 
 module _ {K C O : Type 0} (was : O → List (List (K × C))) (becomes : O → List (K × C)) (start : ℕ) (nodes : List (List (List (K × C)))) (edits : List (Edit K C)) where
   -- the nodes opened so far, the last first, and the edits that are left

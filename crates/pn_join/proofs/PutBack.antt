@@ -36,6 +36,7 @@ module _ {A : Type 0} where
       let next : i + 1 ≡ suc i = omega arith in
       all_inserted lists i (i + 1) front back lt next ∙ all_with lists i (front ++ back) lt
 
+module _ {A : Type 0} where
   pub whole_back : (front : List (List A)) (back : Option (List (List A))) → all_entries front ++ unwrap_or (option_map all_entries back) [] ≡ all_entries (both front back)
   whole_back front None = sym (all_append front [])
   whole_back front (Some back) = sym (all_append front back)

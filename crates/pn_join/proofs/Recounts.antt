@@ -1,5 +1,5 @@
 -- Counts where one list of several changes, and another comes after it.
-use Rattle.std.proofs.Common.{◌≡◌, ℕ, zero, suc, ◌+◌, ◌-◌, ◌^◌, ◌<◌, ◌≤◌, List, [], ◌∷◌, ◌++◌, length, map, get_or, set, insert, take, drop, Option, Some, None, unwrap_or, option_map, refl, sym, ap, ◌∙◌, arith}
+use Rattle.std.proofs.Common.{◌≡◌, ℕ, zero, suc, ◌+◌, ◌-◌, ◌^◌, ◌<◌, ◌≤◌, List, [], ◌∷◌, ◌++◌, length, map, get_or, set, insert, take, drop, Option, Some, None, unwrap_or, option_map, refl, sym, ap, ◌∙◌, subst, arith}
 use Rattle.std.specs.Option.{option_to_list}
 use Rattle.std.proofs.lemmas.List.{length-append}
 use Rattle.pn_join.specs.Blocks.{in_blocks}
@@ -104,7 +104,7 @@ module _ {A : Type 0} where
     pub may_recount : (front : ℕ) (back : Option ℕ) (x : List A) → front + unwrap_or back 0 ≡ length x → length (all_entries (set lists i x)) < 2 ^ 64 → MayRecount i front back ends
     may_recount front back x is fits =
         let to : (end_before i ends + front) + unwrap_or back 0 ≡ (0 + length (all_entries (take i lists))) + length x = omega (arith, start_is, is) in
-        rw are.each at (can_move 0 lists i x (get_or ends i 0) ((end_before i ends + front) + unwrap_or back 0) lt end_is to (omega (arith, fits)))
+        subst (λ es. CanMove i (get_or ends i 0) ((end_before i ends + front) + unwrap_or back 0) es) (sym are.each) (can_move 0 lists i x (get_or ends i 0) ((end_before i ends + front) + unwrap_or back 0) lt end_is to (omega (arith, fits)))
 
     moved_ends : (x : List A) (to : ℕ) → to ≡ (0 + length (all_entries (take i lists))) + length x → moved_from i (get_or ends i 0) to ends ≡ counts_after 0 (set lists i x)
     moved_ends x to is = ap (moved_from i (get_or ends i 0) to) are.each ∙ sym (moved_counts 0 lists i x (get_or ends i 0) to lt end_is is)

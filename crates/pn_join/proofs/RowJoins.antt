@@ -18,10 +18,10 @@ use Rattle.pn_join.proofs.PutBack.{all_put_back, entries_around, entries_in-put_
 use Rattle.pn_join.proofs.Recounts.{can_recount, now_counted}
 use Rattle.pn_join.proofs.RowFacts.{all_around, all_with, changes, in_blocks-set, reindices, reindices_between}
 
-module _ {A : Type 0} where
-  length_between : (xs ys zs : List A) → length ys ≤ length (xs ++ (ys ++ zs))
-  length_between xs ys zs = omega (arith, length-append xs (ys ++ zs), length-append ys zs)
+length_between : {A : Type 0} (xs ys zs : List A) → length ys ≤ length (xs ++ (ys ++ zs))
+length_between xs ys zs = omega (arith, length-append xs (ys ++ zs), length-append ys zs)
 
+module _ {A : Type 0} where
   -- a change of one leaf of a node is one of the row
   pub one_put_back : (nodes : List (List (List A))) (i : ℕ) (front : List (List A)) (back : Option (List (List A))) → i < length nodes → 0 < length (get_or nodes i []) → ChangesOneLeaf (get_or nodes i []) (both front back) → ChangesOneLeaf (all_entries nodes) (all_entries (inserted_at (i + 1) (option_to_list back) (set nodes i front)))
   one_put_back nodes i front back lt some one =

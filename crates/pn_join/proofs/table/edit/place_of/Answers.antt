@@ -20,5 +20,5 @@ use Rattle.pn_join.proofs.RowLast.{last_of_row}
 use Rattle.pn_join.proofs.Sealing.{put_again}
 use Rattle.pn_join.proofs.table.edit.place_of.Goals as goal
 
-pub returns : goal.returns
-returns c = ?
+pub returns-in-Ok : goal.returns-in-Ok
+returns-in-Ok c = ?

@@ -1,0 +1,12 @@
+-- One more node is counted.
+use Rattle.std.proofs.Common.{◌≡◌, ◌≤◌, length, get_or, ap, ◌∙◌, sym, arith}
+use Rattle.pn_join.specs.Nodes.{each_child, node_of}
+use Rattle.pn_join.proofs.Counting.{none_counted, all_counted}
+use Rattle.pn_join.proofs.Lasts.{length-mapped}
+use Rattle.pn_join.proofs.table.row.growth.ends_of.Goals as goal
+
+pub returns : goal.returns
+returns g c =
+    let now = c.loop-child in
+    let leaves = g.T.Node.leaves in
+    all_counted (each_child leaves c.args.children.now) now.child-index now.entries now.leaves now.ends.items now.invariant.counted (omega (arith, c.loop-child-test.false, length-mapped (λ child. leaves (node_of child)) c.args.children.now))
