@@ -79,7 +79,7 @@ fn open_with<K: Ord + Dup, C: Dup>(
     requires edits { AreFor start (length entries.items) (option_to_list first ++ more.items) }
     ensures { IsOpeningFor (λ l. leaf_of l.items) (λ o. leaf_of o.0) (λ o. o.1) start (leaf_of entries.items) (option_to_list first ++ more.items) result }
 {
-    let edits = more.len() + usize::from(first.is_some());
+    let edits = more.len().saturating_add(usize::from(first.is_some()));
     let most = entries.len().saturating_add(edits);
     if most > 2 * MAX_LEAF_ENTRIES {
         return Opening::Full(entries);
