@@ -8,6 +8,7 @@ pub mod Standing
 pub mod Stepping
 pub mod Steps
 pub mod Taking
+pub mod TurnEnds
 pub mod Turned
 pub mod Turning
 pub mod Windows

@@ -16,7 +16,7 @@ use Rattle.pn_lines.specs.declared.turns.sending.Sent.TheVariants as sent
 use Rattle.pn_lines.specs.declared.turns.working.TheConstants.{TURN_UNITS}
 use Rattle.pn_lines.specs.declared.turns.working.Work.{Work}
 use Rattle.pn_lines.specs.declared.turns.working.Work.TheVariants as work
-use Rattle.pn_lines.proofs.Working.{Turned-after, Turned-looked, Turned-stopped, Turned-worked}
+use Rattle.pn_lines.proofs.TurnEnds.{Turned-after, Turned-looked, Turned-stopped, Turned-worked}
 
 module _ {G : Type 0} where
   -- the source is as the turn left it
