@@ -93,10 +93,6 @@ read_same position shown lines images fault is read = subst (λ (ls : List (List
 
 -- ---- one line after another
 
--- before the first line
-pub read_none : (position : ℕ) (lines : List (List ℕ)) (images : List Image) → images ≡ [] → InStep position (take 0 lines) images
-read_none position lines images none = rw none tt
-
 -- one line more
 pub read_more : (position : ℕ) (lines : List (List ℕ)) (images new : List Image) (i wanted : ℕ) (line : List ℕ) → All IsWhole lines → i < length lines → line ≡ get_or lines i line → wanted ≡ position + length images + 1
     → InStep position (take i lines) images → AddsMessage wanted line images new → InStep position (take (i + 1) lines) new

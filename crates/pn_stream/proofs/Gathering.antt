@@ -1,44 +1,19 @@
 -- Lines that are taken from a text, one after another, and the batch that their messages are.
 use Rattle.std.proofs.Common.{◌≡◌, ◌≢◌, ℕ, ◌+◌, ◌<◌, ◌≤◌, Bool, true, false, All, OnSome, List, [], ◌∷◌, ◌++◌, length, Option, None, Some, IfSome, inl, inr, refl, sym, ap, ◌∙◌, subst, arith, append_assoc, append-nil}
 use Rattle.std.proofs.lemmas.List.Elements.{All-head, All-tail}
-use Rattle.pn_line.specs.Line.{LineBufferValue}
-use Rattle.pn_line.specs.LineEnd.{ReadsTo}
 use Rattle.pn_line.specs.Reads.{HasShown}
 use Rattle.pn_line.specs.Text.{text_of}
-use Rattle.pn_line.specs.declared.reading.BoundedEnd.TheVariants.{Newline}
 use Rattle.pn_line.proofs.TextLaws.{text_of-nil, text_of-append, text_of-push}
 use Rattle.pn_record.specs.declared.image.Image.{Image}
-use Rattle.pn_stream.specs.Batches.{Batch, Ends, IsPart}
+use Rattle.pn_stream.specs.Batches.{Batch, Ends}
 use Rattle.pn_stream.specs.Faults.{IsOfText, Refuses, Stands}
-use Rattle.pn_stream.specs.Lines.{Gathered, IsNextLine, IsRead, IsWhole, LinesSoFar, StopsAt, first_fault}
+use Rattle.pn_stream.specs.Lines.{Gathered, IsRead, IsWhole, LinesSoFar, StopsAt, TakesLine, first_fault}
 use Rattle.pn_stream.specs.Streams.{FirstLine, NoLine, IsLeft}
 use Rattle.pn_stream.specs.declared.fault.StreamFault.{StreamFault}
 use Rattle.pn_stream.specs.declared.fault.StreamFault.TheVariants.{Read, LineTooLong, BadMessage, OutOfStep, Memory, Failed}
-use Rattle.pn_stream.specs.declared.lines.NextLine.{NextLine}
 use Rattle.pn_stream.proofs.Runs.{none_shown, on_rest}
 use Rattle.pn_stream.proofs.SameBatch.{begins, same_batch}
-use Rattle.pn_stream.proofs.Steps.{IsPart-more, TakesLine}
 use Rattle.pn_stream.proofs.ChunkLaws.{InStep-length, all_in_step, fault_of_line, fewer_images}
-
--- ---- the next line
-
--- a line that was read to its newline is whole
-pub whole_line : (more : Bool) (line new : LineBufferValue) (left leaves : Option (List ℕ)) → IsPart line → ReadsTo (Newline more) line new left leaves → IsWhole new.bytes
-whole_line more line new left leaves is reads =
-    let part = IsPart-more line new left leaves (10 ∷ []) is reads.0 reads.1 in
-    record { unbroken = part.part.unbroken; short = part.part.short }
-
--- the line that was taken
-pub line_taken : (part line now : List ℕ) (next : NextLine) (left leaves : Option (List ℕ)) → IfSome left (λ text. TakesLine (part ++ text) line leaves) → next.line ≡ line → now ≡ []
-    → IfSome left (λ text. IsNextLine (part ++ text) (Some next) now leaves)
-line_taken part line now next None leaves takes is none = tt
-line_taken part line now next (Some text) leaves takes is none =
-    (takes.rest, subst (λ (l : List ℕ). FirstLine (part ++ text) l takes.rest) (sym is) takes.first, (takes.rest, takes.leaves_is, ap (λ t. t ++ takes.rest) (sym none)))
-
--- a fault that follows whatever message is due
-pub at_any : (part : List ℕ) (fault : StreamFault) (left : Option (List ℕ)) → ((wanted : ℕ) → IfSome left (λ text. Stands wanted (part ++ text) fault)) → IfSome left (λ text. (wanted : ℕ) → Stands wanted (part ++ text) fault)
-at_any part fault None stands = tt
-at_any part fault (Some text) stands = stands
 
 -- memory may run out anywhere
 pub memory_at_any : (part : List ℕ) (left : Option (List ℕ)) → IfSome left (λ text. (wanted : ℕ) → Stands wanted (part ++ text) Memory)
@@ -53,19 +28,19 @@ lines_none part lines None none = tt
 lines_none part lines (Some text) none = rw none (record { rest = part ++ text; text_is = ap (λ t. t ++ (part ++ text)) (sym text_of-nil); is_left = (text, refl, refl) })
 
 -- one line more
-pub lines_more : (front part now : List ℕ) (lines : List (List ℕ)) (next : NextLine) (first left leaves : Option (List ℕ))
-    → IfSome first (λ text. LinesSoFar (front ++ text) lines part left) → IfSome left (λ text. IsNextLine (part ++ text) (Some next) now leaves)
-    → IfSome first (λ text. LinesSoFar (front ++ text) (lines ++ next.line ∷ []) now leaves)
-lines_more front part now lines next None left leaves so told = tt
-lines_more front part now lines next (Some text) left leaves so told =
-    let (more, at, is_left) = on_rest so.rest part left (λ (t : List ℕ). IsNextLine t (Some next) now leaves) so.is_left told in
+pub lines_more : (front part line now : List ℕ) (lines : List (List ℕ)) (first left leaves : Option (List ℕ)) → now ≡ []
+    → IfSome first (λ text. LinesSoFar (front ++ text) lines part left) → IfSome left (λ text. TakesLine (part ++ text) line leaves)
+    → IfSome first (λ text. LinesSoFar (front ++ text) (lines ++ line ∷ []) now leaves)
+lines_more front part line now lines None left leaves none so told = tt
+lines_more front part line now lines (Some text) left leaves none so told =
+    let takes = on_rest so.rest part left (λ (t : List ℕ). TakesLine t line leaves) so.is_left told in
     record {
-      rest = more;
-      text_is = so.text_is ∙ ap (λ t. text_of lines ++ t) at.text_is
-          ∙ ap (λ t. text_of lines ++ t) (sym (append_assoc next.line (10 ∷ []) more))
-          ∙ sym (append_assoc (text_of lines) (next.line ++ 10 ∷ []) more)
-          ∙ ap (λ t. t ++ more) (sym (text_of-push lines next.line));
-      is_left = is_left;
+      rest = takes.rest;
+      text_is = so.text_is ∙ ap (λ t. text_of lines ++ t) takes.first.text_is
+          ∙ ap (λ t. text_of lines ++ t) (sym (append_assoc line (10 ∷ []) takes.rest))
+          ∙ sym (append_assoc (text_of lines) (line ++ 10 ∷ []) takes.rest)
+          ∙ ap (λ t. t ++ takes.rest) (sym (text_of-push lines line));
+      is_left = (takes.rest, takes.leaves_is, ap (λ t. t ++ takes.rest) (sym none));
     }
 
 -- a newline that was seen after the next line is in the text
@@ -76,7 +51,7 @@ seen_on P front part lines (Some text) left so shown =
 
 -- no whole line is left: none was seen, and there are too few
 pub gathered_end : (least most : ℕ) (front part now : List ℕ) (lines : List (List ℕ)) (more : Bool) (first left leaves : Option (List ℕ)) → length lines ≤ most → (more ≡ false → length lines < least)
-    → OnSome first (HasShown more left) → IfSome first (λ text. LinesSoFar (front ++ text) lines part left) → IfSome left (λ text. IsNextLine (part ++ text) None now leaves)
+    → OnSome first (HasShown more left) → IfSome first (λ text. LinesSoFar (front ++ text) lines part left) → IfSome left (λ text. NoLine (part ++ text) × IsLeft (part ++ text) now leaves)
     → IfSome first (λ text. Gathered least most (front ++ text) lines None now leaves)
 gathered_end least most front part now lines more None left leaves within few shown so next = tt
 gathered_end least most front part now lines true (Some text) left leaves within few shown so next =

@@ -1,5 +1,6 @@
 pub mod Attempts
 pub mod ChunkLaws
+pub mod CutLaws
 pub mod FirstMessage
 pub mod Gathering
 pub mod Published

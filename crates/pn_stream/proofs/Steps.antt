@@ -1,23 +1,24 @@
 -- What reading to the end of a line says of the text that is left of a stream.
-use Rattle.std.proofs.Common.{◌≡◌, ◌≢◌, ℕ, ◌≤◌, ◌^◌, List, [], ◌∷◌, ◌++◌, length, Bool, Option, None, Some, IfSome, Result, Ok, Err, IfOk, IfErr, nat_le, refl, sym, ap, ◌∙◌, subst, arith, append_assoc}
+use Rattle.std.proofs.Common.{◌≡◌, ◌≢◌, ℕ, ◌≤◌, ◌^◌, List, [], ◌∷◌, ◌++◌, length, Bool, Option, None, Some, IfSome, Result, Ok, Err, IfOk, IfErr, OnOk, OnSome, nat_le, refl, sym, ap, ◌∙◌, subst, arith, append_assoc}
 use Rattle.std.proofs.lemmas.Bool.{and_parts}
 use Rattle.std.proofs.lemmas.List.Elements.{All-nil, All-append}
 use Rattle.pn_line.specs.Line.{LineBufferValue, with_bytes, so_far}
 use Rattle.pn_line.specs.LineEnd.{ReadsTo}
-use Rattle.pn_line.specs.Reads.{IsUnbroken, Takes}
+use Rattle.pn_line.specs.Reads.{HasShown, IsUnbroken, Takes}
 use Rattle.pn_line.specs.declared.reading.BoundedEnd.{BoundedEnd}
 use Rattle.pn_line.specs.declared.reading.BoundedEnd.TheVariants.{Newline, EndOfInput, TooLong}
 use Rattle.pn_line.proofs.LineLaws.{kept_bytes-short, kept_bytes-nil, so_far-append}
 use Rattle.pn_line.proofs.KnownLaws.{ReadsPart-from_takes, text_of-read_end}
 use Rattle.pn_record.specs.declared.image.Image.{Image}
 use Rattle.pn_stream.specs.MessageLines.{IsMessageLine}
-use Rattle.pn_stream.specs.Streams.{FirstLine, NoLine}
+use Rattle.pn_stream.specs.Lines.{IsWhole, TakesLine}
+use Rattle.pn_stream.specs.Streams.{FirstLine, IsLeft, NoLine}
 use Rattle.pn_record.specs.declared.fault.ImageFault.{ImageFault}
 use Rattle.pn_record.specs.declared.fault.ImageFault.TheVariants as image
 use Rattle.pn_json.specs.Answers.{IsUnless}
 use Rattle.pn_stream.specs.Messages.{Message, message_at}
 use Rattle.pn_stream.specs.Steps.{line_ended, message_due}
-use Rattle.pn_stream.specs.Faults.{Refuses, Stands}
+use Rattle.pn_stream.specs.Faults.{IsOfLine, Refuses, Stands}
 use Rattle.pn_stream.specs.Batches.{IsPart, IsNext, part_of}
 use Rattle.pn_stream.specs.declared.fault.StreamFault.{StreamFault}
 use Rattle.pn_stream.specs.declared.next.NextMessage.{NextMessage}
@@ -82,13 +83,6 @@ next_long wanted line new (Some text) leaves is reads =
       text_is = ap (λ t. line.bytes ++ t) read.text_is ∙ sym (append_assoc line.bytes read.taken (after ++ read.rest));
     }
 
--- the text's first line was taken, and is not too long
-pub record TakesLine (text line : List ℕ) (leaves : Option (List ℕ)) : Type 0 where
-  pub rest : List ℕ
-  pub first : FirstLine text line rest
-  pub leaves_is : leaves ≡ Some rest
-  pub short : length line ≤ 65536
-
 -- the line that was read to its newline
 pub next_line : (more : Bool) (line new : LineBufferValue) (left leaves : Option (List ℕ)) → IsPart line → ReadsTo (Newline more) line new left leaves → IfSome left (λ text. TakesLine (line.bytes ++ text) new.bytes leaves)
 next_line more line new None leaves is reads = tt
@@ -140,41 +134,75 @@ part_within (Some line) is = is.part.short
 
 -- ---- how reading a line ended
 
--- at a newline
-pub newline_read : {E : Type 0} (end : Result BoundedEnd E) (more : Bool) (ends : BoundedEnd → Type 0) → line_ended end ≡ Ok (Some more) → IfOk end ends → ends (Newline more)
-newline_read (Ok (Newline seen)) more ends is read = let same : seen ≡ more = cc in subst (λ (b : Bool). ends (Newline b)) same read
-newline_read (Ok EndOfInput) more ends is read = cc
-newline_read (Ok TooLong) more ends is read = cc
-newline_read (Err error) more ends is read = cc
-
 -- an option that is no value is none
 pub no_line : {A : Type 0} (seen : Option A) → ((x : A) → seen ≡ Some x → ⊥) → seen ≡ None
 no_line None none = refl
 no_line (Some x) none = absurd (none x refl)
 
--- at the end of the input
-pub input_ended : {E : Type 0} (end : Result BoundedEnd E) (ends : BoundedEnd → Type 0) → line_ended end ≡ Ok None → IfOk end ends → ends EndOfInput
-input_ended (Ok (Newline more)) ends is read = cc
-input_ended (Ok EndOfInput) ends is read = read
-input_ended (Ok TooLong) ends is read = cc
-input_ended (Err error) ends is read = cc
-
 told : (P : List ℕ → Type 0) → ((text : List ℕ) → P text) → (left : Option (List ℕ)) → IfSome left P
 told P all None = tt
 told P all (Some text) = all text
 
-fault_same : {A : Type 0} (fault other : StreamFault) → ◌≡◌ {A = Result A StreamFault} (Err fault) (Err other) → fault ≡ other
-fault_same fault other is = cc
+-- a fault that follows whatever message is due
+at_any : (part : List ℕ) (fault : StreamFault) (left : Option (List ℕ)) → ((wanted : ℕ) → IfSome left (λ text. Stands wanted (part ++ text) fault)) → IfSome left (λ text. (wanted : ℕ) → Stands wanted (part ++ text) fault)
+at_any part fault None stands = tt
+at_any part fault (Some text) stands = stands
 
--- with a fault, which follows
-pub fault_stands : {E : Type 0} (end : Result BoundedEnd E) (fault : StreamFault) (wanted : ℕ) (line new : LineBufferValue) (left leaves : Option (List ℕ)) → IsPart line → line_ended end ≡ Err fault
-    → IfOk end (λ e. ReadsTo e line new left leaves) → IfSome left (λ text. Stands wanted (line.bytes ++ text) fault)
-fault_stands (Ok (Newline more)) fault wanted line new left leaves part is reads = cc
-fault_stands (Ok EndOfInput) fault wanted line new left leaves part is reads = cc
-fault_stands (Ok TooLong) fault wanted line new left leaves part is reads =
-    subst (λ (f : StreamFault). IfSome left (λ text. Stands wanted (line.bytes ++ text) f)) (fault_same {A = Option Bool} LineTooLong fault is) (next_long wanted line new left leaves part reads)
-fault_stands (Err error) fault wanted line new left leaves part is reads =
-    subst (λ (f : StreamFault). IfSome left (λ text. Stands wanted (line.bytes ++ text) f)) (fault_same {A = Option Bool} Read fault is) (told (λ text. Stands wanted (line.bytes ++ text) Read) (λ text. tt) left)
+-- and so where this one is due
+pub at_one : (part : List ℕ) (fault : StreamFault) (wanted : ℕ) (left : Option (List ℕ)) → IfSome left (λ text. (wanted : ℕ) → Stands wanted (part ++ text) fault) → IfSome left (λ text. Stands wanted (part ++ text) fault)
+at_one part fault wanted None stands = tt
+at_one part fault wanted (Some text) stands = stands wanted
+
+module _ {E : Type 0} where
+  -- at a newline the line was taken
+  pub line_read : (end : Result BoundedEnd E) (line new : LineBufferValue) (left leaves : Option (List ℕ)) → IsPart line → IfOk end (λ e. ReadsTo e line new left leaves)
+      → IfOk (line_ended end) (λ found. IfSome found (λ more. IfSome left (λ text. TakesLine (line.bytes ++ text) new.bytes leaves)))
+  line_read (Ok (Newline more)) line new left leaves is reads = next_line more line new left leaves is reads
+  line_read (Ok EndOfInput) line new left leaves is reads = tt
+  line_read (Ok TooLong) line new left leaves is reads = tt
+  line_read (Err error) line new left leaves is reads = tt
+
+  -- a newline that was seen after it is left
+  pub more_read : (end : Result BoundedEnd E) (line new : LineBufferValue) (left leaves : Option (List ℕ)) → IfOk end (λ e. ReadsTo e line new left leaves)
+      → IfOk (line_ended end) (λ found. IfSome found (λ more. OnSome left (HasShown more leaves)))
+  more_read (Ok (Newline more)) line new left leaves reads = reads.2
+  more_read (Ok EndOfInput) line new left leaves reads = tt
+  more_read (Ok TooLong) line new left leaves reads = tt
+  more_read (Err error) line new left leaves reads = tt
+
+  -- at the end of the input no whole line is left
+  pub none_read : (end : Result BoundedEnd E) (line new : LineBufferValue) (left leaves : Option (List ℕ)) → IsPart line → IfOk end (λ e. ReadsTo e line new left leaves)
+      → IfOk (line_ended end) (λ found. found ≡ None → IfSome left (λ text. NoLine (line.bytes ++ text) × IsLeft (line.bytes ++ text) new.bytes leaves))
+  none_read (Ok (Newline more)) line new left leaves is reads = λ none. cc
+  none_read (Ok EndOfInput) line new left leaves is reads = λ none. next_end line new left leaves is reads
+  none_read (Ok TooLong) line new left leaves is reads = tt
+  none_read (Err error) line new left leaves is reads = tt
+
+  -- a fault follows
+  pub fault_read : (end : Result BoundedEnd E) (line new : LineBufferValue) (left leaves : Option (List ℕ)) → IsPart line → IfOk end (λ e. ReadsTo e line new left leaves)
+      → IfErr (line_ended end) (λ fault. IfSome left (λ text. (wanted : ℕ) → Stands wanted (line.bytes ++ text) fault))
+  fault_read (Ok (Newline more)) line new left leaves is reads = tt
+  fault_read (Ok EndOfInput) line new left leaves is reads = tt
+  fault_read (Ok TooLong) line new left leaves is reads = at_any line.bytes LineTooLong left (λ wanted. next_long wanted line new left leaves is reads)
+  fault_read (Err error) line new left leaves is reads = told (λ text. (wanted : ℕ) → Stands wanted (line.bytes ++ text) Read) (λ text wanted. tt) left
+
+  -- what was read is a part of a line, or all of it
+  pub part_read : (end : Result BoundedEnd E) (line new : LineBufferValue) (left leaves : Option (List ℕ)) → IsPart line → IfOk end (λ e. ReadsTo e line new left leaves) → OnOk (line_ended end) (IsPart new)
+  part_read (Ok (Newline more)) line new left leaves is reads = IsPart-more line new left leaves (10 ∷ []) is reads.0 reads.1
+  part_read (Ok EndOfInput) line new left leaves is reads = IsPart-more line new left leaves [] is reads.0 reads.2
+  part_read (Ok TooLong) line new left leaves is reads = tt
+  part_read (Err error) line new left leaves is reads = tt
+
+  -- the fault is one of reading lines
+  pub kind_read : (end : Result BoundedEnd E) → IfErr (line_ended end) IsOfLine
+  kind_read (Ok (Newline more)) = tt
+  kind_read (Ok EndOfInput) = tt
+  kind_read (Ok TooLong) = tt
+  kind_read (Err error) = tt
+
+-- a part of a line that was read to its end is whole
+pub IsWhole-part : (line : LineBufferValue) → IsPart line → IsWhole line.bytes
+IsWhole-part line is = record { unbroken = is.part.unbroken; short = is.part.short }
 
 -- ---- the message of a line
 
@@ -205,9 +233,11 @@ line_any_step wanted (Err image.NotJson) = λ named got is. cc
 line_any_step wanted (Err (image.BadShape member)) = λ named got is. cc
 line_any_step wanted (Err (image.OutOfRange member)) = λ named got is. cc
 
--- nor is the end of a line out of step
-pub end_any_step : {E : Type 0} (end : Result BoundedEnd E) (fault : StreamFault) → line_ended end ≡ Err fault → AnyStep fault
-end_any_step (Ok (Newline more)) fault is = cc
-end_any_step (Ok EndOfInput) fault is = cc
-end_any_step (Ok TooLong) fault is = subst AnyStep (fault_same {A = Option Bool} LineTooLong fault is) (λ named got same. cc)
-end_any_step (Err error) fault is = subst AnyStep (fault_same {A = Option Bool} Read fault is) (λ named got same. cc)
+-- nor is a fault of reading a line one of a step
+pub of_line_any_step : (fault : StreamFault) → IsOfLine fault → AnyStep fault
+of_line_any_step Read is = λ named got same. cc
+of_line_any_step LineTooLong is = λ named got same. cc
+of_line_any_step (BadMessage at fault) is = absurd is
+of_line_any_step (OutOfStep named got) is = absurd is
+of_line_any_step Memory is = absurd is
+of_line_any_step Failed is = absurd is

@@ -53,3 +53,12 @@ IsOfText (Some LineTooLong) = Unit {0}
 IsOfText (Some (BadMessage at fault)) = Unit {0}
 IsOfText (Some (OutOfStep named got)) = Unit {0}
 IsOfText (Some Failed) = Unit {0}
+
+-- a fault of reading a line, whatever it says
+abbrev pub IsOfLine : StreamFault → Type 0
+IsOfLine Read = Unit {0}
+IsOfLine LineTooLong = Unit {0}
+IsOfLine (BadMessage at fault) = ⊥
+IsOfLine (OutOfStep named got) = ⊥
+IsOfLine Memory = ⊥
+IsOfLine Failed = ⊥

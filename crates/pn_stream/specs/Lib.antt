@@ -2,6 +2,7 @@ pub mod Attempts
 pub mod Batches
 pub mod Brokers
 pub mod Calls
+pub mod Cuts
 pub mod Faults
 pub mod Lines
 pub mod MessageLines

@@ -5,11 +5,10 @@ use Rattle.pn_line.specs.Text.{text_of}
 use Rattle.pn_record.specs.Limits.{max_line_bytes}
 use Rattle.pn_record.specs.declared.image.Image.{Image}
 use Rattle.pn_stream.specs.MessageLines.{IsMessageLine}
-use Rattle.pn_stream.specs.Streams.{InStep, FirstLine, NoLine, IsLeft}
+use Rattle.pn_stream.specs.Streams.{InStep, FirstLine, IsLeft}
 use Rattle.pn_stream.specs.Faults.{Refuses}
 use Rattle.pn_stream.specs.Batches.{Ends}
 use Rattle.pn_stream.specs.declared.fault.StreamFault.{StreamFault}
-use Rattle.pn_stream.specs.declared.lines.NextLine.{NextLine}
 
 -- the bytes are one line without its newline, which is not too long
 pub record IsWhole (line : List ℕ) : Type 0 where
@@ -20,10 +19,12 @@ pub record IsWhole (line : List ℕ) : Type 0 where
 abbrev pub CanBeRead : ℕ → List (List ℕ) → Type 0
 CanBeRead position lines = All IsWhole lines × (position + length lines < 2 ^ 64)
 
--- the next line of the text, if a whole one is there, and what is left then
-abbrev pub IsNextLine : List ℕ → Option NextLine → List ℕ → Option (List ℕ) → Type 0
-IsNextLine text (Some next) part left = (rest : List ℕ) × FirstLine text next.line rest × IsLeft rest part left
-IsNextLine text None part left = NoLine text × IsLeft text part left
+-- the text's first line was taken, and is not too long
+pub record TakesLine (text line : List ℕ) (leaves : Option (List ℕ)) : Type 0 where
+  pub rest : List ℕ
+  pub first : FirstLine text line rest
+  pub leaves_is : leaves ≡ Some rest
+  pub short : length line ≤ max_line_bytes
 
 -- the text begins with these lines, and this is left of it
 pub record LinesSoFar (text : List ℕ) (lines : List (List ℕ)) (part : List ℕ) (left : Option (List ℕ)) : Type 0 where

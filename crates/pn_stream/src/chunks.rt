@@ -6,7 +6,7 @@ ghost use Rattle.pn_stream.specs.Lines.{AddsMessage, CanBeRead, IsRead};
 ghost use Rattle.pn_stream.specs.MessageLines.{IsMessageLine};
 
 use crate::fault::StreamFault;
-use crate::lines::WholeLine;
+use crate::lines::LineSlice;
 use crate::memory::{NoWait, ReaderMemory, push_one};
 use crate::next::{check_step, message_of_line};
 use pn_record::Image;
@@ -43,7 +43,7 @@ pub(crate) fn chunk_count(workers: usize, lines: usize) -> usize {
 pub(crate) fn read_chunks<R: Threads>(
     rt: &R,
     alloc: Global,
-    lines: &[WholeLine],
+    lines: &LineSlice<'_>,
     position: u64,
     workers: usize,
 ) -> ReadRun
@@ -57,13 +57,13 @@ pub(crate) fn read_chunks<R: Threads>(
     let (low, high) = lines.split_at(count);
     let (next, others) = (position + count as u64, workers - 1);
     let front = || -> ReadRun
-        requires { CanBeRead position low.now }
-        ensures { IsRead position low.entry.now result.images.items result.fault }
-    { read_lines(alloc, low, position) };
+        requires { CanBeRead position low }
+        ensures { IsRead position low.entry result.images.items result.fault }
+    { read_lines(alloc, &low, position) };
     let back = || -> ReadRun
-        requires { CanBeRead next high.now }
-        ensures { IsRead next high.entry.now result.images.items result.fault }
-    { read_chunks(rt, alloc, high, next, others) };
+        requires { CanBeRead next high }
+        ensures { IsRead next high.entry result.images.items result.fault }
+    { read_chunks(rt, alloc, &high, next, others) };
     let (earlier, later) = join(rt, front, back);
     put_together(earlier, later)
 }
@@ -73,7 +73,7 @@ pub(crate) fn read_chunks<R: Threads>(
 pub(crate) fn read_in_memory<R: Threads, M: ReaderMemory>(
     rt: &R,
     memory: &M,
-    lines: &[WholeLine],
+    lines: &LineSlice<'_>,
     position: u64,
     workers: usize,
 ) -> ReadRun
@@ -93,14 +93,14 @@ pub(crate) fn read_in_memory<R: Threads, M: ReaderMemory>(
 }
 
 // Reads on from the line that memory ran out for.
-fn read_on(alloc: Global, lines: &[WholeLine], position: u64, run: ReadRun) -> ReadRun
+fn read_on(alloc: Global, lines: &LineSlice<'_>, position: u64, run: ReadRun) -> ReadRun
     requires lines { CanBeRead position lines.now }
     requires so_far { IsRead position lines.now run.images.items (Some StreamFault.Memory) }
     ensures { IsRead position lines.now result.images.items result.fault }
 {
     let count = run.images.len();
     let (_, left) = lines.split_at(count);
-    let next = read_lines(alloc, left, position + count as u64);
+    let next = read_lines(alloc, &left, position + count as u64);
     let before = ReadRun {
         images: run.images,
         fault: None,
@@ -131,7 +131,7 @@ fn put_together(front: ReadRun, back: ReadRun) -> ReadRun
 }
 
 // Reads the messages of the lines, until one is refused.
-fn read_lines(alloc: Global, lines: &[WholeLine], position: u64) -> ReadRun
+fn read_lines(alloc: Global, lines: &LineSlice<'_>, position: u64) -> ReadRun
     requires lines { CanBeRead position lines.now }
     ensures { IsRead position lines.now result.images.items result.fault }
 {
@@ -151,7 +151,7 @@ fn read_lines(alloc: Global, lines: &[WholeLine], position: u64) -> ReadRun
 // Adds the images of the lines' messages, until one is refused.
 fn push_messages(
     alloc: Global,
-    lines: &[WholeLine],
+    lines: &LineSlice<'_>,
     position: u64,
     images: &mut Vec<Image>,
 ) -> Result<(), StreamFault>
@@ -160,9 +160,12 @@ fn push_messages(
     ensures ok { OnOk result (IsRead position lines.now images.new.items None) }
     ensures err { IfErr result (λ fault. IsRead position lines.now images.new.items (Some fault)) }
 {
-    for line in lines {
+    let (_, mut left) = lines.split_at(0);
+    'messages: while left.len() > 0 {
         let wanted = position + images.len() as u64 + 1;
-        push_message(alloc, line.bytes(), wanted, images)?;
+        push_message(alloc, left.first(), wanted, images)?;
+        let (_, rest) = left.split_at(1);
+        left = rest;
     }
     Ok(())
 }

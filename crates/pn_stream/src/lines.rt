@@ -1,56 +1,146 @@
 //! Whole lines of a stream, taken from its source before their messages are read.
 
-ghost use Rattle.std.specs.Prelude.{◌≡◌, ℕ, ◌≤◌, [], ◌++◌, length, All, None, Some, IfOk, IfErr, IfSome, OnOk, OnErr, OnSome, IsErrOf, IsSome};
-ghost use Rattle.pn_line.specs.Prelude.{HasShown};
+ghost use Rattle.std.specs.Prelude.{◌≡◌, ◌+◌, ◌<◌, ◌≤◌, ◌^◌, [], ◌∷◌, ◌++◌, length, take, drop, All, None, Some, IfErr, IfSome, OnOk, OnErr, IsErrOf};
+ghost use Rattle.std.specs.List.{sum};
 ghost use Rattle.pn_stream.specs.Batches.{IsPart, part_of};
-ghost use Rattle.pn_stream.specs.Faults.{Stands};
-ghost use Rattle.pn_stream.specs.Lines.{Gathered, IsNextLine, IsWhole};
+ghost use Rattle.pn_stream.specs.Lines.{Gathered, IsWhole};
 
 use crate::fault::StreamFault;
-use crate::memory::{ReaderMemory, make_in_memory, push_one};
-use crate::next::{BatchSize, take_line, whole_line};
+use crate::memory::{ReaderMemory, reserve};
+use crate::next::{BatchSize, next_line, take_line};
 use pn_join::NoMemory;
-use pn_line::{LineBuffer, Source, read_bounded_line};
+use pn_line::{LineBuffer, Source};
 use std::alloc::Global;
 use std::marker::Model;
 
-/// The bytes of a whole line, without its newline.
+/// Whole lines without their newlines, one after another in one buffer.
 #[derive(Drop)]
-pub(crate) struct WholeLine {
+pub(crate) struct TakenLines {
     bytes: Vec<u8>,
+    lengths: Vec<usize>,
 }
 
-impl Model for WholeLine {
-    ghost use Rattle.std.specs.Prelude.{ℕ, List};
+impl Model for TakenLines {
+    ghost use Rattle.std.specs.Prelude.{◌≡◌, ℕ, List, length};
+    ghost use Rattle.std.specs.List.{sum};
+    ghost use Rattle.pn_stream.specs.Cuts.{cut};
 
-    ghost Value = { List ℕ };
+    ghost Value = { List (List ℕ) };
 
-    ghost view = { λ line. line.bytes.items };
+    ghost view = { λ lines. cut lines.bytes.items lines.lengths.items };
+
+    ghost invariant = { λ lines. sum lines.lengths.items ≡ length lines.bytes.items };
 }
 
-impl WholeLine {
-    /// A copy of these bytes.
-    fn copy_of(alloc: Global, bytes: &[u8]) -> Result<WholeLine, NoMemory>
-        ensures { IfOk result (λ line. line ≡ bytes.now) }
+impl TakenLines {
+    /// No lines.
+    pub(crate) fn new(alloc: Global) -> TakenLines
+        ensures { result ≡ [] }
     {
-        Ok(WholeLine {
-            bytes: Vec::from_slice(alloc, bytes)?,
-        })
+        TakenLines {
+            bytes: Vec::new(alloc),
+            lengths: Vec::new(alloc),
+        }
     }
 
-    /// Its bytes.
-    pub(crate) fn bytes(&self) -> &[u8]
-        ensures { result.now ≡ self.now }
+    /// How many lines they are.
+    pub(crate) fn len(&self) -> usize
+        ensures { result ≡ length self.now }
     {
-        &self.bytes
+        self.lengths.len()
+    }
+
+    /// All of them.
+    pub(crate) fn as_slice(&self) -> LineSlice<'_>
+        ensures { result ≡ self.now }
+    {
+        LineSlice {
+            bytes: &self.bytes,
+            lengths: &self.lengths,
+        }
+    }
+
+    // Adds one more. An error leaves the lines as they were.
+    fn push<M: ReaderMemory>(&mut self, memory: &M, line: &[u8]) -> Result<(), NoMemory>
+        ensures ok { OnOk result (self.new ≡ self.old ++ line.now ∷ []) }
+        ensures err { OnErr result (self.new ≡ self.old) }
+        ensures gives_up { OnErr result M.may_give_up }
+    {
+        reserve(memory, &mut self.bytes, line.len())?;
+        reserve(memory, &mut self.lengths, 1)?;
+        self.bytes.extend_from_slice(line).unwrap();
+        self.lengths.push_reserved(line.len());
+        Ok(())
     }
 }
 
-/// A line that was taken, and whether a further newline was seen after it.
+/// Consecutive lines of a buffer.
 #[derive(Drop)]
-pub(crate) struct NextLine {
-    pub(crate) line: WholeLine,
-    more: bool,
+pub(crate) struct LineSlice<'a> {
+    bytes: &'a [u8],
+    lengths: &'a [usize],
+}
+
+impl<'a> Model for LineSlice<'a> {
+    ghost use Rattle.std.specs.Prelude.{◌≡◌, ℕ, List, length};
+    ghost use Rattle.std.specs.List.{sum};
+    ghost use Rattle.pn_stream.specs.Cuts.{cut};
+
+    ghost Value = { List (List ℕ) };
+
+    ghost view = { λ lines. cut lines.bytes.now lines.lengths.now };
+
+    ghost invariant = { λ lines. sum lines.lengths.now ≡ length lines.bytes.now };
+}
+
+impl<'a> LineSlice<'a> {
+    /// How many lines they are.
+    pub(crate) fn len(&self) -> usize
+        ensures { result ≡ length self.now }
+    {
+        self.lengths.len()
+    }
+
+    /// The first lines, this many, and those after them.
+    pub(crate) fn split_at(&self, count: usize) -> (LineSlice<'a>, LineSlice<'a>)
+        requires { count ≤ length self.now }
+        ensures whole { self.now ≡ result.0 ++ result.1 }
+        ensures back { result.1 ≡ drop count self.now }
+        ensures front_len { length result.0 ≡ count }
+        ensures back_len { length result.1 + count ≡ length self.now }
+    {
+        let (low, high) = self.lengths.split_at(count);
+        let (front, back) = self.bytes.split_at(byte_count(low));
+        let first = LineSlice {
+            bytes: front,
+            lengths: low,
+        };
+        let rest = LineSlice {
+            bytes: back,
+            lengths: high,
+        };
+        (first, rest)
+    }
+
+    /// The first line.
+    pub(crate) fn first(&self) -> &'a [u8]
+        requires { 0 < length self.now }
+        ensures { take 1 self.now ≡ result.now ∷ [] }
+    {
+        &self.bytes[..self.lengths[0]]
+    }
+}
+
+// How many bytes lines of these lengths have.
+fn byte_count(lengths: &[usize]) -> usize
+    requires { sum lengths.now < 2 ^ 64 }
+    ensures { result ≡ sum lengths.now }
+{
+    let mut count = 0;
+    for length in lengths {
+        count += *length;
+    }
+    count
 }
 
 /// Adds the next lines, until there are enough, no whole line is left, or a fault comes. The part of a line that was
@@ -60,18 +150,18 @@ pub(crate) fn take_lines<S: Source, M: ReaderMemory>(
     held: &mut Option<LineBuffer>,
     source: &mut S,
     size: BatchSize,
-    lines: &mut Vec<WholeLine>,
+    lines: &mut TakenLines,
 ) -> Result<(), StreamFault>
     requires part { IfSome held.old IsPart }
-    requires none { lines.old.items ≡ [] }
+    requires none { lines.old ≡ [] }
     requires some { 1 ≤ size.least }
     requires few { size.least ≤ size.most }
-    ensures within { length lines.new.items ≤ size.most }
-    ensures whole { All IsWhole lines.new.items }
+    ensures within { length lines.new ≤ size.most }
+    ensures whole { All IsWhole lines.new }
     ensures ok { OnOk result (IfSome (S.left source.old) (λ text.
-        Gathered size.least size.most (part_of held.old ++ text) lines.new.items None (part_of held.new) (S.left source.new))) }
+        Gathered size.least size.most (part_of held.old ++ text) lines.new None (part_of held.new) (S.left source.new))) }
     ensures err { IfErr result (λ fault. IfSome (S.left source.old) (λ text.
-        Gathered size.least size.most (part_of held.old ++ text) lines.new.items (Some fault) (part_of held.new) (S.left source.new))) }
+        Gathered size.least size.most (part_of held.old ++ text) lines.new (Some fault) (part_of held.new) (S.left source.new))) }
     ensures part { IfSome held.new IsPart }
     ensures read { IsErrOf result StreamFault.Read → S.may_fail }
     ensures gives_up { IsErrOf result StreamFault.Memory → M.may_give_up }
@@ -80,10 +170,11 @@ pub(crate) fn take_lines<S: Source, M: ReaderMemory>(
     let mut line = take_line(memory, held)?;
     let mut more = false;
     'lines: while size.wants(lines.len(), more) {
-        match next_line(memory, &mut line, source)? {
-            Some(next) => {
-                more = next.more;
-                push_one(memory, lines, next.line)?;
+        match next_line(&mut line, source)? {
+            Some(shown) => {
+                more = shown;
+                lines.push(memory, line.bytes())?;
+                line.start();
             }
             None => {
                 *held = Some(line);
@@ -93,40 +184,4 @@ pub(crate) fn take_lines<S: Source, M: ReaderMemory>(
     }
     *held = Some(line);
     Ok(())
-}
-
-// A copy of these bytes. Where memory runs out, they are copied again.
-fn copy_in_memory<M: ReaderMemory>(memory: &M, bytes: &[u8]) -> Result<WholeLine, NoMemory>
-    ensures copy { IfOk result (λ line. line ≡ bytes.now) }
-    ensures gives_up { OnErr result M.may_give_up }
-{
-    make_in_memory(memory, &mut || WholeLine::copy_of(memory.alloc(), bytes))
-}
-
-// The next whole line. None where none is left.
-fn next_line<S: Source, M: ReaderMemory>(
-    memory: &M,
-    line: &mut LineBuffer,
-    source: &mut S,
-) -> Result<Option<NextLine>, StreamFault>
-    requires { IsPart line.old }
-    ensures next { IfOk result (λ found. IfSome (S.left source.old) (λ text.
-        IsNextLine (line.old.bytes ++ text) found line.new.bytes (S.left source.new))) }
-    ensures whole { IfOk result (λ found. IfSome found (λ next. IsWhole next.line)) }
-    ensures taken { IfOk result (λ found. IsSome found → line.new.bytes ≡ []) }
-    ensures more { IfOk result (λ found. IfSome found (λ next.
-        OnSome (S.left source.old) (HasShown next.more (S.left source.new)))) }
-    ensures stands { IfErr result (λ fault. IfSome (S.left source.old) (λ text.
-        (wanted : ℕ) → Stands wanted (line.old.bytes ++ text) fault)) }
-    ensures part { OnOk result (IsPart line.new) }
-    ensures read { IsErrOf result StreamFault.Read → S.may_fail }
-    ensures gives_up { IsErrOf result StreamFault.Memory → M.may_give_up }
-    ensures not_failed { IsErrOf result StreamFault.Failed → ⊥ }
-{
-    let Some(more) = whole_line(read_bounded_line(line, source))? else {
-        return Ok(None);
-    };
-    let copy = copy_in_memory(memory, line.bytes())?;
-    line.start();
-    Ok(Some(NextLine { line: copy, more }))
 }

@@ -1,6 +1,6 @@
 //! The memory of a reader, which may be waited for where it runs out.
 
-ghost use Rattle.std.specs.Prelude.{◌≡◌, ◌<◌, [], ◌∷◌, ◌++◌, false, vec_len, vec_capacity, IfOk, OnOk, OnErr};
+ghost use Rattle.std.specs.Prelude.{◌≡◌, ◌+◌, ◌≤◌, [], ◌∷◌, ◌++◌, false, vec_len, vec_capacity, IfOk, OnOk, OnErr};
 ghost use Rattle.pn_stream.specs.Attempts.{FailedSoFar, MadeAtLast};
 ghost use Rattle.pn_line.specs.Prelude.{so_far};
 
@@ -82,13 +82,17 @@ pub(crate) fn new_line<M: ReaderMemory>(memory: &M) -> Result<LineBuffer, NoMemo
     make_in_memory(memory, &mut || Ok(LineBuffer::new(memory.alloc())?))
 }
 
-// Reserves memory for one more.
-fn reserve_one<T, M: ReaderMemory>(memory: &M, list: &mut Vec<T>) -> Result<(), NoMemory>
-    ensures room { OnOk result (vec_len list.new < vec_capacity list.new) }
+/// Reserves memory for this many more.
+pub(crate) fn reserve<T, M: ReaderMemory>(
+    memory: &M,
+    list: &mut Vec<T>,
+    count: usize,
+) -> Result<(), NoMemory>
+    ensures space { OnOk result (vec_len list.new + count ≤ vec_capacity list.new) }
     ensures items { list.new.items ≡ list.old.items }
     ensures gives_up { OnErr result M.may_give_up }
 {
-    make_in_memory(memory, &mut || Ok(list.reserve(1)?))
+    make_in_memory(memory, &mut || Ok(list.reserve(count)?))
 }
 
 /// Adds one more. An error leaves the list as it was.
@@ -101,7 +105,7 @@ pub(crate) fn push_one<T: Drop, M: ReaderMemory>(
     ensures err { OnErr result (list.new.items ≡ list.old.items) }
     ensures gives_up { OnErr result M.may_give_up }
 {
-    reserve_one(memory, list)?;
+    reserve(memory, list, 1)?;
     list.push_reserved(item);
     Ok(())
 }

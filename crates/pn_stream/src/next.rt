@@ -1,10 +1,13 @@
 //! The next messages of a stream, read from the lines of its source.
 
-ghost use Rattle.std.specs.Prelude.{◌≡◌, ◌≢◌, ℕ, ◌+◌, ◌<◌, ◌≤◌, false, [], ◌++◌, length, IfOk, IfErr, IfSome, OnOk, OnErr, IsErrOf, IsTrue};
+ghost use Rattle.std.specs.Prelude.{◌≡◌, ◌≢◌, ℕ, ◌+◌, ◌<◌, ◌≤◌, false, [], ◌++◌, length, None, IfOk, IfErr, IfSome, OnOk, OnErr, OnSome, IsErrOf, IsTrue};
 ghost use Rattle.pn_join.specs.declared.marks.TheConstants.{LAST_POSITION};
+ghost use Rattle.pn_line.specs.Prelude.{HasShown};
 ghost use Rattle.pn_stream.specs.Steps.{line_ended, message_due};
 ghost use Rattle.pn_stream.specs.MessageLines.{IsMessageLine};
-ghost use Rattle.pn_stream.specs.Faults.{Refuses, Stands};
+ghost use Rattle.pn_stream.specs.Faults.{IsOfLine, Refuses, Stands};
+ghost use Rattle.pn_stream.specs.Lines.{TakesLine};
+ghost use Rattle.pn_stream.specs.Streams.{NoLine, IsLeft};
 ghost use Rattle.pn_stream.specs.Batches.{Batch, IsPart, IsNext, IsTaken, part_of};
 
 use crate::fault::StreamFault;
@@ -141,7 +144,7 @@ pub(crate) fn next_message<S: Source, M: ReaderMemory>(
     ensures gives_up { IsErrOf result StreamFault.Memory → M.may_give_up }
     ensures not_failed { IsErrOf result StreamFault.Failed → ⊥ }
 {
-    let Some(more) = whole_line(read_bounded_line(line, source))? else {
+    let Some(more) = next_line(line, source)? else {
         return Ok(None);
     };
     let (at, image) = message_in_memory(memory, line.bytes(), wanted)?;
@@ -175,8 +178,30 @@ fn unless_memory<T: Drop>(read: Result<T, StreamFault>) -> Result<Result<T, Stre
     }
 }
 
-/// Whether a further newline was seen after the line, if a whole one was read.
-pub(crate) fn whole_line(end: io::Result<BoundedEnd>) -> Result<Option<bool>, StreamFault>
+/// Reads to the end of the next line, and says whether a further newline was seen after it. None where no whole line is
+/// left; the part of one is kept.
+pub(crate) fn next_line<S: Source>(
+    line: &mut LineBuffer,
+    source: &mut S,
+) -> Result<Option<bool>, StreamFault>
+    requires { IsPart line.old }
+    ensures line { IfOk result (λ found. IfSome found (λ _. IfSome (S.left source.old) (λ text.
+        TakesLine (line.old.bytes ++ text) line.new.bytes (S.left source.new)))) }
+    ensures more { IfOk result (λ found. IfSome found (λ more.
+        OnSome (S.left source.old) (HasShown more (S.left source.new)))) }
+    ensures none { IfOk result (λ found. found ≡ None → IfSome (S.left source.old) (λ text.
+        NoLine (line.old.bytes ++ text) × IsLeft (line.old.bytes ++ text) line.new.bytes (S.left source.new))) }
+    ensures stands { IfErr result (λ fault. IfSome (S.left source.old) (λ text.
+        (wanted : ℕ) → Stands wanted (line.old.bytes ++ text) fault)) }
+    ensures part { OnOk result (IsPart line.new) }
+    ensures read { IsErrOf result StreamFault.Read → S.may_fail }
+    ensures kinds { IfErr result IsOfLine }
+{
+    whole_line(read_bounded_line(line, source))
+}
+
+// Whether a further newline was seen after the line, if a whole one was read.
+fn whole_line(end: io::Result<BoundedEnd>) -> Result<Option<bool>, StreamFault>
     ensures { result ≡ line_ended end }
 {
     match end {

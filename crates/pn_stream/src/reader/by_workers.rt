@@ -10,7 +10,7 @@ use super::StreamReader;
 use crate::chunks::{chunk_count, read_in_memory};
 use crate::delivery::Delivery;
 use crate::fault::StreamFault;
-use crate::lines::{WholeLine, take_lines};
+use crate::lines::{TakenLines, take_lines};
 use crate::memory::ReaderMemory;
 use crate::next::BatchSize;
 use pn_line::Source;
@@ -63,7 +63,7 @@ impl<S: Source + Drop> StreamReader<S> {
         let position = self.position();
         let (lines, end) = self.lines_at_hand(memory, most);
         let chunks = chunk_count(workers, lines.len());
-        let read = read_in_memory(rt, memory, &lines, position, chunks);
+        let read = read_in_memory(rt, memory, &lines.as_slice(), position, chunks);
         (read.images, first_fault(read.fault, end))
     }
 
@@ -72,19 +72,19 @@ impl<S: Source + Drop> StreamReader<S> {
         &mut self,
         memory: &M,
         most: usize,
-    ) -> (Vec<WholeLine>, Option<StreamFault>)
+    ) -> (TakenLines, Option<StreamFault>)
         requires some { 1 ≤ most }
-        ensures within { length result.0.items ≤ most }
-        ensures whole { All IsWhole result.0.items }
+        ensures within { length result.0 ≤ most }
+        ensures whole { All IsWhole result.0 }
         ensures lines { IfSome (S.left self.old.source) (λ text.
-            Gathered 1 most (self.old.part ++ text) result.0.items result.1 self.new.part (S.left self.new.source)) }
+            Gathered 1 most (self.old.part ++ text) result.0 result.1 self.new.part (S.left self.new.source)) }
         ensures read { result.1 ≡ Some StreamFault.Read → S.may_fail }
         ensures gives_up { result.1 ≡ Some StreamFault.Memory → M.may_give_up }
         ensures not_failed { result.1 ≢ Some StreamFault.Failed }
         ensures kept { self.new ≡ record self.old { part = self.new.part; source = self.new.source } }
         ensures part { length self.new.part ≤ max_line_bytes }
     {
-        let mut lines = Vec::new(memory.alloc());
+        let mut lines = TakenLines::new(memory.alloc());
         let size = BatchSize { least: 1, most };
         let ended = take_lines(memory, &mut self.line, &mut self.source, size, &mut lines);
         match ended {

@@ -12,5 +12,5 @@ split_at-requires c =
 pub returns : goal.returns
 returns c =
     let count : c.len-count.result ≡ length c.args.run.images.items = search rules in
-    read_on c.args.position _ c.len-count.result c.args.lines.now c.split_at.result.1.now c.args.run.images.items c.read_lines-next.result.images.items _ c.read_lines-next.result.fault _
+    read_on c.args.position _ c.len-count.result c.args.lines.now c.split_at.result.1 c.args.run.images.items c.read_lines-next.result.images.items _ c.read_lines-next.result.fault _
     c.split_at.ensures.back count refl c.requires.so_far c.read_lines-next.ensures (c.put_together.ensures.follows refl)

@@ -7,14 +7,14 @@ use Rattle.pn_stream.proofs.lines.take_lines.Given as goal
 
 abbrev pub invariant-lines : goal.invariant-lines
 invariant-lines g l = record {
-  within : length l.lines.items ≤ l.size.most;
-  whole : All IsWhole l.lines.items;
+  within : length l.lines ≤ l.size.most;
+  whole : All IsWhole l.lines;
   part : IsPart l.line;
-  taken : 1 ≤ length l.lines.items → l.line.bytes ≡ [];
+  taken : 1 ≤ length l.lines → l.line.bytes ≡ [];
   none_held : l.held ≡ None;
   shown : OnSome (g.S.Source.left l.initial.source) (HasShown l.more (g.S.Source.left l.source));
-  so_far : IfSome (g.S.Source.left l.initial.source) (λ text. LinesSoFar (l.initial.line.bytes ++ text) l.lines.items l.line.bytes (g.S.Source.left l.source));
+  so_far : IfSome (g.S.Source.left l.initial.source) (λ text. LinesSoFar (l.initial.line.bytes ++ text) l.lines l.line.bytes (g.S.Source.left l.source));
 }
 
 abbrev pub decreases-lines : goal.decreases-lines
-decreases-lines g l = l.size.most - length l.lines.items
+decreases-lines g l = l.size.most - length l.lines

@@ -1,10 +1,10 @@
 -- The list is the same one through all attempts and keeps what it has.
 use Rattle.std.proofs.Common.{◌≡◌, refl, rules, of_calls}
 use Rattle.pn_stream.proofs.Attempts.{attempts_keep}
-use Rattle.pn_stream.proofs.memory.reserve_one.Goals as goal
+use Rattle.pn_stream.proofs.memory.reserve.Goals as goal
 
-pub returns-clause-room : goal.returns-clause-room
-returns-clause-room g c =
+pub returns-clause-space : goal.returns-clause-space
+returns-clause-space g c =
     let list = attempts_keep c.make_in_memory.result c.make_in_memory.ensures.made c.make_in_memory.ensures.failed (λ first f. first.0.ghost_name ≡ f.0.ghost_name) refl (λ f answer h s same. search (rules, of_calls)) in
     search (rules, of_calls, list)
 
