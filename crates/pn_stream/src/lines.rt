@@ -1,6 +1,6 @@
 //! Whole lines of a stream, taken from its source before their messages are read.
 
-ghost use Rattle.std.specs.Prelude.{◌≡◌, ◌+◌, ◌<◌, ◌≤◌, ◌^◌, [], ◌∷◌, ◌++◌, length, take, drop, All, None, Some, IfErr, IfSome, OnOk, OnErr, IsErrOf};
+ghost use Rattle.std.specs.Prelude.{◌≡◌, ◌+◌, ◌<◌, ◌≤◌, [], ◌∷◌, ◌++◌, length, take, drop, All, None, Some, IfErr, IfSome, OnOk, OnErr, IsErrOf};
 ghost use Rattle.std.specs.List.{sum};
 ghost use Rattle.pn_stream.specs.Batches.{IsPart, part_of};
 ghost use Rattle.pn_stream.specs.Lines.{Gathered, IsWhole};
@@ -110,7 +110,7 @@ impl<'a> LineSlice<'a> {
         ensures back_len { length result.1 + count ≡ length self.now }
     {
         let (low, high) = self.lengths.split_at(count);
-        let (front, back) = self.bytes.split_at(byte_count(low));
+        let (front, back) = split_bytes(self.bytes, low);
         let first = LineSlice {
             bytes: front,
             lengths: low,
@@ -127,20 +127,23 @@ impl<'a> LineSlice<'a> {
         requires { 0 < length self.now }
         ensures { take 1 self.now ≡ result.now ∷ [] }
     {
-        &self.bytes[..self.lengths[0]]
+        let (line, _) = self.bytes.split_at(self.lengths[0]);
+        line
     }
 }
 
-// How many bytes lines of these lengths have.
-fn byte_count(lengths: &[usize]) -> usize
-    requires { sum lengths.now < 2 ^ 64 }
-    ensures { result ≡ sum lengths.now }
+// The bytes of lines of these lengths, and those after them.
+fn split_bytes<'a>(bytes: &'a [u8], lengths: &[usize]) -> (&'a [u8], &'a [u8])
+    requires { sum lengths.now ≤ length bytes.now }
+    ensures front { result.0.now ≡ take (sum lengths.now) bytes.now }
+    ensures back { result.1.now ≡ drop (sum lengths.now) bytes.now }
 {
-    let mut count = 0;
-    for length in lengths {
-        count += *length;
+    let mut rest = bytes;
+    for count in lengths {
+        let (_, after) = rest.split_at(*count);
+        rest = after;
     }
-    count
+    bytes.split_at(bytes.len() - rest.len())
 }
 
 /// Adds the next lines, until there are enough, no whole line is left, or a fault comes. The part of a line that was
