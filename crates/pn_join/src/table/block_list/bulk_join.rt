@@ -58,7 +58,8 @@ impl<K: Ord + Dup, C: Join> BlockList<K, C> {
 
     /// What the entries of the other change, in each block that they belong into.
     fn edits_from(&self, other: &Self) -> Result<Vec<BlockEdits<K, C>>, NoMemory>
-        ensures changes { IfOk result (λ edits. AreChanges K.cmp C.meaning C.joined C.valid (entries_in self.now) (entries_in other.now) (changes_in_blocks edits.items)) }
+        ensures changes { IfOk result (λ edits. AreChanges K.cmp C.meaning C.joined C.valid (entries_in self.now) (entries_in other.now)
+            (changes_in_blocks edits.items)) }
         ensures aimed { IfOk result (λ edits. AreAimedAtBlocks K.cmp self.now edits.items) }
     {
         let alloc = self.alloc();
@@ -75,7 +76,8 @@ impl<K: Ord + Dup, C: Join> BlockList<K, C> {
     fn edit(&self, index: usize, key: &K, content: &C) -> Result<Option<Edit<K, C>>, NoMemory>
         requires block { index ≡ leaf_for K.cmp key.now (in_blocks self.now) }
         requires valid { C.valid content.now }
-        ensures changes { IfOk result (λ edit. Changes K.cmp C.meaning C.joined C.valid (entries_in self.now) (key.now, content.now) (option_map (λ e. e.change) edit)) }
+        ensures changes { IfOk result (λ edit. Changes K.cmp C.meaning C.joined C.valid (entries_in self.now)
+            (key.now, content.now) (option_map (λ e. e.change) edit)) }
         ensures aimed { IfOk result (λ edit. IsAimed K.cmp (get_or self.now index []) edit) }
     {
         self.recall_blocks();

@@ -64,7 +64,8 @@ fn open_blocks<K: Ord + Dup, C: Join>(
     requires none { taken.old.items ≡ [] }
     requires capacity { length all.items ≤ vec_capacity taken.old }
     ensures same { filled was taken.new.items (in_blocks blocks.new.items) ≡ in_blocks blocks.old.items }
-    ensures done { IfOk result (λ done. IsTrue done → ArePut K.cmp C.valid blocks.old.items (changes_in_blocks all.items) (filled becomes taken.new.items (in_blocks blocks.new.items))) }
+    ensures done { IfOk result (λ done. IsTrue done → ArePut K.cmp C.valid blocks.old.items
+        (changes_in_blocks all.items) (filled becomes taken.new.items (in_blocks blocks.new.items))) }
     ensures within { AreWithin taken.new.items (length blocks.new.items) }
     ensures len { vec_len blocks.new ≡ vec_len blocks.old }
 {
