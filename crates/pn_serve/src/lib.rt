@@ -25,13 +25,13 @@ pub use laws::{
     streams_beside_commands_leave_what_was_taken, streams_that_resume_leave_what_was_published,
 };
 pub use machine::line_answers::{LineAnswer, ReplyPieces};
-pub use script::{Counts, FinishedRun, MAX_LINES, RunFault, run};
+pub use script::{Counts, FinishedRun, MAX_LINES, RunFault, run, run_script};
 pub use server::{
     Acceptor, AnyPublishers, ComesBack, Counter, FaultLog, MAX_CONTROLS, MAX_SESSIONS,
     NextPublisher, OpenedRegion, Origin, PublisherEnd, ReadingEnd, SESSION_CAPACITY, Sending,
     ServeFault, SessionThread, ShownMark, Stream, StreamFailure, StreamPath, TimeCounters,
-    Watchers, close_region, join_sessions, open_region, read_streams, serve, take_commands,
-    take_commands_for,
+    Watchers, close_region, join_sessions, open_region, read_streams, serve, serve_opened,
+    take_commands, take_commands_for,
 };
 pub use sessions::counting_reader::CountingReader;
 pub use sessions::pending_lookup::PendingLookup;

@@ -72,6 +72,26 @@ pub fn run<R: Threads + Sync, S: Source, W: Sink>(
     input: &mut S,
     output: &mut W,
     settings: Settings,
+) -> Result<Counts, RunFault>
+    ensures ends { Ends (run_start settings (S.left input.old) (W.contents output.old)) (S.left input.new) (W.contents output.new) result }
+    ensures read { IsErrOf result RunFault.Read → S.may_fail }
+    ensures write { IsErrOf result RunFault.Write → W.may_fail }
+    ensures few { IfOk result (λ counts. counts.lines ≤ MAX_LINES) }
+    ensures out { Flushes result (W.is_flushed output.new) }
+    ensures polls { S.polls input.new ≤ S.polls input.old + polls_of_input }
+    ensures end { OnOk result S.may_end }
+    ensures unread { IsErrOf result RunFault.Memory → S.polls input.new ≡ S.polls input.old }
+{
+    run_script(rt, alloc, input, output, settings).ended
+}
+
+/// Answers a script as [`run`] does, and leaves its region to the caller.
+pub fn run_script<R: Threads + Sync, S: Source, W: Sink>(
+    rt: &R,
+    alloc: Global,
+    input: &mut S,
+    output: &mut W,
+    settings: Settings,
 ) -> FinishedRun
     ensures ends { Ends (run_start settings (S.left input.old) (W.contents output.old)) (S.left input.new) (W.contents output.new) result.ended }
     ensures read { IsErrOf result.ended RunFault.Read → S.may_fail }

@@ -9,10 +9,11 @@ ghost use Rattle.pn_live.specs.Readers.{AllKnowPublished};
 ghost use Rattle.pn_live.specs.LiveRegions.{core};
 ghost use Rattle.pn_live.specs.Prelude.{IsNewLive, tablets_in};
 ghost use Rattle.pn_live.specs.declared.region.opening.TheConstants.{MAX_READERS};
+ghost use Rattle.pn_serve.specs.declared.server.session_threads.TheConstants.{MAX_SESSIONS};
 ghost use Rattle.pn_serve.specs.Server.Reports.{NamesOne, names_of};
 ghost use Rattle.pn_serve.specs.Server.Publishers.{AreHonestPublishers, IsOfPublisher, IsSent, IsTakenWhole};
 ghost use Rattle.pn_serve.specs.Server.Events.{RunsRounds, AllRead};
-ghost use Rattle.pn_serve.specs.Server.Served.{EndsReading, EndsServing};
+ghost use Rattle.pn_serve.specs.Server.Served.{EndsReading, EndsServing, EndsServingNew};
 ghost use Rattle.pn_stream.specs.Brokers.{IsHonest};
 ghost use Rattle.pn_stream.specs.Prelude.{BrokerRecord};
 ghost use Rattle.pn_protocol.specs.Prelude.{served_line};
@@ -35,6 +36,7 @@ mod times;
 mod tries;
 pub(crate) mod wakeup;
 
+use crate::Settings;
 use crate::server::ending_line::write_ending;
 use crate::server::events::run_rounds;
 use crate::server::mailboxes::StreamMailboxes;
@@ -69,12 +71,49 @@ pub struct OpenedRegion {
     pub readers: Vec<LiveReader>,
 }
 
+/// Serves as [`serve_opened`] does, over a new live region, with 1 to 16 sessions. Where none can be opened it ends with
+/// `Start`.
+pub fn serve<R, L, S, W, M>(
+    rt: &R,
+    alloc: Global,
+    listener: &L,
+    settings: Settings,
+    sessions: usize,
+    streams: Vec<StreamReader<S>>,
+    out: &mut W,
+) -> Result<(), ServeFault>
+where
+    R: Threads + Wait + Clock + Sync + Copy + Send + 'static,
+    L: Acceptor + Drop + Send + 'static,
+    S: Source + Drop + Send + 'static,
+    W: Sink,
+    M: Sending + Send + 'static,
+    requires sessions { (1 ≤ sessions) × (sessions ≤ MAX_SESSIONS) }
+    requires sent { M.known → All (IsOfPublisher M.sends S.left) streams.items }
+    ensures ends { EndsServingNew (IsSent M.known M.sends) S.left settings.layout streams.items result }
+    ensures honest { (broker : BrokerRecord) → M.known → AreHonestPublishers broker M.sends
+        → EndsServingNew (IsHonest broker) S.left settings.layout streams.items result }
+    ensures served { OnOk result (Appends (W.contents out.old) (W.contents out.new) (served_line sessions)) }
+    ensures silent { IfErr result (λ fault. fault ≢ ServeFault.Write → Keeps (W.contents out.old) (W.contents out.new)) }
+    ensures part { IsErrOf result ServeFault.Write → AppendsPrefix (W.contents out.old) (W.contents out.new) (served_line sessions) }
+    ensures write { IsErrOf result ServeFault.Write → W.may_fail }
+    ensures flushed { OnOk result (W.is_flushed out.new) }
+{
+    let (layout, workers) = settings.into_parts();
+    match open_region(rt, alloc, layout, sessions) {
+        Ok(opened) => serve_opened::<R, L, S, W, M>(
+            rt, alloc, listener, opened, workers, streams, out,
+        ),
+        Err(fault) => Err(fault),
+    }
+}
+
 /// Reads streams into a live region that is open, at most 1,000 messages of each a round, while it answers one session with
 /// each of its readers. Then it closes the region, and writes `served N`.
 ///
 /// After a fault of a stream or a round, the sessions are still served. A session's fault ends that session alone.
 /// Faults come in the order of `ServeFault`.
-pub fn serve<R, L, S, W, M>(
+pub fn serve_opened<R, L, S, W, M>(
     rt: &R,
     alloc: Global,
     listener: &L,

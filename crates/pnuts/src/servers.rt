@@ -1,20 +1,20 @@
 //! Servers: one that ends with its sessions, and one that stays.
 
-ghost use Rattle.std.specs.Prelude.{◌≤◌, IfOk, IfSome, vec_len};
+ghost use Rattle.std.specs.Prelude.{◌≤◌, IfSome, vec_len};
 ghost use Rattle.pn_live.specs.Prelude.{tablets_in};
 ghost use Rattle.pn_serve.specs.declared.server.session_threads.TheConstants.{MAX_SESSIONS};
 ghost use Rattle.pn_serve.specs.Server.Events.{AllRead};
 
 use crate::failures::{fail, fail_noted, fail_serving, fail_with};
 use pn_arguments::Service;
-use pn_serve::{AnyPublishers, OpenedRegion, ReadingEnd, ServeFault, Settings, open_region, serve};
+use pn_serve::{
+    AnyPublishers, OpenedRegion, ReadingEnd, ServeFault, Settings, serve, serve_opened,
+};
 use pn_stay::{
     FileSource, ServerEnd, ServerSizes, SocketAcceptor, SocketFile, StayingServer, message_prefix,
     remove_sockets,
 };
 use pn_stream::StreamReader;
-use pn_tablet::Layout;
-use std::alloc::Global;
 use std::fs::File;
 use std::io::ErrorKind;
 use std::net::Net;
@@ -49,41 +49,31 @@ where
     requires sessions { (1 ≤ service.now.sessions) × (service.now.sessions ≤ MAX_SESSIONS) }
     requires own { IfSome opened (λ region. AllRead (tablets_in region.live) region.readers.items) }
 {
-    let (layout, workers) = settings.into_parts();
-    let served = match opened_or_new(rt, rt.alloc(), opened, layout, service.sessions) {
-        Ok(region) => serve::<_, _, _, _, AnyPublishers>(
+    let mut out = io::writer(rt);
+    let served = match opened {
+        None => serve::<_, _, _, _, AnyPublishers>(
             rt,
             rt.alloc(),
             acceptor,
-            region,
-            workers,
+            settings,
+            service.sessions,
             readers,
-            &mut io::writer(rt),
+            &mut out,
         ),
-        Err(fault) => Err(fault),
+        Some(opened) => serve_opened::<_, _, _, _, AnyPublishers>(
+            rt,
+            rt.alloc(),
+            acceptor,
+            opened,
+            settings.workers(),
+            readers,
+            &mut out,
+        ),
     };
     let _ = eprint!(rt; "{}", message_prefix(service.is_progress_told));
     match served {
         Ok(()) => ExitCode::SUCCESS,
         Err(fault) => fail_noted(rt, fault, &acceptor.faults),
-    }
-}
-
-// The region that is open, or else a new one.
-fn opened_or_new<R: Wait>(
-    rt: &R,
-    alloc: Global,
-    opened: Option<OpenedRegion>,
-    layout: Layout,
-    sessions: usize,
-) -> Result<OpenedRegion, ServeFault>
-    requires sessions { (1 ≤ sessions) × (sessions ≤ MAX_SESSIONS) }
-    requires own { IfSome opened (λ region. AllRead (tablets_in region.live) region.readers.items) }
-    ensures { IfOk result (λ region. AllRead (tablets_in region.live) region.readers.items) }
-{
-    match opened {
-        Some(opened) => Ok(opened),
-        None => open_region(rt, alloc, layout, sessions),
     }
 }
 

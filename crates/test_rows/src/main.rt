@@ -57,7 +57,7 @@ fn answer(
         return output.write_all(b"the head has no settings\n");
     };
     let mut input = InMemory::new(script);
-    match run(rt, rt.alloc(), &mut input, &mut output, settings).ended {
+    match run(rt, rt.alloc(), &mut input, &mut output, settings) {
         Ok(_) => Ok(()),
         Err(_) => output.write_all(b"the run had a fault\n"),
     }

@@ -2,7 +2,8 @@
 use Rattle.std.specs.Prelude.{◌≡◌, ◌⊎◌, ℕ, List, All, Contains, Option, Result, Ok, Err}
 use Rattle.pn_stream.specs.Batches.{Stream}
 use Rattle.pn_stream.specs.Brokers.{DeliveryValue}
-use Rattle.pn_live.specs.LiveRegions.{LiveRegionValue}
+use Rattle.pn_tablet.specs.Layouts.{Bounds}
+use Rattle.pn_live.specs.LiveRegions.{LiveRegionValue, IsNewLive}
 use Rattle.pn_serve.specs.Server.Reports.{names_of}
 use Rattle.pn_serve.specs.Server.Events.{ReadToEnds, ReadUpTo}
 use Rattle.pn_serve.specs.Server.Publishers.{IsTakenWhole}
@@ -39,3 +40,13 @@ module _ (P : DeliveryValue → Type 0) {S : Type 0} (left : S → Option (List 
   EndsServing opened streams (Err Close) = Serves opened streams (Ok tt)
   EndsServing opened streams (Err Write) = Serves opened streams (Ok tt)
   EndsServing opened streams (Err fault) = Serves opened streams (Err fault)
+
+  -- a new live region of a layout was served
+  pub record ServesNew (layout : Bounds) (streams : List (Stream S)) (result : Result (Unit {0}) ServeFault) : Type 0 where
+    pub opened : LiveRegionValue
+    pub is_new : IsNewLive layout opened
+    pub ends : EndsServing opened streams result
+
+  -- what serving a new live region comes to: it was served, or none could be opened
+  abbrev pub EndsServingNew : Bounds → List (Stream S) → Result (Unit {0}) ServeFault → Type 0
+  EndsServingNew layout streams result = ServesNew layout streams result ⊎ (result ≡ Err Start)

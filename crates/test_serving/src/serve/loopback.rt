@@ -1,10 +1,10 @@
 //! Streams in memory, served over loopback to a client in a thread of its own.
 
-use crate::reading::{first_message, open_new, readers_of};
+use crate::reading::{first_message, readers_of, settings};
 use crate::serve::copies::open_text;
 use pn_join::NoMemory;
 use pn_live::LiveReader;
-use pn_serve::{Acceptor, AnyPublishers, Counter, FaultLog, PublisherEnd, ServeFault, serve};
+use pn_serve::{Acceptor, AnyPublishers, Counter, FaultLog, PublisherEnd, ServeFault, serve, serve_opened};
 use std::alloc::{AllocError, Global};
 use std::io::BufReader;
 use std::net::{Net, SocketAddr, TcpListener, TcpStream};
@@ -204,9 +204,9 @@ fn serve_new<R>(
 where
     R: Threads + Wait + Clock + Sync + Copy + Send + 'static,
 {
+    let settings = settings(alloc)?;
     let streams = readers_of(alloc, messages)?;
-    let opened = open_new(rt, alloc)?;
-    Some(serve::<_, _, _, _, AnyPublishers>(rt, alloc, listener, opened, 1, streams, written))
+    Some(serve::<_, _, _, _, AnyPublishers>(rt, alloc, listener, settings, 1, streams, written))
 }
 
 fn second_message() -> &'static str {
@@ -229,7 +229,9 @@ where
 {
     let streams = readers_of(alloc, first_message())?;
     let opened = open_text(rt, alloc, 1, first_copy(), 1).ok()?;
-    Some(serve::<_, _, _, _, AnyPublishers>(rt, alloc, listener, opened, 1, streams, written))
+    Some(serve_opened::<_, _, _, _, AnyPublishers>(
+        rt, alloc, listener, opened, 1, streams, written,
+    ))
 }
 
 fn add_faults<R: Wait>(rt: &R, text: &mut String, faults: &FaultLog) -> Result<(), AllocError> {

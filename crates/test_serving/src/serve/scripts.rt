@@ -44,7 +44,7 @@ fn run_script<R: Threads + Sync, S: Source, W: Sink>(
     output: &mut W,
 ) -> Result<Counts, RunFault> {
     match settings(alloc) {
-        Some(settings) => run(rt, alloc, input, output, settings).ended,
+        Some(settings) => run(rt, alloc, input, output, settings),
         None => Err(RunFault::Memory),
     }
 }

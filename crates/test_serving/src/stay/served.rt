@@ -1,6 +1,6 @@
 //! A stream in memory, served at a port and at a path: by sessions that end, and by a server that stays.
 
-use crate::reading::{Script, first_message, open_new, readers_of, settings, stream_of};
+use crate::reading::{Script, first_message, readers_of, settings, stream_of};
 use crate::serve::loopback::{Served, outcome};
 use crate::stay::talks::{At, Told, flood, talk};
 use pn_serve::{AnyPublishers, Counter, Stream, serve};
@@ -138,14 +138,14 @@ fn serve_one<R>(rt: &R, alloc: Global, acceptor: &SocketAcceptor) -> Option<Serv
 where
     R: Threads + Wait + Clock + Sync + Copy + Send + 'static,
 {
+    let settings = settings(alloc)?;
     let readers = readers_of(alloc, first_message())?;
-    let opened = open_new(rt, alloc)?;
     let mut written = Vec::new(alloc);
     let ended = serve::<_, _, _, _, AnyPublishers>(
         rt,
         alloc,
         acceptor,
-        opened,
+        settings,
         1,
         readers,
         &mut written,

@@ -9,7 +9,7 @@ use Rattle.pn_serve.specs.declared.server.fault_log.ServeFault.TheVariants.{Writ
 use Rattle.pn_serve.proofs.PublishersRead.{sent_is_honest}
 use Rattle.pn_serve.proofs.SentEvents.{serving_on}
 use Rattle.pn_serve.proofs.RoundsRead.{serving_ends, no_write, all_back, of_sessions, of_sessions_in_part, fails_by_writing, err_first, ok_err_first}
-use Rattle.pn_serve.proofs.server.serve.Goals as goal
+use Rattle.pn_serve.proofs.server.serve_opened.Goals as goal
 
 pub returns-clause-ends : goal.returns-clause-ends
 returns-clause-ends g c =
