@@ -203,8 +203,8 @@ module _ {A : Type 0} where
     next_entries : length (entries_in (take (k + 1) blocks)) ≡ length (entries_in (take k blocks)) + length (all_entries block)
     next_entries = ap (λ bs. length (entries_in bs)) next ∙ ap length (entries_push (take k blocks) block) ∙ length-append (entries_in (take k blocks)) (all_entries block)
 
-    next_leaves : length (all_entries (take (k + 1) blocks)) ≡ length (all_entries (take k blocks)) + length block
-    next_leaves = ap (λ bs. length (all_entries bs)) next ∙ ap length (all_push (take k blocks) block) ∙ length-append (all_entries (take k blocks)) block
+    leaves_with_next : length (all_entries (take (k + 1) blocks)) ≡ length (all_entries (take k blocks)) + length block
+    leaves_with_next = ap (λ bs. length (all_entries bs)) next ∙ ap length (all_push (take k blocks) block) ∙ length-append (all_entries (take k blocks)) block
 
     next_sizes : AllByRecursion (λ leaf. IsLeaf leaf) (all_entries (take (k + 1) blocks))
     next_sizes = rw (next, all_push (take k blocks) block) (each_append (λ leaf. IsLeaf leaf) (all_entries (take k blocks)) block h.sizes block_sizes)
@@ -213,12 +213,12 @@ module _ {A : Type 0} where
     entries_fit = omega (arith, h.entries_are, more_is, next_entries, first_entries (k + 1) blocks, total)
 
     pub leaves_fit : leaves + more_leaves < 2 ^ 64
-    leaves_fit = omega (arith, h.leaves_are, more_leaves_is, next_leaves, few_leaves (all_entries (take (k + 1) blocks)) next_sizes, first_entries (k + 1) blocks, total)
+    leaves_fit = omega (arith, h.leaves_are, more_leaves_is, leaves_with_next, few_leaves (all_entries (take (k + 1) blocks)) next_sizes, first_entries (k + 1) blocks, total)
 
     pub one_counted : CountedSoFar blocks (k + 1) (entries + more) (leaves + more_leaves) (entry_counts ++ (entries + more) ∷ []) (leaf_counts ++ (leaves + more_leaves) ∷ [])
     one_counted = record {
       entries_are = omega (arith, h.entries_are, more_is, next_entries);
-      leaves_are = omega (arith, h.leaves_are, more_leaves_is, next_leaves);
+      leaves_are = omega (arith, h.leaves_are, more_leaves_is, leaves_with_next);
       by_entries = rw (next, in_blocks-push (take k blocks) block) (pushed_counts (in_blocks (take k blocks)) (all_entries block) entry_counts (entries + more) h.by_entries (omega (arith, h.entries_are, more_is, ap length (all_in_blocks (take k blocks)))) entries_fit);
       by_leaves = rw next (pushed_counts (take k blocks) block leaf_counts (leaves + more_leaves) h.by_leaves (omega (arith, h.leaves_are, more_leaves_is)) leaves_fit);
       sizes = next_sizes;

@@ -77,35 +77,35 @@ module _ {K C : Type 0} where
   all_puts ps = flat_map (λ p. p.1) ps
 
   module _ (cmp : K → K → Ordering) where
-    abbrev put_each : List (K × C) → List (ℕ × (K × C)) → List (K × C)
-    put_each now ps = fold (λ now p. put cmp p.1.0 p.1.1 now) now ps
+    abbrev put_all : List (K × C) → List (ℕ × (K × C)) → List (K × C)
+    put_all now ps = fold (λ now p. put cmp p.1.0 p.1.1 now) now ps
 
-    put_each-append : (now : List (K × C)) (ps qs : List (ℕ × (K × C))) → put_each now (ps ++ qs) ≡ put_each (put_each now ps) qs
-    put_each-append now [] qs = refl
-    put_each-append now (p ∷ ps) qs = put_each-append (put cmp p.1.0 p.1.1 now) ps qs
+    put_all-append : (now : List (K × C)) (ps qs : List (ℕ × (K × C))) → put_all now (ps ++ qs) ≡ put_all (put_all now ps) qs
+    put_all-append now [] qs = refl
+    put_all-append now (p ∷ ps) qs = put_all-append (put cmp p.1.0 p.1.1 now) ps qs
 
     pub puts-append : (now : List (K × C)) (cs ds : List (TableChange K C)) → puts cmp now (cs ++ ds) ≡ puts cmp (puts cmp now cs) ds
     puts-append now [] ds = refl
     puts-append now (c ∷ cs) ds = puts-append (put cmp c.key c.after now) cs ds
 
-    puts_each : (now : List (K × C)) (es : List (Edit K C)) → puts cmp now (changes_in es) ≡ put_each now (puts_in es)
-    puts_each now [] = refl
-    puts_each now (e ∷ es) = puts_each (put cmp e.change.key e.change.after now) es
+    puts_in_each : (now : List (K × C)) (es : List (Edit K C)) → puts cmp now (changes_in es) ≡ put_all now (puts_in es)
+    puts_in_each now [] = refl
+    puts_in_each now (e ∷ es) = puts_in_each (put cmp e.change.key e.change.after now) es
 
-    puts_all : (now : List (K × C)) (all : List (BlockEdits K C)) → puts cmp now (changes_in_blocks all) ≡ put_each now (all_puts (puts_in_blocks all))
+    puts_all : (now : List (K × C)) (all : List (BlockEdits K C)) → puts cmp now (changes_in_blocks all) ≡ put_all now (all_puts (puts_in_blocks all))
     puts_all now [] = refl
     puts_all now (b ∷ bs) =
         puts-append now (changes_in b.edits.items) (changes_in_blocks bs)
-        ∙ ap (λ es. puts cmp es (changes_in_blocks bs)) (puts_each now b.edits.items)
-        ∙ puts_all (put_each now (puts_in b.edits.items)) bs
-        ∙ sym (put_each-append now (puts_in b.edits.items) (all_puts (puts_in_blocks bs)))
+        ∙ ap (λ es. puts cmp es (changes_in_blocks bs)) (puts_in_each now b.edits.items)
+        ∙ puts_all (put_all now (puts_in b.edits.items)) bs
+        ∙ sym (put_all-append now (puts_in b.edits.items) (all_puts (puts_in_blocks bs)))
 
     pub same_block_puts : (now : List (K × C)) (es fs : List (BlockEdits K C)) → puts_in_blocks fs ≡ puts_in_blocks es → puts cmp now (changes_in_blocks fs) ≡ puts cmp now (changes_in_blocks es)
-    same_block_puts now es fs same = puts_all now fs ∙ ap (λ ps. put_each now (all_puts ps)) same ∙ sym (puts_all now es)
+    same_block_puts now es fs same = puts_all now fs ∙ ap (λ ps. put_all now (all_puts ps)) same ∙ sym (puts_all now es)
 
     module _ (blocks : List (List (List (K × C)))) where
-      abbrev Aim : ℕ × List (ℕ × (K × C)) → Type 0
-      Aim p = AllByRecursion (λ q. p.0 ≡ leaf_for cmp q.1.0 (in_blocks blocks)) p.1 × AllByRecursion (λ q. q.0 ≡ leaf_for cmp q.1.0 (get_or blocks p.0 [])) p.1
+      abbrev BlockAim : ℕ × List (ℕ × (K × C)) → Type 0
+      BlockAim p = AllByRecursion (λ q. p.0 ≡ leaf_for cmp q.1.0 (in_blocks blocks)) p.1 × AllByRecursion (λ q. q.0 ≡ leaf_for cmp q.1.0 (get_or blocks p.0 [])) p.1
 
       at_block : (i : ℕ) (es : List (Edit K C)) → AllByRecursion (λ e. i ≡ leaf_for cmp e.change.key (in_blocks blocks)) es → AllByRecursion (λ q. i ≡ leaf_for cmp q.1.0 (in_blocks blocks)) (puts_in es)
       at_block i [] h = tt
@@ -123,44 +123,44 @@ module _ {K C : Type 0} where
       from_leaves list [] h = tt
       from_leaves list (e ∷ es) h = (h.0, from_leaves list es h.1)
 
-      aims : (all : List (BlockEdits K C)) → AreAimedAtBlocks cmp blocks all → AllByRecursion Aim (puts_in_blocks all)
-      aims [] h = tt
-      aims (b ∷ bs) h = ((at_block b.block b.edits.items h.0.block, at_leaves (get_or blocks b.block []) b.edits.items h.0.leaves), aims bs h.1)
+      block_aims : (all : List (BlockEdits K C)) → AreAimedAtBlocks cmp blocks all → AllByRecursion BlockAim (puts_in_blocks all)
+      block_aims [] h = tt
+      block_aims (b ∷ bs) h = ((at_block b.block b.edits.items h.0.block, at_leaves (get_or blocks b.block []) b.edits.items h.0.leaves), block_aims bs h.1)
 
-      aimed : (all : List (BlockEdits K C)) → AllByRecursion Aim (puts_in_blocks all) → AreAimedAtBlocks cmp blocks all
-      aimed [] h = tt
-      aimed (b ∷ bs) h = (record { block = from_block b.block b.edits.items h.0.0; leaves = from_leaves (get_or blocks b.block []) b.edits.items h.0.1 }, aimed bs h.1)
+      block_aimed : (all : List (BlockEdits K C)) → AllByRecursion BlockAim (puts_in_blocks all) → AreAimedAtBlocks cmp blocks all
+      block_aimed [] h = tt
+      block_aimed (b ∷ bs) h = (record { block = from_block b.block b.edits.items h.0.0; leaves = from_leaves (get_or blocks b.block []) b.edits.items h.0.1 }, block_aimed bs h.1)
 
       pub same_block_aims : (es fs : List (BlockEdits K C)) → puts_in_blocks fs ≡ puts_in_blocks es → AreAimedAtBlocks cmp blocks es → AreAimedAtBlocks cmp blocks fs
-      same_block_aims es fs same h = aimed fs (subst (λ ps. AllByRecursion Aim ps) (sym same) (aims es h))
+      same_block_aims es fs same h = block_aimed fs (subst (λ ps. AllByRecursion BlockAim ps) (sym same) (block_aims es h))
 
   module _ (valid : C → Type 0) where
-    abbrev Valid : List (ℕ × (K × C)) → Type 0
-    Valid ps = AllByRecursion (λ p. valid p.1.1) ps
+    abbrev AllValid : List (ℕ × (K × C)) → Type 0
+    AllValid ps = AllByRecursion (λ p. valid p.1.1) ps
 
-    valid_puts : (es : List (Edit K C)) → AreValid valid (changes_in es) → Valid (puts_in es)
+    valid_puts : (es : List (Edit K C)) → AreValid valid (changes_in es) → AllValid (puts_in es)
     valid_puts [] h = tt
     valid_puts (e ∷ es) h = (h.0, valid_puts es h.1)
 
-    puts_valid : (es : List (Edit K C)) → Valid (puts_in es) → AreValid valid (changes_in es)
+    puts_valid : (es : List (Edit K C)) → AllValid (puts_in es) → AreValid valid (changes_in es)
     puts_valid [] h = tt
     puts_valid (e ∷ es) h = (h.0, puts_valid es h.1)
 
-    valids : (all : List (BlockEdits K C)) → AreValid valid (changes_in_blocks all) → Valid (all_puts (puts_in_blocks all))
-    valids [] h = tt
-    valids (b ∷ bs) h =
+    all_valids : (all : List (BlockEdits K C)) → AreValid valid (changes_in_blocks all) → AllValid (all_puts (puts_in_blocks all))
+    all_valids [] h = tt
+    all_valids (b ∷ bs) h =
         let first = changes_in b.edits.items in
         each_append (λ p. valid p.1.1) (puts_in b.edits.items) (all_puts (puts_in_blocks bs))
         (valid_puts b.edits.items (each_prefix (λ c. valid c.after) first (changes_in_blocks bs) h))
-        (valids bs (each_back (λ c. valid c.after) first (changes_in_blocks bs) h))
+        (all_valids bs (each_back (λ c. valid c.after) first (changes_in_blocks bs) h))
 
-    are_valid : (all : List (BlockEdits K C)) → Valid (all_puts (puts_in_blocks all)) → AreValid valid (changes_in_blocks all)
-    are_valid [] h = tt
-    are_valid (b ∷ bs) h =
+    all_are_valid : (all : List (BlockEdits K C)) → AllValid (all_puts (puts_in_blocks all)) → AreValid valid (changes_in_blocks all)
+    all_are_valid [] h = tt
+    all_are_valid (b ∷ bs) h =
         let first = puts_in b.edits.items in
         each_append (λ c. valid c.after) (changes_in b.edits.items) (changes_in_blocks bs)
         (puts_valid b.edits.items (each_prefix (λ p. valid p.1.1) first (all_puts (puts_in_blocks bs)) h))
-        (are_valid bs (each_back (λ p. valid p.1.1) first (all_puts (puts_in_blocks bs)) h))
+        (all_are_valid bs (each_back (λ p. valid p.1.1) first (all_puts (puts_in_blocks bs)) h))
 
     pub same_block_valid : (es fs : List (BlockEdits K C)) → puts_in_blocks fs ≡ puts_in_blocks es → AreValid valid (changes_in_blocks es) → AreValid valid (changes_in_blocks fs)
-    same_block_valid es fs same h = are_valid fs (subst (λ ps. Valid (all_puts ps)) (sym same) (valids es h))
+    same_block_valid es fs same h = all_are_valid fs (subst (λ ps. AllValid (all_puts ps)) (sym same) (all_valids es h))

@@ -116,13 +116,13 @@ module _ {K X : Type 0} (cmp : K → K → Ordering) (key : K) where
           | false ↦ λ p. refl
         ] refl
 
-    below_tied : (e : K × X) (es : List (K × X)) → Below cmp e.0 es → BeginsTied es → cmp key e.0 ≡ Greater
-    below_tied e [] h t = absurd t
-    below_tied e (f ∷ es) h t = flipped o e.0 key (sym (alike_right o f.0 key e.0 (flipped o key f.0 t)) ∙ h.0)
+    above_tied : (e : K × X) (es : List (K × X)) → Below cmp e.0 es → BeginsTied es → cmp key e.0 ≡ Greater
+    above_tied e [] h t = absurd t
+    above_tied e (f ∷ es) h t = flipped o e.0 key (sym (alike_right o f.0 key e.0 (flipped o key f.0 t)) ∙ h.0)
 
     all_below_tied : (es : List (K × X)) (list : List (List (K × X))) → AllBelow cmp es (all_entries list) → (j : ℕ) → BeginsTied (get_or list j []) → IsAbove cmp key es
     all_below_tied [] list h j t = tt
-    all_below_tied (e ∷ es) list h j t = (below_tied e (get_or list j []) (Below-leaf cmp key o e.0 list h.0 j) t, all_below_tied es list h.1 j t)
+    all_below_tied (e ∷ es) list h j t = (above_tied e (get_or list j []) (Below-leaf cmp key o e.0 list h.0 j) t, all_below_tied es list h.1 j t)
 
     -- if a leaf begins with the key, the one before it ends below it
     tied-before : (list : List (List (K × X))) → AllByRecursion (λ leaf. 0 < length leaf) list → Rising cmp (all_entries list) → (i : ℕ) → BeginsTied (get_or list (suc i) []) → ends_below cmp key (get_or list i []) ≡ true

@@ -195,14 +195,14 @@ module _ {X K V : Type 0} (cmp : K → K → Ordering) (key : K) (g : X → K ×
   found_in_rest n = find cmp key (map g (drop n xs))
 
   module _ (i : ℕ) (x : X) (here : x ≡ get_or xs i x) (inside : i < length xs) where
-    step : found_in_rest i ≡ cond (eq_by_cmp cmp key (g x).0) (Some (g x).1) (found_in_rest (i + 1))
-    step = at_drop_more (λ (l : List X). find cmp key (map g l)) xs i x inside ∙ ap (λ (y : X). cond (eq_by_cmp cmp key (g y).0) (Some (g y).1) (found_in_rest (i + 1))) (sym here)
+    look_step : found_in_rest i ≡ cond (eq_by_cmp cmp key (g x).0) (Some (g x).1) (found_in_rest (i + 1))
+    look_step = at_drop_more (λ (l : List X). find cmp key (map g l)) xs i x inside ∙ ap (λ (y : X). cond (eq_by_cmp cmp key (g y).0) (Some (g y).1) (found_in_rest (i + 1))) (sym here)
 
     pub one_found : eq_by_cmp cmp key (g x).0 ≡ true → Some (g x).1 ≡ found_in_rest i
-    one_found ties = sym (step ∙ ap (λ b. cond b (Some (g x).1) (found_in_rest (i + 1))) ties)
+    one_found ties = sym (look_step ∙ ap (λ b. cond b (Some (g x).1) (found_in_rest (i + 1))) ties)
 
     pub one_passed : eq_by_cmp cmp key (g x).0 ≡ false → found_in_rest (i + 1) ≡ found_in_rest i
-    one_passed differs = sym (step ∙ ap (λ b. cond b (Some (g x).1) (found_in_rest (i + 1))) differs)
+    one_passed differs = sym (look_step ∙ ap (λ b. cond b (Some (g x).1) (found_in_rest (i + 1))) differs)
 
   pub none_left : (i : ℕ) → length xs ≤ i → None ≡ found_in_rest i
   none_left i past = sym (at_drop_all (λ (l : List X). find cmp key (map g l)) xs i past)
