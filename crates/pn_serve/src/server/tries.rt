@@ -33,20 +33,7 @@ pub(crate) fn run_input<R: Threads + Wait + Sync>(
     ensures continues { IfOk result (λ back. IfSome back (λ input. All (Continues live.new.marks) input.deliveries.items)) }
     ensures same { tablets_in live.new ≡ tablets_in live.old }
 {
-    let input = finish_cells(alloc, input);
-    match at_fault {
-        AtFault::Stop => {
-            run_round(rt, live, workers, input)?;
-            Ok(None)
-        }
-        AtFault::GoOn => {
-            if try_round(rt, live, workers, &input.deliveries)? {
-                Ok(None)
-            } else {
-                Ok(Some(input))
-            }
-        }
-    }
+    run_finished(rt, live, workers, at_fault, finish_cells(alloc, input))
 }
 
 // Makes the cells for which memory ran out, as far as there is memory now.
@@ -66,6 +53,35 @@ fn finish_shares(alloc: Global, shares: &mut [Share])
 {
     for index in 0..shares.len() {
         let _ = shares[index].finish(alloc);
+    }
+}
+
+// Runs one round of an input, whose cells are made as far as there was memory.
+fn run_finished<R: Threads + Wait + Sync>(
+    rt: &R,
+    live: &mut LiveRegion,
+    workers: usize,
+    at_fault: AtFault,
+    input: RoundInput,
+) -> Result<Option<RoundInput>, ServeFault>
+    requires workers { (1 ≤ workers) × (workers ≤ MAX_WORKERS) }
+    requires continues { All (Continues live.old.marks) input.deliveries.items }
+    ensures runs { RunsInput at_fault (value_of input) live.old live.new result }
+    ensures continues { IfOk result (λ back. IfSome back (λ input. All (Continues live.new.marks) input.deliveries.items)) }
+    ensures same { tablets_in live.new ≡ tablets_in live.old }
+{
+    match at_fault {
+        AtFault::Stop => {
+            run_round(rt, live, workers, input)?;
+            Ok(None)
+        }
+        AtFault::GoOn => {
+            if try_round(rt, live, workers, &input.deliveries)? {
+                Ok(None)
+            } else {
+                Ok(Some(input))
+            }
+        }
     }
 }
 
