@@ -1,6 +1,5 @@
 // A server that looks at nothing: it answers each line with the same reply, one thread a connection.
 // What it takes for a line is what a read and a write of a socket cost at least.
-#define _GNU_SOURCE
 #include <arpa/inet.h>
 #include <netinet/in.h>
 #include <netinet/tcp.h>

@@ -1,6 +1,5 @@
 // A client of many connections to 127.0.0.1, over one epoll: each keeps a number of requests in flight, for a time.
 // It says how many replies came and in how many seconds. Each line of a file is a request, or a key that Redis is asked for.
-#define _GNU_SOURCE
 #include <arpa/inet.h>
 #include <netinet/in.h>
 #include <netinet/tcp.h>
