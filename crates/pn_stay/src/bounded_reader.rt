@@ -47,11 +47,10 @@ pub(crate) struct BoundedReader {
 }
 
 impl Model for BoundedReader {
+    ghost use Rattle.pn_live.specs.Proofs.{reader_code};
     ghost use Rattle.pn_live.specs.Readers.{LiveReaderValue};
 
     ghost Value = { LiveReaderValue };
-
-    ghost use Rattle.pn_live.specs.Proofs.{reader_code};
 
     ghost coded = { reader_code };
 
@@ -197,13 +196,10 @@ impl BoundedReader {
                 units,
             };
         }
-        let Answered {
-            answer,
-            units: used,
-        } = self.reader.begin_line(alloc, &line.bytes, line.ended);
+        let Answered { answer, units } = self.reader.begin_line(alloc, &line.bytes, line.ended);
         Answered {
             answer: looked_under(answer),
-            units: used,
+            units,
         }
     }
 }
