@@ -4,7 +4,9 @@ use crate::reading::{first_message, readers_of, settings};
 use crate::serve::copies::open_text;
 use pn_join::NoMemory;
 use pn_live::LiveReader;
-use pn_serve::{Acceptor, AnyPublishers, Counter, FaultLog, PublisherEnd, ServeFault, serve, serve_opened};
+use pn_serve::{
+    Acceptor, AnyPublishers, Counter, FaultLog, PublisherEnd, ServeFault, serve, serve_opened,
+};
 use std::alloc::{AllocError, Global};
 use std::io::BufReader;
 use std::net::{Net, SocketAddr, TcpListener, TcpStream};
