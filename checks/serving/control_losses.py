@@ -114,8 +114,9 @@ def check_losses_and_recoveries(program: str, folder: str, seconds: float | None
 
 
 MARKS = b'{"do":"marks"}\n'
-# Announced lines, of which the first is none of a copy; and how many lines one session has, more than one of clients may have.
-ADOPTED, LINES, ADOPTED = (1_000_000, 1_500_000), 1_200_000, 1_000
+# Announced lines, of which the first is none of a copy; how many lines one session has, more than one of clients may have; and how
+# many are sent at a time.
+ADOPTED, LINES, BLOCK = (1_000_000, 1_500_000), 1_200_000, 1_000
 # Records of one tablet of which a copy is saved, and one recovered; what it takes is some gigabytes.
 RECORDS, LONG = 2_000_000, 600
 
@@ -139,7 +140,7 @@ def check_long_adoptions(program: str, folder: str) -> None:
         written(path, 1, 50)
         session.socket.settimeout(SECONDS * 2)
         for count in ADOPTED:
-            parts = [b'{"do":"adopt","lines":%d}\n' % count, *[b"x\n" * ADOPTED] * (count // ADOPTED), MARKS]
+            parts = [b'{"do":"adopt","lines":%d}\n' % count, *[b"x\n" * BLOCK] * (count // BLOCK), MARKS]
             sending = send(session, iter(parts))
             same(f"the replies to {count:,} lines", [session.line(), session.line()], [b'{"error":"bad-line","line":1}\n', b'{"marks":{"east":50}}\n'])
             sending.join()
@@ -151,7 +152,7 @@ def check_many_lines(program: str, folder: str) -> None:
     """A control session has as many lines as it likes: 1,200,000 of them are all answered."""
     with region_in(folder, program) as (_, control, path), Session(control) as session:
         written(path, 1, 5)
-        sending = send(session, (b"{}\n" * ADOPTED for _ in range(LINES // ADOPTED)))
+        sending = send(session, (b"{}\n" * BLOCK for _ in range(LINES // BLOCK)))
         count = 0
         while count < LINES and (part := session.socket.recv(CHUNK)):
             count += part.count(b"\n")
@@ -166,8 +167,8 @@ def write_copies(path: str) -> None:
     """A text of one copy with many records."""
     with open(path, "wb") as file:
         file.write(b'{"copy":1,"from":null,"to":null}\n{"at":%d,"stream":"east"}\n' % RECORDS)
-        for first in range(0, RECORDS, ADOPTED):
-            file.write(b"".join(b'{"fields":{"v":"x"},"key":"k%07d","master":"w","version":[1,0]}\n' % at for at in range(first, first + ADOPTED)))
+        for first in range(0, RECORDS, BLOCK):
+            file.write(b"".join(b'{"fields":{"v":"x"},"key":"k%07d","master":"w","version":[1,0]}\n' % at for at in range(first, first + BLOCK)))
         file.write(b'{"end":%d}\n' % (RECORDS + 1))
 
 
