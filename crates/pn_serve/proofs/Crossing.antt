@@ -25,7 +25,7 @@ use Rattle.pn_serve.specs.contracts.server.times.Counter as counter
 use Rattle.pn_serve.specs.contracts.server.shown_mark.ShownMark as shown_mark
 use Rattle.pn_serve.specs.contracts.server.fault_log.StreamFailure as failure
 use Rattle.pn_serve.specs.contracts.server.fault_log.FaultLog as faults
-use Rattle.pn_serve.specs.contracts.server.reports.RoundShare as messages
+use Rattle.pn_serve.specs.contracts.server.messages.RoundShare as messages
 use Rattle.pn_serve.specs.contracts.server.reports.Report as report
 use Rattle.pn_serve.specs.contracts.server.held_report.HeldReport as held_report
 use Rattle.pn_serve.specs.contracts.server.held_report.KeptReport as kept_report

@@ -15,7 +15,7 @@ use Rattle.pn_stream.specs.Streams.{Run, NoLine, IsLeft, InStep}
 use Rattle.pn_stream.specs.declared.fault.StreamFault.{StreamFault}
 use Rattle.pn_stream.proofs.Runs.{Run-append, Run-none, SoFar-none, on_rest}
 use Rattle.pn_stream.specs.declared.reader.TheConstants.{MAX_MESSAGES}
-use Rattle.pn_serve.specs.declared.server.reports.RoundMessages.{RoundMessages}
+use Rattle.pn_serve.specs.declared.server.messages.RoundMessages.{RoundMessages}
 use Rattle.pn_serve.specs.declared.server.publisher_input.Given.TheVariants.{Messages as of_messages, Ended}
 use Rattle.pn_serve.specs.declared.server.publishers.PublisherEnd.{PublisherEnd}
 use Rattle.pn_serve.specs.declared.server.publishers.PublisherEnd.TheVariants.{End, Fault}

@@ -11,7 +11,6 @@ use Rattle.pn_serve.specs.declared.script.Counts.{Counts}
 use Rattle.pn_serve.specs.declared.script.RunFault.{RunFault}
 use Rattle.pn_serve.specs.declared.script.RunFault.TheVariants.{Read, Write, TooManyTurns, Memory}
 use Rattle.pn_serve.specs.Lines as lines
-use Rattle.pn_serve.specs.Lines as stopped
 use Rattle.pn_serve.specs.Lines.{EndsBy, AllAnswer, texts_of, refusals_of}
 use Rattle.pn_lines.specs.Driving.{Start}
 use Rattle.pn_serve.specs.Machine.Outcomes.{Outcome, done, Machine, new_machine}
@@ -96,7 +95,7 @@ module _ (region : RegionValue) (left written : Option (List ℕ)) where
         at_end = is.at_end;
       }
 
-  script_broken : (script : List ℕ) (leaves wrote : Option (List ℕ)) (now : Machine) → stopped.Broken Answers Concludes start script leaves wrote now → Broken begun script leaves wrote
+  script_broken : (script : List ℕ) (leaves wrote : Option (List ℕ)) (now : Machine) → lines.Broken Answers Concludes start script leaves wrote now → Broken begun script leaves wrote
   script_broken script leaves wrote now is =
       let all = outcomes_of (new_machine region) is.lines is.replies now is.made in record {
         lines = is.lines;
@@ -106,7 +105,7 @@ module _ (region : RegionValue) (left written : Option (List ℕ)) where
         wrote = subst (λ (r : List ℕ). Appends written wrote r) (sym all.replied) is.wrote;
       }
 
-  script_exceeded : (script : List ℕ) (leaves wrote : Option (List ℕ)) (now : Machine) → stopped.Exceeded Answers Concludes start script leaves wrote now → Exceeded begun script leaves wrote
+  script_exceeded : (script : List ℕ) (leaves wrote : Option (List ℕ)) (now : Machine) → lines.Exceeded Answers Concludes start script leaves wrote now → Exceeded begun script leaves wrote
   script_exceeded script leaves wrote now is =
       let all = outcomes_of (new_machine region) (lines_within script) is.replies now is.made in record {
         part = is.part;
@@ -151,7 +150,7 @@ module _ (region : RegionValue) (left written : Option (List ℕ)) where
             (ap (λ (l : List ℕ). texts_of said ++ l) is ∙ sym (all_replies script texts part (parts_read leaves read gone) said reached now all reply turned)) sent;
       }
 
-  script_cut : (script : List ℕ) (leaves wrote : Option (List ℕ)) (now : Machine) → stopped.Cut Answers Concludes start script leaves wrote now → Cut begun script leaves wrote
+  script_cut : (script : List ℕ) (leaves wrote : Option (List ℕ)) (now : Machine) → lines.Cut Answers Concludes start script leaves wrote now → Cut begun script leaves wrote
   script_cut script leaves wrote now is =
       cut_last script leaves wrote is.lines is.part is.replies is.reached now is.last is.read (outcomes_of (new_machine region) is.lines is.replies is.reached is.made) is.ended is.prefix
 

@@ -23,6 +23,7 @@ mod events;
 mod fault_log;
 mod held_report;
 pub(crate) mod mailboxes;
+mod messages;
 mod publisher_input;
 pub(crate) mod publishers;
 mod reporting;

@@ -3,7 +3,6 @@ use Rattle.std.specs.Prelude.{◌≤◌, length, ◌≡◌, ◌⊎◌, ℕ, ◌+
 use Rattle.pn_join.specs.Marks.{Positions, position_of}
 use Rattle.pn_tablet.specs.Steps.{Refuses}
 use Rattle.pn_stream.specs.Brokers.{DeliveryValue}
-use Rattle.pn_stream.specs.declared.reader.TheConstants.{MAX_MESSAGES}
 use Rattle.pn_region.specs.Log.{refused_log, with_break, with_notices}
 use Rattle.pn_region.specs.Rounds.{is_memory, round}
 use Rattle.pn_region.specs.declared.fault.RoundFault.{RoundFault}
@@ -13,15 +12,10 @@ use Rattle.pn_serve.specs.declared.server.fault_log.ServeFault.{ServeFault}
 use Rattle.pn_serve.specs.declared.server.fault_log.ServeFault.TheVariants.{Stream, Round}
 use Rattle.pn_serve.specs.declared.server.mailboxes.AtFault.{AtFault}
 use Rattle.pn_serve.specs.declared.server.mailboxes.AtFault.TheVariants.{Stop, GoOn}
+use Rattle.pn_serve.specs.Server.Messages.{FitRound}
 use Rattle.pn_serve.specs.Server.Reports.{name_in, messages_of, is_fault, ends}
 use Rattle.pn_serve.specs.declared.server.reports.Report.{Report}
 use Rattle.pn_serve.specs.declared.server.rounds.RoundInput.{RoundInput}
-
--- Messages for a round.
-
--- 1 to 1,000 messages of a stream
-abbrev pub FitRound : DeliveryValue → Type 0
-FitRound delivery = (1 ≤ length delivery.images) × (length delivery.images ≤ MAX_MESSAGES)
 
 -- Rounds of what streams gave, one after another.
 

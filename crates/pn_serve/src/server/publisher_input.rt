@@ -5,8 +5,8 @@ ghost use Rattle.pn_join.specs.declared.marks.TheConstants.{LAST_POSITION};
 ghost use Rattle.pn_serve.specs.Server.Publishers.{Gives, HasUpTo, IsReaderFrom, line_after};
 
 use crate::server::held_report::LeftReport;
+use crate::server::messages::RoundMessages;
 use crate::server::publishers::{NextPublisher, PublisherEnd};
-use crate::server::reports::RoundMessages;
 use pn_join::{LAST_POSITION, StreamName};
 use pn_line::Source;
 use pn_stream::{MAX_MESSAGES, ReaderMemory, ResumeFault, StreamReader};

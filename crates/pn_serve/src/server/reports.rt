@@ -1,55 +1,21 @@
-//! Reports of the threads of streams, the messages in them, and where a thread leaves them.
+//! Reports of the threads of streams, and where a thread leaves them.
 
 ghost use Rattle.std.specs.Prelude.{◌≡◌, IsTrue, IfOk};
-ghost use Rattle.pn_serve.specs.Server.Rounds.{FitRound};
 ghost use Rattle.pn_serve.specs.Server.Reports.{name_in};
 ghost use Rattle.pn_serve.specs.Server.Publishers.{IsSentReport};
 
 use crate::server::held_report::{ClosedMailbox, LeftReport};
 use crate::server::mailboxes::{AtFault, Mailbox};
+use crate::server::messages::RoundShare;
 use crate::server::publishers::{PublisherEnd, Sending};
 use crate::server::times::Counter;
 use crate::server::wakeup::Wakeup;
-use pn_apply::{Batch, Share};
+use pn_apply::Batch;
 use pn_join::StreamName;
-use pn_stream::{Delivery, ReaderMemory, ResumeFault, StreamFault};
+use pn_stream::{ReaderMemory, ResumeFault, StreamFault};
 use std::alloc::Global;
 use std::sync::{Arc, Wait};
 use std::time::Clock;
-
-/// 1 to 1,000 messages of a stream, for one round.
-#[derive(Drop)]
-pub(crate) struct RoundMessages {
-    pub(crate) delivery: Delivery,
-    pub(crate) ghost fit: { FitRound delivery },
-}
-
-/// 1 to 1,000 messages of a stream, for one round, as cells.
-#[derive(Drop)]
-pub(crate) struct RoundShare {
-    pub(crate) delivery: Share,
-    pub(crate) ghost fit: { FitRound delivery },
-}
-
-impl RoundMessages {
-    /// The messages with their cells, as far as there is memory for them. A round makes those that are left.
-    pub(crate) fn into_share(self, alloc: Global) -> RoundShare
-        ensures { result.delivery ≡ self.delivery }
-    {
-        let RoundMessages { delivery } = self;
-        RoundShare {
-            delivery: share_of(alloc, delivery),
-        }
-    }
-}
-
-fn share_of(alloc: Global, delivery: Delivery) -> Share
-    ensures { result ≡ delivery }
-{
-    let mut share = Share::of(alloc, delivery);
-    let _ = share.finish(alloc);
-    share
-}
 
 /// What the thread of a stream reports for the next round.
 #[derive(Drop)]

@@ -4,15 +4,17 @@ ghost use Rattle.std.specs.Prelude.{◌≡◌, ◌+◌, ◌<◌, ◌≤◌, [], 
 ghost use Rattle.pn_apply.specs.declared.reducing.TheConstants.{MAX_WORKERS};
 ghost use Rattle.pn_live.specs.Prelude.{tablets_in};
 ghost use Rattle.pn_region.specs.Rounds.{leaves_gap};
-ghost use Rattle.pn_serve.specs.Server.Rounds.{IsInputOf, first_fault, goes_on, no_input, value_of, with_report, FitRound, CanBeTaken, Continues, IsNextInput};
+ghost use Rattle.pn_serve.specs.Server.Messages.{FitRound};
+ghost use Rattle.pn_serve.specs.Server.Rounds.{IsInputOf, first_fault, goes_on, no_input, value_of, with_report, CanBeTaken, Continues, IsNextInput};
 ghost use Rattle.pn_serve.specs.Server.Rounds.{TakesRound, waiting_value};
 ghost use Rattle.pn_serve.specs.Server.Publishers.{IsSent};
 ghost use Rattle.pn_serve.specs.declared.server.mailboxes.AtFault.TheVariants.{Stop, GoOn};
 
 use crate::ServeFault;
 use crate::server::mailboxes::{AtFault, StreamMailbox, StreamMailboxes};
+use crate::server::messages::RoundShare;
 use crate::server::publishers::Sending;
-use crate::server::reports::{Report, RoundShare};
+use crate::server::reports::Report;
 use crate::server::tries::run_input;
 use pn_apply::{Batch, Share};
 use pn_join::{Marks, StreamName};

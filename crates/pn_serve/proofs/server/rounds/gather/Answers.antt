@@ -4,7 +4,8 @@ use Rattle.std.specs.Prelude.{vec_capacity}
 use Rattle.std.specs.List.{All}
 use Rattle.std.specs.Vec.Iter.{into_iter_items}
 use Rattle.std.proofs.lemmas.List.Elements.{All-nil, All-same}
-use Rattle.pn_serve.specs.Server.Rounds.{IsInputOf, Note, value_of, FitRound, Continues, RoundInputValue}
+use Rattle.pn_serve.specs.Server.Messages.{FitRound}
+use Rattle.pn_serve.specs.Server.Rounds.{IsInputOf, Note, value_of, Continues, RoundInputValue}
 use Rattle.pn_serve.specs.Server.Publishers.{IsSent}
 use Rattle.pn_serve.specs.declared.server.mailboxes.StreamMailbox.{StreamMailbox}
 use Rattle.pn_serve.proofs.Gatherings.{asked_none, asked_on, asked_off, sent_on, map_push}

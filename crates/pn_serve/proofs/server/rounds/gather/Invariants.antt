@@ -2,7 +2,8 @@
 use Rattle.std.proofs.Common.{◌≡◌, ◌≤◌, ◌++◌, length, map, vec_len, vec_capacity}
 use Rattle.std.specs.List.{All}
 use Rattle.std.specs.Vec.Iter.{into_iter_items}
-use Rattle.pn_serve.specs.Server.Rounds.{IsInputOf, value_of, FitRound, Continues}
+use Rattle.pn_serve.specs.Server.Messages.{FitRound}
+use Rattle.pn_serve.specs.Server.Rounds.{IsInputOf, value_of, Continues}
 use Rattle.pn_serve.specs.Server.Publishers.{IsSent}
 use Rattle.pn_serve.proofs.server.rounds.gather.Given as goal
 
