@@ -34,7 +34,7 @@ fn kept_and_made(alloc: Global, copy: TabletCopy, text: &str) -> Result<String, 
 fn made(alloc: Global, copy: TabletCopy) -> Result<Vec<u8>, NoMemory> {
     let mut text = Vec::new(alloc);
     if let Some(mut lines) = counted(copy)? {
-        for _ in 0..lines.lines() {
+        for _ in 0..lines.line_count() {
             text.reserve(60_000)?;
             lines.append_line(&mut text);
         }
