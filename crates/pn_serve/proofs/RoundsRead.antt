@@ -242,13 +242,13 @@ module _ (P : DeliveryValue → Type 0) {S : Type 0} (left : S → Option (List 
   pub serving_ends : {A B : Type 0} (old new : LiveRegionValue) (count : ℕ) (reading : Result (Unit {0}) ServeFault) (closing : Result A B) (served : Result ℕ ServeFault) (result : Result (Unit {0}) ServeFault)
       → EndsReading P left streams old new reading → IfErr reading (λ fault. served ≡ Err fault) → OnOk reading (MatchResult closing (λ _. served ≡ Ok count) (λ _. served ≡ Err Close))
       → IfErr served (λ fault. result ≡ Err fault) → OnOk served (IfErr result (λ fault. fault ≡ Write)) → EndsServing P left old streams result
-  serving_ends old new count (Err fault) closing served result ends first closes told write =
-      let is : result ≡ Err fault = subst (λ (r : Result ℕ ServeFault). IfErr r (λ f. result ≡ Err f)) first told in
+  serving_ends old new count (Err fault) closing served result ends first closes first_fault write =
+      let is : result ≡ Err fault = subst (λ (r : Result ℕ ServeFault). IfErr r (λ f. result ≡ Err f)) first first_fault in
       subst (EndsServing P left old streams) (sym is) (at_fault old new fault ends)
-  serving_ends old new count (Ok done) (Ok region) served result ends first closes told write =
+  serving_ends old new count (Ok done) (Ok region) served result ends first closes first_fault write =
       all_written old new result ends (subst (λ (r : Result ℕ ServeFault). OnOk r (IfErr result (λ fault. fault ≡ Write))) closes write)
-  serving_ends old new count (Ok done) (Err fault) served result ends first closes told write =
-      let is : result ≡ Err Close = subst (λ (r : Result ℕ ServeFault). IfErr r (λ f. result ≡ Err f)) closes told in
+  serving_ends old new count (Ok done) (Err fault) served result ends first closes first_fault write =
+      let is : result ≡ Err Close = subst (λ (r : Result ℕ ServeFault). IfErr r (λ f. result ≡ Err f)) closes first_fault in
       subst (EndsServing P left old streams) (sym is) (record { closed = new; ends = ends })
 
 -- as many readers came back as there were

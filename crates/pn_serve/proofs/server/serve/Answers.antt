@@ -8,7 +8,7 @@ pub returns-in-Ok-clause-ends : goal.returns-in-Ok-clause-ends
 returns-in-Ok-clause-ends g c =
     inl record {
       opened = c.in-Ok.opened.live;
-      is_new = subst (λ (layout : Bounds). IsNewLive layout c.in-Ok.opened.live) c.into_parts.ensures.layout c.in-Ok.ensures.is_new;
+      is_new = subst (λ (layout : Bounds). IsNewLive layout c.in-Ok.opened.live) c.into_parts-layout.ensures.layout c.in-Ok.ensures.is_new;
       ends = c.serve_opened.ensures.ends;
     }
 
@@ -16,7 +16,7 @@ pub returns-in-Ok-clause-honest : goal.returns-in-Ok-clause-honest
 returns-in-Ok-clause-honest g c = λ broker known honest.
     inl record {
       opened = c.in-Ok.opened.live;
-      is_new = subst (λ (layout : Bounds). IsNewLive layout c.in-Ok.opened.live) c.into_parts.ensures.layout c.in-Ok.ensures.is_new;
+      is_new = subst (λ (layout : Bounds). IsNewLive layout c.in-Ok.opened.live) c.into_parts-layout.ensures.layout c.in-Ok.ensures.is_new;
       ends = c.serve_opened.ensures.honest broker known honest;
     }
 
